@@ -1,0 +1,65 @@
+-- What a cutter's next bytes add to the lines of those that it took.
+use Rattle.std.proofs.Common.{◌≡◌, ◌≢◌, ℕ, ◌+◌, ◌-◌, ◌<◌, List, [], ◌∷◌, ◌++◌, length, get_or, take, drop, sym, ◌∙◌, ap, subst, arith, le_refl, zero-le}
+use Rattle.std.specs.List.{slice_range, Contains}
+use Rattle.std.proofs.lemmas.Bool.{eq-eqb, eqb-true}
+use Rattle.std.proofs.lemmas.List.{append_assoc, length-take, get_or-take, get_or_default, take_more, take_all}
+use Rattle.std.proofs.lemmas.List.Elements.{recursion_from_All}
+use Rattle.memchr.specs.Find.{Passes, Nowhere, NoneBefore, is_byte}
+use Rattle.redo_line.specs.Lines.{line_feed, HasNoLineFeed, ended, rest}
+use Rattle.redo_line.specs.Cut.{Cuts}
+use Rattle.redo_line.proofs.LineLemmas.{ended-append, rest-append, ended-free, rest-free, ended-line, rest-line, are_lines}
+
+free-append : (bytes more : List ℕ) → HasNoLineFeed bytes → HasNoLineFeed more → HasNoLineFeed (bytes ++ more)
+free-append [] more free behind = behind
+free-append (byte ∷ bytes) more free behind = (free.0, free-append bytes more free.1 behind)
+
+-- bytes that end one line, behind what is kept
+pub cuts_line : (before front : List ℕ) → HasNoLineFeed front → Cuts before (front ++ line_feed ∷ []) ((before ++ front) ∷ []) []
+cuts_line before front free taken kept =
+    let line = free-append (rest taken) front (are_lines taken).rest_holds_none free in
+    let joined = sym (append_assoc (rest taken) front (line_feed ∷ [])) in
+    let lines : ended (rest taken ++ (front ++ line_feed ∷ [])) ≡ (before ++ front) ∷ [] =
+    ap ended joined ∙ ended-line (rest taken ++ front) [] line ∙ ap (λ ls. (rest taken ++ front) ∷ ls) (ended-free [] tt) ∙ ap (λ b. (b ++ front) ∷ []) kept in
+    let last : rest (rest taken ++ (front ++ line_feed ∷ [])) ≡ [] = ap rest joined ∙ rest-line (rest taken ++ front) [] line ∙ rest-free [] tt in
+    (ended-append taken (front ++ line_feed ∷ []) ∙ ap (λ ls. ended taken ++ ls) lines, rest-append taken (front ++ line_feed ∷ []) ∙ last)
+
+-- bytes that end none
+pub cuts_none : (before bytes : List ℕ) → HasNoLineFeed bytes → Cuts before bytes [] (before ++ bytes)
+cuts_none before bytes free taken kept =
+    let line = free-append (rest taken) bytes (are_lines taken).rest_holds_none free in
+    (ended-append taken bytes ∙ ap (λ ls. ended taken ++ ls) (ended-free (rest taken ++ bytes) line), rest-append taken bytes ∙ rest-free (rest taken ++ bytes) line ∙ ap (λ b. b ++ bytes) kept)
+
+-- no line feed stands before the first place of one
+pub free_before : (bytes : List ℕ) (n : ℕ) → Nowhere (Passes (is_byte line_feed) bytes) 0 n → HasNoLineFeed (take n bytes)
+free_before bytes n nowhere =
+    recursion_from_All (λ (byte : ℕ). byte ≢ line_feed) (take n bytes) (λ k d below is.
+    let inside : (k < n) × (k < length bytes) = let l = length-take n bytes in (omega arith, omega arith) in
+    let read : get_or (take n bytes) k d ≡ get_or bytes k 0 = let in_front : k < n = inside.0 in let in_bytes : k < length bytes = inside.1 in get_or-take n bytes k d in_front ∙ get_or_default bytes k d 0 in_bytes in
+    nowhere k (omega arith) inside.0 (eq-eqb (get_or bytes k 0) line_feed (sym read ∙ is)))
+
+-- the bytes up to the place after the first line feed
+pub upto_feed : (bytes : List ℕ) (at : ℕ) → at < length bytes → Passes (is_byte line_feed) bytes at → take (at + 1) bytes ≡ take at bytes ++ line_feed ∷ []
+upto_feed bytes at below passes = take_more bytes at 0 below ∙ ap (λ (b : ℕ). take at bytes ++ b ∷ []) (eqb-true (get_or bytes at 0) line_feed passes)
+
+-- what a cutter takes of a piece, from a place on, where a line feed is left in it
+pub line_at : (before line piece left : List ℕ) (from at : ℕ) → left ≡ drop from piece
+    → NoneBefore (Passes (is_byte line_feed) left) 0 (length left) at × Passes (is_byte line_feed) left at
+    → line ≡ before ++ take at left → Cuts before (slice_range piece from (from + at + 1)) (line ∷ []) []
+line_at before line piece left from at is found line_is taken kept =
+    let count : from + at + 1 - from ≡ at + 1 = omega arith in
+    let part : slice_range piece from (from + at + 1) ≡ take at left ++ line_feed ∷ [] =
+    ap (λ n. take n (drop from piece)) count ∙ ap (take (at + 1)) (sym is) ∙ upto_feed left at found.0.high found.1 in
+    rw (part, line_is) (cuts_line before (take at left) (free_before left at found.0.before) taken kept)
+
+-- and where none is left
+pub none_from : (before after piece left : List ℕ) (from : ℕ) → left ≡ drop from piece
+    → Nowhere (Passes (is_byte line_feed) left) 0 (length left) → after ≡ before ++ left → Cuts before (drop from piece) [] after
+none_from before after piece left from is nowhere after_is taken kept =
+    let free = subst HasNoLineFeed (take_all (length left) left (le_refl (length left))) (free_before left (length left) nowhere) in
+    rw (← is, after_is) (cuts_none before left free taken kept)
+
+pub no_feed : (piece left : List ℕ) (from : ℕ) → left ≡ drop from piece
+    → Nowhere (Passes (is_byte line_feed) left) 0 (length left) → Contains (drop from piece) line_feed → ⊥
+no_feed piece left from is nowhere there =
+    let here : Contains left line_feed = subst (λ xs. Contains xs line_feed) (sym is) there in
+    nowhere here.0 zero-le here.1 (eq-eqb (get_or left here.0 0) line_feed (get_or_default left here.0 0 line_feed here.1 ∙ here.2))

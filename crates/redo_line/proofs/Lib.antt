@@ -1,0 +1,4 @@
+pub mod CutLemmas
+pub mod LineLemmas
+pub mod PieceLemmas
+pub mod SinkLemmas

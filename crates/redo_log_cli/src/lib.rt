@@ -1,0 +1,12 @@
+//! What the program `redo-log` does, over any reader and any writer.
+//!
+//! Today that is [`show_one`]: one log, taken as lines of text, is shown under the name of its
+//! target.
+#![tactic(auto)]
+
+mod collected;
+mod run_fault;
+mod shown;
+
+pub use run_fault::RunFault;
+pub use shown::show_one;
