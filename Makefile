@@ -1,0 +1,16 @@
+# make run       proves and builds the program, and runs it on the sample input
+# make check     everything that a change has to pass
+# make install   installs the program as $(PREFIX)/bin/redo-log
+PREFIX ?= /usr/local
+
+.PHONY: run check install
+
+run:
+	cd crates/redo_log && rt run
+
+check:
+	bash .ci/run
+
+install:
+	cd crates/redo_log && rt run >/dev/null
+	install -D crates/redo_log/out/redo_log $(DESTDIR)$(PREFIX)/bin/redo-log

@@ -1,0 +1,76 @@
+//! Makes the calls that ask for memory, and prints what each answered and left. Its one argument
+//! names the calls. `tests/refusals/run` refuses it each request for memory in turn.
+#![tactic(auto)]
+
+ghost use Rattle.std.specs.Prelude.{◌≤◌, length};
+
+use redo_line::{Cut, Cutter, Sink, Taker};
+use std::alloc::Global;
+use std::process::ExitCode;
+use std::{env, io};
+
+fn main(rt: HostRuntime) -> io::Result<ExitCode> {
+    let Some(calls) = argument(&rt) else {
+        println!(rt; "no argument")?;
+        return Ok(ExitCode::from(7));
+    };
+    match calls.as_str() {
+        "cutter" => cutter(&rt, rt.alloc(), b"ab", b"c\nd", 2)?,
+        "long_cutter" => cutter(&rt, rt.alloc(), &[b'a'; 20], b"cccccccccccc\nd", 13)?,
+        "taker" => taker(&rt, rt.alloc())?,
+        _ => println!(rt; "unknown calls: {calls}")?,
+    }
+    Ok(ExitCode::SUCCESS)
+}
+
+/// The argument, or `None` where there is none or no memory for it.
+fn argument(rt: &HostRuntime) -> Option<String> {
+    env::args(rt).ok()?.nth(1)
+}
+
+/// A cutter over two pieces, of which the second has a line feed before the place `from`. A call
+/// that was refused is made again.
+fn cutter(
+    rt: &impl Print,
+    alloc: Global,
+    first: &[u8],
+    second: &[u8],
+    from: usize,
+) -> io::Result<()>
+    requires { from ≤ length second.now }
+{
+    let mut cutter = Cutter::new(alloc);
+    next(rt, &mut cutter, first, 0)?;
+    next(rt, &mut cutter, second, 0)?;
+    next(rt, &mut cutter, second, from)?;
+    match cutter.finish() {
+        Some(last) => println!(rt; "finish: {:?}", last.bytes()),
+        None => println!(rt; "finish: nothing"),
+    }
+}
+
+fn next(rt: &impl Print, cutter: &mut Cutter, piece: &[u8], from: usize) -> io::Result<()>
+    requires { from ≤ length piece.now }
+{
+    for _ in 0..2 {
+        match cutter.next(piece, from) {
+            Ok(Cut::Line { bytes, upto }) => {
+                return println!(rt; "next from {from}: {:?} to {upto}", bytes.bytes());
+            }
+            Ok(Cut::More) => return println!(rt; "next from {from}: more"),
+            Err(_) => println!(rt; "next from {from}: no memory")?,
+        }
+    }
+    Ok(())
+}
+
+/// A writer in memory.
+fn taker(rt: &impl Print, alloc: Global) -> io::Result<()> {
+    let Ok(mut taker) = Taker::new(alloc, 5, 3) else {
+        return println!(rt; "new: no memory");
+    };
+    for _ in 0..3 {
+        println!(rt; "push: {:?}", taker.push(b"abcd"))?;
+    }
+    println!(rt; "bytes: {:?}", taker.bytes())
+}

@@ -1,0 +1,58 @@
+//! A cutter over pieces, call by call.
+use redo_line::{Cut, Cutter};
+use std::process::Abort;
+use std::test::Fail;
+
+fn expect_more(rt: &impl Abort, cut: Cut) {
+    assert!(rt; matches!(&cut, Cut::More), "a line was found");
+}
+
+fn expect_line(rt: &impl Abort, cut: Cut, want: &[u8], place: usize) {
+    match cut {
+        Cut::Line { bytes, upto } => {
+            assert_eq!(rt; bytes.bytes(), want);
+            assert_eq!(rt; upto, place);
+        }
+        Cut::More => panic!(rt; "no line was found"),
+    }
+}
+
+#[test]
+fn a_line_spans_two_pieces(rt: HostRuntime) -> Result<(), Fail> {
+    let mut cutter = Cutter::new(rt.alloc());
+    expect_more(&rt, cutter.next(b"ab", 0)?);
+    expect_line(&rt, cutter.next(b"c\nd", 0)?, b"abc", 2);
+    expect_more(&rt, cutter.next(b"c\nd", 2)?);
+    let last = cutter.finish().ok_or("nothing was left")?;
+    assert_eq!(rt; last.bytes(), b"d".as_slice());
+    Ok(())
+}
+
+#[test]
+fn a_new_cutter_has_nothing_left(rt: HostRuntime) {
+    assert!(rt; Cutter::new(rt.alloc()).finish().is_none());
+}
+
+#[test]
+fn an_empty_piece_has_no_line(rt: HostRuntime) -> Result<(), Fail> {
+    let mut cutter = Cutter::new(rt.alloc());
+    expect_more(&rt, cutter.next(b"", 0)?);
+    Ok(())
+}
+
+#[test]
+fn an_empty_line_is_a_line(rt: HostRuntime) -> Result<(), Fail> {
+    let mut cutter = Cutter::new(rt.alloc());
+    expect_line(&rt, cutter.next(b"\n\n", 0)?, b"", 1);
+    expect_line(&rt, cutter.next(b"\n\n", 1)?, b"", 2);
+    expect_more(&rt, cutter.next(b"\n\n", 2)?);
+    assert!(rt; cutter.finish().is_none());
+    Ok(())
+}
+
+#[test]
+fn white_space_stays(rt: HostRuntime) -> Result<(), Fail> {
+    let mut cutter = Cutter::new(rt.alloc());
+    expect_line(&rt, cutter.next(b" a \t\r\n", 0)?, b" a \t\r", 6);
+    Ok(())
+}

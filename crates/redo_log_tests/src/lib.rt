@@ -1,0 +1,12 @@
+//! Tests that cross crates, or that need more than one of their calls. They stand here so that no
+//! crate below is proved a second time for them.
+#![tactic(auto)]
+
+#[cfg(test)]
+mod cutter;
+#[cfg(test)]
+mod devices;
+#[cfg(test)]
+mod one_log;
+#[cfg(test)]
+mod reads;
