@@ -1,4 +1,5 @@
 pub mod CutLemmas
+mod LineRows
 pub mod LineLemmas
 pub mod PieceLemmas
 pub mod SinkLemmas

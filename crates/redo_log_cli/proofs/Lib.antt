@@ -1,2 +1,3 @@
 mod Collecting
+mod ShownRows
 mod Writing

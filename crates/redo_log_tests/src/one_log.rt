@@ -46,7 +46,11 @@ fn expect_shown(
     for size in [1, 2, 3, 200] {
         let (answer, written) = shown(alloc, in_reads_of(alloc, bytes, size)?, fails, max_bytes)?;
         assert_eq!(rt; answer, want, "{log:?} in reads of {size}");
-        assert_eq!(rt; written.as_slice(), text.as_bytes(), "{log:?} in reads of {size}");
+        assert_eq!(rt;
+            written.as_slice(),
+            text.as_bytes(),
+            "{log:?} in reads of {size}"
+        );
     }
     Ok(())
 }
