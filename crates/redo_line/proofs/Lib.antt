@@ -1,5 +1,10 @@
-pub mod CutLemmas
+mod CutLemmas
+mod DirectoryLemmas
+mod LineLemmas
 mod LineRows
-pub mod LineLemmas
-pub mod PieceLemmas
-pub mod SinkLemmas
+mod NameLemmas
+mod NameRows
+mod PathLemmas
+mod PieceLemmas
+mod SegmentLemmas
+mod SinkLemmas

@@ -2,6 +2,8 @@ pub mod Cut
 pub mod Fault
 pub mod Feed
 pub mod Lines
+pub mod Names
+pub mod Path
 pub mod Pieces
 pub mod Sink
 pub mod Taker
