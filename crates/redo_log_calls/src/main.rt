@@ -1,13 +1,14 @@
-//! Makes the calls that ask for memory, and prints what each answered and left. Its one argument
-//! names the calls. `tests/refusals/run` refuses it each request for memory in turn.
+//! Makes single calls, and prints what each answered and left. Its one argument names the calls.
+//! The scripts of `tests` run it: one refuses it each request for memory in turn.
 #![tactic(auto)]
 
 ghost use Rattle.std.specs.Prelude.{◌≤◌, length};
 
-use redo_line::{Cut, Cutter, Sink, Taker};
+use redo_line::{Cut, Cutter, Sink, Taker, TargetName};
 use std::alloc::Global;
+use std::io::{BufRead, BufReader};
 use std::process::ExitCode;
-use std::{env, io};
+use std::{env, io, str};
 
 fn main(rt: HostRuntime) -> io::Result<ExitCode> {
     let Some(calls) = argument(&rt) else {
@@ -17,6 +18,8 @@ fn main(rt: HostRuntime) -> io::Result<ExitCode> {
     match calls.as_str() {
         "cutter" => cutter(&rt, rt.alloc(), b"ab", b"c\nd", 2)?,
         "long_cutter" => cutter(&rt, rt.alloc(), &[b'a'; 20], b"cccccccccccc\nd", 13)?,
+        "names" => names(&rt, rt.alloc())?,
+        "resolve" => resolve_lines(&rt)?,
         "taker" => taker(&rt, rt.alloc())?,
         _ => println!(rt; "unknown calls: {calls}")?,
     }
@@ -59,6 +62,40 @@ fn next(rt: &impl Print, cutter: &mut Cutter, piece: &[u8], from: usize) -> io::
             }
             Ok(Cut::More) => return println!(rt; "next from {from}: more"),
             Err(_) => println!(rt; "next from {from}: no memory")?,
+        }
+    }
+    Ok(())
+}
+
+/// The normal form of a name in the log of a target, and a copy of it.
+fn names(rt: &impl Print, alloc: Global) -> io::Result<()> {
+    let Ok(target) = TargetName::resolve(alloc, None, b"d/./a") else {
+        return println!(rt; "resolve: no memory");
+    };
+    println!(rt; "resolve: {:?}", target.bytes())?;
+    match TargetName::resolve(alloc, Some(&target), b"../e//x") {
+        Ok(name) => println!(rt; "resolve of it: {:?}", name.bytes())?,
+        Err(fault) => println!(rt; "resolve of it: {fault:?}")?,
+    }
+    match target.copy(alloc) {
+        Ok(copy) => println!(rt; "copy: {:?}", copy.bytes()),
+        Err(_) => println!(rt; "copy: no memory"),
+    }
+}
+
+/// The normal form of each name of standard input. A line is a target, a tab, and a name in its
+/// log; without a target the name stands alone.
+fn resolve_lines(rt: &(impl Input + Print + AllocGlobal)) -> io::Result<()> {
+    for line in BufReader::new(rt.alloc(), rt.reader())?.lines(rt.alloc()) {
+        let line = line?;
+        let Some((of, name)) = line.split_once('\t') else {
+            println!(rt; "no tab")?;
+            continue;
+        };
+        let target = TargetName::resolve(rt.alloc(), None, of.as_bytes()).ok();
+        match TargetName::resolve(rt.alloc(), target.as_ref(), name.as_bytes()) {
+            Ok(name) => println!(rt; "{}", str::from_utf8(name.bytes()).unwrap_or("no text"))?,
+            Err(fault) => println!(rt; "{fault:?}")?,
         }
     }
     Ok(())
