@@ -1,6 +1,6 @@
-mod CutLemmas
+pub mod CutLemmas
 mod DirectoryLemmas
-mod LineLemmas
+pub mod LineLemmas
 mod LineRows
 mod NameLemmas
 mod NameRows

@@ -5,8 +5,9 @@
 ghost use Rattle.std.specs.Prelude.{◌≤◌, length};
 
 use redo_line::{Cut, Cutter, Sink, Taker, TargetName};
+use redo_log_cli::{Index, read_index};
 use std::alloc::Global;
-use std::io::{BufRead, BufReader};
+use std::io::{BufRead, BufReader, Read};
 use std::process::ExitCode;
 use std::{env, io, str};
 
@@ -18,6 +19,8 @@ fn main(rt: HostRuntime) -> io::Result<ExitCode> {
     match calls.as_str() {
         "cutter" => cutter(&rt, rt.alloc(), b"ab", b"c\nd", 2)?,
         "long_cutter" => cutter(&rt, rt.alloc(), &[b'a'; 20], b"cccccccccccc\nd", 13)?,
+        "index" => index(&rt, rt.alloc())?,
+        "index_of_input" => index_of_input(&rt)?,
         "names" => names(&rt, rt.alloc())?,
         "resolve" => resolve_lines(&rt)?,
         "taker" => taker(&rt, rt.alloc())?,
@@ -63,6 +66,38 @@ fn next(rt: &impl Print, cutter: &mut Cutter, piece: &[u8], from: usize) -> io::
             Ok(Cut::More) => return println!(rt; "next from {from}: more"),
             Err(_) => println!(rt; "next from {from}: no memory")?,
         }
+    }
+    Ok(())
+}
+
+/// An index, and where it lists a target.
+fn index(rt: &impl Print, alloc: Global) -> io::Result<()> {
+    match read_index(alloc, b"7 d/./a\n1  b\n12 c".as_slice()) {
+        Ok(index) => tell_index(rt, &index),
+        Err(fault) => println!(rt; "read_index: {fault:?}"),
+    }
+}
+
+/// The index that standard input is: how much it lists, and all of it, or its fault.
+fn index_of_input(rt: &(impl Input + Print + AllocGlobal)) -> io::Result<()> {
+    let mut bytes = Vec::new(rt.alloc());
+    rt.reader().read_to_end(&mut bytes)?;
+    match read_index(rt.alloc(), &bytes) {
+        Ok(index) => tell_index(rt, &index),
+        Err(fault) => println!(rt; "read_index: {fault:?}"),
+    }
+}
+
+fn tell_index(rt: &impl Print, index: &Index) -> io::Result<()> {
+    println!(rt; "read_index: {}", index.len())?;
+    for i in 0..index.len() {
+        let name = index.name(i);
+        println!(rt;
+            "{} {:?} at {:?}",
+            index.fid(i),
+            name.bytes(),
+            index.find(name)
+        )?;
     }
     Ok(())
 }

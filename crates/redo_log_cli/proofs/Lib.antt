@@ -1,3 +1,11 @@
+mod Adding
 mod Collecting
+mod EntryParts
+mod FirstLine
+mod IndexLaws
+mod IndexLines
+mod IndexRows
+mod Listing
+mod Numbers
 mod ShownRows
 mod Writing

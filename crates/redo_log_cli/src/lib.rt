@@ -5,8 +5,14 @@
 #![tactic(auto)]
 
 mod collected;
+mod index;
+mod index_fault;
+mod laws;
 mod run_fault;
 mod shown;
 
+pub use index::{Index, read_index};
+pub use index_fault::IndexFault;
+pub use laws::one_answer_of_an_index;
 pub use run_fault::RunFault;
 pub use shown::show_one;

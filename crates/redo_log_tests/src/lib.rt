@@ -7,6 +7,8 @@ mod cutter;
 #[cfg(test)]
 mod devices;
 #[cfg(test)]
+mod index;
+#[cfg(test)]
 mod names;
 #[cfg(test)]
 mod one_log;

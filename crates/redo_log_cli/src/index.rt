@@ -1,0 +1,177 @@
+ghost use Rattle.std.specs.Prelude.{◌≡◌, ◌<◌, ◌≤◌, ◌⊎◌, List, [], ◌∷◌, Some, None, nat_eq, length, position, slice_get, IfOk, IfErr, if◌then◌else◌};
+ghost use Rattle.std.specs.Char.{is_ascii_digit};
+ghost use Rattle.std.specs.Cmp.Lexicographic.{pointwise};
+ghost use Rattle.std.specs.List.{list_all};
+ghost use Rattle.redo_line.specs.Lines.{all_lines};
+ghost use Rattle.redo_log_cli.specs.declared.index_fault.IndexFault.TheVariants.{OutOfMemory};
+ghost use Rattle.redo_log_cli.specs.Index.{Entry, numbers_of, names_of, entries_of, entry_of, number, number_of, fault_after, IsFine, IsRefused, Holds, Lists};
+
+use crate::index_fault::IndexFault;
+use indexmap::IndexSet;
+use memchr::memchr;
+use redo_line::{NameFault, TargetName};
+use std::alloc::{AllocError, Global};
+use std::marker::Model;
+
+// How many targets an index may list.
+const MOST: usize = 1_048_575;
+
+/// The targets of a capture directory: for each its number and its name, in the order in which
+/// they are listed. No number and no name stands in it twice, and it lists at most 1,048,575.
+#[derive(Debug, Drop)]
+pub struct Index {
+    numbers: IndexSet<u32>,
+    names: IndexSet<TargetName>,
+}
+
+impl Model for Index {
+    ghost use Rattle.std.specs.Prelude.{◌≡◌, List, length, zip};
+    ghost use Rattle.redo_log_cli.specs.Index.{Entry, IsIndex};
+
+    ghost Value = { List Entry };
+
+    ghost view = { λ index. zip index.numbers.keys index.names.keys };
+
+    ghost invariant = { λ index. (length index.numbers.keys ≡ length index.names.keys) × IsIndex (zip index.numbers.keys index.names.keys) };
+}
+
+impl Index {
+    /// The index that lists nothing. It asks for no memory.
+    pub fn new(alloc: Global) -> Index
+        ensures { result ≡ [] }
+    {
+        Index {
+            numbers: IndexSet::new(alloc),
+            names: IndexSet::new(alloc),
+        }
+    }
+
+    /// How many targets are listed.
+    pub fn len(&self) -> u32
+        ensures { result ≡ length self.now }
+    {
+        self.numbers.len() as u32
+    }
+
+    /// The number of the target that is listed at `i`, counted from 0.
+    pub fn fid(&self, i: u32) -> u32
+        requires { i < length self.now }
+        ensures { slice_get (numbers_of self.now) i ≡ Some result }
+    {
+        self.numbers.as_slice()[i as usize]
+    }
+
+    /// The name of the target that is listed at `i`, counted from 0.
+    pub fn name(&self, i: u32) -> &TargetName
+        requires { i < length self.now }
+        ensures { slice_get (names_of self.now) i ≡ Some result.now }
+    {
+        &self.names.as_slice()[i as usize]
+    }
+
+    /// Where a target is listed, if it is.
+    pub fn find(&self, name: &TargetName) -> Option<u32>
+        ensures { result ≡ position (pointwise nat_eq name.now) (names_of self.now) }
+    {
+        match self.names.get_index_of(name) {
+            Some(i) => Some(i as u32),
+            None => None,
+        }
+    }
+}
+
+/// Reads an index: lines of which each is a number, a space and the name of a target.
+/// docs/format.md has the rule.
+pub fn read_index(alloc: Global, bytes: &[u8]) -> Result<Index, IndexFault>
+    ensures listed { IfOk result (λ index. IsFine (all_lines bytes.now) × (index ≡ entries_of (all_lines bytes.now))) }
+    ensures refused { IfErr result (λ fault. (fault ≡ OutOfMemory) ⊎ IsRefused (all_lines bytes.now) fault) }
+{
+    let mut numbers = IndexSet::new(alloc);
+    let mut names = IndexSet::new(alloc);
+    let mut left = bytes;
+    'lines: while !left.is_empty() {
+        let (line, behind) = first_line(left);
+        add(alloc, &mut numbers, &mut names, line)?;
+        left = behind;
+    }
+    Ok(Index { numbers, names })
+}
+
+// The first line, and the bytes behind it.
+fn first_line(bytes: &[u8]) -> (&[u8], &[u8])
+    requires some { 0 < length bytes.now }
+    ensures line { all_lines bytes.now ≡ result.0.now ∷ all_lines result.1.now }
+    ensures less { length result.1.now < length bytes.now }
+{
+    match memchr(b'\n', bytes) {
+        Some(at) => (&bytes[..at], &bytes[at + 1..]),
+        None => (bytes, b""),
+    }
+}
+
+// Lists one more line.
+fn add(
+    alloc: Global,
+    numbers: &mut IndexSet<u32>,
+    names: &mut IndexSet<TargetName>,
+    line: &[u8],
+) -> Result<(), IndexFault>
+    ensures lists { (entries : List Entry) → Holds numbers.old.keys names.old.keys entries → IfOk result (λ _. Lists entries line.now numbers.new.keys names.new.keys) }
+    ensures refuses { (entries : List Entry) → Holds numbers.old.keys names.old.keys entries → IfErr result (λ fault. (fault ≡ OutOfMemory) ⊎ (fault_after (length entries) entries (entry_of line.now) ≡ Some fault)) }
+{
+    let place = numbers.len() as u64 + 1;
+    let Some((number, name)) = read_entry(alloc, line)? else {
+        return Err(IndexFault::BadLine { line: place });
+    };
+    let (_, differs) = numbers.insert_full(number)?;
+    if !differs {
+        return Err(IndexFault::FidTwice { line: place });
+    }
+    let (_, differs) = names.insert_full(name)?;
+    if !differs {
+        return Err(IndexFault::NameTwice { line: place });
+    }
+    if names.len() > MOST {
+        return Err(IndexFault::TooMany);
+    }
+    Ok(())
+}
+
+fn read_entry(alloc: Global, line: &[u8]) -> Result<Option<(u32, TargetName)>, AllocError>
+    ensures { IfOk result (λ entry. entry ≡ entry_of line.now) }
+{
+    let Some(at) = memchr(b' ', line) else {
+        return Ok(None);
+    };
+    let Some(number) = read_number(&line[..at]) else {
+        return Ok(None);
+    };
+    match TargetName::resolve(alloc, None, &line[at + 1..]) {
+        Ok(name) => Ok(Some((number, name))),
+        Err(NameFault::Empty) => Ok(None),
+        Err(NameFault::OutOfMemory) => Err(AllocError),
+    }
+}
+
+fn read_number(bytes: &[u8]) -> Option<u32>
+    ensures { result ≡ number_of bytes.now }
+{
+    if bytes.is_empty() || bytes.len() > 9 || bytes[0] == b'0' {
+        return None;
+    }
+    read_digits(bytes)
+}
+
+fn read_digits(digits: &[u8]) -> Option<u32>
+    requires { length digits.now ≤ 9 }
+    ensures { result ≡ (if list_all is_ascii_digit digits.now then Some (number digits.now) else None) }
+{
+    let mut number = 0;
+    for &digit in digits {
+        if !digit.is_ascii_digit() {
+            return None;
+        }
+        number = number * 10 + u32::from(digit - b'0');
+    }
+    Some(number)
+}

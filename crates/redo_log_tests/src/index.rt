@@ -1,0 +1,66 @@
+//! Indexes: what they list, and which line is refused.
+use redo_line::TargetName;
+use redo_log_cli::{Index, IndexFault, read_index};
+use std::test::Fail;
+
+/// An index, and the numbers and the names that it lists.
+const LISTED: [(&str, &[(u32, &str)]); 4] = [
+    ("", &[]),
+    ("1 all\n", &[(1, "all")]),
+    ("7 d/./a\n999999999 b", &[(7, "d/a"), (999999999, "b")]),
+    ("1  a\n", &[(1, " a")]),
+];
+
+/// An index, and its fault.
+const REFUSED: [(&str, IndexFault); 10] = [
+    ("1 a\n2 ./a\n", IndexFault::NameTwice { line: 2 }),
+    ("1 a\n1 b\n", IndexFault::FidTwice { line: 2 }),
+    ("1 a\n1 a\n", IndexFault::FidTwice { line: 2 }),
+    ("1 a\nx\n1 b\n", IndexFault::BadLine { line: 2 }),
+    ("01 a\n", IndexFault::BadLine { line: 1 }),
+    ("0 a\n", IndexFault::BadLine { line: 1 }),
+    ("1234567890 a\n", IndexFault::BadLine { line: 1 }),
+    ("1\n", IndexFault::BadLine { line: 1 }),
+    ("1 \n", IndexFault::BadLine { line: 1 }),
+    ("\n", IndexFault::BadLine { line: 1 }),
+];
+
+#[test]
+fn an_index_lists_its_lines(rt: HostRuntime) -> Result<(), Fail> {
+    for (bytes, entries) in LISTED {
+        let index = read_index(rt.alloc(), bytes.as_bytes())?;
+        assert_eq!(rt; index.len() as usize, entries.len(), "{bytes:?}");
+        for (i, &(number, name)) in entries.iter().enumerate() {
+            let i = i as u32;
+            assert!(rt; i < index.len());
+            assert_eq!(rt; index.fid(i), number, "{bytes:?}");
+            assert_eq!(rt; index.name(i).bytes(), name.as_bytes(), "{bytes:?}");
+            let target = TargetName::resolve(rt.alloc(), None, name.as_bytes())?;
+            assert_eq!(rt; index.find(&target), Some(i));
+        }
+    }
+    Ok(())
+}
+
+#[test]
+fn the_least_bad_line_is_refused_with_its_first_cause(rt: HostRuntime) -> Result<(), Fail> {
+    for (bytes, fault) in REFUSED {
+        assert_eq!(rt;
+            read_index(rt.alloc(), bytes.as_bytes()).err(),
+            Some(fault),
+            "{bytes:?}"
+        );
+    }
+    Ok(())
+}
+
+#[test]
+fn a_target_that_is_not_listed_is_not_found(rt: HostRuntime) -> Result<(), Fail> {
+    let index = read_index(rt.alloc(), b"1 a\n2 b/c\n".as_slice())?;
+    let other = TargetName::resolve(rt.alloc(), None, b"b")?;
+    assert_eq!(rt; index.find(&other), None);
+    let none = Index::new(rt.alloc());
+    assert_eq!(rt; none.len(), 0);
+    assert_eq!(rt; none.find(&other), None);
+    Ok(())
+}
