@@ -6,11 +6,11 @@ PREFIX ?= /usr/local
 .PHONY: run check install
 
 run:
-	cd crates/redo_log && rt run
+	cd crates/redo_log && rt run <stdin
 
 check:
 	bash .ci/run
 
 install:
-	cd crates/redo_log && rt run >/dev/null
+	cd crates/redo_log && rt run <stdin >/dev/null
 	install -D crates/redo_log/out/redo_log $(DESTDIR)$(PREFIX)/bin/redo-log

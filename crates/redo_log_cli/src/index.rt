@@ -53,7 +53,8 @@ impl Index {
         self.numbers.len() as u32
     }
 
-    /// The number of the target that is listed at `i`, counted from 0.
+    /// The number of the target that is listed at the place `i`. Places are counted from 0, and `i`
+    /// has to be one of them.
     pub fn fid(&self, i: u32) -> u32
         requires { i < length self.now }
         ensures { slice_get (numbers_of self.now) i ≡ Some result }
@@ -61,7 +62,8 @@ impl Index {
         self.numbers.as_slice()[i as usize]
     }
 
-    /// The name of the target that is listed at `i`, counted from 0.
+    /// The name of the target that is listed at the place `i`. Places are counted from 0, and `i`
+    /// has to be one of them.
     pub fn name(&self, i: u32) -> &TargetName
         requires { i < length self.now }
         ensures { slice_get (names_of self.now) i ≡ Some result.now }
@@ -69,7 +71,7 @@ impl Index {
         &self.names.as_slice()[i as usize]
     }
 
-    /// Where a target is listed, if it is.
+    /// The place where a target is listed, if it is. The look-up is by hash.
     pub fn find(&self, name: &TargetName) -> Option<u32>
         ensures { result ≡ position (pointwise nat_eq name.now) (names_of self.now) }
     {
@@ -80,8 +82,8 @@ impl Index {
     }
 }
 
-/// Reads an index: lines of which each is a number, a space and the name of a target.
-/// docs/format.md has the rule.
+/// Reads an index: lines of which each is a number, a space and the name of a target. A refusal
+/// names the least line that can't be listed, with its first cause. docs/format.md has the rule.
 pub fn read_index(alloc: Global, bytes: &[u8]) -> Result<Index, IndexFault>
     ensures listed { IfOk result (λ index. IsFine (all_lines bytes.now) × (index ≡ entries_of (all_lines bytes.now))) }
     ensures refused { IfErr result (λ fault. (fault ≡ OutOfMemory) ⊎ IsRefused (all_lines bytes.now) fault) }

@@ -1,7 +1,7 @@
 //! What the program `redo-log` does, over any reader and any writer.
 //!
 //! Today that is [`show_one`]: one log, taken as lines of text, is shown under the name of its
-//! target.
+//! target; and [`read_index`], which reads what targets there are.
 #![tactic(auto)]
 
 mod collected;
