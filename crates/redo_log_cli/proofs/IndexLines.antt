@@ -1,7 +1,7 @@
 -- Lines of an index, one after another: those before a place, and what they list.
 use Rattle.std.proofs.Common.{◌≡◌, ℕ, true, ◌==◌, List, [], ◌∷◌, ◌++◌, None, Some, Result, Ok, Err, IfErr, IsErrAnd, length, refl, sym, ◌∙◌, ap, subst, arith, zero-le}
 use Rattle.std.proofs.lemmas.Bool.{eqb-true}
-use Rattle.std.proofs.lemmas.List.{append_assoc, append-nil, length-append, length-map}
+use Rattle.std.proofs.lemmas.List.{append_assoc, append-nil, length-append, length-map, nil_from_length}
 use Rattle.std.proofs.lemmas.List.Elements.{filter_map-append}
 use Rattle.std.specs.Prelude.{zip}
 use Rattle.std.specs.List.{cons_option, IsDistinct}
@@ -35,10 +35,6 @@ fine_more : (before lines : List (List ℕ)) (line : List ℕ) → FineFrom befo
 fine_more before [] line fine is = (ap (λ b. fault_at b line) (sym (append-nil before)) ∙ is, tt)
 fine_more before (next ∷ lines) line fine is =
     (fine.0, fine_more (before ++ next ∷ []) lines line fine.1 (ap (λ b. fault_at b line) (append_assoc before (next ∷ []) lines) ∙ is))
-
-is_empty : (bytes : List ℕ) → (length bytes == 0) ≡ true → bytes ≡ []
-is_empty [] is = refl
-is_empty (byte ∷ bytes) is = absurd (omega (arith, eqb-true (length (byte ∷ bytes)) 0 is))
 
 -- what was read of an index: the lines before these bytes, and the keys that they gave
 pub record Listed (bytes left : List ℕ) (numbers : List ℕ) (names : List (List ℕ)) : Type 0 where
@@ -87,7 +83,7 @@ module _ (bytes left : List ℕ) (numbers : List ℕ) (names : List (List ℕ)) 
 
   pub all_listed : (length left == 0) ≡ true → IsFine (all_lines bytes) × Holds numbers names (entries_of (all_lines bytes))
   all_listed none_left =
-      let none : left ≡ [] = is_empty left none_left in
+      let none : left ≡ [] = nil_from_length left (eqb-true (length left) 0 none_left) in
       let all : all_lines bytes ≡ so_far.before = so_far.lines_are ∙ ap (λ b. so_far.before ++ all_lines b) none ∙ ap (λ ls. so_far.before ++ ls) no_lines ∙ append-nil so_far.before in
       (subst IsFine (sym all) (fine_lines so_far.before so_far.fine), subst (λ ls. Holds numbers names (entries_of ls)) (sym all) so_far.holds)
 
