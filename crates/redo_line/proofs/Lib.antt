@@ -1,10 +1,27 @@
 pub mod CutLemmas
+mod DigitLemmas
 mod DirectoryLemmas
+mod EntryLemmas
+mod EntryListLemmas
+mod FaultLemmas
+mod FieldLemmas
+mod FirstPlace
+mod LeastFaultLemmas
 pub mod LineLemmas
 mod LineRows
 mod NameLemmas
 mod NameRows
+mod Numbers
+mod PartLemmas
 mod PathLemmas
 mod PieceLemmas
+mod ReadingLemmas
+mod RecordLemmas
+mod RecordRows
+mod ScanEnds
+mod ScanLemmas
+mod ScanSteps
 mod SegmentLemmas
 mod SinkLemmas
+mod StatusLemmas
+mod Stripping

@@ -1,9 +1,16 @@
 pub mod Cut
+pub mod Decimal
+pub mod Entry
 pub mod Fault
 pub mod Feed
+pub mod Line
 pub mod Lines
+pub mod Log
 pub mod Names
+pub mod Parts
 pub mod Path
 pub mod Pieces
+pub mod Record
+pub mod Scan
 pub mod Sink
 pub mod Taker

@@ -7,26 +7,40 @@
 #![tactic(auto)]
 
 mod cutter;
+mod decimal;
+mod entry;
 mod failures;
 mod feed;
 mod laws;
+mod line;
 mod line_text;
 mod name;
 mod normal_form;
+mod parts;
 mod pieces;
+mod progress;
 mod reading;
+mod record;
+mod scan;
 mod sink;
 mod stream_fault;
 mod taker;
 mod writing;
 
 pub use cutter::{Cut, Cutter};
+pub use decimal::read_number;
+pub use entry::{Entry, How};
 pub use feed::{Broken, Feed};
-pub use laws::{cutting_goes_on, normal_form_of_normal_form, one_cutting};
+pub use laws::{
+    an_entry_for_each_line, cutting_goes_on, early_fault, entry_of_a_line, least_line_at_fault,
+    normal_form_of_normal_form, one_cutting, one_reading,
+};
+pub use line::{LineFault, read_line};
 pub use line_text::LineText;
 pub use name::{NameFault, TargetName};
 pub use pieces::Pieces;
 pub use reading::Reading;
+pub use scan::{Scan, Step};
 pub use sink::{Sink, push_all};
 pub use stream_fault::StreamFault;
 pub use taker::Taker;

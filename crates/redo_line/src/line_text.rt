@@ -1,5 +1,6 @@
-ghost use Rattle.std.specs.Prelude.{◌≡◌};
+ghost use Rattle.std.specs.Prelude.{◌≡◌, ◌≤◌, length, drop, IfOk};
 
+use std::alloc::{AllocError, Global};
 use std::marker::Model;
 
 /// The bytes of a line, or of a part of one. They need be no text.
@@ -21,6 +22,24 @@ impl LineText {
         ensures { result ≡ bytes.items }
     {
         LineText { bytes }
+    }
+
+    // The same bytes in memory of their own.
+    pub(crate) fn copy_of(alloc: Global, bytes: &[u8]) -> Result<LineText, AllocError>
+        ensures { IfOk result (λ text. text ≡ bytes.now) }
+    {
+        Ok(LineText {
+            bytes: bytes.to_vec(alloc)?,
+        })
+    }
+
+    // What stands behind so many bytes, in the memory of the line.
+    pub(crate) fn behind(mut self, count: usize) -> LineText
+        requires { count ≤ length self }
+        ensures { result ≡ drop count self }
+    {
+        self.bytes.drain(..count);
+        self
     }
 
     /// The bytes, as they were read.

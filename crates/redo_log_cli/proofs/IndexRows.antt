@@ -3,7 +3,8 @@ use Rattle.std.proofs.Common.{◌≡◌, ℕ, List, [], ◌∷◌, None, refl}
 use Rattle.std.specs.Prelude.{codes}
 use Rattle.redo_line.specs.Names.{from_back, normal}
 use Rattle.redo_log_cli.specs.declared.index_fault.IndexFault.TheVariants.{BadLine, FidTwice, NameTwice}
-use Rattle.redo_log_cli.specs.Index.{Entry, number, entry_of, entries_of, IsFine, IsRefused}
+use Rattle.redo_line.specs.Decimal.{number}
+use Rattle.redo_log_cli.specs.Index.{Entry, entry_of, entries_of, IsFine, IsRefused}
 use Rattle.redo_log_cli.proofs.IndexLines.{fine_lines}
 
 -- lines that are an index, and what it lists

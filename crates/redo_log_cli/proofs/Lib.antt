@@ -6,6 +6,5 @@ mod IndexLaws
 mod IndexLines
 mod IndexRows
 mod Listing
-mod Numbers
 mod ShownRows
 mod Writing

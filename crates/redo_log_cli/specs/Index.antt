@@ -1,8 +1,8 @@
 -- What an index lists, and which of its lines is refused.
-use Rattle.std.specs.Prelude.{◌≡◌, ℕ, ◌+◌, ◌-◌, ◌*◌, ◌^◌, ◌≤◌, nat_le, nat_eq, Bool, false, not, ◌==◌, ◌&&◌, List, [], ◌∷◌, ◌++◌, Option, None, Some, length, map, filter_map, if◌then◌else◌}
-use Rattle.std.specs.Char.{is_ascii_digit}
-use Rattle.std.specs.List.{list_any, list_all, before_first, after_first, IsDistinct}
+use Rattle.std.specs.Prelude.{◌≡◌, ℕ, ◌+◌, ◌≤◌, nat_le, nat_eq, Bool, false, not, ◌==◌, ◌&&◌, List, [], ◌∷◌, ◌++◌, Option, None, Some, length, map, filter_map, if◌then◌else◌}
+use Rattle.std.specs.List.{list_any, before_first, after_first, IsDistinct}
 use Rattle.std.specs.Cmp.Lexicographic.{pointwise}
+use Rattle.redo_line.specs.Decimal.{number, are_digits}
 use Rattle.redo_line.specs.Names.{normal}
 use Rattle.redo_log_cli.specs.declared.index_fault.IndexFault.{IndexFault}
 use Rattle.redo_log_cli.specs.declared.index_fault.IndexFault.TheVariants.{BadLine, FidTwice, NameTwice, TooMany}
@@ -18,13 +18,9 @@ Entry = ℕ × List ℕ
 -- one to nine digits, the first not 0
 abbrev pub is_number : List ℕ → Bool
 is_number [] = false
-is_number (first ∷ others) = not (first == 48) && nat_le (length others) 8 && list_all is_ascii_digit (first ∷ others)
+is_number (first ∷ others) = not (first == 48) && are_digits 9 (first ∷ others)
 
--- what digits stand for
-unfoldable pub number : List ℕ → ℕ
-number [] = 0
-number (digit ∷ digits) = (digit - 48) * 10 ^ length digits + number digits
-
+-- what it stands for
 abbrev pub number_of : List ℕ → Option ℕ
 number_of bytes = if is_number bytes then Some (number bytes) else None
 

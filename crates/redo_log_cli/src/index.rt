@@ -1,15 +1,13 @@
 ghost use Rattle.std.specs.Prelude.{◌≡◌, ◌<◌, ◌≤◌, ◌⊎◌, List, [], ◌∷◌, Some, None, nat_eq, length, position, slice_get, IfOk, IfErr, if◌then◌else◌};
-ghost use Rattle.std.specs.Char.{is_ascii_digit};
 ghost use Rattle.std.specs.Cmp.Lexicographic.{pointwise};
-ghost use Rattle.std.specs.List.{list_all};
 ghost use Rattle.redo_line.specs.Lines.{all_lines};
 ghost use Rattle.redo_log_cli.specs.declared.index_fault.IndexFault.TheVariants.{OutOfMemory};
-ghost use Rattle.redo_log_cli.specs.Index.{Entry, numbers_of, names_of, entries_of, entry_of, number, number_of, fault_after, IsFine, IsRefused, Holds, Lists};
+ghost use Rattle.redo_log_cli.specs.Index.{Entry, numbers_of, names_of, entries_of, entry_of, number_of, fault_after, IsFine, IsRefused, Holds, Lists};
 
 use crate::index_fault::IndexFault;
 use indexmap::IndexSet;
 use memchr::memchr;
-use redo_line::{NameFault, TargetName};
+use redo_line::{NameFault, TargetName, read_number};
 use std::alloc::{AllocError, Global};
 use std::marker::Model;
 
@@ -145,7 +143,7 @@ fn read_entry(alloc: Global, line: &[u8]) -> Result<Option<(u32, TargetName)>, A
     let Some(at) = memchr(b' ', line) else {
         return Ok(None);
     };
-    let Some(number) = read_number(&line[..at]) else {
+    let Some(number) = read_fid(&line[..at]) else {
         return Ok(None);
     };
     match TargetName::resolve(alloc, None, &line[at + 1..]) {
@@ -155,25 +153,14 @@ fn read_entry(alloc: Global, line: &[u8]) -> Result<Option<(u32, TargetName)>, A
     }
 }
 
-fn read_number(bytes: &[u8]) -> Option<u32>
+fn read_fid(bytes: &[u8]) -> Option<u32>
     ensures { result ≡ number_of bytes.now }
 {
-    if bytes.is_empty() || bytes.len() > 9 || bytes[0] == b'0' {
+    if bytes.is_empty() || bytes[0] == b'0' {
         return None;
     }
-    read_digits(bytes)
-}
-
-fn read_digits(digits: &[u8]) -> Option<u32>
-    requires { length digits.now ≤ 9 }
-    ensures { result ≡ (if list_all is_ascii_digit digits.now then Some (number digits.now) else None) }
-{
-    let mut number = 0;
-    for &digit in digits {
-        if !digit.is_ascii_digit() {
-            return None;
-        }
-        number = number * 10 + u32::from(digit - b'0');
+    match read_number(9, bytes) {
+        Some(number) => Some(number as u32),
+        None => None,
     }
-    Some(number)
 }

@@ -5,11 +5,11 @@ use Rattle.redo_log_cli.proofs.index.read_entry.Goals as goal
 pub returns-in_default : goal.returns-in_default
 returns-in_default c = sym (none_of c.args.line.now c.in_default.ensures)
 
-pub returns-in_default-read_number : goal.returns-in_default-read_number
-returns-in_default-read_number c = sym (no_number c.args.line.now c.in-Some.at c.in-Some.ensures (sym c.in_default-read_number.ensures))
+pub returns-in_default-read_fid : goal.returns-in_default-read_fid
+returns-in_default-read_fid c = sym (no_number c.args.line.now c.in-Some.at c.in-Some.ensures (sym c.in_default-read_fid.ensures))
 
 pub returns-in-Ok : goal.returns-in-Ok
-returns-in-Ok c = sym (an_entry c.args.line.now c.in-Some.at c.in-Some.ensures c.in-Some-read_number.number c.in-Ok.name (sym c.in-Some-read_number.ensures) c.in-Ok.ensures.ok)
+returns-in-Ok c = sym (an_entry c.args.line.now c.in-Some.at c.in-Some.ensures c.in-Some-read_fid.number c.in-Ok.name (sym c.in-Some-read_fid.ensures) c.in-Ok.ensures.ok)
 
 pub returns-in-Err-Empty : goal.returns-in-Err-Empty
 returns-in-Err-Empty c = sym (no_name c.args.line.now c.in-Some.at c.in-Some.ensures (c.in-Err-Empty.ensures.empty.0 (ap Err c.in-Err-Empty.field-0-is)))

@@ -1,0 +1,52 @@
+-- The fields of a record, part by part.
+use Rattle.std.proofs.Common.{◌≡◌, ℕ, ◌&&◌, true, false, List, [], ◌∷◌, Option, None, Some, IfNone, refl, ap, ◌∙◌}
+use Rattle.std.specs.Prelude.{option_map}
+use Rattle.std.proofs.lemmas.Bool.{and_left, and_right}
+use Rattle.redo_line.specs.Parts.{parted, behind}
+use Rattle.redo_line.specs.Record.{colon, at_sign, space, is_kind, is_pid, is_time, checked, kind_and_text, fields_of}
+
+pub if_none : {X : Type 0} (result : Option X) (P : Type 0) → P → IfNone result P
+if_none None P p = p
+if_none (Some x) P p = tt
+
+-- parts that don't fit
+module _ (kind pid time : List ℕ) where
+  pub kind_fails : is_kind kind ≡ false → (is_kind kind && is_pid pid && is_time time) ≡ false
+  kind_fails is = and_left (is_kind kind && is_pid pid) (is_time time) (and_left (is_kind kind) (is_pid pid) is)
+
+  pub pid_fails : is_pid pid ≡ false → (is_kind kind && is_pid pid && is_time time) ≡ false
+  pid_fails is = and_left (is_kind kind && is_pid pid) (is_time time) (and_right (is_kind kind) (is_pid pid) is)
+
+  pub time_fails : is_time time ≡ false → (is_kind kind && is_pid pid && is_time time) ≡ false
+  time_fails is = and_right (is_kind kind && is_pid pid) (is_time time) is
+
+module _ (bytes : List ℕ) where
+  pub no_kind : parted colon bytes ≡ None → fields_of bytes ≡ None
+  unfolding fields_of
+  no_kind is = rw is
+
+  module _ (kind behind_kind : List ℕ) (kind_is : parted colon bytes ≡ Some (kind, behind_kind)) where
+    pub no_pid : parted colon behind_kind ≡ None → fields_of bytes ≡ None
+    unfolding fields_of
+    no_pid is = rw (kind_is, is)
+
+    module _ (pid behind_pid : List ℕ) (pid_is : parted colon behind_kind ≡ Some (pid, behind_pid)) where
+      pub no_time : parted at_sign behind_pid ≡ None → fields_of bytes ≡ None
+      unfolding fields_of
+      no_time is = rw (kind_is, pid_is, is)
+
+      module _ (time behind_time : List ℕ) (time_is : parted at_sign behind_pid ≡ Some (time, behind_time)) where
+        pub no_text : behind (at_sign ∷ space ∷ []) behind_time ≡ None → fields_of bytes ≡ None
+        unfolding fields_of
+        no_text is = rw (kind_is, pid_is, time_is, is)
+
+        module _ (text : List ℕ) (text_is : behind (at_sign ∷ space ∷ []) behind_time ≡ Some text) where
+          fields_are : fields_of bytes ≡ checked (record { kind = kind; pid = pid; time = time; text = text })
+          unfolding fields_of
+          fields_are = rw (kind_is, pid_is, time_is, text_is)
+
+          pub fields_found : is_kind kind ≡ true → is_pid pid ≡ true → is_time time ≡ true → option_map kind_and_text (fields_of bytes) ≡ Some (kind, text)
+          fields_found kind_fits pid_fits time_fits = ap (option_map kind_and_text) fields_are ∙ rw (kind_fits, pid_fits, time_fits) refl
+
+          pub fields_refused : (is_kind kind && is_pid pid && is_time time) ≡ false → fields_of bytes ≡ None
+          fields_refused is = fields_are ∙ rw is

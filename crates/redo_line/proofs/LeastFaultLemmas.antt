@@ -1,0 +1,169 @@
+-- The fault among lines is that of the least one that is late or bad, place by place.
+use Rattle.std.proofs.Common.{◌≡◌, ◌⊎◌, inl, inr, ℕ, zero, suc, ◌+◌, ◌<◌, Bool, true, false, List, [], ◌∷◌, ◌++◌, Option, None, Some, option_to_list, length, refl, ◌∙◌, ap, subst, arith}
+use Rattle.std.specs.List.{slice_get}
+use Rattle.std.proofs.lemmas.Bool.{false≢true}
+use Rattle.redo_line.specs.declared.entry.Entry.{Entry}
+use Rattle.redo_line.specs.declared.stream_fault.StreamFault.{StreamFault}
+use Rattle.redo_line.specs.declared.stream_fault.StreamFault.TheVariants.{BadRecord, AfterClose}
+use Rattle.redo_line.specs.Entry.{entry_of}
+use Rattle.redo_line.specs.Lines.{ended, rest, unended}
+use Rattle.redo_line.specs.Log.{closes, IsLate, IsBad, IsAtFault, IsLeastFault, line_entries, entries_of, first_fault, line_fault}
+use Rattle.redo_line.proofs.FaultLemmas.{rest_entries}
+
+-- at this place stands an entry right behind one that closes the log; `closed` says whether such a one stands before the first
+abbrev Late : List (Option Entry) → ℕ → Bool → Type 0
+Late [] place closed = ⊥
+Late (entry ∷ entries) zero closed = closed ≡ true
+Late (entry ∷ entries) (suc place) closed = Late entries place (closes entry)
+
+-- at this place stands a line without an entry
+abbrev Bad : List (Option Entry) → ℕ → Type 0
+Bad [] place = ⊥
+Bad (entry ∷ entries) zero = entry ≡ None
+Bad (entry ∷ entries) (suc place) = Bad entries place
+
+-- the fault of such a place, among lines of which the first has this number
+abbrev AtFault : Bool → ℕ → List (Option Entry) → ℕ → StreamFault → Type 0
+AtFault closed line entries place fault =
+    (Late entries place closed × (fault ≡ AfterClose (line + place)))
+    ⊎ ((Late entries place closed → ⊥) × Bad entries place × (fault ≡ BadRecord (line + place)))
+
+-- no such place
+abbrev Fine : Bool → List (Option Entry) → ℕ → Type 0
+Fine closed entries place = (Late entries place closed → ⊥) × (Bad entries place → ⊥)
+
+next_place : (line place : ℕ) (entry : Entry) (entries : List (Option Entry)) (fault : StreamFault) → AtFault (closes (Some entry)) (line + 1) entries place fault
+    → AtFault false line (Some entry ∷ entries) (suc place) fault
+next_place line place entry entries fault (inl is) = let e : line + 1 + place ≡ line + suc place = omega arith in inl (is.0, is.1 ∙ ap AfterClose e)
+next_place line place entry entries fault (inr is) = let e : line + 1 + place ≡ line + suc place = omega arith in inr (is.0, is.1, is.2 ∙ ap BadRecord e)
+
+first_fine : (entry : Entry) (entries : List (Option Entry)) → Fine false (Some entry ∷ entries) 0
+first_fine entry entries = (λ is. absurd (false≢true is), λ is. absurd (cc))
+
+-- the fault that is found is that of the least such place
+least_place : (closed : Bool) (line : ℕ) (entries : List (Option Entry)) (fault : StreamFault) → first_fault closed line entries ≡ Some fault
+    → (place : ℕ) × AtFault closed line entries place fault × ((earlier : ℕ) → earlier < place → Fine closed entries earlier)
+unfolding first_fault
+least_place closed line [] fault some = absurd (cc)
+least_place true line (entry ∷ entries) fault some =
+    let e : line ≡ line + 0 = omega arith in
+    let here : fault ≡ AfterClose line = cc in
+    (0, inl (refl, here ∙ ap AfterClose e), λ earlier below. absurd (omega arith))
+least_place false line (None ∷ entries) fault some =
+    let e : line ≡ line + 0 = omega arith in
+    let here : fault ≡ BadRecord line = cc in
+    (0, inr ((λ is. absurd (false≢true is)), refl, here ∙ ap BadRecord e), λ earlier below. absurd (omega arith))
+least_place false line (Some entry ∷ entries) fault some =
+    let behind = least_place (closes (Some entry)) (line + 1) entries fault some in
+    (suc behind.0, next_place line behind.0 entry entries fault behind.1, by behind.0 behind.2)
+  where
+    by : (place : ℕ) → ((earlier : ℕ) → earlier < place → Fine (closes (Some entry)) entries earlier) → (earlier : ℕ) → earlier < suc place → Fine false (Some entry ∷ entries) earlier
+    by place before zero below = first_fine entry entries
+    by place before (suc earlier) below = before earlier (omega arith)
+
+-- and where none is found, there is no such place
+each_fine : (closed : Bool) (line : ℕ) (entries : List (Option Entry)) → first_fault closed line entries ≡ None → (place : ℕ) → Fine closed entries place
+unfolding first_fault
+each_fine closed line [] is place = (λ late. late, λ bad. bad)
+each_fine true line (entry ∷ entries) is place = absurd (cc)
+each_fine false line (None ∷ entries) is place = absurd (cc)
+each_fine false line (Some entry ∷ entries) is zero = first_fine entry entries
+each_fine false line (Some entry ∷ entries) is (suc place) = each_fine (closes (Some entry)) (line + 1) entries is place
+
+-- in the entries of lines and of a rest, a late place stands behind a line that closes the log, and a bad one is a line
+abbrev all_entries : List ℕ → List (List ℕ) → List ℕ → List (Option Entry)
+all_entries target lines last = line_entries target lines ++ rest_entries target last
+
+late_line : (target : List ℕ) (lines : List (List ℕ)) (last : List ℕ) (closed : Bool) (place : ℕ) → Late (all_entries target lines last) (suc place) closed
+    → (closing : List ℕ) × (slice_get lines place ≡ Some closing) × (closes (entry_of target closing true) ≡ true) × (place + 1 < length (lines ++ option_to_list (unended last)))
+late_line target [] [] closed place late = absurd late
+late_line target [] (byte ∷ last) closed place late = absurd late
+late_line target (line ∷ []) [] closed zero late = absurd late
+late_line target (line ∷ []) (byte ∷ last) closed zero late = (line, refl, late, omega arith)
+late_line target (line ∷ next ∷ lines) last closed zero late = (line, refl, late, omega arith)
+late_line target (line ∷ lines) last closed (suc place) late =
+    let behind = late_line target lines last (closes (entry_of target line true)) place late in
+    (behind.0, behind.1, behind.2, let below = behind.3 in omega arith)
+
+line_late : (target : List ℕ) (lines : List (List ℕ)) (last : List ℕ) (closed : Bool) (place : ℕ) (closing : List ℕ) → slice_get lines place ≡ Some closing
+    → closes (entry_of target closing true) ≡ true → place + 1 < length (lines ++ option_to_list (unended last)) → Late (all_entries target lines last) (suc place) closed
+line_late target [] last closed place closing stands closes_it follows = absurd (cc)
+line_late target (line ∷ []) [] closed zero closing stands closes_it follows = absurd (omega arith)
+line_late target (line ∷ []) (byte ∷ last) closed zero closing stands closes_it follows =
+    let same : line ≡ closing = cc in ap (λ l. closes (entry_of target l true)) same ∙ closes_it
+line_late target (line ∷ next ∷ lines) last closed zero closing stands closes_it follows =
+    let same : line ≡ closing = cc in ap (λ l. closes (entry_of target l true)) same ∙ closes_it
+line_late target (line ∷ lines) last closed (suc place) closing stands closes_it follows =
+    line_late target lines last (closes (entry_of target line true)) place closing stands closes_it (omega arith)
+
+bad_line : (target : List ℕ) (lines : List (List ℕ)) (last : List ℕ) (place : ℕ) → Bad (all_entries target lines last) place
+    → (text : List ℕ) × (slice_get lines place ≡ Some text) × (entry_of target text true ≡ None)
+unfolding entry_of
+bad_line target [] [] place bad = absurd bad
+bad_line target [] (byte ∷ last) zero bad = absurd (cc)
+bad_line target [] (byte ∷ last) (suc place) bad = absurd bad
+bad_line target (line ∷ lines) last zero bad = (line, refl, bad)
+bad_line target (line ∷ lines) last (suc place) bad = bad_line target lines last place bad
+
+line_bad : (target : List ℕ) (lines : List (List ℕ)) (last : List ℕ) (place : ℕ) (text : List ℕ) → slice_get lines place ≡ Some text
+    → entry_of target text true ≡ None → Bad (all_entries target lines last) place
+line_bad target [] last place text stands has_none = absurd (cc)
+line_bad target (line ∷ lines) last zero text stands has_none = let same : line ≡ text = cc in ap (λ l. entry_of target l true) same ∙ has_none
+line_bad target (line ∷ lines) last (suc place) text stands has_none = line_bad target lines last place text stands has_none
+
+not_first : (entries : List (Option Entry)) → Late entries 0 false → ⊥
+not_first [] late = late
+not_first (entry ∷ entries) late = false≢true late
+
+-- so such places are the late and the bad lines of the bytes
+module _ (target bytes : List ℕ) where
+  to_late : (place : ℕ) → Late (entries_of target bytes) place false → IsLate target bytes (1 + place)
+  to_late zero late = absurd (not_first (entries_of target bytes) late)
+  to_late (suc place) late =
+      let is = late_line target (ended bytes) (rest bytes) false place late in
+      record { place = place; line_is = omega arith; closing = is.0; stands = is.1; closes_it = is.2; follows = is.3 }
+
+  from_late : (line : ℕ) → IsLate target bytes line → (place : ℕ) × (line ≡ 1 + place) × Late (entries_of target bytes) place false
+  from_late line is =
+      let number = is.line_is in
+      (suc is.place, omega arith, line_late target (ended bytes) (rest bytes) false is.place is.closing is.stands is.closes_it is.follows)
+
+  to_bad : (place : ℕ) → Bad (entries_of target bytes) place → IsBad target bytes (1 + place)
+  to_bad place bad =
+      let is = bad_line target (ended bytes) (rest bytes) place bad in
+      record { place = place; line_is = omega arith; text = is.0; stands = is.1; has_none = is.2 }
+
+  from_bad : (line : ℕ) → IsBad target bytes line → (place : ℕ) × (line ≡ 1 + place) × Bad (entries_of target bytes) place
+  from_bad line is =
+      let number = is.line_is in
+      (is.place, omega arith, line_bad target (ended bytes) (rest bytes) is.place is.text is.stands is.has_none)
+
+  not_at_fault : (line : ℕ) → ((place : ℕ) → line ≡ 1 + place → Fine false (entries_of target bytes) place) → (IsLate target bytes line → ⊥) × (IsBad target bytes line → ⊥)
+  not_at_fault line fine = (
+    λ late. let is = from_late line late in (fine is.0 is.1).0 is.2,
+    λ bad. let is = from_bad line bad in (fine is.0 is.1).1 is.2,
+  )
+
+  at_fault : (place : ℕ) (fault : StreamFault) → AtFault false 1 (entries_of target bytes) place fault → IsAtFault target bytes (1 + place) fault
+  at_fault place fault (inl is) = inl (to_late place is.0, is.1)
+  at_fault place fault (inr is) = inr (
+    λ late.
+        let found = from_late (1 + place) late in
+        let number = found.1 in
+        let same : found.0 ≡ place = omega arith in
+        is.0 (subst (λ p. Late (entries_of target bytes) p false) same found.2),
+    to_bad place is.1,
+    is.2,
+  )
+
+  pub least_line : (fault : StreamFault) → line_fault target bytes ≡ Some fault → IsLeastFault target bytes fault
+  least_line fault some =
+      let found = least_place false 1 (entries_of target bytes) fault some in
+      record {
+        line = 1 + found.0;
+        at_fault = at_fault found.0 fault found.1;
+        none_before = λ earlier below. not_at_fault earlier (λ place is. found.2 place (omega arith));
+      }
+
+  pub no_line : line_fault target bytes ≡ None → (line : ℕ) → (IsLate target bytes line → ⊥) × (IsBad target bytes line → ⊥)
+  no_line is line = not_at_fault line (λ place number. each_fine false 1 (entries_of target bytes) is place)

@@ -1,0 +1,148 @@
+-- What reading a line answers, by what it found.
+use Rattle.std.proofs.Common.{◌≡◌, ◌≢◌, ◌↔◌, ◌&&◌, Bool, false, ℕ, ◌-◌, ◌≤◌, true, List, [], ◌∷◌, ◌++◌, Option, None, Some, Result, Ok, Err, IsErr, IsErrAnd, length, take, drop, nat_eq, refl, sym, ap, ◌∙◌, subst, arith, ℤ}
+use Rattle.std.specs.Prelude.{option_map, option_and_then}
+use Rattle.std.proofs.lemmas.Bool.{and_parts}
+use Rattle.std.proofs.lemmas.Option.{same_Some, none-some}
+use Rattle.std.proofs.lemmas.List.{take_rest, take-append-drop, append_assoc, length-append}
+use Rattle.std.proofs.Math.Seq.{drop-append_seam}
+use Rattle.std.specs.Cmp.Lexicographic.{pointwise}
+use Rattle.redo_line.specs.declared.entry.Entry.{Entry}
+use Rattle.redo_line.specs.declared.entry.Entry.TheVariants.{Text}
+use Rattle.redo_line.specs.declared.line.LineFault.{LineFault}
+use Rattle.redo_line.specs.declared.line.LineFault.TheVariants.{BadRecord, OutOfMemory}
+use Rattle.redo_line.specs.declared.name.NameFault.{NameFault}
+use Rattle.redo_line.specs.declared.name.NameFault.TheVariants as name
+use Rattle.redo_line.specs.Entry.{behind_mark, line_entry, done, done_parted, said, record_entry, entry_of}
+use Rattle.redo_line.specs.Line.{bad_name, Reads}
+use Rattle.redo_line.specs.Names.{normal}
+use Rattle.redo_line.specs.Record.{mark, colon, at_sign, space, Fields, kind_of, kind_and_text, fields_of, status_of}
+use Rattle.redo_line.proofs.RecordLemmas.{fields_read}
+use Rattle.redo_line.proofs.Stripping.{behind_begins, behind_none}
+
+-- the entry that a name makes
+abbrev pub of_name : (List ℕ → Entry) → List ℕ → List ℕ → Option Entry
+of_name make target written = option_and_then (λ (mentioned : List ℕ). Some (make mentioned)) (normal (Some target) written)
+
+without : (make : List ℕ → Entry) (target written : List ℕ) → written ≡ [] → of_name make target written ≡ None
+unfolding normal
+without make target [] is = refl
+without make target (byte ∷ bytes) is = absurd (cc)
+
+with : (make : List ℕ → Entry) (target written : List ℕ) → written ≢ [] → of_name make target written ≢ None
+unfolding normal
+with make target [] some none = some refl
+with make target (byte ∷ bytes) some none = absurd (cc)
+
+-- a name that can't be resolved
+pub bad_name_read : (make : List ℕ → Entry) (target written : List ℕ) (fault : NameFault) (result : Result Entry LineFault)
+    → (◌≡◌ {A = Result (List ℕ) NameFault} (Err fault) (Err name.Empty) ↔ (written ≡ [])) → IsErr result × IsErrAnd result (λ given. given ≡ bad_name fault) → Reads result (of_name make target written)
+bad_name_read make target written fault (Ok entry) empty is = absurd is.1
+bad_name_read make target written name.Empty (Err given) empty is = subst (λ g. Reads (Err g) (of_name make target written)) (sym is.1) (without make target written (empty.0 refl))
+bad_name_read make target written name.OutOfMemory (Err given) empty is =
+    subst (λ g. Reads (Err g) (of_name make target written)) (sym is.1) (with make target written (λ none. let e = empty.1 none in absurd (cc)))
+
+pub named_read : (make : List ℕ → Entry) (target written mentioned : List ℕ) → normal (Some target) written ≡ Some mentioned → of_name make target written ≡ Some (make mentioned)
+named_read make target written mentioned is = rw is refl
+
+-- a done record, by its parts
+pub done_by_parts : (target : List ℕ) (read : Option (List ℕ × List ℕ)) (status written : List ℕ) (value : ℤ) → read ≡ Some (status, written) → status_of status ≡ Some value
+    → done_parted target read ≡ of_name (λ mentioned. done target value mentioned) target written
+done_by_parts target read status written value parts is = rw (parts, is) refl
+
+-- what stands behind the mark says what the line says
+pub at_mark : (target line : List ℕ) → pointwise nat_eq mark (take 7 line) ≡ true → entry_of target line true ≡ record_entry target (drop 7 line)
+unfolding entry_of
+at_mark target line is = rw (behind_begins mark line is) refl
+
+pub no_fields : (target bytes : List ℕ) → fields_of bytes ≡ None → record_entry target bytes ≡ None
+unfolding record_entry
+no_fields target bytes is = rw is
+
+said_by : (target : List ℕ) (read : Option Fields) (kind text : List ℕ) → option_map kind_and_text read ≡ Some (kind, text)
+    → option_and_then (λ (fields : Fields). said target (kind_of fields.kind) fields.kind fields.text) read ≡ said target (kind_of kind) kind text
+said_by target None kind text is = absurd (cc)
+said_by target (Some fields) kind text is =
+    let same : kind_and_text fields ≡ (kind, text) = same_Some (kind_and_text fields) (kind, text) is in
+    ap (λ (parts : List ℕ × List ℕ). said target (kind_of parts.0) parts.0 parts.1) same
+
+pub by_fields : (target bytes kind text : List ℕ) → option_map kind_and_text (fields_of bytes) ≡ Some (kind, text) → record_entry target bytes ≡ said target (kind_of kind) kind text
+unfolding record_entry
+by_fields target bytes kind text is = said_by target (fields_of bytes) kind text is
+
+-- what a record says, by its parts
+module _ (target line bytes kind text : List ℕ) (begins : pointwise nat_eq mark (take 7 line) ≡ true) (bytes_are : bytes ≡ drop 7 line)
+    (parts : option_map kind_and_text (fields_of bytes) ≡ Some (kind, text)) where
+  pub what_it_says : entry_of target line true ≡ said target (kind_of kind) kind text
+  what_it_says = at_mark target line begins ∙ ap (record_entry target) (sym bytes_are) ∙ by_fields target bytes kind text parts
+
+pub what_none_says : (target line bytes : List ℕ) → pointwise nat_eq mark (take 7 line) ≡ true → bytes ≡ drop 7 line → fields_of bytes ≡ None → entry_of target line true ≡ None
+what_none_says target line bytes begins bytes_are none = at_mark target line begins ∙ ap (record_entry target) (sym bytes_are) ∙ no_fields target bytes none
+
+-- bytes stand at the end of a line
+abbrev pub Ends : List ℕ → List ℕ → Type 0
+Ends line text = (front : List ℕ) × (line ≡ front ++ text)
+
+text_behind : (fields : Fields) (bytes : List ℕ) → bytes ≡ fields.kind ++ colon ∷ (fields.pid ++ colon ∷ (fields.time ++ at_sign ∷ at_sign ∷ space ∷ fields.text))
+    → bytes ≡ (fields.kind ++ colon ∷ (fields.pid ++ colon ∷ fields.time ++ at_sign ∷ at_sign ∷ space ∷ [])) ++ fields.text
+text_behind fields bytes is = is ∙ simp append_assoc
+
+ends_by : (read : Option Fields) (bytes kind text : List ℕ) → fields_of bytes ≡ read → option_map kind_and_text read ≡ Some (kind, text) → Ends bytes text
+ends_by None bytes kind text is parts = absurd (none-some (kind, text) parts)
+ends_by (Some fields) bytes kind text is parts =
+    let same : kind_and_text fields ≡ (kind, text) = same_Some (kind_and_text fields) (kind, text) parts in
+    let writes = fields_read bytes fields is in
+    let behind_colons = fields.pid ++ colon ∷ fields.time ++ at_sign ∷ at_sign ∷ space ∷ [] in (
+      fields.kind ++ colon ∷ behind_colons,
+      text_behind fields
+          bytes writes.0 ∙ ap (λ (parts : List ℕ × List ℕ). (fields.kind ++ colon ∷ behind_colons) ++ parts.1) same,
+    )
+
+pub text_ends : (line bytes kind text : List ℕ) → bytes ≡ drop 7 line → option_map kind_and_text (fields_of bytes) ≡ Some (kind, text) → Ends line text
+text_ends line bytes kind text bytes_are parts =
+    let ends = ends_by (fields_of bytes) bytes kind text refl parts in
+    (take 7 line ++ ends.0, sym (take-append-drop 7 line) ∙ ap (λ (bs : List ℕ). take 7 line ++ bs) (sym bytes_are ∙ ends.1) ∙ sym (append_assoc (take 7 line) ends.0 text))
+
+pub end_fits : (line text : List ℕ) → Ends line text → length text ≤ length line
+end_fits line text ends = let sum = ap length ends.1 ∙ length-append ends.0 text in omega (arith, sum)
+
+pub end_is : (line text : List ℕ) → Ends line text → drop (length line - length text) line ≡ text
+end_is line text ends =
+    let sum = ap length ends.1 ∙ length-append ends.0 text in
+    let count : length line - length text ≡ length ends.0 = omega (arith, sum) in
+    ap (λ n. drop n line) count ∙ ap (drop (length ends.0)) ends.1 ∙ drop-append_seam ends.0 text
+
+-- what `&line[7..]` shows
+pub behind_line : (shown line : List ℕ) → shown ≡ line → take (length shown - 7) (drop 7 shown) ≡ drop 7 line
+behind_line shown line is = take_rest shown 7 ∙ ap (drop 7) is
+
+-- no memory for what there is
+pub no_memory_read : (result : Result Entry LineFault) (entry : Entry) → IsErr result × IsErrAnd result (λ given. given ≡ OutOfMemory) → Reads result (Some entry)
+no_memory_read (Ok read) entry is = absurd is.1
+no_memory_read (Err given) entry is = subst (λ g. Reads (Err g) (Some entry)) (sym is.1) (λ none. none-some entry (sym none))
+
+-- a line that need not be a record
+begins_not : (line : List ℕ) (ended : Bool) → (ended && pointwise nat_eq mark (take 7 line)) ≡ false → behind_mark line ended ≡ None
+begins_not line true is = behind_none mark line is
+begins_not line false is = refl
+
+module _ (target line shown : List ℕ) (ended : Bool) (shown_is : shown ≡ line) (is : (ended && pointwise nat_eq mark (take 7 shown)) ≡ false) where
+  no_candidate : behind_mark line ended ≡ None
+  no_candidate = subst (λ (l : List ℕ). behind_mark l ended ≡ None) shown_is (begins_not shown ended is)
+
+  pub is_text : entry_of target line ended ≡ Some (Text line)
+  unfolding entry_of
+  is_text = ap (line_entry target line) no_candidate
+
+  pub text_has_entry : (result : Result Entry LineFault) → result ≡ Ok (Text line) → (result ≡ Err BadRecord) ↔ (entry_of target line ended ≡ None)
+  text_has_entry result answer = (λ bad. let e : Ok (Text line) ≡ Err BadRecord = sym answer ∙ bad in absurd (cc), λ none. absurd (none-some (Text line) (sym none ∙ is_text)))
+
+-- a line that has to be one
+module _ (target line shown : List ℕ) (ended : Bool) (shown_is : shown ≡ line) (is : (ended && pointwise nat_eq mark (take 7 shown)) ≡ true) where
+  begins : pointwise nat_eq mark (take 7 line) ≡ true
+  begins = subst (λ (l : List ℕ). pointwise nat_eq mark (take 7 l) ≡ true) shown_is (and_parts ended (pointwise nat_eq mark (take 7 shown)) is).1
+
+  ended_is : ended ≡ true
+  ended_is = (and_parts ended (pointwise nat_eq mark (take 7 shown)) is).0
+
+  pub has_to_be : behind_mark line ended ≡ None → ⊥
+  has_to_be none = none-some (drop 7 line) (sym none ∙ ap (behind_mark line) ended_is ∙ behind_begins mark line begins)

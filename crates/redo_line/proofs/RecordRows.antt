@@ -1,0 +1,84 @@
+-- Examples of lines in the log of the target `all`, computed: the line, whether it is ended, and its entry.
+use Rattle.std.proofs.Common.{◌≡◌, ℕ, Bool, true, false, List, [], ◌∷◌, Option, None, Some, pos, negsuc, refl}
+use Rattle.std.specs.Prelude.{codes}
+use Rattle.std.specs.List.{AllByRecursion}
+use Rattle.redo_line.specs.declared.entry.Entry.{Entry}
+use Rattle.redo_line.specs.declared.entry.Entry.TheVariants.{Text, Mention, Done, Closing, Note}
+use Rattle.redo_line.specs.declared.entry.How.TheVariants.{Made, Waiting, Locked, Unlocked, Unchanged}
+use Rattle.redo_line.specs.Decimal.{number}
+use Rattle.redo_line.specs.Names.{from_back, normal}
+use Rattle.redo_line.specs.Parts.{parted, behind}
+use Rattle.redo_line.specs.Record.{fields_of, status_of}
+use Rattle.redo_line.specs.Entry.{record_entry, entry_of}
+
+record Row : Type 0 where
+  line : List ℕ
+  ended : Bool
+  entry : Option Entry
+
+abbrev row : List ℕ → Option Entry → Row
+row line entry = record { line = line; ended = true; entry = entry }
+
+abbrev unended : List ℕ → Row
+unended line = record { line = line; ended = false; entry = Some (Text line) }
+
+abbrev text : List ℕ → Row
+text line = row line (Some (Text line))
+
+abbrev bad : List ℕ → Row
+bad line = row line None
+
+abbrev rows : List Row
+rows =
+    text (codes "hello") ∷
+    text [] ∷
+    text (codes "x @@REDO:do:7:1@@ a") ∷
+    text (codes "@@REDO") ∷
+    unended (codes "@@REDO:do:7:1.0000@@ a") ∷
+    row (codes "@@REDO:do:7:1.0000@@ a") (Some (Mention Made (codes "a"))) ∷
+    row (codes "@@REDO:do:007:1@@ ./a b") (Some (Mention Made (codes "a b"))) ∷
+    row (codes "@@REDO:waiting:7:1@@ d/x") (Some (Mention Waiting (codes "d/x"))) ∷
+    row (codes "@@REDO:locked:7:1@@ x") (Some (Mention Locked (codes "x"))) ∷
+    row (codes "@@REDO:unlocked:7:1@@ x") (Some (Mention Unlocked (codes "x"))) ∷
+    row (codes "@@REDO:unchanged:7:1@@ x") (Some (Mention Unchanged (codes "x"))) ∷
+    row (codes "@@REDO:done:7:1@@ 2 b") (Some (Done (pos 2) (codes "b"))) ∷
+    row (codes "@@REDO:done:7:1@@ -11 b") (Some (Done (negsuc 10) (codes "b"))) ∷
+    row (codes "@@REDO:done:7:1@@ -0 b") (Some (Done (pos 0) (codes "b"))) ∷
+    row (codes "@@REDO:done:7:1@@ 007  b") (Some (Done (pos 7) (codes " b"))) ∷
+    row (codes "@@REDO:done:7:1@@ 0 ./all") (Some (Closing (pos 0))) ∷
+    row (codes "@@REDO:x-y_z:4294967295:1.123456789@@ ") (Some (Note (codes "x-y_z") [])) ∷
+    row (codes "@@REDO:check:7:12345678901234567890@@ b") (Some (Note (codes "check") (codes "b"))) ∷
+    bad (codes "@@REDO:") ∷
+    bad (codes "@@REDO:do:7") ∷
+    bad (codes "@@REDO::7:1@@ a") ∷
+    bad (codes "@@REDO:Do:7:1@@ a") ∷
+    bad (codes "@@REDO:do:4294967296:1@@ a") ∷
+    bad (codes "@@REDO:do:00000000007:1@@ a") ∷
+    bad (codes "@@REDO:do:7:1.@@ a") ∷
+    bad (codes "@@REDO:do:7:1.1234567890@@ a") ∷
+    bad (codes "@@REDO:check:7:123456789012345678901@@ b") ∷
+    bad (codes "@@REDO:do:7:@@ a") ∷
+    bad (codes "@@REDO:do:7:1@@a") ∷
+    bad (codes "@@REDO:do:7:1@@ ") ∷
+    bad (codes "@@REDO:done:7:1@@ 0") ∷
+    bad (codes "@@REDO:done:7:1@@ 0 ") ∷
+    bad (codes "@@REDO:done:7:1@@ - b") ∷
+    bad (codes "@@REDO:done:7:1@@ 1234567890 b") ∷
+    []
+
+all_rows : AllByRecursion (λ row. entry_of (codes "all") row.line row.ended ≡ row.entry) rows
+unfolding entry_of record_entry fields_of status_of parted behind number normal from_back
+all_rows = (refl, (refl, (refl, (refl, (refl, (refl, (refl, (refl, (refl, (refl, (refl, (refl, (refl, (refl, (refl, (refl, (refl, (refl, (refl, (refl, (refl, (refl, (refl, (refl, (refl, (refl, (refl, (refl, (refl, (refl, (refl, (refl, (refl, (refl, tt))))))))))))))))))))))))))))))))))
+
+-- in the log of another target names are relative to its directory
+in_a_directory : entry_of (codes "d/a") (codes "@@REDO:do:7:1@@ ../e//x") true ≡ Some (Mention Made (codes "e/x"))
+unfolding entry_of record_entry fields_of status_of parted behind number normal from_back
+in_a_directory = refl
+
+closes_by_its_resolved_name : entry_of (codes "d/a") (codes "@@REDO:done:7:1@@ 0 ../d/a") true ≡ Some (Closing (pos 0))
+unfolding entry_of record_entry fields_of status_of parted behind number normal from_back
+closes_by_its_resolved_name = refl
+
+not_by_the_name_as_written : entry_of (codes "d/a") (codes "@@REDO:done:7:1@@ 0 d/a") true ≡ Some (Done (pos 0) (codes "d/d/a"))
+unfolding entry_of record_entry fields_of status_of parted behind number normal from_back
+not_by_the_name_as_written = refl

@@ -1,0 +1,11 @@
+use Rattle.redo_line.proofs.EntryLemmas.{entry_read, entry_is, record_has_entry}
+use Rattle.redo_line.proofs.laws.entry_of_a_line.Goals as goal
+
+pub returns-clause-is : goal.returns-clause-is
+returns-clause-is c = entry_read
+
+pub returns-clause-only : goal.returns-clause-only
+returns-clause-only c = entry_is
+
+pub returns-clause-record : goal.returns-clause-record
+returns-clause-record c = record_has_entry

@@ -1,0 +1,132 @@
+-- Records: the lines in which redo says what it does.
+use Rattle.std.specs.Prelude.{◌≡◌, ◌≢◌, ℕ, ◌≤◌, nat_le, Bool, false, ◌==◌, ◌&&◌, ◌||◌, ◌⊎◌, List, [], ◌∷◌, ◌++◌, Option, None, Some, option_and_then, ℤ, pos, neg_ℤ, codes, if◌then◌else◌}
+use Rattle.std.specs.List.{AllByRecursion, list_all}
+use Rattle.std.specs.Str.{bytes_eq}
+use Rattle.redo_line.specs.declared.entry.How.TheVariants.{Made, Waiting, Locked, Unlocked, Unchanged}
+use Rattle.redo_line.specs.declared.record.Kind.{Kind}
+use Rattle.redo_line.specs.declared.record.Kind.TheVariants.{Mention, Done, Note}
+use Rattle.redo_line.specs.Decimal.{number, AreDigits, are_digits, number_of}
+use Rattle.redo_line.specs.Parts.{parted, behind}
+
+-- what a record begins with
+abbrev pub mark : List ℕ
+mark = codes "@@REDO:"
+
+abbrev pub colon : ℕ
+colon = 58
+
+abbrev pub at_sign : ℕ
+at_sign = 64
+
+abbrev pub point : ℕ
+point = 46
+
+abbrev pub space : ℕ
+space = 32
+
+abbrev pub minus : ℕ
+minus = 45
+
+abbrev pub greatest_pid : ℕ
+greatest_pid = 4294967295
+
+-- a letter from a to z, a minus or a low line
+abbrev pub IsKindByte : ℕ → Type 0
+IsKindByte byte = ((97 ≤ byte) × (byte ≤ 122)) ⊎ ((byte ≡ 45) ⊎ (byte ≡ 95))
+
+-- seconds, and perhaps a part of one behind a point
+abbrev pub IsTime : List ℕ → Type 0
+IsTime time = AreDigits 20 time ⊎ ((seconds fraction : List ℕ) × (time ≡ seconds ++ point ∷ fraction) × AreDigits 20 seconds × AreDigits 9 fraction)
+
+-- what a status stands for: digits, perhaps behind a minus
+abbrev pub IsStatus : List ℕ → ℤ → Type 0
+IsStatus bytes status =
+    (AreDigits 9 bytes × (status ≡ pos (number bytes)))
+    ⊎ ((digits : List ℕ) × (bytes ≡ minus ∷ digits) × AreDigits 9 digits × (status ≡ neg_ℤ (pos (number digits))))
+
+-- what the text of a record is, by the name of its kind
+abbrev pub kind_of : List ℕ → Kind
+kind_of name =
+    if bytes_eq name (codes "do") then Mention Made
+    else if bytes_eq name (codes "waiting") then Mention Waiting
+    else if bytes_eq name (codes "locked") then Mention Locked
+    else if bytes_eq name (codes "unlocked") then Mention Unlocked
+    else if bytes_eq name (codes "unchanged") then Mention Unchanged
+    else if bytes_eq name (codes "done") then Done
+    else Note
+
+-- a status, a space and a name
+pub record IsDone (text : List ℕ) : Type 0 where
+  pub status : List ℕ
+  pub value : ℤ
+  pub name : List ℕ
+  pub whole : text ≡ status ++ space ∷ name
+  pub status_is : IsStatus status value
+  pub some : name ≢ []
+
+abbrev pub FitsKind : Kind → List ℕ → Type 0
+FitsKind (Mention how) text = text ≢ []
+FitsKind Done text = IsDone text
+FitsKind Note text = Unit {0}
+
+pub record Fields : Type 0 where
+  pub kind : List ℕ
+  pub pid : List ℕ
+  pub time : List ℕ
+  pub text : List ℕ
+
+-- the line is a record with these fields
+pub record IsRecord (line : List ℕ) (fields : Fields) : Type 0 where
+  pub whole : line ≡ mark ++ fields.kind ++ colon ∷ fields.pid ++ colon ∷ fields.time ++ at_sign ∷ at_sign ∷ space ∷ fields.text
+  pub kind_some : fields.kind ≢ []
+  pub kind_each : AllByRecursion IsKindByte fields.kind
+  pub pid_digits : AreDigits 10 fields.pid
+  pub pid_fits : number fields.pid ≤ greatest_pid
+  pub time_is : IsTime fields.time
+  pub text_fits : FitsKind (kind_of fields.kind) fields.text
+
+-- The same, computed. A record is cut at its first two colons and at the next at sign: of these three parts none
+-- may hold such a byte.
+abbrev pub is_kind_byte : ℕ → Bool
+is_kind_byte byte = (nat_le 97 byte && nat_le byte 122) || byte == 45 || byte == 95
+
+abbrev pub is_kind : List ℕ → Bool
+is_kind [] = false
+is_kind (first ∷ others) = list_all is_kind_byte (first ∷ others)
+
+abbrev pub is_pid : List ℕ → Bool
+is_pid pid = are_digits 10 pid && nat_le (number pid) greatest_pid
+
+abbrev pub is_time_cut : List ℕ → Option (List ℕ × List ℕ) → Bool
+is_time_cut time None = are_digits 20 time
+is_time_cut time (Some parts) = are_digits 20 parts.0 && are_digits 9 parts.1
+
+abbrev pub is_time : List ℕ → Bool
+is_time time = is_time_cut time (parted point time)
+
+abbrev pub checked : Fields → Option Fields
+checked fields = if is_kind fields.kind && is_pid fields.pid && is_time fields.time then Some fields else None
+
+-- the fields of a record, from what stands behind its mark
+unfoldable pub fields_of : List ℕ → Option Fields
+fields_of bytes =
+    option_and_then (λ (kind : List ℕ × List ℕ).
+    option_and_then (λ (pid : List ℕ × List ℕ).
+    option_and_then (λ (time : List ℕ × List ℕ).
+    option_and_then (λ (text : List ℕ).
+    checked (record { kind = kind.0; pid = pid.0; time = time.0; text = text }))
+    (behind (at_sign ∷ space ∷ []) time.1))
+    (parted at_sign pid.1))
+    (parted colon kind.1))
+    (parted colon bytes)
+
+-- of a record, what an entry is made of
+abbrev pub kind_and_text : Fields → List ℕ × List ℕ
+kind_and_text fields = (fields.kind, fields.text)
+
+abbrev pub status_behind : List ℕ → Option (List ℕ) → Option ℤ
+status_behind bytes None = option_and_then (λ (value : ℕ). Some (pos value)) (number_of 9 bytes)
+status_behind bytes (Some digits) = option_and_then (λ (value : ℕ). Some (neg_ℤ (pos value))) (number_of 9 digits)
+
+unfoldable pub status_of : List ℕ → Option ℤ
+status_of bytes = status_behind bytes (behind (minus ∷ []) bytes)

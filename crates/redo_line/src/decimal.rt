@@ -1,0 +1,44 @@
+ghost use Rattle.std.specs.Prelude.{◌≡◌, true, ◌<◌, ◌≤◌, ◌^◌, None, Some, length, IfSome, if◌then◌else◌};
+ghost use Rattle.std.specs.Char.{is_ascii_digit};
+ghost use Rattle.std.specs.List.{list_all};
+ghost use Rattle.redo_line.specs.Decimal as spec;
+
+/// What decimal digits stand for. It is `None` where there is no digit, where there are more than
+/// `most`, or where a byte is none; leading zeros are digits too. `most` may be up to 19.
+pub fn read_number(most: usize, digits: &[u8]) -> Option<u64>
+    requires { most ≤ 19 }
+    ensures value { result ≡ spec.number_of most digits.now }
+    ensures below { IfSome result (λ value. value < 10 ^ most) }
+{
+    if are_digits(most, digits) {
+        Some(number(digits))
+    } else {
+        None
+    }
+}
+
+/// Whether these are decimal digits, at least one and at most so many.
+pub fn are_digits(most: usize, bytes: &[u8]) -> bool
+    ensures { result ≡ spec.are_digits most bytes.now }
+{
+    !bytes.is_empty() && bytes.len() <= most && all_digits(bytes)
+}
+
+fn all_digits(bytes: &[u8]) -> bool
+    ensures { result ≡ list_all is_ascii_digit bytes.now }
+{
+    bytes.iter().all(|&byte| byte.is_ascii_digit())
+}
+
+fn number(digits: &[u8]) -> u64
+    requires few { length digits.now ≤ 19 }
+    requires all { list_all is_ascii_digit digits.now ≡ true }
+    ensures value { result ≡ spec.number digits.now }
+    ensures below { result < 10 ^ length digits.now }
+{
+    let mut number = 0;
+    for &digit in digits {
+        number = number * 10 + u64::from(digit - b'0');
+    }
+    number
+}

@@ -1,0 +1,47 @@
+ghost use Rattle.std.specs.Prelude.{◌≡◌, Some};
+ghost use Rattle.redo_line.specs.Log.{closes};
+
+use crate::line_text::LineText;
+use crate::name::TargetName;
+
+/// How a record mentions a target: by its kind.
+#[derive(Clone, Copy, Debug, PartialEq, Eq)]
+pub enum How {
+    /// `do`: it is made.
+    Made,
+    /// `waiting`: somebody else makes it, and that is waited for.
+    Waiting,
+    /// `locked`: it was locked by somebody else.
+    Locked,
+    /// `unlocked`: it is locked by nobody else any more.
+    Unlocked,
+    /// `unchanged`: it needed not be made.
+    Unchanged,
+}
+
+/// What a line of a log says. Names are resolved: docs/format.md has the rules.
+#[derive(Debug, Drop)]
+pub enum Entry {
+    /// A line that is no record, as it is.
+    Text(LineText),
+    /// Another target, or this one, comes up.
+    Mention { how: How, name: TargetName },
+    /// Another target is done, with this status.
+    Done { status: i32, name: TargetName },
+    /// The log's own target is done, which closes the log.
+    Closing { status: i32 },
+    /// A record of any other kind.
+    Note { kind: LineText, text: LineText },
+}
+
+impl Entry {
+    // Whether nothing may stand behind it.
+    pub(crate) fn closes(&self) -> bool
+        ensures { result ≡ closes (Some self.now) }
+    {
+        match self {
+            Entry::Closing { .. } => true,
+            _ => false,
+        }
+    }
+}

@@ -1,0 +1,136 @@
+ghost use Rattle.std.specs.Prelude.{◌≡◌, ◌==◌, ◌&&◌, not, ◌<◌, ◌≤◌, ◌^◌, ◌⊎◌, ◌++◌, List, ℕ, true, None, Some, [], ◌∷◌, IfOk, IfErr, length, take, drop, slice_range};
+ghost use Rattle.redo_line.specs.Entry.{entry_of};
+ghost use Rattle.redo_line.specs.Lines.{ended, unended};
+ghost use Rattle.redo_line.specs.Scan.{IsAfter, EndsLine, IfFound, IfMore, Refuses, entries_in};
+ghost use Rattle.redo_line.specs.declared.stream_fault.StreamFault.TheVariants.{BadRecord, OutOfMemory};
+
+use crate::cutter::{Cut, Cutter};
+use crate::entry::Entry;
+use crate::line::{LineFault, read_line};
+use crate::line_text::LineText;
+use crate::name::TargetName;
+use crate::scan::Step;
+use crate::stream_fault::StreamFault;
+use std::alloc::Global;
+use std::marker::Model;
+
+/// How far a stream was scanned, while nothing in it was refused.
+#[derive(Debug, Drop)]
+pub struct Progress {
+    alloc: Global,
+    target: TargetName,
+    max_bytes: u64,
+    cutter: Cutter,
+    taken: u64,
+    lines: u64,
+    closed: bool,
+}
+
+impl Model for Progress {
+    ghost use Rattle.redo_line.specs.Scan as spec;
+
+    ghost Value = { spec.Progress };
+
+    ghost view = { λ p. record { target = p.target; max_bytes = p.max_bytes; kept = p.cutter; taken = p.taken; lines = p.lines; closed = p.closed } };
+}
+
+impl Progress {
+    pub fn new(alloc: Global, target: TargetName, max_bytes: u64) -> Progress
+        ensures after { IsAfter result [] }
+        ensures target { result.target ≡ target }
+        ensures limit { result.max_bytes ≡ max_bytes }
+    {
+        Progress {
+            alloc,
+            target,
+            max_bytes,
+            cutter: Cutter::new(alloc),
+            taken: 0,
+            lines: 0,
+            closed: false,
+        }
+    }
+
+    // Takes the bytes of a piece from a place on, up to the end of the first line. After a refusal
+    // nothing is known of it.
+    pub fn advance(&mut self, piece: &[u8], from: usize) -> Result<Step, StreamFault>
+        requires from { from ≤ length piece.now }
+        requires limit { self.old.max_bytes ≤ 2 ^ 40 }
+        requires after { (before : List ℕ) × IsAfter self.old before }
+        ensures place { IfOk result (λ step. IfFound step (λ entry upto. (from < upto) × (upto ≤ length piece.now))) }
+        ensures found { (before : List ℕ) → IsAfter self.old before → IfOk result (λ step. IfFound step (λ entry upto. IsAfter self.new (before ++ slice_range piece.now from upto) × EndsLine self.old.target before (slice_range piece.now from upto) entry × (entries_in self.old (before ++ slice_range piece.now from upto) ≡ entries_in self.old before ++ entry ∷ []))) }
+        ensures more { (before : List ℕ) → IsAfter self.old before → IfOk result (λ step. IfMore step (IsAfter self.new (before ++ drop from piece.now) × (ended (before ++ drop from piece.now) ≡ ended before) × (entries_in self.old (before ++ drop from piece.now) ≡ entries_in self.old before))) }
+        ensures refuses { (before : List ℕ) → IsAfter self.old before → IfErr result (λ fault. (fault ≡ OutOfMemory) ⊎ Refuses self.old before (drop from piece.now) fault) }
+        ensures target { self.new.target ≡ self.old.target }
+        ensures max_bytes { self.new.max_bytes ≡ self.old.max_bytes }
+    {
+        let left = &piece[from..];
+        let room = self.max_bytes - self.taken;
+        let allowed = within(left, room);
+        if is_late(self.closed, allowed) {
+            return Err(StreamFault::AfterClose {
+                line: self.lines + 1,
+            });
+        }
+        match self.cutter.next(allowed, 0)? {
+            Cut::Line { bytes, upto } => {
+                let entry = read_entry(self.alloc, &self.target, bytes, self.lines + 1)?;
+                self.taken += upto as u64;
+                self.lines += 1;
+                self.closed = entry.closes();
+                Ok(Step::Found {
+                    entry,
+                    upto: from + upto,
+                })
+            }
+            Cut::More => {
+                if allowed.len() < left.len() {
+                    return Err(StreamFault::TooLong);
+                }
+                self.taken += left.len() as u64;
+                Ok(Step::More)
+            }
+        }
+    }
+
+    // The unended line of all bytes that were taken.
+    pub fn finish(self) -> Option<LineText>
+        ensures { result ≡ unended self.kept }
+    {
+        self.cutter.finish()
+    }
+}
+
+// As many bytes as there is room for.
+fn within(bytes: &[u8], room: u64) -> &[u8]
+    ensures { result.now ≡ take room bytes.now }
+{
+    if bytes.len() as u64 <= room {
+        bytes
+    } else {
+        &bytes[..room as usize]
+    }
+}
+
+// Whether bytes stand behind the line that closes the log.
+fn is_late(closed: bool, bytes: &[u8]) -> bool
+    ensures { result ≡ (closed && not (length bytes.now == 0)) }
+{
+    closed && !bytes.is_empty()
+}
+
+fn read_entry(
+    alloc: Global,
+    target: &TargetName,
+    line: LineText,
+    number: u64,
+) -> Result<Entry, StreamFault>
+    ensures entry { IfOk result (λ entry. entry_of target.now line true ≡ Some entry) }
+    ensures fault { IfErr result (λ fault. (fault ≡ OutOfMemory) ⊎ ((fault ≡ BadRecord number) × (entry_of target.now line true ≡ None))) }
+{
+    match read_line(alloc, target, line, true) {
+        Ok(entry) => Ok(entry),
+        Err(LineFault::BadRecord) => Err(StreamFault::BadRecord { line: number }),
+        Err(LineFault::OutOfMemory) => Err(StreamFault::OutOfMemory),
+    }
+}

@@ -1,0 +1,125 @@
+ghost use Rattle.std.specs.Prelude.{◌≡◌, ◌≢◌, ◌<◌, [], None, Some, IfSome, IfNone, length, option_map};
+ghost use Rattle.std.specs.List.{list_all};
+ghost use Rattle.redo_line.specs.Decimal.{are_digits};
+ghost use Rattle.redo_line.specs.Record as spec;
+
+use crate::decimal::{are_digits, read_number};
+use crate::entry::How;
+use crate::parts::split_at_first;
+
+// The names of kinds; a record of any other kind is a note.
+const DO: &[u8] = b"do";
+
+const WAITING: &[u8] = b"waiting";
+
+const LOCKED: &[u8] = b"locked";
+
+const UNLOCKED: &[u8] = b"unlocked";
+
+const UNCHANGED: &[u8] = b"unchanged";
+
+const DONE: &[u8] = b"done";
+
+/// What the text of a record is.
+#[derive(Clone, Copy)]
+pub enum Kind {
+    Mention(How),
+    Done,
+    Note,
+}
+
+/// The parts of a record that an entry is made of.
+#[derive(Clone, Copy)]
+pub struct Fields<'a> {
+    pub kind: &'a [u8],
+    pub text: &'a [u8],
+}
+
+// Reads a record from what stands behind its mark.
+pub fn read_fields(bytes: &[u8]) -> Option<Fields<'_>>
+    ensures some { IfSome result (λ read. option_map spec.kind_and_text (spec.fields_of bytes.now) ≡ Some (read.kind.now, read.text.now)) }
+    ensures none { IfNone result (spec.fields_of bytes.now ≡ None) }
+{
+    let (kind, behind) = split_at_first(b':', bytes)?;
+    let (pid, behind) = split_at_first(b':', behind)?;
+    let (time, behind) = split_at_first(b'@', behind)?;
+    let text = behind.strip_prefix(b"@ ")?;
+    if is_kind(kind) && is_pid(pid) && is_time(time) {
+        Some(Fields { kind, text })
+    } else {
+        None
+    }
+}
+
+fn is_kind(kind: &[u8]) -> bool
+    ensures { result ≡ spec.is_kind kind.now }
+{
+    !kind.is_empty() && are_kind_bytes(kind)
+}
+
+fn are_kind_bytes(bytes: &[u8]) -> bool
+    ensures { result ≡ list_all spec.is_kind_byte bytes.now }
+{
+    bytes.iter().all(|&byte| is_kind_byte(byte))
+}
+
+fn is_kind_byte(byte: u8) -> bool
+    ensures { result ≡ spec.is_kind_byte byte }
+{
+    byte.is_ascii_lowercase() || byte == b'-' || byte == b'_'
+}
+
+fn is_pid(pid: &[u8]) -> bool
+    ensures { result ≡ spec.is_pid pid.now }
+{
+    match read_number(10, pid) {
+        Some(number) => number <= u64::from(u32::MAX),
+        None => false,
+    }
+}
+
+fn is_time(time: &[u8]) -> bool
+    ensures { result ≡ spec.is_time time.now }
+{
+    match split_at_first(b'.', time) {
+        Some((seconds, fraction)) => are_digits(20, seconds) && are_digits(9, fraction),
+        None => are_digits(20, time),
+    }
+}
+
+// What the text of a record is, by the name of its kind.
+pub fn kind_of(name: &[u8]) -> Kind
+    ensures { result ≡ spec.kind_of name.now }
+{
+    if name == DO {
+        Kind::Mention(How::Made)
+    } else if name == WAITING {
+        Kind::Mention(How::Waiting)
+    } else if name == LOCKED {
+        Kind::Mention(How::Locked)
+    } else if name == UNLOCKED {
+        Kind::Mention(How::Unlocked)
+    } else if name == UNCHANGED {
+        Kind::Mention(How::Unchanged)
+    } else if name == DONE {
+        Kind::Done
+    } else {
+        Kind::Note
+    }
+}
+
+// What a status stands for.
+pub fn read_status(status: &[u8]) -> Option<i32>
+    ensures { result ≡ spec.status_of status.now }
+{
+    match status.strip_prefix(b"-") {
+        Some(digits) => match read_number(9, digits) {
+            Some(value) => Some(-(value as i32)),
+            None => None,
+        },
+        None => match read_number(9, status) {
+            Some(value) => Some(value as i32),
+            None => None,
+        },
+    }
+}
