@@ -4,7 +4,7 @@
 
 ghost use Rattle.std.specs.Prelude.{◌≤◌, length};
 
-use redo_line::{Cut, Cutter, Sink, Taker, TargetName};
+use redo_line::{Cut, Cutter, Scan, Sink, Step, Taker, TargetName, read_line};
 use redo_log_cli::{Index, read_index};
 use std::alloc::Global;
 use std::io::{BufRead, BufReader, Read};
@@ -22,7 +22,9 @@ fn main(rt: HostRuntime) -> io::Result<ExitCode> {
         "index" => index(&rt, rt.alloc())?,
         "index_of_input" => index_of_input(&rt)?,
         "names" => names(&rt, rt.alloc())?,
+        "read_line" => read_lines(&rt, rt.alloc())?,
         "resolve" => resolve_lines(&rt)?,
+        "step" => step(&rt, rt.alloc())?,
         "taker" => taker(&rt, rt.alloc())?,
         _ => println!(rt; "unknown calls: {calls}")?,
     }
@@ -134,6 +136,64 @@ fn resolve_lines(rt: &(impl Input + Print + AllocGlobal)) -> io::Result<()> {
         }
     }
     Ok(())
+}
+
+/// The entry of a line of each kind. A line is what a cutter makes of its bytes.
+fn read_lines(rt: &impl Print, alloc: Global) -> io::Result<()> {
+    let Ok(target) = TargetName::resolve(alloc, None, b"d/a") else {
+        return println!(rt; "resolve: no memory");
+    };
+    for bytes in [
+        b"hello\n".as_slice(),
+        b"@@REDO:do:7:1@@ b\n".as_slice(),
+        b"@@REDO:done:7:1@@ -2 b\n".as_slice(),
+        b"@@REDO:done:7:1@@ 0 a\n".as_slice(),
+        b"@@REDO:check:7:1@@ b\n".as_slice(),
+        b"@@REDO:do:7\n".as_slice(),
+    ] {
+        match Cutter::new(alloc).next(bytes, 0) {
+            Ok(Cut::Line { bytes, .. }) => match read_line(alloc, &target, bytes, true) {
+                Ok(entry) => println!(rt; "read_line: {entry:?}")?,
+                Err(fault) => println!(rt; "read_line: {fault:?}")?,
+            },
+            Ok(Cut::More) => println!(rt; "next: no line")?,
+            Err(_) => println!(rt; "next: no memory")?,
+        }
+    }
+    Ok(())
+}
+
+/// A scan of two pieces, and the calls behind a refusal.
+fn step(rt: &impl Print, alloc: Global) -> io::Result<()> {
+    let Ok(target) = TargetName::resolve(alloc, None, b"d/a") else {
+        return println!(rt; "resolve: no memory");
+    };
+    let mut scan = Scan::new(alloc, target, 1000);
+    for piece in [b"@@REDO:do:7:".as_slice(), b"1@@ b\nhello\nrest".as_slice()] {
+        tell_steps(rt, &mut scan, piece)?;
+    }
+    match scan.finish() {
+        Ok(last) => println!(rt; "finish: {last:?}"),
+        Err(fault) => println!(rt; "finish: {fault:?}"),
+    }
+}
+
+fn tell_steps(rt: &impl Print, scan: &mut Scan, piece: &[u8]) -> io::Result<()> {
+    let mut from = 0;
+    for _ in 0..4 {
+        if from > piece.len() {
+            return println!(rt; "a place past the piece");
+        }
+        match scan.step(piece, from) {
+            Ok(Step::Found { entry, upto }) => {
+                println!(rt; "step from {from}: {entry:?} to {upto}")?;
+                from = upto;
+            }
+            Ok(Step::More) => return println!(rt; "step from {from}: more"),
+            Err(fault) => return println!(rt; "step from {from}: {fault:?}"),
+        }
+    }
+    println!(rt; "more entries than lines")
 }
 
 /// A writer in memory.

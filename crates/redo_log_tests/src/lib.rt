@@ -7,6 +7,10 @@ mod cutter;
 #[cfg(test)]
 mod devices;
 #[cfg(test)]
+mod entries;
+#[cfg(test)]
+mod entry_text;
+#[cfg(test)]
 mod index;
 #[cfg(test)]
 mod names;
@@ -14,3 +18,5 @@ mod names;
 mod one_log;
 #[cfg(test)]
 mod reads;
+#[cfg(test)]
+mod scan;

@@ -1,0 +1,34 @@
+//! How a test writes an entry: as one word for what it is, and its parts.
+use redo_line::{Entry, How};
+use std::alloc::{AllocError, Global};
+use std::{fmt, str};
+
+fn text(bytes: &[u8]) -> &str {
+    str::from_utf8(bytes).unwrap_or("no text")
+}
+
+/// The word for a mention is the kind of its record.
+fn kind(how: How) -> &'static str {
+    match how {
+        How::Made => "do",
+        How::Waiting => "waiting",
+        How::Locked => "locked",
+        How::Unlocked => "unlocked",
+        How::Unchanged => "unchanged",
+    }
+}
+
+/// The entry as a test writes it.
+pub fn entry_text(alloc: Global, entry: &Entry) -> Result<String, AllocError> {
+    match entry {
+        Entry::Text(line) => format!(in alloc; "text|{}", text(line.bytes())),
+        Entry::Mention { how, name } => format!(in alloc; "{}|{}", kind(*how), text(name.bytes())),
+        Entry::Done { status, name } => format!(in alloc; "done|{status}|{}", text(name.bytes())),
+        Entry::Closing { status } => format!(in alloc; "closing|{status}"),
+        Entry::Note { kind, text: note } => format!(in alloc;
+            "note|{}|{}",
+            text(kind.bytes()),
+            text(note.bytes())
+        ),
+    }
+}
