@@ -2,9 +2,10 @@
 //! The scripts of `tests` run it: one refuses it each request for memory in turn.
 #![tactic(auto)]
 
-ghost use Rattle.std.specs.Prelude.{◌≤◌, length};
+ghost use Rattle.std.specs.Prelude.{◌≤◌, ◌<◌, ◌^◌, length, IfSome};
 
-use redo_line::{Cut, Cutter, Scan, Sink, Step, Taker, TargetName, read_line};
+use memchr::memchr;
+use redo_line::{Cut, Cutter, Scan, Sink, Step, Taker, TargetName, read_line, read_number};
 use redo_log_cli::{Index, read_index};
 use std::alloc::Global;
 use std::io::{BufRead, BufReader, Read};
@@ -24,6 +25,7 @@ fn main(rt: HostRuntime) -> io::Result<ExitCode> {
         "names" => names(&rt, rt.alloc())?,
         "read_line" => read_lines(&rt, rt.alloc())?,
         "resolve" => resolve_lines(&rt)?,
+        "scan_of_input" => scan_of_input(&rt)?,
         "step" => step(&rt, rt.alloc())?,
         "taker" => taker(&rt, rt.alloc())?,
         _ => println!(rt; "unknown calls: {calls}")?,
@@ -194,6 +196,65 @@ fn tell_steps(rt: &impl Print, scan: &mut Scan, piece: &[u8]) -> io::Result<()> 
         }
     }
     println!(rt; "more entries than lines")
+}
+
+/// The scan of the stream that standard input is behind its first line, which says how: the most
+/// bytes that are allowed, a space, the size of a piece, a space, and the target.
+fn scan_of_input(rt: &(impl Input + Print + AllocGlobal)) -> io::Result<()> {
+    let mut bytes = Vec::new(rt.alloc());
+    rt.reader().read_to_end(&mut bytes)?;
+    let Some((max_bytes, size, target, stream)) = read_job(&bytes) else {
+        return println!(rt; "a bad first line");
+    };
+    let Ok(target) = TargetName::resolve(rt.alloc(), None, target) else {
+        return println!(rt; "a bad target");
+    };
+    let mut scan = Scan::new(rt.alloc(), target, max_bytes);
+    for piece in stream.chunks(size) {
+        if !scan_piece(rt, &mut scan, piece)? {
+            break;
+        }
+    }
+    match scan.finish() {
+        Ok(last) => println!(rt; "{last:?}"),
+        Err(fault) => println!(rt; "{fault:?}"),
+    }
+}
+
+/// The most bytes, the size of a piece, the target and the stream.
+fn read_job(bytes: &[u8]) -> Option<(u64, usize, &[u8], &[u8])>
+    ensures { IfSome result (λ job. ((1 ≤ job.0) × (job.0 ≤ 2 ^ 40)) × (0 < job.1)) }
+{
+    let end = memchr(b'\n', bytes)?;
+    let (first, stream) = (&bytes[..end], &bytes[end + 1..]);
+    let at = memchr(b' ', first)?;
+    let (max_bytes, rest) = (read_number(12, &first[..at])?, &first[at + 1..]);
+    let at = memchr(b' ', rest)?;
+    let (size, target) = (read_number(6, &rest[..at])?, &rest[at + 1..]);
+    if max_bytes < 1 || max_bytes > 1 << 40 || size < 1 {
+        return None;
+    }
+    Some((max_bytes, size as usize, target, stream))
+}
+
+/// Prints the entries that end in a piece, and whether no fault was met.
+fn scan_piece(rt: &impl Print, scan: &mut Scan, piece: &[u8]) -> io::Result<bool> {
+    let mut from = 0;
+    for _ in 0..piece.len() + 1 {
+        if from > piece.len() {
+            break;
+        }
+        match scan.step(piece, from) {
+            Ok(Step::Found { entry, upto }) => {
+                println!(rt; "{entry:?}")?;
+                from = upto;
+            }
+            Ok(Step::More) => return Ok(true),
+            Err(_) => return Ok(false),
+        }
+    }
+    println!(rt; "a place past the piece")?;
+    Ok(false)
 }
 
 /// A writer in memory.
