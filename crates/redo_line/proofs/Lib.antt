@@ -9,6 +9,7 @@ mod FirstPlace
 mod LeastFaultLemmas
 pub mod LineLemmas
 mod LineRows
+mod LogRows
 mod NameLemmas
 mod NameRows
 mod Numbers

@@ -1,9 +1,11 @@
-//! Bytes in, lines out: the devices that a log is read from and written to, the cutting of what is
-//! read into lines, and the names of targets.
+//! Bytes in, entries out: the devices that a log is read from and written to, the cutting of what is
+//! read into lines, the names of targets, the records among the lines, and the scan of a stream.
 //!
-//! What the layers above use: a [`Feed`] gives the bytes that it tells, a [`Sink`] takes what it
-//! answers, and a [`Cutter`] gives the lines of all the bytes that it took, however they were cut
-//! into pieces. A [`TargetName`] is always a normal form.
+//! What the layers above use: a [`Scan`] gives the entries of a stream, or its fault and the entries
+//! before it, however the stream was cut into pieces. It stands on a [`Cutter`], which gives the
+//! lines of all the bytes that it took, and on [`read_line`], which gives what a line says. A
+//! [`Feed`] gives the bytes that it tells, a [`Sink`] takes what it answers, and a [`TargetName`] is
+//! always a normal form.
 #![tactic(auto)]
 
 mod cutter;

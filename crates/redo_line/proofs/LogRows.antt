@@ -1,0 +1,97 @@
+-- Examples of streams, computed: the target, how many bytes are allowed, the bytes, whether a failed read ends them,
+-- and the log, or the fault and the entries before it.
+use Rattle.std.proofs.Common.{◌≡◌, ℕ, Bool, true, false, List, [], ◌∷◌, ◌++◌, None, Some, pos, refl}
+use Rattle.std.specs.Prelude.{codes}
+use Rattle.std.specs.List.{AllByRecursion}
+use Rattle.redo_line.specs.declared.entry.Entry.{Entry}
+use Rattle.redo_line.specs.declared.entry.Entry.TheVariants.{Text, Mention, Done, Closing}
+use Rattle.redo_line.specs.declared.entry.How.TheVariants.{Made}
+use Rattle.redo_line.specs.declared.stream_fault.StreamFault.{StreamFault}
+use Rattle.redo_line.specs.declared.stream_fault.StreamFault.TheVariants.{BadRecord, AfterClose, TooLong, Read}
+use Rattle.redo_line.specs.Decimal.{number}
+use Rattle.redo_line.specs.Entry.{record_entry, entry_of}
+use Rattle.redo_line.specs.Lines.{line_feed, cutting, ended, rest}
+use Rattle.redo_line.specs.Log.{stream_of, first_fault, fault_of, part_of, log_of}
+use Rattle.redo_line.specs.Names.{from_back, normal}
+use Rattle.redo_line.specs.Parts.{parted, behind}
+use Rattle.redo_line.specs.Record.{fields_of, status_of}
+
+abbrev line : List ℕ → List ℕ
+line text = text ++ line_feed ∷ []
+
+abbrev closing : List ℕ
+closing = line (codes "@@REDO:done:7:1.0000@@ 0 a")
+
+abbrev bad : List ℕ
+bad = line (codes "@@REDO:do:7")
+
+abbrev most : ℕ
+most = 1073741824
+
+record LogRow : Type 0 where
+  target : List ℕ
+  max_bytes : ℕ
+  bytes : List ℕ
+  log : List Entry
+
+abbrev has_log : List ℕ → ℕ → List ℕ → List Entry → LogRow
+has_log target max_bytes bytes log = record { target = target; max_bytes = max_bytes; bytes = bytes; log = log }
+
+abbrev logs : List LogRow
+logs =
+    has_log (codes "all") most [] [] ∷
+    has_log (codes "all") most (line (codes "hello")) (Text (codes "hello") ∷ []) ∷
+    has_log (codes "all") most (codes "x") (Text (codes "x") ∷ []) ∷
+    has_log (codes "all") most (codes "@@REDO:do:7") (Text (codes "@@REDO:do:7") ∷ []) ∷
+    has_log (codes "a") most closing (Closing (pos 0) ∷ []) ∷
+    has_log (codes "b") most (closing ++ codes "z") (Done (pos 0) (codes "a") ∷ Text (codes "z") ∷ []) ∷
+    has_log (codes "a") 27 closing (Closing (pos 0) ∷ []) ∷
+    has_log (codes "all") 4 (line (codes "abc")) (Text (codes "abc") ∷ []) ∷
+    has_log (codes "d/a") most (line (codes "@@REDO:do:7:1@@ ../e//x") ++ line (codes "t")) (Mention Made (codes "e/x") ∷ Text (codes "t") ∷ []) ∷
+    []
+
+these_logs : AllByRecursion (λ row. log_of row.target row.max_bytes (stream_of row.bytes false) ≡ Some row.log) logs
+unfolding cutting ended rest first_fault entry_of record_entry fields_of status_of parted behind number normal from_back
+these_logs = (refl, (refl, (refl, (refl, (refl, (refl, (refl, (refl, (refl, tt)))))))))
+
+record FaultRow : Type 0 where
+  target : List ℕ
+  max_bytes : ℕ
+  bytes : List ℕ
+  fails : Bool
+  fault : StreamFault
+  part : List Entry
+
+abbrev has_fault : List ℕ → ℕ → List ℕ → Bool → StreamFault → List Entry → FaultRow
+has_fault target max_bytes bytes fails fault part =
+    record { target = target; max_bytes = max_bytes; bytes = bytes; fails = fails; fault = fault; part = part }
+
+abbrev faults : List FaultRow
+faults =
+    has_fault (codes "all") most (line (codes "ok") ++ bad) false (BadRecord 2) (Text (codes "ok") ∷ []) ∷
+    has_fault (codes "all") most (bad ++ line (codes "ok")) false (BadRecord 1) [] ∷
+    has_fault (codes "a") most (closing ++ codes "z") false (AfterClose 2) (Closing (pos 0) ∷ []) ∷
+    has_fault (codes "a") most (closing ++ bad) false (AfterClose 2) (Closing (pos 0) ∷ []) ∷
+    has_fault (codes "a") 28 (closing ++ codes "z") false (AfterClose 2) (Closing (pos 0) ∷ []) ∷
+    has_fault (codes "a") 27 (closing ++ codes "z") false TooLong (Closing (pos 0) ∷ []) ∷
+    has_fault (codes "a") 26 (closing ++ codes "z") false TooLong [] ∷
+    has_fault (codes "a") 26 closing true TooLong [] ∷
+    has_fault (codes "all") 4 (line (codes "abc") ++ codes "d") false TooLong (Text (codes "abc") ∷ []) ∷
+    has_fault (codes "all") 12 (bad ++ codes "more") false (BadRecord 1) [] ∷
+    has_fault (codes "all") 11 (bad ++ codes "more") false TooLong [] ∷
+    has_fault (codes "a") most (line (codes "x")) true Read (Text (codes "x") ∷ []) ∷
+    has_fault (codes "a") most (line (codes "x") ++ codes "y") true Read (Text (codes "x") ∷ []) ∷
+    has_fault (codes "a") most bad true (BadRecord 1) [] ∷
+    []
+
+these_faults : AllByRecursion (λ row. fault_of row.target row.max_bytes (stream_of row.bytes row.fails) ≡ Some row.fault) faults
+unfolding cutting ended rest first_fault entry_of record_entry fields_of status_of parted behind number normal from_back
+these_faults = (refl, (refl, (refl, (refl, (refl, (refl, (refl, (refl, (refl, (refl, (refl, (refl, (refl, (refl, tt))))))))))))))
+
+these_parts : AllByRecursion (λ row. part_of row.target row.max_bytes (stream_of row.bytes row.fails) ≡ row.part) faults
+unfolding cutting ended rest first_fault entry_of record_entry fields_of status_of parted behind number normal from_back
+these_parts = (refl, (refl, (refl, (refl, (refl, (refl, (refl, (refl, (refl, (refl, (refl, (refl, (refl, (refl, tt))))))))))))))
+
+a_fault_leaves_no_log : log_of (codes "a") most (stream_of bad false) ≡ None
+unfolding cutting ended rest first_fault entry_of record_entry fields_of status_of parted behind number normal from_back
+a_fault_leaves_no_log = refl
