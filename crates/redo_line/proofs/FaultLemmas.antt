@@ -1,7 +1,7 @@
 -- The fault of a stream, and the entries before it, as they are known from its first bytes.
 use Rattle.std.proofs.Common.{◌≡◌, ◌≢◌, ◌⊎◌, inl, inr, ℕ, zero, suc, ◌+◌, ◌-◌, ◌<◌, ◌≤◌, Bool, true, false, cond, ltb, List, [], ◌∷◌, ◌++◌, Option, None, Some, option_to_list, length, take, map, refl, sym, ◌∙◌, ap, arith}
 use Rattle.std.specs.List.{filter_map, flat_map}
-use Rattle.std.proofs.lemmas.Bool.{ltb-true, ltb-false, lt-ltb}
+use Rattle.std.proofs.lemmas.Bool.{ltb-true, ltb-false, lt-ltb, le-ltb}
 use Rattle.std.proofs.lemmas.List.{append_assoc, map-append, length-append, length-map, take_all, take-append-le}
 use Rattle.redo_line.specs.declared.entry.Entry.{Entry}
 use Rattle.redo_line.specs.declared.stream_fault.StreamFault.{StreamFault}
@@ -178,3 +178,17 @@ an_entry_for_each_line target max_bytes stream entries is = by (fault_of target 
     by None fault_is log =
         let same : filter_map (λ entry. entry) (entries_of target stream.bytes) ≡ entries = cc in
         ap (map Some) (sym same) ∙ each_some false 1 (entries_of target stream.bytes) (no_fault target max_bytes stream fault_is).0
+
+-- a read that fails behind them is their fault, and the same entries stand before it
+pub failed_read : (target : List ℕ) (max_bytes : ℕ) (bytes : List ℕ) → fault_of target max_bytes (stream_of bytes false) ≡ None → fault_of target max_bytes (stream_of bytes true) ≡ Some Read
+failed_read target max_bytes bytes none =
+    let parts = or_else-none (line_fault target (take max_bytes bytes)) (ending_fault max_bytes (stream_of bytes false)) none in
+    let within = (no_fault target max_bytes (stream_of bytes false) none).1 in
+    ap (λ o. or_else o (ending_fault max_bytes (stream_of bytes true))) parts.0
+    ∙ ap (λ b. cond b (Some TooLong) (Some Read)) (le-ltb max_bytes (length bytes) within)
+
+pub failed_part : (target : List ℕ) (max_bytes : ℕ) (bytes : List ℕ) → fault_of target max_bytes (stream_of bytes false) ≡ None
+    → part_of target max_bytes (stream_of bytes true) ≡ part_of target max_bytes (stream_of bytes false)
+failed_part target max_bytes bytes none =
+    let before = λ (o : Option StreamFault). filter_map (λ line. entry_of target line true) (lines_before o (ended (take max_bytes bytes))) in
+    ap before (failed_read target max_bytes bytes none) ∙ sym (ap before none)

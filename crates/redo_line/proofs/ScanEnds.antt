@@ -71,3 +71,7 @@ nothing_yet target max_bytes kept none = record {
   lines_are = refl;
   closed_is = refl;
 }
+
+pub none_found : (p : Progress) → IsAfter p [] → entries_in p [] ≡ []
+unfolding cutting ended
+none_found p after = part_u p [] after

@@ -1,4 +1,4 @@
-ghost use Rattle.std.specs.Prelude.{◌≡◌, ◌<◌, ◌≤◌, ◌↔◌, [], ◌∷◌, length, drop, slice_range, Contains, IsTrue, IfOk, OnErr};
+ghost use Rattle.std.specs.Prelude.{◌≡◌, ◌<◌, ◌≤◌, ◌↔◌, [], ◌∷◌, ◌++◌, length, drop, slice_range, Contains, IsTrue, IfOk, OnErr};
 ghost use Rattle.redo_line.specs.Lines.{line_feed, unended};
 ghost use Rattle.redo_line.specs.Cut.{Cuts, IfLine, IfMore, is_line};
 
@@ -48,6 +48,7 @@ impl Cutter {
     /// again with the place that it answered, until it answers `More`; then with the next piece.
     ///
     /// A refusal changes nothing: the bytes from `from` on are still to be taken.
+    #[inline]
     pub fn next(&mut self, piece: &[u8], from: usize) -> Result<Cut, AllocError>
         requires { from ≤ length piece.now }
 
@@ -66,8 +67,7 @@ impl Cutter {
         let left = &piece[from..];
         match memchr(b'\n', left) {
             Some(at) => {
-                self.kept.extend_from_slice(&left[..at])?;
-                let bytes = mem::replace(&mut self.kept, Vec::new(self.alloc));
+                let bytes = self.take_with(&left[..at])?;
                 Ok(Cut::Line {
                     bytes: LineText::from_vec(bytes),
                     upto: from + at + 1,
@@ -78,6 +78,19 @@ impl Cutter {
                 Ok(Cut::More)
             }
         }
+    }
+
+    // Takes what is kept, with these bytes behind it.
+    fn take_with(&mut self, bytes: &[u8]) -> Result<Vec<u8>, AllocError>
+        ensures items { IfOk result (λ line. line.items ≡ self.old ++ bytes.now) }
+        ensures taken { IfOk result (λ _. self.new ≡ []) }
+        ensures err { OnErr result (self.new ≡ self.old) }
+    {
+        if self.kept.is_empty() {
+            return bytes.to_vec(self.alloc);
+        }
+        self.kept.extend_from_slice(bytes)?;
+        Ok(mem::replace(&mut self.kept, Vec::new(self.alloc)))
     }
 
     /// The bytes after the last line feed, if there are any: the unended line.

@@ -1,5 +1,5 @@
 //! Laws about the definitions alone: their contracts are theorems, and their bodies are empty.
-ghost use Rattle.std.specs.Prelude.{◌≡◌, ◌≢◌, ℕ, Bool, true, List, ◌++◌, Option, None, Some, IsSome, map};
+ghost use Rattle.std.specs.Prelude.{◌≡◌, ◌≢◌, ℕ, Bool, true, false, List, ◌++◌, Option, None, Some, IsSome, map};
 ghost use Rattle.redo_line.specs.declared.entry.Entry.{Entry};
 ghost use Rattle.redo_line.specs.declared.stream_fault.StreamFault.{StreamFault};
 ghost use Rattle.redo_line.specs.declared.stream_fault.StreamFault.TheVariants.{Read};
@@ -50,6 +50,12 @@ pub fn least_line_at_fault()
 pub fn early_fault()
     ensures fault { (target : List ℕ) (max_bytes : ℕ) (bytes more : List ℕ) (failed fails : Bool) (fault : StreamFault) → fault ≢ Read → fault_of target max_bytes (stream_of bytes failed) ≡ Some fault → fault_of target max_bytes (stream_of (bytes ++ more) fails) ≡ Some fault }
     ensures part { (target : List ℕ) (max_bytes : ℕ) (bytes more : List ℕ) (failed fails : Bool) (fault : StreamFault) → fault ≢ Read → fault_of target max_bytes (stream_of bytes failed) ≡ Some fault → part_of target max_bytes (stream_of (bytes ++ more) fails) ≡ part_of target max_bytes (stream_of bytes failed) }
+{}
+
+/// Where a read fails behind bytes that have no fault, that is the fault, and no entry is lost.
+pub fn failed_read()
+    ensures fault { (target : List ℕ) (max_bytes : ℕ) (bytes : List ℕ) → fault_of target max_bytes (stream_of bytes false) ≡ None → fault_of target max_bytes (stream_of bytes true) ≡ Some Read }
+    ensures part { (target : List ℕ) (max_bytes : ℕ) (bytes : List ℕ) → fault_of target max_bytes (stream_of bytes false) ≡ None → part_of target max_bytes (stream_of bytes true) ≡ part_of target max_bytes (stream_of bytes false) }
 {}
 
 /// A log has one entry for each line of its stream, in order.

@@ -34,8 +34,8 @@ pub use decimal::read_number;
 pub use entry::{Entry, How};
 pub use feed::{Broken, Feed};
 pub use laws::{
-    an_entry_for_each_line, cutting_goes_on, early_fault, entry_of_a_line, least_line_at_fault,
-    normal_form_of_normal_form, one_cutting, one_reading,
+    an_entry_for_each_line, cutting_goes_on, early_fault, entry_of_a_line, failed_read,
+    least_line_at_fault, normal_form_of_normal_form, one_cutting, one_reading,
 };
 pub use line::{LineFault, read_line};
 pub use line_text::LineText;

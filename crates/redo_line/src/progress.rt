@@ -1,4 +1,4 @@
-ghost use Rattle.std.specs.Prelude.{◌≡◌, ◌==◌, ◌&&◌, not, ◌<◌, ◌≤◌, ◌^◌, ◌⊎◌, ◌++◌, List, ℕ, true, None, Some, [], ◌∷◌, IfOk, IfErr, length, take, drop, slice_range};
+ghost use Rattle.std.specs.Prelude.{◌≡◌, ◌↔◌, Err, ◌==◌, ◌&&◌, not, ◌<◌, ◌≤◌, ◌^◌, ◌⊎◌, ◌++◌, List, ℕ, true, None, Some, [], ◌∷◌, IfOk, IfErr, length, take, drop, slice_range};
 ghost use Rattle.redo_line.specs.Entry.{entry_of};
 ghost use Rattle.redo_line.specs.Lines.{ended, unended};
 ghost use Rattle.redo_line.specs.Scan.{IsAfter, EndsLine, IfFound, IfMore, Refuses, entries_in};
@@ -127,6 +127,7 @@ fn read_entry(
 ) -> Result<Entry, StreamFault>
     ensures entry { IfOk result (λ entry. entry_of target.now line true ≡ Some entry) }
     ensures fault { IfErr result (λ fault. (fault ≡ OutOfMemory) ⊎ ((fault ≡ BadRecord number) × (entry_of target.now line true ≡ None))) }
+    ensures bad { (result ≡ Err (BadRecord number)) ↔ (entry_of target.now line true ≡ None) }
 {
     match read_line(alloc, target, line, true) {
         Ok(entry) => Ok(entry),

@@ -45,6 +45,7 @@ impl Scan {
         requires at_least { 1 ≤ max_bytes }
         requires at_most { max_bytes ≤ 2 ^ 40 }
         ensures took { Took result [] }
+        ensures none_found { entries_in result.progress [] ≡ [] }
         ensures target { result.progress.target ≡ target }
         ensures max_bytes { result.progress.max_bytes ≡ max_bytes }
     {
@@ -100,8 +101,8 @@ impl Scan {
         ensures again { (fault : StreamFault) → self.refused ≡ Some fault → result ≡ Err fault }
         ensures reads_nothing { IfErr result (λ fault. fault ≢ Read) }
     {
-        if let Some(fault) = self.refused {
-            return Err(fault);
+        if let Some(refused) = self.refused {
+            return Err(refused);
         }
         match self.progress.finish() {
             Some(line) => Ok(Some(Entry::Text(line))),

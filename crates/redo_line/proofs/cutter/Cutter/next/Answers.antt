@@ -7,11 +7,11 @@ use Rattle.redo_line.proofs.cutter.Cutter.next.Goals as goal
 abbrev left_of : List ℕ → ℕ → List ℕ
 left_of piece from = take (length piece - from) (drop from piece)
 
-pub returns-in_ok-extend_from_slice-in-Some-clause-line : goal.returns-in_ok-extend_from_slice-in-Some-clause-line
-returns-in_ok-extend_from_slice-in-Some-clause-line c =
+pub returns-in_ok-bytes-in-Some-clause-line : goal.returns-in_ok-bytes-in-Some-clause-line
+returns-in_ok-bytes-in-Some-clause-line c =
     let left = left_of c.args.piece.now c.args.from in
     line_at c.args.self.now c.from_vec.result c.args.piece.now left c.args.from c.in-Some.at (take_rest c.args.piece.now c.args.from) c.in-Some.ensures
-    (c.from_vec.ensures ∙ ap (λ v. v.items) c.replace-bytes.ensures.value ∙ c.in_ok-extend_from_slice-in-Some.ensures.items ∙ ap (λ kept. kept ++ take c.in-Some.at left) c.self.view_is)
+    (c.from_vec.ensures ∙ c.in_ok-bytes-in-Some.ensures.items)
 
 pub returns-in_ok-extend_from_slice-in-None-clause-found : goal.returns-in_ok-extend_from_slice-in-None-clause-found
 returns-in_ok-extend_from_slice-in-None-clause-found c = (
@@ -22,5 +22,5 @@ returns-in_ok-extend_from_slice-in-None-clause-found c = (
 pub returns-in_ok-extend_from_slice-in-None-clause-more : goal.returns-in_ok-extend_from_slice-in-None-clause-more
 returns-in_ok-extend_from_slice-in-None-clause-more c =
     let left = left_of c.args.piece.now c.args.from in
-    none_from c.args.self.now c.extend_from_slice-in-None.new.self.items c.args.piece.now left c.args.from (take_rest c.args.piece.now c.args.from) c.in-None.ensures
+    none_from c.args.self.now c.extend_from_slice.new.self.items c.args.piece.now left c.args.from (take_rest c.args.piece.now c.args.from) c.in-None.ensures
     (c.in_ok-extend_from_slice-in-None.ensures.items ∙ ap (λ kept. kept ++ left) c.self.view_is)
