@@ -10,9 +10,8 @@ use Rattle.redo_line.specs.declared.stream_fault.StreamFault.{StreamFault}
 use Rattle.redo_line.specs.declared.stream_fault.StreamFault.TheVariants.{BadRecord, AfterClose, TooLong, OutOfMemory}
 use Rattle.redo_line.specs.Cut.{Cuts, IfLine, IfMore}
 use Rattle.redo_line.specs.Entry.{entry_of}
-use Rattle.redo_line.specs.Lines.{ended}
 use Rattle.redo_line.specs.Log.{closes}
-use Rattle.redo_line.specs.Scan.{Progress, IsAfter, entries_in, EndsLine, Refuses}
+use Rattle.redo_line.specs.Scan.{Progress, IsAfter, Finds, TakesAll, Refuses}
 use Rattle.redo_line.proofs.ScanLemmas.{late_refuses, bad_refuses, after_line, ends_line, one_entry_more, long_refuses, same_lines, after_rest, same_entries}
 
 -- what is known of a cutter's answer
@@ -87,34 +86,29 @@ module _ (now p : Progress) (same : p ≡ now) (u : List ℕ) (after_now : IsAft
           refuses (BadRecord (p.lines + 1)) (bad_refuses p u after left a a_is (take upto a) (drop upto a) line cut_front (sym (take-append-drop upto a)) open_log none)
 
       pub line_found : (entry : Entry) (kept : List ℕ) (closed : Bool) → entry_of p.target line true ≡ Some entry → kept ≡ [] → closed ≡ closes (Some entry)
-          → IsAfter (record { target = p.target; max_bytes = p.max_bytes; kept = kept; taken = p.taken + upto; lines = p.lines + 1; closed = closed }) (u ++ slice_range piece from (from + upto))
-          × EndsLine now.target u (slice_range piece from (from + upto)) entry
-          × (entries_in now (u ++ slice_range piece from (from + upto)) ≡ entries_in now u ++ entry ∷ [])
+          → Finds now (record { target = p.target; max_bytes = p.max_bytes; kept = kept; taken = p.taken + upto; lines = p.lines + 1; closed = closed }) u (slice_range piece from (from + upto)) entry
       line_found entry kept closed entry_is none closed_is =
           let size : length (take upto a) ≡ upto = let few = length-take upto a in let within = place.1 in omega (arith, few, within) in
           let parts = sym (take-append-drop upto a) in
           let behind = after_line p u after left a a_is (take upto a) (drop upto a) line cut_front parts open_log entry entry_is kept (p.taken + upto) closed none (ap (λ n. p.taken + n) (sym size)) closed_is in
           let ends = ends_line p u after left a a_is (take upto a) (drop upto a) line cut_front parts open_log entry entry_is in
-          let more = one_entry_more p u after left a a_is (take upto a) (drop upto a) line cut_front parts open_log entry entry_is in (
-            subst (IsAfter _) (ap (λ (s : List ℕ). u ++ s) (sym slice_is)) behind,
-            subst (λ (s : List ℕ). EndsLine now.target u s entry) (sym slice_is) (subst (λ (q : Progress). EndsLine q.target u (take upto a) entry) same ends),
-            subst (λ (s : List ℕ). entries_in now (u ++ s) ≡ entries_in now u ++ entry ∷ []) (sym slice_is) (subst (λ (q : Progress). entries_in q (u ++ take upto a) ≡ entries_in q u ++ entry ∷ []) same more),
-          )
+          let more = one_entry_more p u after left a a_is (take upto a) (drop upto a) line cut_front parts open_log entry entry_is in
+          let then : Progress = record { target = p.target; max_bytes = p.max_bytes; kept = kept; taken = p.taken + upto; lines = p.lines + 1; closed = closed } in
+          let finds : Finds p then u (take upto a) entry = record { after = behind; ends = ends; entries = more } in
+          subst (λ (s : List ℕ). Finds now then u s entry) (sym slice_is) (subst (λ (q : Progress). Finds q then u (take upto a) entry) same finds)
 
     module _ (kept : List ℕ) (cut : Cuts p.kept a [] kept) where
       pub refuses_long : length a < length left → Refuses now u (drop from piece) TooLong
       refuses_long fewer = refuses TooLong (long_refuses p u after left a a_is kept cut open_or_none fewer)
 
       pub all_taken : length left ≤ length a
-          → IsAfter (record { target = p.target; max_bytes = p.max_bytes; kept = kept; taken = p.taken + length left; lines = p.lines; closed = p.closed }) (u ++ drop from piece)
-          × (ended (u ++ drop from piece) ≡ ended u) × (entries_in now (u ++ drop from piece) ≡ entries_in now u)
+          → TakesAll now (record { target = p.target; max_bytes = p.max_bytes; kept = kept; taken = p.taken + length left; lines = p.lines; closed = p.closed }) u (drop from piece)
       all_taken fits =
           let few = ap length a_is ∙ length-take (p.max_bytes - p.taken) left in
           let all : left ≡ a = sym (a_is ∙ take_all (p.max_bytes - p.taken) left (omega (arith, few, fits))) in
           let behind = after_rest p u after left a a_is kept cut open_or_none all (p.taken + length left) refl in
+          let lines = same_lines p u after left a a_is kept cut open_or_none all in
           let entries = same_entries p u after left a a_is kept cut open_or_none all in
-          let then : Progress = record { target = p.target; max_bytes = p.max_bytes; kept = kept; taken = p.taken + length left; lines = p.lines; closed = p.closed } in (
-            subst (λ (l : List ℕ). IsAfter then (u ++ l)) left_is behind,
-            subst (λ (l : List ℕ). ended (u ++ l) ≡ ended u) left_is (same_lines p u after left a a_is kept cut open_or_none all),
-            subst (λ (l : List ℕ). entries_in now (u ++ l) ≡ entries_in now u) left_is (subst (λ (q : Progress). entries_in q (u ++ left) ≡ entries_in q u) same entries),
-          )
+          let then : Progress = record { target = p.target; max_bytes = p.max_bytes; kept = kept; taken = p.taken + length left; lines = p.lines; closed = p.closed } in
+          let takes : TakesAll p then u left = record { after = behind; lines = lines; entries = entries } in
+          subst (λ (l : List ℕ). TakesAll now then u l) left_is (subst (λ (q : Progress). TakesAll q then u left) same takes)

@@ -66,6 +66,18 @@ pub record EndsLine (target before bytes : List ℕ) (entry : Entry) : Type 0 wh
   pub nothing_behind : rest (before ++ bytes) ≡ []
   pub entry_is : entry_of target line true ≡ Some entry
 
+-- these bytes were taken: they end one line, and with it comes its entry
+pub record Finds (old new : Progress) (before bytes : List ℕ) (entry : Entry) : Type 0 where
+  pub after : IsAfter new (before ++ bytes)
+  pub ends : EndsLine old.target before bytes entry
+  pub entries : entries_in old (before ++ bytes) ≡ entries_in old before ++ entry ∷ []
+
+-- these bytes were taken: no line ends in them, and no entry comes
+pub record TakesAll (old new : Progress) (before bytes : List ℕ) : Type 0 where
+  pub after : IsAfter new (before ++ bytes)
+  pub lines : ended (before ++ bytes) ≡ ended before
+  pub entries : entries_in old (before ++ bytes) ≡ entries_in old before
+
 -- a fact of an entry and of the place after its line
 abbrev pub IfFound : Step → (Entry → ℕ → Type 0) → Type 0
 IfFound (Found entry upto) P = P entry upto

@@ -1,7 +1,7 @@
-ghost use Rattle.std.specs.Prelude.{◌≡◌, ◌↔◌, Err, ◌==◌, ◌&&◌, not, ◌<◌, ◌≤◌, ◌^◌, ◌⊎◌, ◌++◌, List, ℕ, true, None, Some, [], ◌∷◌, IfOk, IfErr, length, take, drop, slice_range};
+ghost use Rattle.std.specs.Prelude.{◌≡◌, ◌↔◌, Err, ◌==◌, ◌&&◌, not, ◌<◌, ◌≤◌, ◌^◌, ◌⊎◌, List, ℕ, true, None, Some, [], IfOk, IfErr, length, take, drop, slice_range};
 ghost use Rattle.redo_line.specs.Entry.{entry_of};
-ghost use Rattle.redo_line.specs.Lines.{ended, unended};
-ghost use Rattle.redo_line.specs.Scan.{IsAfter, EndsLine, IfFound, IfMore, Refuses, entries_in};
+ghost use Rattle.redo_line.specs.Lines.{unended};
+ghost use Rattle.redo_line.specs.Scan.{IsAfter, Finds, TakesAll, IfFound, IfMore, Refuses};
 ghost use Rattle.redo_line.specs.declared.stream_fault.StreamFault.TheVariants.{BadRecord, OutOfMemory};
 
 use crate::cutter::{Cut, Cutter};
@@ -58,8 +58,8 @@ impl Progress {
         requires limit { self.old.max_bytes ≤ 2 ^ 40 }
         requires after { (before : List ℕ) × IsAfter self.old before }
         ensures place { IfOk result (λ step. IfFound step (λ entry upto. (from < upto) × (upto ≤ length piece.now))) }
-        ensures found { (before : List ℕ) → IsAfter self.old before → IfOk result (λ step. IfFound step (λ entry upto. IsAfter self.new (before ++ slice_range piece.now from upto) × EndsLine self.old.target before (slice_range piece.now from upto) entry × (entries_in self.old (before ++ slice_range piece.now from upto) ≡ entries_in self.old before ++ entry ∷ []))) }
-        ensures more { (before : List ℕ) → IsAfter self.old before → IfOk result (λ step. IfMore step (IsAfter self.new (before ++ drop from piece.now) × (ended (before ++ drop from piece.now) ≡ ended before) × (entries_in self.old (before ++ drop from piece.now) ≡ entries_in self.old before))) }
+        ensures found { (before : List ℕ) → IsAfter self.old before → IfOk result (λ step. IfFound step (λ entry upto. Finds self.old self.new before (slice_range piece.now from upto) entry)) }
+        ensures more { (before : List ℕ) → IsAfter self.old before → IfOk result (λ step. IfMore step (TakesAll self.old self.new before (drop from piece.now))) }
         ensures refuses { (before : List ℕ) → IsAfter self.old before → IfErr result (λ fault. (fault ≡ OutOfMemory) ⊎ Refuses self.old before (drop from piece.now) fault) }
         ensures target { self.new.target ≡ self.old.target }
         ensures max_bytes { self.new.max_bytes ≡ self.old.max_bytes }

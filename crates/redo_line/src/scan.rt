@@ -1,7 +1,7 @@
-ghost use Rattle.std.specs.Prelude.{◌≡◌, ◌≢◌, ◌<◌, ◌≤◌, ◌^◌, ◌⊎◌, ◌++◌, List, ℕ, [], ◌∷◌, Some, Ok, Err, IfOk, IfErr, length, drop, slice_range, option_to_list};
-ghost use Rattle.redo_line.specs.Lines.{ended, rest, unended};
+ghost use Rattle.std.specs.Prelude.{◌≡◌, ◌≢◌, ◌<◌, ◌≤◌, ◌^◌, ◌⊎◌, ◌++◌, List, ℕ, [], None, Some, Ok, Err, IfOk, IfErr, OnOk, length, drop, slice_range, option_to_list};
+ghost use Rattle.redo_line.specs.Lines.{rest, unended};
 ghost use Rattle.redo_line.specs.Log.{log_of};
-ghost use Rattle.redo_line.specs.Scan.{Took, EndsLine, IfFound, IfMore, Refuses, entries_in, so_far, text_of};
+ghost use Rattle.redo_line.specs.Scan.{Took, Finds, TakesAll, IfFound, IfMore, Refuses, entries_in, so_far, text_of};
 ghost use Rattle.redo_line.specs.declared.stream_fault.StreamFault.{StreamFault};
 ghost use Rattle.redo_line.specs.declared.stream_fault.StreamFault.TheVariants.{OutOfMemory, Read};
 
@@ -66,10 +66,11 @@ impl Scan {
 
         // The bytes up to the place end one line more, which has this entry, and have no fault.
         ensures place { IfOk result (λ step. IfFound step (λ entry upto. (from < upto) × (upto ≤ length piece.now))) }
-        ensures found { (before : List ℕ) → Took self.old before → IfOk result (λ step. IfFound step (λ entry upto. Took self.new (before ++ slice_range piece.now from upto) × EndsLine self.old.progress.target before (slice_range piece.now from upto) entry × (entries_in self.old.progress (before ++ slice_range piece.now from upto) ≡ entries_in self.old.progress before ++ entry ∷ []))) }
+        ensures found { (before : List ℕ) → Took self.old before → IfOk result (λ step. IfFound step (λ entry upto. Finds self.old.progress self.new.progress before (slice_range piece.now from upto) entry)) }
 
-        // All bytes were taken. They have no fault, and no line more ends in them.
-        ensures more { (before : List ℕ) → Took self.old before → IfOk result (λ step. IfMore step (Took self.new (before ++ drop from piece.now) × (ended (before ++ drop from piece.now) ≡ ended before) × (entries_in self.old.progress (before ++ drop from piece.now) ≡ entries_in self.old.progress before))) }
+        // Or all that is left of the piece was taken. It ends no line more, and has no fault.
+        ensures more { (before : List ℕ) → Took self.old before → IfOk result (λ step. IfMore step (TakesAll self.old.progress self.new.progress before (drop from piece.now))) }
+        ensures goes_on { OnOk result (self.new.refused ≡ None) }
 
         // The bytes have this fault, and no entry more before it.
         ensures refuses { (before : List ℕ) → Took self.old before → IfErr result (λ fault. (fault ≡ OutOfMemory) ⊎ Refuses self.old.progress before (drop from piece.now) fault) }
