@@ -41,10 +41,6 @@ closed_by-append closed [] ys = refl
 closed_by-append closed (entry ∷ xs) ys = closed_by-append (closes entry) xs ys
 
 -- one step: the first entry is late where the log is closed, else bad where there is none, and else the others tell
-pub first_fault-closed : (line : ℕ) (entry : Option Entry) (xs : List (Option Entry)) → first_fault true line (entry ∷ xs) ≡ Some (AfterClose line)
-unfolding first_fault
-first_fault-closed line entry xs = refl
-
 pub first_fault-bad : (line : ℕ) (xs : List (Option Entry)) → first_fault false line (None ∷ xs) ≡ Some (BadRecord line)
 unfolding first_fault
 first_fault-bad line xs = refl

@@ -4,7 +4,7 @@ use native.Mathlib.Nat.{pow-le-pow_right}
 use Rattle.std.specs.Char.{is_ascii_digit}
 use Rattle.std.specs.List.{list_all}
 use Rattle.std.proofs.lemmas.Bool.{and_parts, leb-true}
-use Rattle.std.proofs.lemmas.List.{length-append, take_more, take_all}
+use Rattle.std.proofs.lemmas.List.{length-append, take_more}
 use Rattle.std.proofs.lemmas.Grind.{pow_more}
 use Rattle.redo_line.specs.Decimal.{number, are_digits}
 
@@ -53,9 +53,6 @@ module _ (digits : List ℕ) (count value : ℕ) (so_far : Read digits count val
         value_is = ap (λ v. v * 10 + (get_or digits count 0 - 48)) so_far.value_is ∙ sym (number-push (take count digits) (get_or digits count 0)) ∙ ap number (sym taken);
         below = omega (arith, below, low.1, pow_more 10 count);
       }
-
-  pub all_read : length digits ≤ count → value ≡ number digits
-  all_read done = so_far.value_is ∙ ap number (take_all count digits done)
 
 pub fewer : (digits : List ℕ) (most value : ℕ) → value < 10 ^ length digits → length digits ≤ most → value < 10 ^ most
 fewer digits most value below few =

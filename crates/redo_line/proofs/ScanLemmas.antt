@@ -80,9 +80,6 @@ module _ (p : Progress) (u : List ℕ) (after : IsAfter p u) where
   fine_u : (line_fault p.target u ≡ None) × (length u ≤ p.max_bytes)
   fine_u = let none = no_fault p.target p.max_bytes (so_far u) after.fine in (none.0, none.1)
 
-  pub taken_within : p.taken ≤ p.max_bytes
-  taken_within = let taken = after.taken_is in let within = fine_u.1 in omega (arith, taken, within)
-
   pub lines_within : p.lines ≤ p.max_bytes
   lines_within = let lines = after.lines_are in let few = few_lines u in let within = fine_u.1 in omega (arith, lines, few, within)
 
