@@ -1,7 +1,8 @@
 -- The fault among lines is that of the least one that is late or bad, place by place.
-use Rattle.std.proofs.Common.{◌≡◌, ◌⊎◌, inl, inr, ℕ, zero, suc, ◌+◌, ◌<◌, Bool, true, false, List, [], ◌∷◌, ◌++◌, Option, None, Some, option_to_list, length, refl, ◌∙◌, ap, subst, arith}
+use Rattle.std.proofs.Common.{◌≡◌, ◌⊎◌, inl, inr, ℕ, zero, suc, ◌+◌, ◌<◌, Bool, true, false, List, [], ◌∷◌, ◌++◌, Option, None, Some, option_to_list, length, ltb, refl, sym, ◌∙◌, ap, subst, arith}
 use Rattle.std.specs.List.{slice_get}
-use Rattle.std.proofs.lemmas.Bool.{false≢true}
+use Rattle.std.proofs.lemmas.Bool.{false≢true, ltb-true, ltb-false}
+use Rattle.std.proofs.Math.Nat.{eq-or-lt_of_le}
 use Rattle.redo_line.specs.declared.entry.Entry.{Entry}
 use Rattle.redo_line.specs.declared.stream_fault.StreamFault.{StreamFault}
 use Rattle.redo_line.specs.declared.stream_fault.StreamFault.TheVariants.{BadRecord, AfterClose}
@@ -115,6 +116,18 @@ not_first : (entries : List (Option Entry)) → Late entries 0 false → ⊥
 not_first [] late = late
 not_first (entry ∷ entries) late = false≢true late
 
+-- of two numbers
+compared : (m n : ℕ) → (m < n) ⊎ ((m ≡ n) ⊎ (n < m))
+compared m n = by (ltb m n) refl
+  where
+    by : (less : Bool) → ltb m n ≡ less → (m < n) ⊎ ((m ≡ n) ⊎ (n < m))
+    by true is = inl (ltb-true m n is)
+    by false is = inr (apart (eq-or-lt_of_le (ltb-false m n is)))
+      where
+        apart : (n ≡ m) ⊎ (n < m) → (m ≡ n) ⊎ (n < m)
+        apart (inl same) = inl (sym same)
+        apart (inr more) = inr more
+
 -- so such places are the late and the bad lines of the bytes
 module _ (target bytes : List ℕ) where
   to_late : (place : ℕ) → Late (entries_of target bytes) place false → IsLate target bytes (1 + place)
@@ -167,3 +180,29 @@ module _ (target bytes : List ℕ) where
 
   pub no_line : line_fault target bytes ≡ None → (line : ℕ) → (IsLate target bytes line → ⊥) × (IsBad target bytes line → ⊥)
   no_line is line = not_at_fault line (λ place number. each_fine false 1 (entries_of target bytes) is place)
+
+  -- a line is at fault in one way alone, and one line alone is the least
+  same_way : (line : ℕ) (fault other : StreamFault) → IsAtFault target bytes line fault → IsAtFault target bytes line other → fault ≡ other
+  same_way line fault other (inl late) (inl also) = late.1 ∙ sym also.1
+  same_way line fault other (inl late) (inr bad) = absurd (bad.0 late.0)
+  same_way line fault other (inr bad) (inl late) = absurd (bad.0 late.0)
+  same_way line fault other (inr bad) (inr also) = bad.2 ∙ sym also.2
+
+  is_late_or_bad : (line : ℕ) (fault : StreamFault) → IsAtFault target bytes line fault → ((IsLate target bytes line → ⊥) × (IsBad target bytes line → ⊥)) → ⊥
+  is_late_or_bad line fault (inl late) never = never.0 late.0
+  is_late_or_bad line fault (inr bad) never = never.1 bad.1
+
+  one_least : (fault other : StreamFault) → IsLeastFault target bytes fault → IsLeastFault target bytes other → fault ≡ other
+  one_least fault other a b = by (compared a.line b.line)
+    where
+      by : (a.line < b.line) ⊎ ((a.line ≡ b.line) ⊎ (b.line < a.line)) → fault ≡ other
+      by (inl before) = absurd (is_late_or_bad a.line fault a.at_fault (b.none_before a.line before))
+      by (inr (inl same)) = same_way b.line fault other (subst (λ n. IsAtFault target bytes n fault) same a.at_fault) b.at_fault
+      by (inr (inr behind)) = absurd (is_late_or_bad b.line other b.at_fault (a.none_before b.line behind))
+
+  pub only_least : (fault : StreamFault) → IsLeastFault target bytes fault → line_fault target bytes ≡ Some fault
+  only_least fault least = by (line_fault target bytes) refl
+    where
+      by : (found : Option StreamFault) → line_fault target bytes ≡ found → line_fault target bytes ≡ Some fault
+      by None is = absurd (is_late_or_bad least.line fault least.at_fault (no_line is least.line))
+      by (Some other) is = is ∙ ap Some (one_least other fault (least_line other is) least)

@@ -43,6 +43,7 @@ pub fn entry_of_a_line()
 /// The fault among the lines of some bytes is that of the least line which is late or bad.
 pub fn least_line_at_fault()
     ensures some { (target bytes : List ℕ) (fault : StreamFault) → line_fault target bytes ≡ Some fault → IsLeastFault target bytes fault }
+    ensures only { (target bytes : List ℕ) (fault : StreamFault) → IsLeastFault target bytes fault → line_fault target bytes ≡ Some fault }
     ensures none { (target bytes : List ℕ) → line_fault target bytes ≡ None → (line : ℕ) → (IsLate target bytes line → ⊥) × (IsBad target bytes line → ⊥) }
 {}
 
