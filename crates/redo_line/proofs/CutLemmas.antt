@@ -7,16 +7,13 @@ use Rattle.std.proofs.lemmas.List.Elements.{recursion_from_All}
 use Rattle.memchr.specs.Find.{Passes, Nowhere, NoneBefore, is_byte}
 use Rattle.redo_line.specs.Lines.{line_feed, HasNoLineFeed, ended, rest}
 use Rattle.redo_line.specs.Cut.{Cuts}
+use Rattle.redo_line.proofs.PartLemmas.{free-append}
 use Rattle.redo_line.proofs.LineLemmas.{ended-append, rest-append, ended-free, rest-free, ended-line, rest-line, are_lines}
-
-free-append : (bytes more : List ℕ) → HasNoLineFeed bytes → HasNoLineFeed more → HasNoLineFeed (bytes ++ more)
-free-append [] more free behind = behind
-free-append (byte ∷ bytes) more free behind = (free.0, free-append bytes more free.1 behind)
 
 -- bytes that end one line, behind what is kept
 pub cuts_line : (before front : List ℕ) → HasNoLineFeed front → Cuts before (front ++ line_feed ∷ []) ((before ++ front) ∷ []) []
 cuts_line before front free taken kept =
-    let line = free-append (rest taken) front (are_lines taken).rest_holds_none free in
+    let line = free-append line_feed (rest taken) front (are_lines taken).rest_holds_none free in
     let joined = sym (append_assoc (rest taken) front (line_feed ∷ [])) in
     let lines : ended (rest taken ++ (front ++ line_feed ∷ [])) ≡ (before ++ front) ∷ [] =
     ap ended joined ∙ ended-line (rest taken ++ front) [] line ∙ ap (λ ls. (rest taken ++ front) ∷ ls) (ended-free [] tt) ∙ ap (λ b. (b ++ front) ∷ []) kept in
@@ -26,7 +23,7 @@ cuts_line before front free taken kept =
 -- bytes that end none
 pub cuts_none : (before bytes : List ℕ) → HasNoLineFeed bytes → Cuts before bytes [] (before ++ bytes)
 cuts_none before bytes free taken kept =
-    let line = free-append (rest taken) bytes (are_lines taken).rest_holds_none free in
+    let line = free-append line_feed (rest taken) bytes (are_lines taken).rest_holds_none free in
     (ended-append taken bytes ∙ ap (λ ls. ended taken ++ ls) (ended-free (rest taken ++ bytes) line), rest-append taken bytes ∙ rest-free (rest taken ++ bytes) line ∙ ap (λ b. b ++ bytes) kept)
 
 -- no line feed stands before the first place of one

@@ -20,10 +20,10 @@ pub record AreParts (at : ℕ) (bytes : List ℕ) (parts : List ℕ × List ℕ)
   pub free : HasNo at parts.0
 
 -- one byte more in front of bytes that were cut
-abbrev onto : ℕ → List ℕ × List ℕ → List ℕ × List ℕ
+abbrev pub onto : ℕ → List ℕ × List ℕ → List ℕ × List ℕ
 onto byte parts = (byte ∷ parts.0, parts.1)
 
-abbrev cut_by : Bool → ℕ → List ℕ → Option (List ℕ × List ℕ) → Option (List ℕ × List ℕ)
+abbrev pub cut_by : Bool → ℕ → List ℕ → Option (List ℕ × List ℕ) → Option (List ℕ × List ℕ)
 cut_by is byte bytes cut = cond is (Some ([], bytes)) (option_map (onto byte) cut)
 
 parts_by : (at byte : ℕ) (bytes : List ℕ) (is : Bool) (cut : Option (List ℕ × List ℕ)) (parts : List ℕ × List ℕ) → eqb byte at ≡ is
@@ -41,7 +41,7 @@ unfolding parted
 are_parts at [] parts so = absurd (none-some parts so)
 are_parts at (byte ∷ bytes) parts so = parts_by at byte bytes (eqb byte at) (parted at bytes) parts refl (λ others cut. are_parts at bytes others cut) so
 
-parted-cons : (at byte : ℕ) (bytes : List ℕ) (is : Bool) → eqb byte at ≡ is → parted at (byte ∷ bytes) ≡ cut_by is byte bytes (parted at bytes)
+pub parted-cons : (at byte : ℕ) (bytes : List ℕ) (is : Bool) → eqb byte at ≡ is → parted at (byte ∷ bytes) ≡ cut_by is byte bytes (parted at bytes)
 unfolding parted
 parted-cons at byte bytes is h = ap (λ (b : Bool). cut_by b byte bytes (parted at bytes)) h
 

@@ -12,6 +12,7 @@ use Rattle.redo_line.specs.declared.line.LineFault.{LineFault}
 use Rattle.redo_line.specs.declared.line.LineFault.TheVariants.{BadRecord, OutOfMemory}
 use Rattle.redo_line.specs.declared.name.NameFault.{NameFault}
 use Rattle.redo_line.specs.declared.name.NameFault.TheVariants as name
+use Rattle.redo_line.specs.declared.record.Kind.{Kind}
 use Rattle.redo_line.specs.Entry.{behind_mark, line_entry, done, done_parted, said, record_entry, entry_of}
 use Rattle.redo_line.specs.Line.{bad_name, Reads}
 use Rattle.redo_line.specs.Names.{normal}
@@ -69,11 +70,16 @@ pub by_fields : (target bytes kind text : List ℕ) → option_map kind_and_text
 unfolding record_entry
 by_fields target bytes kind text is = said_by target (fields_of bytes) kind text is
 
+-- what `&line[7..]` shows
+pub behind_line : (shown line : List ℕ) → shown ≡ line → take (length shown - 7) (drop 7 shown) ≡ drop 7 line
+behind_line shown line is = take_rest shown 7 ∙ ap (drop 7) is
+
 -- what a record says, by its parts
-module _ (target line bytes kind text : List ℕ) (begins : pointwise nat_eq mark (take 7 line) ≡ true) (bytes_are : bytes ≡ drop 7 line)
-    (parts : option_map kind_and_text (fields_of bytes) ≡ Some (kind, text)) where
-  pub what_it_says : entry_of target line true ≡ said target (kind_of kind) kind text
-  what_it_says = at_mark target line begins ∙ ap (record_entry target) (sym bytes_are) ∙ by_fields target bytes kind text parts
+pub what_it_says : (target line shown kind text : List ℕ) (text_kind : Kind) → pointwise nat_eq mark (take 7 line) ≡ true → shown ≡ line
+    → option_map kind_and_text (fields_of (take (length shown - 7) (drop 7 shown))) ≡ Some (kind, text) → text_kind ≡ kind_of kind → entry_of target line true ≡ said target text_kind kind text
+what_it_says target line shown kind text text_kind begins shown_is parts is =
+    let bytes = take (length shown - 7) (drop 7 shown) in
+    at_mark target line begins ∙ ap (record_entry target) (sym (behind_line shown line shown_is)) ∙ by_fields target bytes kind text parts ∙ ap (λ k. said target k kind text) (sym is)
 
 pub what_none_says : (target line bytes : List ℕ) → pointwise nat_eq mark (take 7 line) ≡ true → bytes ≡ drop 7 line → fields_of bytes ≡ None → entry_of target line true ≡ None
 what_none_says target line bytes begins bytes_are none = at_mark target line begins ∙ ap (record_entry target) (sym bytes_are) ∙ no_fields target bytes none
@@ -110,10 +116,6 @@ end_is line text ends =
     let sum = ap length ends.1 ∙ length-append ends.0 text in
     let count : length line - length text ≡ length ends.0 = omega (arith, sum) in
     ap (λ n. drop n line) count ∙ ap (drop (length ends.0)) ends.1 ∙ drop-append_seam ends.0 text
-
--- what `&line[7..]` shows
-pub behind_line : (shown line : List ℕ) → shown ≡ line → take (length shown - 7) (drop 7 shown) ≡ drop 7 line
-behind_line shown line is = take_rest shown 7 ∙ ap (drop 7) is
 
 -- no memory for what there is
 pub no_memory_read : (result : Result Entry LineFault) (entry : Entry) → IsErr result × IsErrAnd result (λ given. given ≡ OutOfMemory) → Reads result (Some entry)

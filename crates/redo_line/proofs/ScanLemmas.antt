@@ -1,5 +1,5 @@
 -- How a scan goes on behind the bytes that it took.
-use Rattle.std.proofs.Common.{◌≡◌, ◌⊎◌, inl, inr, ℕ, ◌+◌, ◌-◌, ◌<◌, ◌≤◌, Bool, true, false, cond, List, [], ◌∷◌, ◌++◌, Option, None, Some, length, take, refl, sym, ◌∙◌, ap, arith}
+use Rattle.std.proofs.Common.{◌≡◌, ◌⊎◌, inl, inr, ℕ, ◌+◌, ◌-◌, ◌<◌, ◌≤◌, ◌^◌, Fits, w64, Bool, true, false, cond, List, [], ◌∷◌, ◌++◌, Option, None, Some, length, take, refl, sym, ◌∙◌, ap, arith}
 use Rattle.std.specs.List.{filter_map, flat_map, cons_option}
 use Rattle.std.proofs.lemmas.Bool.{le-ltb, lt-ltb}
 use Rattle.std.proofs.lemmas.List.{append_assoc, append-nil, map-append, length-append, length-map, length-take, take_all}
@@ -80,7 +80,7 @@ module _ (p : Progress) (u : List ℕ) (after : IsAfter p u) where
   fine_u : (line_fault p.target u ≡ None) × (length u ≤ p.max_bytes)
   fine_u = let none = no_fault p.target p.max_bytes (so_far u) after.fine in (none.0, none.1)
 
-  pub lines_within : p.lines ≤ p.max_bytes
+  lines_within : p.lines ≤ p.max_bytes
   lines_within = let lines = after.lines_are in let few = few_lines u in let within = fine_u.1 in omega (arith, lines, few, within)
 
   before_none : first_fault false 1 before ≡ None
@@ -256,3 +256,10 @@ module _ (p : Progress) (u : List ℕ) (after : IsAfter p u) where
         same_entries =
             let within = ap (λ (b : List ℕ). length (u ++ b)) all in let fits = a_within in
             fine_part p.target p.max_bytes (u ++ left) fine_all (omega (arith, within, fits)) ∙ ap (found p.target) same_lines ∙ sym part_u
+
+-- the number of the line behind them is none that a machine can't hold
+pub next_line_fits : (now p : Progress) → p ≡ now → (u : List ℕ) → IsAfter now u → now.max_bytes ≤ 2 ^ 40 → Fits w64 (p.lines + 1)
+next_line_fits now p same u after limit =
+    let within = lines_within now u after in
+    let lines = ap (λ (q : Progress). q.lines) same in
+    omega (arith, within, limit, lines)

@@ -1,6 +1,5 @@
 use Rattle.std.proofs.Common.{◌≡◌, ◌-◌, ◌≤◌, ℕ, List, Some, length, drop, sym, ap, ◌∙◌, subst}
 use Rattle.redo_line.specs.declared.entry.Entry.TheVariants.{Mention, Note}
-use Rattle.redo_line.specs.Entry.{said}
 use Rattle.redo_line.specs.Line.{Reads}
 use Rattle.redo_line.proofs.ReadingLemmas.{bad_name_read, named_read, no_memory_read, behind_line, what_it_says, what_none_says, text_ends, end_fits, end_is}
 use Rattle.redo_line.proofs.line.read_record.Goals as goal
@@ -16,35 +15,35 @@ overflow_sub-text_from c =
 pub returns-in_err-name-in-Mention : goal.returns-in_err-name-in-Mention
 returns-in_err-name-in-Mention c =
     let target = c.args.target.now in let kind = c.in-Some.fields.kind.now in let text = c.in-Some.fields.text.now in
-    let says = what_it_says target c.args.line _ kind text c.requires (behind_line c.bytes.result.now c.args.line c.bytes.ensures) c.in-Some.ensures.some in
-    subst (Reads c.from_residual.result) (sym (says ∙ ap (λ k. said target k kind text) (sym c.in-Mention.ensures)))
+    let says = what_it_says target c.args.line c.bytes.result.now kind text _ c.requires c.bytes.ensures c.in-Some.ensures.some c.in-Mention.ensures in
+    subst (Reads c.from_residual.result) (sym says)
     (bad_name_read (λ mentioned. Mention c.in-Mention.how mentioned) target text c.in_err-name-in-Mention.field-0.0 c.from_residual.result c.in_err-name-in-Mention.ensures.empty c.from_residual.ensures)
 
 pub returns-in_ok-name-in-Mention : goal.returns-in_ok-name-in-Mention
 returns-in_ok-name-in-Mention c =
     let target = c.args.target.now in let kind = c.in-Some.fields.kind.now in let text = c.in-Some.fields.text.now in
-    let says = what_it_says target c.args.line _ kind text c.requires (behind_line c.bytes.result.now c.args.line c.bytes.ensures) c.in-Some.ensures.some in
-    says ∙ ap (λ k. said target k kind text) (sym c.in-Mention.ensures) ∙ named_read (λ mentioned. Mention c.in-Mention.how mentioned) target text c.in_ok-name-in-Mention.name c.in_ok-name-in-Mention.ensures.ok
+    let says = what_it_says target c.args.line c.bytes.result.now kind text _ c.requires c.bytes.ensures c.in-Some.ensures.some c.in-Mention.ensures in
+    says ∙ named_read (λ mentioned. Mention c.in-Mention.how mentioned) target text c.in_ok-name-in-Mention.name c.in_ok-name-in-Mention.ensures.ok
 
 pub returns-in-Done : goal.returns-in-Done
 returns-in-Done c =
     let target = c.args.target.now in let kind = c.in-Some.fields.kind.now in let text = c.in-Some.fields.text.now in
-    let says = what_it_says target c.args.line _ kind text c.requires (behind_line c.bytes.result.now c.args.line c.bytes.ensures) c.in-Some.ensures.some in
-    subst (Reads c.read_done.result) (sym (says ∙ ap (λ k. said target k kind text) (sym c.in-Done.ensures))) c.read_done.ensures
+    let says = what_it_says target c.args.line c.bytes.result.now kind text _ c.requires c.bytes.ensures c.in-Some.ensures.some c.in-Done.ensures in
+    subst (Reads c.read_done.result) (sym says) c.read_done.ensures
 
 pub returns-in_err-kind-in-Note : goal.returns-in_err-kind-in-Note
 returns-in_err-kind-in-Note c =
     let target = c.args.target.now in let kind = c.in-Some.fields.kind.now in let text = c.in-Some.fields.text.now in
-    let says = what_it_says target c.args.line _ kind text c.requires (behind_line c.bytes.result.now c.args.line c.bytes.ensures) c.in-Some.ensures.some in
-    subst (Reads c.from_residual-in_err-kind-in-Note.result) (sym (says ∙ ap (λ k. said target k kind text) (sym c.in-Note.ensures)))
+    let says = what_it_says target c.args.line c.bytes.result.now kind text _ c.requires c.bytes.ensures c.in-Some.ensures.some c.in-Note.ensures in
+    subst (Reads c.from_residual-in_err-kind-in-Note.result) (sym says)
     (no_memory_read c.from_residual-in_err-kind-in-Note.result (Note kind text) c.from_residual-in_err-kind-in-Note.ensures)
 
 pub returns-in_ok-kind-in-Note : goal.returns-in_ok-kind-in-Note
 returns-in_ok-kind-in-Note c =
     let target = c.args.target.now in let kind = c.in-Some.fields.kind.now in let text = c.in-Some.fields.text.now in
-    let says = what_it_says target c.args.line _ kind text c.requires (behind_line c.bytes.result.now c.args.line c.bytes.ensures) c.in-Some.ensures.some in
+    let says = what_it_says target c.args.line c.bytes.result.now kind text _ c.requires c.bytes.ensures c.in-Some.ensures.some c.in-Note.ensures in
     let ends = text_ends c.args.line _ kind text (behind_line c.bytes.result.now c.args.line c.bytes.ensures) c.in-Some.ensures.some in
     let text_is : c.behind.result ≡ text =
     c.behind.ensures ∙ ap (λ (l : List ℕ). drop (length l - length text) c.args.line) c.bytes-in-Note.ensures ∙ end_is c.args.line text ends in
-    says ∙ ap (λ k. said target k kind text) (sym c.in-Note.ensures) ∙ ap (λ (k : List ℕ). Some (Note k text)) (sym c.in_ok-kind-in-Note.ensures)
+    says ∙ ap (λ (k : List ℕ). Some (Note k text)) (sym c.in_ok-kind-in-Note.ensures)
     ∙ ap (λ (t : List ℕ). Some (Note c.in_ok-kind-in-Note.kind t)) (sym text_is)

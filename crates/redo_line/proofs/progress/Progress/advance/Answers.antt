@@ -1,33 +1,21 @@
-use Rattle.std.proofs.Common.{◌≡◌, ◌⊎◌, inr, ◌+◌, ◌<◌, ◌≤◌, [], ◌∷◌, length, drop, sym, ◌∙◌, ap, arith}
+use Rattle.std.proofs.Common.{◌≡◌, ◌⊎◌, inr, ◌+◌, ◌<◌, ◌≤◌, [], ◌∷◌, length, drop, sym, ◌∙◌}
 use Rattle.std.specs.List.{slice_range}
 use Rattle.std.proofs.lemmas.List.{take_rest}
 use Rattle.redo_line.specs.declared.stream_fault.StreamFault.TheVariants.{OutOfMemory}
 use Rattle.redo_line.specs.Cut.{Cuts}
-use Rattle.redo_line.specs.Scan.{Progress, Refuses}
-use Rattle.redo_line.proofs.ScanLemmas.{lines_within}
+use Rattle.redo_line.specs.Scan.{Refuses}
+use Rattle.redo_line.proofs.ScanLemmas.{next_line_fits}
 use Rattle.redo_line.proofs.ScanSteps.{of_line, of_more, handed_on, no_entry, refuses_late, refuses_bad, line_found, refuses_long, all_taken}
 use Rattle.redo_line.proofs.progress.Progress.advance.Goals as goal
 
 pub overflow_add-result : goal.overflow_add-result
-overflow_add-result c =
-    let within = lines_within c.args.self.now c.requires.after.0 c.requires.after.1 in
-    let limit = c.requires.limit in
-    let lines = ap (λ (p : Progress). p.lines) c.self.view_is in
-    omega (arith, within, limit, lines)
+overflow_add-result c = next_line_fits c.args.self.now _ c.self.view_is c.requires.after.0 c.requires.after.1 c.requires.limit
 
 pub overflow_add-self-inside : goal.overflow_add-self-inside
-overflow_add-self-inside c =
-    let within = lines_within c.args.self.now c.requires.after.0 c.requires.after.1 in
-    let limit = c.requires.limit in
-    let lines = ap (λ (p : Progress). p.lines) c.self.view_is in
-    omega (arith, within, limit, lines)
+overflow_add-self-inside c = next_line_fits c.args.self.now _ c.self.view_is c.requires.after.0 c.requires.after.1 c.requires.limit
 
 pub overflow_add-self-in-Line : goal.overflow_add-self-in-Line
-overflow_add-self-in-Line c =
-    let within = lines_within c.args.self.now c.requires.after.0 c.requires.after.1 in
-    let limit = c.requires.limit in
-    let lines = ap (λ (p : Progress). p.lines) c.self.view_is in
-    omega (arith, within, limit, lines)
+overflow_add-self-in-Line c = next_line_fits c.args.self.now _ c.self.view_is c.requires.after.0 c.requires.after.1 c.requires.limit
 
 pub returns-then-is_late-clause-refuses : goal.returns-then-is_late-clause-refuses
 returns-then-is_late-clause-refuses c u after =
