@@ -6,6 +6,7 @@ mod EntryListLemmas
 mod FaultLemmas
 mod FieldLemmas
 mod FirstPlace
+pub mod GaveLemmas
 mod LeastFaultLemmas
 pub mod LineLemmas
 mod LineRows

@@ -1,21 +1,17 @@
 -- What a loop over a reader has read, and the lines that it cut.
-use Rattle.std.proofs.Common.{◌≡◌, ℕ, ◌+◌, ◌-◌, ◌<◌, ◌≤◌, Bool, true, false, List, [], ◌∷◌, ◌++◌, Option, None, Some, option_to_list, Ok, Err, length, take, drop, refl, sym, ◌∙◌, ap, subst, arith, le_refl}
+use Rattle.std.proofs.Common.{◌≡◌, ℕ, ◌+◌, ◌-◌, ◌<◌, ◌≤◌, true, false, List, [], ◌∷◌, ◌++◌, Option, None, Some, option_to_list, Ok, Err, length, take, drop, refl, sym, ◌∙◌, ap, arith}
 use Rattle.std.specs.List.{slice_range}
 use Rattle.std.proofs.lemmas.Bool.{le-ltb, lt-ltb}
 use Rattle.std.proofs.lemmas.List.{append_assoc, append-nil, length-append, length-take, take-append-drop}
 use Rattle.std.proofs.Math.Seq.{take-add}
 use Rattle.redo_line.specs.declared.feed.Broken.{Broken}
 use Rattle.redo_line.specs.declared.stream_fault.StreamFault.TheVariants.{TooLong, Read}
-use Rattle.redo_line.specs.Feed.{Stream, Pulls}
+use Rattle.redo_line.specs.Feed.{Stream, Pulls, Gave, SomeStream}
 use Rattle.redo_line.specs.Fault.{ending_fault}
 use Rattle.redo_line.specs.Lines.{cutting, ended, rest, unended, all_lines}
 use Rattle.redo_line.specs.Cut.{Cuts}
-use Rattle.redo_log_cli.specs.Shown.{SomeStream, Collects}
-
--- a reader gave these bytes since it told `first`, and tells `now`
-abbrev pub Gave : Option Stream → List ℕ → Option Stream → Type 0
-Gave None bytes now = now ≡ None
-Gave (Some stream) bytes now = (coming : Stream) × (now ≡ Some coming) × (stream.bytes ≡ bytes ++ coming.bytes) × (stream.fails ≡ coming.fails)
+use Rattle.redo_line.proofs.GaveLemmas.{Gave-none, Gave-more, Gave-end, Gave-failed, Gave-longer, weaker}
+use Rattle.redo_log_cli.specs.Shown.{Collects}
 
 -- what was read so far, how it was cut, and how much it is
 pub record Progress (first now : Option Stream) (lines : List (List ℕ)) (kept : List ℕ) (taken : ℕ) : Type 0 where
@@ -25,58 +21,9 @@ pub record Progress (first now : Option Stream) (lines : List (List ℕ)) (kept 
   pub kept_is : rest bytes ≡ kept
   pub count : length bytes ≡ taken
 
-Gave-none : (told : Option Stream) → Gave told [] told
-Gave-none None = refl
-Gave-none (Some stream) = (stream, refl, refl, refl)
-
 pub at_start : (told : Option Stream) → Progress told told [] [] 0
 unfolding cutting ended rest
 at_start told = record { bytes = []; gave = Gave-none told; lines_are = refl; kept_is = refl; count = refl }
-
--- one read of a reader that tells
-reads_on : (stream : Stream) (bytes coming : List ℕ) (fails : Bool) (after : Option Stream) (n : ℕ) (buffer : List ℕ) → 0 < n → stream.bytes ≡ bytes ++ coming → stream.fails ≡ fails
-    → Pulls (Some (record { bytes = coming; fails = fails })) after (Ok n) buffer → Gave (Some stream) (bytes ++ take n buffer) after
-reads_on stream bytes [] false after n buffer some is fails_is pulled = let none : n ≡ 0 = let e = pulled.0 in cc in absurd (omega arith)
-reads_on stream bytes [] true after n buffer some is fails_is pulled = let e = pulled.0 in absurd (cc)
-reads_on stream bytes (byte ∷ coming) fails after n buffer some is fails_is pulled = (
-  record { bytes = drop n (byte ∷ coming); fails = fails },
-  pulled.1,
-  is ∙ ap (λ b. bytes ++ b) (sym (take-append-drop n (byte ∷ coming)) ∙ ap (λ b. b ++ drop n (byte ∷ coming)) (sym pulled.0.front)) ∙ sym (append_assoc bytes (take n buffer) (drop n (byte ∷ coming))),
-  fails_is,
-)
-
-Gave-more : (first now after : Option Stream) (bytes : List ℕ) (n : ℕ) (buffer : List ℕ) → 0 < n → Gave first bytes now → Pulls now after (Ok n) buffer → Gave first (bytes ++ take n buffer) after
-Gave-more None now after bytes n buffer some gave pulls = subst (λ t. Pulls t after (Ok n) buffer) gave pulls
-Gave-more (Some stream) now after bytes n buffer some gave pulls =
-    reads_on stream bytes gave.0.bytes gave.0.fails after n buffer some gave.2 gave.3 (subst (λ t. Pulls t after (Ok n) buffer) gave.1 pulls)
-
--- the last read, at an end of input or a failed one
-ends_so : (stream : Stream) (bytes coming : List ℕ) (fails : Bool) (after : Option Stream) (buffer : List ℕ) → stream.bytes ≡ bytes ++ coming → stream.fails ≡ fails
-    → Pulls (Some (record { bytes = coming; fails = fails })) after (Ok 0) buffer → (stream.bytes ≡ bytes) × (stream.fails ≡ false)
-ends_so stream bytes [] false after buffer is fails_is pulled = (is ∙ append-nil bytes, fails_is)
-ends_so stream bytes [] true after buffer is fails_is pulled = let e = pulled.0 in absurd (cc)
-ends_so stream bytes (byte ∷ coming) fails after buffer is fails_is pulled = let some = pulled.0.some in absurd (omega arith)
-
-fails_so : (stream : Stream) (bytes coming : List ℕ) (fails : Bool) (after : Option Stream) (broken : Broken) (buffer : List ℕ) → stream.bytes ≡ bytes ++ coming → stream.fails ≡ fails
-    → Pulls (Some (record { bytes = coming; fails = fails })) after (Err broken) buffer → (stream.bytes ≡ bytes) × (stream.fails ≡ true)
-fails_so stream bytes [] false after broken buffer is fails_is pulled = let e = pulled.0 in absurd (cc)
-fails_so stream bytes [] true after broken buffer is fails_is pulled = (is ∙ append-nil bytes, fails_is)
-fails_so stream bytes (byte ∷ coming) fails after broken buffer is fails_is pulled = absurd pulled
-
--- what ends after these bytes is a stream of just these
-Gave-end : (first now after : Option Stream) (bytes buffer : List ℕ) → Gave first bytes now → Pulls now after (Ok 0) buffer → SomeStream first (λ stream. (stream.bytes ≡ bytes) × (stream.fails ≡ false))
-Gave-end None now after bytes buffer gave pulls = (record { bytes = bytes; fails = false }, (refl, refl))
-Gave-end (Some stream) now after bytes buffer gave pulls =
-    ends_so stream bytes gave.0.bytes gave.0.fails after buffer gave.2 gave.3 (subst (λ t. Pulls t after (Ok 0) buffer) gave.1 pulls)
-
-Gave-failed : (first now after : Option Stream) (bytes : List ℕ) (broken : Broken) (buffer : List ℕ) → Gave first bytes now → Pulls now after (Err broken) buffer → SomeStream first (λ stream. (stream.bytes ≡ bytes) × (stream.fails ≡ true))
-Gave-failed None now after bytes broken buffer gave pulls = (record { bytes = bytes; fails = true }, (refl, refl))
-Gave-failed (Some stream) now after bytes broken buffer gave pulls =
-    fails_so stream bytes gave.0.bytes gave.0.fails after broken buffer gave.2 gave.3 (subst (λ t. Pulls t after (Err broken) buffer) gave.1 pulls)
-
-Gave-longer : (first now : Option Stream) (bytes : List ℕ) → Gave first bytes now → SomeStream first (λ stream. length bytes ≤ length stream.bytes)
-Gave-longer None now bytes gave = (record { bytes = bytes; fails = false }, le_refl (length bytes))
-Gave-longer (Some stream) now bytes gave = omega (arith, ap length gave.2, length-append bytes gave.0.bytes)
 
 long_fault : (max_bytes : ℕ) (stream : Stream) → max_bytes < length stream.bytes → ending_fault max_bytes stream ≡ Some TooLong
 long_fault max_bytes stream over = rw (lt-ltb max_bytes (length stream.bytes) over)
@@ -86,10 +33,6 @@ read_fault max_bytes stream within fails = rw (le-ltb max_bytes (length stream.b
 
 whole_fault : (max_bytes : ℕ) (stream : Stream) → length stream.bytes ≤ max_bytes → stream.fails ≡ false → ending_fault max_bytes stream ≡ None
 whole_fault max_bytes stream within fails = rw (le-ltb max_bytes (length stream.bytes) within, fails)
-
-pub weaker : (told : Option Stream) (P Q : Stream → Type 0) → ((stream : Stream) → P stream → Q stream) → SomeStream told P → SomeStream told Q
-weaker None P Q f (stream, p) = (stream, f stream p)
-weaker (Some stream) P Q f p = f stream p
 
 module _ (first now after : Option Stream) (lines : List (List ℕ)) (kept : List ℕ) (taken : ℕ) (so_far : Progress first now lines kept taken) where
   pub goes_on : (n : ℕ) (buffer kept' : List ℕ) (lines' : List (List ℕ)) → 0 < n → n ≤ length buffer → Pulls now after (Ok n) buffer → Collects kept lines (take n buffer) kept' lines' → Progress first after lines' kept' (taken + n)

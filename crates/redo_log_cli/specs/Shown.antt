@@ -1,13 +1,7 @@
 -- What one log is shown as.
-use Rattle.std.specs.Prelude.{◌≡◌, ℕ, List, ◌++◌, Option, None, Some, codes}
+use Rattle.std.specs.Prelude.{◌≡◌, List, ℕ, ◌++◌, codes}
 use Rattle.std.specs.List.{flat_map}
-use Rattle.redo_line.specs.Feed.{Stream}
 use Rattle.redo_line.specs.Lines.{with_line_feed, all_lines, ended, rest}
-
--- a fact of the stream that a reader tells; of a reader that tells nothing it holds of some stream
-abbrev pub SomeStream : Option Stream → (Stream → Type 0) → Type 0
-SomeStream None P = (stream : Stream) × P stream
-SomeStream (Some stream) P = P stream
 
 -- the four letters `redo` and two spaces
 abbrev pub redo : List ℕ

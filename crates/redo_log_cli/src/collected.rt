@@ -2,7 +2,8 @@ ghost use Rattle.std.specs.Prelude.{◌≡◌, ◌⊎◌, None, Some, IfOk, IfEr
 ghost use Rattle.redo_line.specs.Lines.{all_lines};
 ghost use Rattle.redo_line.specs.Fault.{ending_fault};
 ghost use Rattle.redo_line.specs.declared.stream_fault.StreamFault.TheVariants.{OutOfMemory};
-ghost use Rattle.redo_log_cli.specs.Shown.{Collects, SomeStream};
+ghost use Rattle.redo_line.specs.Feed.{SomeStream};
+ghost use Rattle.redo_log_cli.specs.Shown.{Collects};
 
 use redo_line::{Broken, Cut, Cutter, Feed, LineText, StreamFault};
 use std::alloc::{AllocError, Global};

@@ -3,7 +3,8 @@ ghost use Rattle.redo_line.specs.Lines.{with_line_feed};
 ghost use Rattle.redo_line.specs.Sink.{Writes, adds};
 ghost use Rattle.redo_line.specs.Fault.{ending_fault};
 ghost use Rattle.redo_log_cli.specs.RunFault.{IfStreamFault, IfUnknown};
-ghost use Rattle.redo_log_cli.specs.Shown.{SomeStream, header, text_of, shown};
+ghost use Rattle.redo_line.specs.Feed.{SomeStream};
+ghost use Rattle.redo_log_cli.specs.Shown.{header, text_of, shown};
 
 use crate::collected::collect_lines;
 use crate::run_fault::RunFault;

@@ -2,7 +2,8 @@ use Rattle.std.proofs.Common.{◌<◌, ◌≡◌, ◌++◌, ℕ, List, [], inr, 
 use Rattle.std.proofs.lemmas.List.{append-nil}
 use Rattle.redo_line.specs.Lines.{unended, all_lines}
 use Rattle.redo_line.specs.Fault.{ending_fault}
-use Rattle.redo_log_cli.proofs.Collecting.{Progress, at_start, at_end, at_failure, past_limit, goes_on, weaker}
+use Rattle.redo_log_cli.proofs.Collecting.{Progress, at_start, at_end, at_failure, past_limit, goes_on}
+use Rattle.redo_line.proofs.GaveLemmas.{weaker}
 use Rattle.redo_log_cli.proofs.collected.collect_lines.Goals as goal
 use Rattle.redo_log_cli.proofs.collected.collect_lines.Goals.{in-Some+in_ok-push, in_default}
 
