@@ -3,7 +3,7 @@ mod DigitLemmas
 mod DirectoryLemmas
 mod EntryLemmas
 mod EntryListLemmas
-mod FaultLemmas
+pub mod FaultLemmas
 mod FieldLemmas
 mod FirstPlace
 pub mod GaveLemmas

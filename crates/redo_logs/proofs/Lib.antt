@@ -1,0 +1,4 @@
+pub mod ChangedLemmas
+mod FirstFault
+mod Growing
+mod Storing

@@ -1,0 +1,3 @@
+pub mod EntryRef
+pub mod Logs
+pub mod Stored

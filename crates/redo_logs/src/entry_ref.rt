@@ -1,0 +1,40 @@
+ghost use Rattle.std.specs.Prelude.{◌≡◌};
+ghost use Rattle.redo_logs.specs.EntryRef.{entry_seen};
+
+use redo_line::{Entry, How, TargetName};
+
+/// An entry of a log in a table, whose names and texts stay where they are. Its cases are those of
+/// [`Entry`].
+#[derive(Clone, Copy, Debug)]
+pub enum EntryRef<'a> {
+    /// A line that is no record, as it is.
+    Text(&'a [u8]),
+    /// Another target, or this one, comes up.
+    Mention { how: How, name: &'a TargetName },
+    /// Another target is done, with this status.
+    Done { status: i32, name: &'a TargetName },
+    /// The log's own target is done, which closes the log.
+    Closing { status: i32 },
+    /// A record of any other kind.
+    Note { kind: &'a [u8], text: &'a [u8] },
+}
+
+impl<'a> EntryRef<'a> {
+    pub(crate) fn of(entry: &'a Entry) -> EntryRef<'a>
+        ensures { entry_seen result ≡ entry.now }
+    {
+        match entry {
+            Entry::Text(line) => EntryRef::Text(line.bytes()),
+            Entry::Mention { how, name } => EntryRef::Mention { how: *how, name },
+            Entry::Done { status, name } => EntryRef::Done {
+                status: *status,
+                name,
+            },
+            Entry::Closing { status } => EntryRef::Closing { status: *status },
+            Entry::Note { kind, text } => EntryRef::Note {
+                kind: kind.bytes(),
+                text: text.bytes(),
+            },
+        }
+    }
+}

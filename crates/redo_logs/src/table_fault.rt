@@ -1,0 +1,23 @@
+ghost use Rattle.std.specs.Prelude.{◌≡◌};
+ghost use Rattle.redo_logs.specs.declared.table_fault.TableFault.TheVariants.{OutOfMemory};
+
+use std::alloc::AllocFailed;
+
+/// Why a target can't be entered. The first of these causes counts.
+#[derive(Clone, Copy, Debug, PartialEq, Eq)]
+pub enum TableFault {
+    /// The table has a log of this target.
+    Twice,
+    /// The table holds 1,048,575 logs.
+    Full,
+    /// There was no memory.
+    OutOfMemory,
+}
+
+impl<T: Drop> From<AllocFailed<T>> for TableFault {
+    ghost from_gives = { λ _ fault. fault ≡ OutOfMemory };
+
+    fn from(_: AllocFailed<T>) -> TableFault {
+        TableFault::OutOfMemory
+    }
+}
