@@ -4,7 +4,7 @@ use Rattle.std.specs.Cmp.Lexicographic.{pointwise}
 use Rattle.std.specs.List.{IsDistinct}
 use Rattle.redo_line.specs.declared.entry.Entry.{Entry}
 use Rattle.redo_logs.specs.declared.log_state.LogState.{LogState}
-use Rattle.redo_logs.specs.Logs.{Log, IsTable, changed, targets_of, with_entry, with_state}
+use Rattle.redo_logs.specs.Logs.{Log, IsTable, changed, targets_of, states_of, with_entry, with_state}
 
 -- the log behind the first ones is the one of their number
 pub changed-here : (first : List Log) (log : Log) (others : List Log) (change : Log → Log) → changed (length first) change (first ++ log ∷ others) ≡ first ++ change log ∷ others
@@ -45,3 +45,9 @@ targets-with_entry number entry logs = targets-changed (with_entry entry) (λ lo
 -- and so does another state
 pub targets-with_state : (number : ℕ) (state : LogState) (logs : List Log) → targets_of (changed number (with_state state) logs) ≡ targets_of logs
 targets-with_state number state logs = targets-changed (with_state state) (λ log. refl) number logs
+
+-- one more entry of a log keeps the states
+pub states-with_entry : (number : ℕ) (entry : Entry) (logs : List Log) → states_of (changed number (with_entry entry) logs) ≡ states_of logs
+states-with_entry number entry [] = refl
+states-with_entry zero entry (log ∷ logs) = refl
+states-with_entry (suc number) entry (log ∷ logs) = ap (λ states. log.state ∷ states) (states-with_entry number entry logs)

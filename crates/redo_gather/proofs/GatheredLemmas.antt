@@ -1,0 +1,152 @@
+-- What a loop over streams has gathered.
+use Rattle.std.proofs.Common.{◌≡◌, ℕ, true, List, [], ◌∷◌, ◌++◌, Option, Some, length, map, slice_get, refl, sym, ap, ◌∙◌, arith, Err, ◌≢◌, subst}
+use Rattle.std.specs.List.{list_all}
+use Rattle.std.proofs.lemmas.List.{append_assoc, append-nil, length-append, length-map}
+use Rattle.redo_line.specs.declared.stream_fault.StreamFault.{StreamFault}
+use Rattle.redo_line.specs.declared.stream_fault.StreamFault.TheVariants.{BadRecord, AfterClose, TooLong, Read, OutOfMemory}
+use Rattle.redo_line.specs.Feed.{Stream, SomeStream}
+use Rattle.redo_line.specs.Log.{fault_of}
+use Rattle.redo_logs.specs.declared.log_state.LogState.TheVariants.{Running}
+use Rattle.redo_logs.specs.Logs.{Log, new_log, targets_of, states_of, changed, has_ended}
+use Rattle.redo_logs.proofs.ChangedLemmas.{changed-here}
+use Rattle.redo_gather.specs.declared.gather_fault.GatherFault.{GatherFault}
+use Rattle.redo_gather.specs.GatherFault.{fault_of_stream, IfStreamFault}
+use Rattle.redo_gather.specs.OneStream.{Completes, ended_with}
+use Rattle.redo_gather.specs.Streams.{AreTold, SomeStreams, whole_log, logs_of, fault_among}
+use Rattle.redo_gather.proofs.StreamLemmas.{whole_logs, one_more, fault_behind, count_told, told-append, any_streams, given_stream}
+
+-- the first logs of a table are whole, one for each reader that was read to its end, and the others are empty
+pub record Gathered (max_bytes : ℕ) (names : List (List ℕ)) (told : List (Option Stream)) (table : List Log) : Type 0 where
+  pub first : List (List ℕ)
+  pub left : List (List ℕ)
+  pub streams : List Stream
+  pub logs : List Log
+  pub names_are : names ≡ first ++ left
+  pub told_are : AreTold told streams
+  pub count : length first ≡ length streams
+  pub logs_are : logs_of max_bytes first streams ≡ Some logs
+  pub table_is : table ≡ logs ++ map new_log left
+
+pub none_gathered : (max_bytes : ℕ) (names : List (List ℕ)) → Gathered max_bytes names [] (map new_log names)
+none_gathered max_bytes names =
+    record { first = []; left = names; streams = []; logs = []; names_are = refl; told_are = tt; count = refl; logs_are = refl; table_is = refl }
+
+targets-append : (logs others : List Log) → targets_of (logs ++ others) ≡ targets_of logs ++ targets_of others
+targets-append [] others = refl
+targets-append (log ∷ logs) others = ap (λ ts. log.target ∷ ts) (targets-append logs others)
+
+targets-new : (left : List (List ℕ)) → targets_of (map new_log left) ≡ left
+targets-new [] = refl
+targets-new (target ∷ left) = ap (λ ts. target ∷ ts) (targets-new left)
+
+-- what stands behind others
+at_seam : {A : Type 0} (first left : List A) (x : A) → slice_get (first ++ left) (length first) ≡ Some x → (others : List A) × (left ≡ x ∷ others)
+at_seam [] [] x is = absurd (cc)
+at_seam [] (y ∷ left) x is = (left, (cc))
+at_seam (y ∷ first) left x is = at_seam first left x is
+
+module _ (max_bytes : ℕ) (names : List (List ℕ)) (told : List (Option Stream)) (table : List Log) (so_far : Gathered max_bytes names told table) where
+  targets_are : targets_of table ≡ names
+  targets_are =
+      ap targets_of so_far.table_is ∙ targets-append so_far.logs (map new_log so_far.left)
+      ∙ ap (λ ts. ts ++ targets_of (map new_log so_far.left)) (whole_logs max_bytes so_far.first so_far.streams so_far.logs so_far.count so_far.logs_are).0
+      ∙ ap (λ ts. so_far.first ++ ts) (targets-new so_far.left) ∙ sym so_far.names_are
+
+  number_is : length so_far.first ≡ length told
+  number_is = so_far.count ∙ sym (count_told told so_far.streams so_far.told_are)
+
+  pub count_logs : length table ≡ length names
+  count_logs = sym (length-map table (λ (log : Log). log.target)) ∙ ap length targets_are
+
+  logs_count : length so_far.logs ≡ length so_far.first
+  logs_count =
+      sym (length-map so_far.logs (λ (log : Log). log.target)) ∙ ap length (whole_logs max_bytes so_far.first so_far.streams so_far.logs so_far.count so_far.logs_are).0
+
+  module _ (target : List ℕ) (here : slice_get (targets_of table) (length told) ≡ Some target) where
+    -- the log of the next reader
+    next : (others : List (List ℕ)) × (so_far.left ≡ target ∷ others)
+    next =
+        at_seam so_far.first so_far.left target
+        (ap (λ n. slice_get (so_far.first ++ so_far.left) n) number_is ∙ ap (λ ts. slice_get ts (length told)) (sym so_far.names_are) ∙ ap (λ ts. slice_get ts (length told)) (sym targets_are) ∙ here)
+
+    table_here : table ≡ so_far.logs ++ new_log target ∷ map new_log next.0
+    table_here = so_far.table_is ∙ ap (λ ts. so_far.logs ++ map new_log ts) next.1
+
+    names_here : names ≡ so_far.first ++ target ∷ next.0
+    names_here = so_far.names_are ∙ ap (λ ts. so_far.first ++ ts) next.1
+
+    pub next_runs : slice_get (states_of table) (length told) ≡ Some Running
+    next_runs =
+        ap (λ t. slice_get (states_of t) (length told)) table_here ∙ ap (λ n. slice_get (states_of (so_far.logs ++ new_log target ∷ map new_log next.0)) n) (sym (logs_count ∙ number_is))
+        ∙ runs so_far.logs (map new_log next.0)
+      where
+        runs : (logs others : List Log) → slice_get (states_of (logs ++ new_log target ∷ others)) (length logs) ≡ Some Running
+        runs [] others = refl
+        runs (log ∷ logs) others = runs logs others
+
+    pub one_gathered : (reader : Option Stream) (after : List Log) → SomeStream reader (λ stream. Completes target max_bytes (length told) stream table after) → Gathered max_bytes names (told ++ reader ∷ []) after
+    one_gathered reader after read =
+        let given = given_stream reader (λ stream. Completes target max_bytes (length told) stream table after) read in
+        let completes = given.2 in
+        let log = whole_log target completes.entries in record {
+          first = so_far.first ++ target ∷ [];
+          left = next.0;
+          streams = so_far.streams ++ given.0 ∷ [];
+          logs = so_far.logs ++ log ∷ [];
+          names_are = names_here ∙ sym (append_assoc so_far.first (target ∷ []) next.0);
+          told_are = told-append told (reader ∷ []) so_far.streams (given.0 ∷ []) so_far.told_are (given.1, tt);
+          count = let same = so_far.count in omega (arith, length-append so_far.first (target ∷ []), length-append so_far.streams (given.0 ∷ []));
+          logs_are =
+              one_more max_bytes target given.0 so_far.first so_far.streams so_far.logs log so_far.count so_far.logs_are (ap (λ es. Rattle.std.specs.Option.option_map (whole_log target) es) completes.entries_are);
+          table_is =
+              completes.table_is ∙ ap (changed (length told) (ended_with completes.entries)) table_here
+              ∙ ap (λ n. changed n (ended_with completes.entries) (so_far.logs ++ new_log target ∷ map new_log next.0)) (sym (logs_count ∙ number_is))
+              ∙ changed-here so_far.logs (new_log target) (map new_log next.0) (ended_with completes.entries) ∙ sym (append_assoc so_far.logs (log ∷ []) (map new_log next.0));
+        }
+
+    pub fault_gathered : (reader : Option Stream) (unread : List (Option Stream)) (fault : StreamFault) → SomeStream reader (λ stream. fault_of target max_bytes stream ≡ Some fault)
+        → SomeStreams (told ++ reader ∷ unread) (λ streams. fault_among max_bytes names streams ≡ Some (length told, fault))
+    fault_gathered reader unread fault read =
+        let given = given_stream reader (λ stream. fault_of target max_bytes stream ≡ Some fault) read in
+        let others = any_streams unread in (
+          so_far.streams ++ given.0 ∷ others.0,
+          told-append told (reader ∷ unread) so_far.streams (given.0 ∷ others.0) so_far.told_are (given.1, others.1),
+          ap (λ ts. fault_among max_bytes ts (so_far.streams ++ given.0 ∷ others.0)) names_here
+              ∙ fault_behind max_bytes target given.0 so_far.first so_far.streams so_far.logs next.0 others.0 fault so_far.count so_far.logs_are given.2
+              ∙ ap (λ (n : ℕ). Some (n, fault)) number_is,
+        )
+
+  -- all readers were read to their ends
+  module _ (all : length told ≡ length names) where
+    none_left : so_far.left ≡ []
+    none_left = by so_far.left (let n = number_is in let c = ap length so_far.names_are in omega (arith, all, length-append so_far.first so_far.left))
+      where
+        by : (left : List (List ℕ)) → length left ≡ 0 → left ≡ []
+        by [] none = refl
+        by (target ∷ left) none = absurd (omega (arith, none))
+
+    whole : logs_of max_bytes names so_far.streams ≡ Some table
+    whole =
+        ap (λ ts. logs_of max_bytes ts so_far.streams) (so_far.names_are ∙ ap (λ l. so_far.first ++ l) none_left ∙ append-nil so_far.first) ∙ so_far.logs_are
+        ∙ ap Some (sym (so_far.table_is ∙ ap (λ l. so_far.logs ++ map new_log l) none_left ∙ append-nil so_far.logs))
+
+    pub all_gathered : SomeStreams told (λ streams. logs_of max_bytes names streams ≡ Some table)
+    all_gathered = (so_far.streams, so_far.told_are, whole)
+
+    pub all_targets : targets_of table ≡ names
+    all_targets = targets_are
+
+    pub all_have_ended : list_all has_ended table ≡ true
+    all_have_ended =
+        (whole_logs max_bytes names so_far.streams table (sym all ∙ count_told told so_far.streams so_far.told_are) whole).1
+
+-- the fault of a stream, as that of the gathering
+pub of_stream : (A : Type 0) (number : ℕ) (fault : StreamFault) (P : ℕ → StreamFault → Type 0) → (fault ≢ OutOfMemory → P number fault) → (given : GatherFault) → given ≡ fault_of_stream number fault → IfStreamFault {A = A} (Err given) P
+of_stream A number fault P p given is = subst (λ (f : GatherFault). IfStreamFault {A = A} (Err f) P) (sym is) (by fault p)
+  where
+    by : (fault : StreamFault) → (fault ≢ OutOfMemory → P number fault) → IfStreamFault {A = A} (Err (fault_of_stream number fault)) P
+    by (BadRecord line) p = p (λ e. absurd (cc))
+    by (AfterClose line) p = p (λ e. absurd (cc))
+    by TooLong p = p (λ e. absurd (cc))
+    by Read p = p (λ e. absurd (cc))
+    by OutOfMemory p = tt

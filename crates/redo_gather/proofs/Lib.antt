@@ -1,0 +1,6 @@
+mod EnteringLemmas
+mod GatheredLemmas
+mod GrowthLemmas
+mod ReadingLemmas
+mod StreamLemmas
+mod TurnLemmas

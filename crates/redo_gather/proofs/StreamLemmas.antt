@@ -1,0 +1,113 @@
+-- The logs of a set of streams, or its fault, as streams are read one after another.
+use Rattle.std.proofs.Common.{◌≡◌, ◌↔◌, ℕ, suc, true, false, List, [], ◌∷◌, ◌++◌, Option, None, Some, IsSome, length, map, zip, refl, sym, ap, ◌∙◌, arith}
+use Rattle.std.specs.Option.{option_map}
+use Rattle.std.specs.List.{list_all}
+use Rattle.redo_line.specs.declared.entry.Entry.{Entry}
+use Rattle.redo_line.specs.declared.stream_fault.StreamFault.{StreamFault}
+use Rattle.redo_line.specs.Feed.{Stream, SomeStream}
+use Rattle.redo_line.specs.Log.{fault_of, unless_fault}
+use Rattle.redo_logs.specs.Logs.{Log, first_fault, behind_one, targets_of, has_ended}
+use Rattle.redo_gather.specs.Streams.{IsTold, AreTold, whole_log, log_with, fault_with, in_front, logs_of, fault_among}
+
+-- one stream more, in front of the others
+either : (fault : Option StreamFault) (target : List ℕ) (entries : List Entry) (logs : Option (List Log)) (faults : List (Option StreamFault)) → IsSome logs ↔ (first_fault faults ≡ None)
+    → IsSome (in_front (option_map (whole_log target) (unless_fault fault entries)) logs) ↔ (first_fault (fault ∷ faults) ≡ None)
+either (Some fault) target entries logs faults both = ((λ some. absurd (cc)), (λ none. absurd (cc)))
+either None target entries None faults both = ((λ some. absurd (cc)), (λ none. absurd (let some = both.1 (none_behind (first_fault faults) none) in cc)))
+  where
+    none_behind : (first : Option (ℕ × StreamFault)) → behind_one first ≡ None → first ≡ None
+    none_behind None none = refl
+    none_behind (Some found) none = absurd (cc)
+either None target entries (Some logs) faults both = ((λ some. ap behind_one (both.0 refl)), (λ none. refl))
+
+-- logs that are there with one in front
+abbrev InFront : Option Log → Option (List Log) → List Log → Type 0
+InFront log logs all = (first : Log) × (others : List Log) × (log ≡ Some first) × (logs ≡ Some others) × (all ≡ first ∷ others)
+
+of_front : (log : Option Log) (logs : Option (List Log)) (all : List Log) → in_front log logs ≡ Some all → InFront log logs all
+of_front None logs all is = absurd (cc)
+of_front (Some log) None all is = absurd (cc)
+of_front (Some log) (Some logs) all is = (log, logs, refl, refl, (cc))
+
+-- where the log is there, there is no fault
+no_fault : (fault : Option StreamFault) (target : List ℕ) (entries : List Entry) (log : Log) → option_map (whole_log target) (unless_fault fault entries) ≡ Some log → (fault ≡ None) × (log.target ≡ target) × (has_ended log ≡ true)
+no_fault (Some fault) target entries log is = absurd (cc)
+no_fault None target entries log is =
+    let log_is : whole_log target entries ≡ log = cc in
+    (refl, sym (ap (λ (l : Log). l.target) log_is), sym (ap has_ended log_is))
+
+all_ended-more : (log : Log) (logs : List Log) → has_ended log ≡ true → list_all has_ended logs ≡ true → list_all has_ended (log ∷ logs) ≡ true
+all_ended-more log logs one others = rw (one, others)
+
+module _ (max_bytes : ℕ) where
+  pub logs_or_fault : (targets : List (List ℕ)) (streams : List Stream) → IsSome (logs_of max_bytes targets streams) ↔ (fault_among max_bytes targets streams ≡ None)
+  logs_or_fault [] streams = ((λ some. refl), (λ none. refl))
+  logs_or_fault (target ∷ targets) [] = ((λ some. refl), (λ none. refl))
+  logs_or_fault (target ∷ targets) (stream ∷ streams) =
+      either (fault_of target max_bytes stream) target _ (logs_of max_bytes targets streams) _ (logs_or_fault targets streams)
+
+  -- the logs of whole streams have their targets, and have ended
+  pub whole_logs : (targets : List (List ℕ)) (streams : List Stream) (logs : List Log) → length targets ≡ length streams → logs_of max_bytes targets streams ≡ Some logs
+      → (targets_of logs ≡ targets) × (list_all has_ended logs ≡ true)
+  whole_logs [] [] logs same is = let none : [] ≡ logs = cc in (sym (ap targets_of none), sym (ap (list_all has_ended) none))
+  whole_logs [] (stream ∷ streams) logs same is = absurd (cc)
+  whole_logs (target ∷ targets) [] logs same is = absurd (cc)
+  whole_logs (target ∷ targets) (stream ∷ streams) logs same is =
+      let front = of_front _ _ logs is in
+      let fine = no_fault (fault_of target max_bytes stream) target _ front.0 front.2 in
+      let others = whole_logs targets streams front.1 (omega (arith, same)) front.3 in (
+        ap targets_of front.4 ∙ ap (λ t. t ∷ targets_of front.1) fine.1 ∙ ap (λ ts. target ∷ ts) others.0,
+        ap (list_all has_ended) front.4 ∙ all_ended-more front.0 front.1 fine.2 others.1,
+      )
+
+  module _ (target : List ℕ) (stream : Stream) where
+    -- one stream more, behind the others
+    pub one_more : (targets : List (List ℕ)) (streams : List Stream) (logs : List Log) (log : Log) → length targets ≡ length streams → logs_of max_bytes targets streams ≡ Some logs → log_with max_bytes (target, stream) ≡ Some log
+        → logs_of max_bytes (targets ++ target ∷ []) (streams ++ stream ∷ []) ≡ Some (logs ++ log ∷ [])
+    one_more [] [] logs log same is has = let none : [] ≡ logs = cc in ap (λ l. in_front l (Some [])) has ∙ ap (λ (ls : List Log). Some (ls ++ log ∷ [])) none
+    one_more [] (other ∷ streams) logs log same is has = absurd (cc)
+    one_more (first ∷ targets) [] logs log same is has = absurd (cc)
+    one_more (first ∷ targets) (other ∷ streams) logs log same is has =
+        let front = of_front _ _ logs is in
+        ap (λ l. in_front l (logs_of max_bytes (targets ++ target ∷ []) (streams ++ stream ∷ []))) front.2
+        ∙ ap (in_front (Some front.0)) (one_more targets streams front.1 log (omega (arith, same)) front.3 has)
+        ∙ ap (λ (ls : List Log). Some (ls ++ log ∷ [])) (sym front.4)
+
+    -- a fault behind streams that have none
+    pub fault_behind : (targets : List (List ℕ)) (streams : List Stream) (logs : List Log) (left : List (List ℕ)) (unread : List Stream) (fault : StreamFault) → length targets ≡ length streams → logs_of max_bytes targets streams ≡ Some logs
+        → fault_of target max_bytes stream ≡ Some fault → fault_among max_bytes (targets ++ target ∷ left) (streams ++ stream ∷ unread) ≡ Some (length targets, fault)
+    fault_behind [] [] logs left unread fault same is has = rw (has)
+    fault_behind [] (other ∷ streams) logs left unread fault same is has = absurd (cc)
+    fault_behind (first ∷ targets) [] logs left unread fault same is has = absurd (cc)
+    fault_behind (first ∷ targets) (other ∷ streams) logs left unread fault same is has =
+        let front = of_front _ _ logs is in
+        let fine = no_fault (fault_of first max_bytes other) first _ front.0 front.2 in
+        ap (λ f. first_fault (f ∷ map (fault_with max_bytes) (zip (targets ++ target ∷ left) (streams ++ stream ∷ unread)))) fine.0
+        ∙ ap behind_one (fault_behind targets streams front.1 left unread fault (omega (arith, same)) front.3 has)
+        ∙ ap (λ (n : ℕ). Some (n, fault)) (omega arith)
+
+-- the streams that readers give
+pub count_told : (told : List (Option Stream)) (streams : List Stream) → AreTold told streams → length told ≡ length streams
+count_told [] [] are = refl
+count_told [] (stream ∷ streams) are = absurd are
+count_told (told ∷ others) [] are = absurd are
+count_told (told ∷ others) (stream ∷ streams) are = ap suc (count_told others streams are.1)
+
+pub told-append : (told more : List (Option Stream)) (streams unread : List Stream) → AreTold told streams → AreTold more unread → AreTold (told ++ more) (streams ++ unread)
+told-append [] more [] unread are behind = behind
+told-append [] more (stream ∷ streams) unread are behind = absurd are
+told-append (told ∷ others) more [] unread are behind = absurd are
+told-append (told ∷ others) more (stream ∷ streams) unread are behind = (are.0, told-append others more streams unread are.1 behind)
+
+-- what a reader tells, or else nothing
+any_stream : (told : Option Stream) → (stream : Stream) × IsTold told stream
+any_stream None = (record { bytes = []; fails = false }, tt)
+any_stream (Some stream) = (stream, refl)
+
+pub any_streams : (told : List (Option Stream)) → (streams : List Stream) × AreTold told streams
+any_streams [] = ([], tt)
+any_streams (told ∷ others) = ((any_stream told).0 ∷ (any_streams others).0, ((any_stream told).1, (any_streams others).1))
+
+pub given_stream : (told : Option Stream) (P : Stream → Type 0) → SomeStream told P → (stream : Stream) × IsTold told stream × P stream
+given_stream None P (stream, p) = (stream, tt, p)
+given_stream (Some stream) P p = (stream, refl, p)

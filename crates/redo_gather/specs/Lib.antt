@@ -1,0 +1,4 @@
+pub mod GatherFault
+pub mod OneStream
+pub mod Plan
+pub mod Streams

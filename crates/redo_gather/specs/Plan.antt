@@ -1,0 +1,26 @@
+-- The numbers of a plan, and their limits.
+use Rattle.std.specs.Prelude.{ℕ, ◌≤◌, ◌^◌}
+
+pub record Numbers : Type 0 where
+  pub senders : ℕ
+  pub capacity : ℕ
+  pub max_bytes : ℕ
+
+-- from one number to another
+abbrev pub IsWithin : ℕ → ℕ → ℕ → Type 0
+IsWithin least greatest number = (least ≤ number) × (number ≤ greatest)
+
+abbrev pub AreSenders : ℕ → Type 0
+AreSenders senders = IsWithin 1 64 senders
+
+abbrev pub IsCapacity : ℕ → Type 0
+IsCapacity capacity = IsWithin 1 65536 capacity
+
+-- how many bytes a stream may have
+abbrev pub IsByteLimit : ℕ → Type 0
+IsByteLimit max_bytes = IsWithin 1 (2 ^ 40) max_bytes
+
+pub record IsPlan (numbers : Numbers) : Type 0 where
+  pub senders_are : AreSenders numbers.senders
+  pub capacity_is : IsCapacity numbers.capacity
+  pub max_bytes_is : IsByteLimit numbers.max_bytes

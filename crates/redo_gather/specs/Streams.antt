@@ -1,0 +1,54 @@
+-- The logs of a set of streams, and its fault.
+use Rattle.std.specs.Prelude.{◌≡◌, ℕ, List, [], ◌∷◌, Option, None, Some, map, zip}
+use Rattle.std.specs.Option.{option_map}
+use Rattle.redo_line.specs.declared.entry.Entry.{Entry}
+use Rattle.redo_line.specs.declared.stream_fault.StreamFault.{StreamFault}
+use Rattle.redo_line.specs.Feed.{Stream}
+use Rattle.redo_line.specs.Log.{log_of, fault_of}
+use Rattle.redo_logs.specs.declared.log_state.LogState.TheVariants.{Ended}
+use Rattle.redo_logs.specs.Logs.{Log, first_fault}
+
+-- the stream that a reader gives: the one that it tells, or any if it tells nothing
+abbrev pub IsTold : Option Stream → Stream → Type 0
+IsTold None stream = Unit {0}
+IsTold (Some told) stream = stream ≡ told
+
+-- the streams that readers give, one for each
+abbrev pub AreTold : List (Option Stream) → List Stream → Type 0
+AreTold [] [] = Unit {0}
+AreTold [] (stream ∷ streams) = ⊥
+AreTold (told ∷ others) [] = ⊥
+AreTold (told ∷ others) (stream ∷ streams) = IsTold told stream × AreTold others streams
+
+-- a fact of the streams that readers give
+abbrev pub SomeStreams : List (Option Stream) → (List Stream → Type 0) → Type 0
+SomeStreams told P = (streams : List Stream) × AreTold told streams × P streams
+
+-- the whole log of a target
+abbrev pub whole_log : List ℕ → List Entry → Log
+whole_log target entries = record { target = target; entries = entries; state = Ended }
+
+-- the log of a target and its stream, if there is one
+abbrev pub log_with : ℕ → List ℕ × Stream → Option Log
+log_with max_bytes given = option_map (whole_log given.0) (log_of given.0 max_bytes given.1)
+
+abbrev pub fault_with : ℕ → List ℕ × Stream → Option StreamFault
+fault_with max_bytes given = fault_of given.0 max_bytes given.1
+
+abbrev pub in_front : Option Log → Option (List Log) → Option (List Log)
+in_front None logs = None
+in_front (Some log) None = None
+in_front (Some log) (Some logs) = Some (log ∷ logs)
+
+-- all of these logs, if each is there
+abbrev pub all_of : List (Option Log) → Option (List Log)
+all_of [] = Some []
+all_of (log ∷ logs) = in_front log (all_of logs)
+
+-- the logs of these targets, each with its stream; they are there exactly if each of them is
+abbrev pub logs_of : ℕ → List (List ℕ) → List Stream → Option (List Log)
+logs_of max_bytes targets streams = all_of (map (log_with max_bytes) (zip targets streams))
+
+-- the least number of a stream that has a fault, and its fault
+abbrev pub fault_among : ℕ → List (List ℕ) → List Stream → Option (ℕ × StreamFault)
+fault_among max_bytes targets streams = first_fault (map (fault_with max_bytes) (zip targets streams))

@@ -1,0 +1,44 @@
+ghost use Rattle.std.specs.Prelude.{◌≡◌};
+ghost use Rattle.redo_gather.specs.declared.gather_fault.GatherFault.TheVariants.{OutOfMemory};
+ghost use Rattle.redo_gather.specs.GatherFault.{fault_of_stream};
+
+use redo_line::StreamFault;
+use std::alloc::{AllocError, AllocFailed};
+
+/// Why the logs of streams can't be had.
+#[derive(Clone, Copy, Debug, PartialEq, Eq)]
+pub enum GatherFault {
+    /// The log of this stream can't be had; streams are counted from 0. The fault is never
+    /// `OutOfMemory`.
+    Stream { number: u32, fault: StreamFault },
+    /// There was no memory.
+    OutOfMemory,
+}
+
+impl GatherFault {
+    // The fault of a stream, as that of the gathering.
+    pub(crate) fn of(number: u32, fault: StreamFault) -> GatherFault
+        ensures { result ≡ fault_of_stream number fault }
+    {
+        match fault {
+            StreamFault::OutOfMemory => GatherFault::OutOfMemory,
+            fault => GatherFault::Stream { number, fault },
+        }
+    }
+}
+
+impl From<AllocError> for GatherFault {
+    ghost from_gives = { λ _ fault. fault ≡ OutOfMemory };
+
+    fn from(_: AllocError) -> GatherFault {
+        GatherFault::OutOfMemory
+    }
+}
+
+impl<T: Drop> From<AllocFailed<T>> for GatherFault {
+    ghost from_gives = { λ _ fault. fault ≡ OutOfMemory };
+
+    fn from(_: AllocFailed<T>) -> GatherFault {
+        GatherFault::OutOfMemory
+    }
+}

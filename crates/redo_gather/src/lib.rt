@@ -1,0 +1,18 @@
+//! From streams to logs: each is read to its end, or to its fault, and its entries go into a table.
+//!
+//! What the layers above use: [`gather_plain`] answers the logs of whole streams, or the fault of the
+//! least-numbered stream that has one.
+#![tactic(auto)]
+
+mod gate;
+mod gather_fault;
+mod laws;
+mod one_stream;
+mod plain;
+mod plan;
+
+pub use gate::{Free, Gate};
+pub use gather_fault::GatherFault;
+pub use laws::logs_unless_fault;
+pub use plain::gather_plain;
+pub use plan::{Plan, PlanFault};
