@@ -1,6 +1,8 @@
 -- Entries, and the keys that hold their numbers and names.
-use Rattle.std.proofs.Common.{◌≡◌, ℕ, ◌≤◌, List, [], ◌∷◌, length, refl, sym, ◌∙◌, ap, arith}
+use Rattle.std.proofs.Common.{◌≡◌, ℕ, ◌≤◌, List, [], ◌∷◌, length, refl, sym, ◌∙◌, ap, subst, nat_eq, arith}
 use Rattle.std.specs.Prelude.{zip}
+use Rattle.std.specs.Cmp.Lexicographic.{pointwise}
+use Rattle.std.specs.List.{IsDistinct}
 use Rattle.std.proofs.lemmas.List.{length-map}
 use Rattle.redo_log_cli.specs.Index.{most, Entry, numbers_of, names_of, IsIndex}
 
@@ -26,6 +28,7 @@ pub record Seen (numbers : List ℕ) (names : List (List ℕ)) (entries : List E
   pub size : length entries ≤ most
   pub numbers_are : numbers_of entries ≡ numbers
   pub names_are : names_of entries ≡ names
+  pub names_differ : IsDistinct (pointwise nat_eq) names
 
 pub seen : (numbers : List ℕ) (names : List (List ℕ)) (entries : List Entry) → zip numbers names ≡ entries → (length numbers ≡ length names) × IsIndex (zip numbers names) → Seen numbers names entries
 seen numbers names entries is kept =
@@ -36,4 +39,5 @@ seen numbers names entries is kept =
       size = let s = kept.1.size in omega (arith, ap length is);
       numbers_are = ap numbers_of (sym is) ∙ zip-numbers numbers names kept.0;
       names_are = ap names_of (sym is) ∙ zip-names numbers names kept.0;
+      names_differ = subst (IsDistinct (pointwise nat_eq)) (zip-names numbers names kept.0) kept.1.names_differ;
     }

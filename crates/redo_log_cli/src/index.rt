@@ -1,8 +1,9 @@
 ghost use Rattle.std.specs.Prelude.{◌≡◌, ◌<◌, ◌≤◌, ◌⊎◌, List, [], ◌∷◌, Some, None, nat_eq, length, position, slice_get, IfOk, IfErr, if◌then◌else◌};
 ghost use Rattle.std.specs.Cmp.Lexicographic.{pointwise};
+ghost use Rattle.std.specs.List.{IsDistinct};
 ghost use Rattle.redo_line.specs.Lines.{all_lines};
 ghost use Rattle.redo_log_cli.specs.declared.index_fault.IndexFault.TheVariants.{OutOfMemory};
-ghost use Rattle.redo_log_cli.specs.Index.{Entry, numbers_of, names_of, entries_of, entry_of, number_of, fault_after, IsFine, IsRefused, Holds, Lists};
+ghost use Rattle.redo_log_cli.specs.Index.{Entry, most, numbers_of, names_of, entries_of, entry_of, number_of, fault_after, IsFine, IsRefused, Holds, Lists};
 
 use crate::index_fault::IndexFault;
 use indexmap::IndexSet;
@@ -67,6 +68,21 @@ impl Index {
         ensures { slice_get (names_of self.now) i ≡ Some result.now }
     {
         &self.names.as_slice()[i as usize]
+    }
+
+    /// The names of all targets, in memory of their own. No name stands twice among them, and there are
+    /// at most 1,048,575.
+    pub fn names(&self, alloc: Global) -> Result<Vec<TargetName>, AllocError>
+        ensures names { IfOk result (λ names. names.items ≡ names_of self.now) }
+        ensures distinct { IfOk result (λ names. IsDistinct (pointwise nat_eq) names.items) }
+        ensures size { IfOk result (λ names. length names.items ≤ most) }
+    {
+        let listed = self.names.as_slice();
+        let mut names = Vec::with_capacity(alloc, listed.len())?;
+        for name in listed {
+            names.push(name.copy(alloc)?)?;
+        }
+        Ok(names)
     }
 
     /// The place where a target is listed, if it is. The look-up is by hash.
