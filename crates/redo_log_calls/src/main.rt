@@ -4,6 +4,9 @@
 
 ghost use Rattle.std.specs.Prelude.{◌≤◌, ◌<◌, ◌^◌, length, IfSome};
 
+mod gather;
+mod table;
+
 use memchr::memchr;
 use redo_line::{Cut, Cutter, Scan, Sink, Step, Taker, TargetName, read_line, read_number};
 use redo_log_cli::{Index, read_index};
@@ -20,6 +23,10 @@ fn main(rt: HostRuntime) -> io::Result<ExitCode> {
     match calls.as_str() {
         "cutter" => cutter(&rt, rt.alloc(), b"ab", b"c\nd", 2)?,
         "long_cutter" => cutter(&rt, rt.alloc(), &[b'a'; 20], b"cccccccccccc\nd", 13)?,
+        "full_table" => table::full_table(&rt, rt.alloc())?,
+        "gather_whole" => gather::gather(&rt, rt.alloc(), &gather::WHOLE)?,
+        "gather_bad" => gather::gather(&rt, rt.alloc(), &gather::BAD)?,
+        "gather_both_bad" => gather::gather(&rt, rt.alloc(), &gather::BOTH_BAD)?,
         "index" => index(&rt, rt.alloc())?,
         "index_of_input" => index_of_input(&rt)?,
         "names" => names(&rt, rt.alloc())?,
@@ -27,6 +34,7 @@ fn main(rt: HostRuntime) -> io::Result<ExitCode> {
         "resolve" => resolve_lines(&rt)?,
         "scan_of_input" => scan_of_input(&rt)?,
         "step" => step(&rt, rt.alloc())?,
+        "table" => table::table(&rt, rt.alloc())?,
         "taker" => taker(&rt, rt.alloc())?,
         _ => println!(rt; "unknown calls: {calls}")?,
     }

@@ -1,7 +1,8 @@
 //! Lines of a log, and what they say.
 use crate::entry_text::entry_text;
-use redo_line::{Cut, Cutter, LineFault, LineText, TargetName, read_line};
-use std::alloc::{AllocError, Global};
+use crate::line::line;
+use redo_line::{LineFault, TargetName, read_line};
+use redo_logs::EntryRef;
 use std::test::Fail;
 
 /// A line in the log of `all`, and its entry.
@@ -45,16 +46,6 @@ const BAD: [&str; 16] = [
     "@@REDO:done:7:1@@ 1234567890 b",
 ];
 
-/// The bytes as a line.
-fn line(alloc: Global, bytes: &str) -> Result<Option<LineText>, AllocError> {
-    let mut piece = bytes.as_bytes().to_vec(alloc)?;
-    piece.push(b'\n')?;
-    match Cutter::new(alloc).next(&piece, 0)? {
-        Cut::Line { bytes, .. } => Ok(Some(bytes)),
-        Cut::More => Ok(None),
-    }
-}
-
 #[test]
 fn a_line_has_this_entry(rt: HostRuntime) -> Result<(), Fail> {
     let alloc = rt.alloc();
@@ -62,7 +53,11 @@ fn a_line_has_this_entry(rt: HostRuntime) -> Result<(), Fail> {
     for (bytes, want) in ENTRIES {
         let line = line(alloc, bytes)?.ok_or("no line")?;
         let entry = read_line(alloc, &all, line, true)?;
-        assert_eq!(rt; entry_text(alloc, &entry)?.as_str(), want, "{bytes:?}");
+        assert_eq!(rt;
+            entry_text(alloc, EntryRef::of(&entry))?.as_str(),
+            want,
+            "{bytes:?}"
+        );
     }
     Ok(())
 }
@@ -90,7 +85,10 @@ fn an_unended_line_is_text(rt: HostRuntime) -> Result<(), Fail> {
         let line = line(alloc, bytes)?.ok_or("no line")?;
         let entry = read_line(alloc, &all, line, false)?;
         let want = format!(in alloc; "text|{bytes}")?;
-        assert_eq!(rt; entry_text(alloc, &entry)?.as_str(), want.as_str());
+        assert_eq!(rt;
+            entry_text(alloc, EntryRef::of(&entry))?.as_str(),
+            want.as_str()
+        );
     }
     Ok(())
 }
@@ -109,7 +107,11 @@ fn names_are_relative_to_the_directory_of_the_target(rt: HostRuntime) -> Result<
     ] {
         let line = line(alloc, bytes)?.ok_or("no line")?;
         let entry = read_line(alloc, &target, line, true)?;
-        assert_eq!(rt; entry_text(alloc, &entry)?.as_str(), want, "{bytes:?}");
+        assert_eq!(rt;
+            entry_text(alloc, EntryRef::of(&entry))?.as_str(),
+            want,
+            "{bytes:?}"
+        );
     }
     Ok(())
 }

@@ -1,5 +1,6 @@
 //! How a test writes an entry: as one word for what it is, and its parts.
-use redo_line::{Entry, How};
+use redo_line::How;
+use redo_logs::EntryRef;
 use std::alloc::{AllocError, Global};
 use std::{fmt, str};
 
@@ -19,16 +20,18 @@ fn kind(how: How) -> &'static str {
 }
 
 /// The entry as a test writes it.
-pub fn entry_text(alloc: Global, entry: &Entry) -> Result<String, AllocError> {
+pub fn entry_text(alloc: Global, entry: EntryRef<'_>) -> Result<String, AllocError> {
     match entry {
-        Entry::Text(line) => format!(in alloc; "text|{}", text(line.bytes())),
-        Entry::Mention { how, name } => format!(in alloc; "{}|{}", kind(*how), text(name.bytes())),
-        Entry::Done { status, name } => format!(in alloc; "done|{status}|{}", text(name.bytes())),
-        Entry::Closing { status } => format!(in alloc; "closing|{status}"),
-        Entry::Note { kind, text: note } => format!(in alloc;
-            "note|{}|{}",
-            text(kind.bytes()),
-            text(note.bytes())
-        ),
+        EntryRef::Text(line) => format!(in alloc; "text|{}", text(line)),
+        EntryRef::Mention { how, name } => {
+            format!(in alloc; "{}|{}", kind(how), text(name.bytes()))
+        }
+        EntryRef::Done { status, name } => {
+            format!(in alloc; "done|{status}|{}", text(name.bytes()))
+        }
+        EntryRef::Closing { status } => format!(in alloc; "closing|{status}"),
+        EntryRef::Note { kind, text: note } => {
+            format!(in alloc; "note|{}|{}", text(kind), text(note))
+        }
     }
 }

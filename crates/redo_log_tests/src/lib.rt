@@ -11,12 +11,24 @@ mod entries;
 #[cfg(test)]
 mod entry_text;
 #[cfg(test)]
+mod gate;
+#[cfg(test)]
+mod gather;
+#[cfg(test)]
 mod index;
+#[cfg(test)]
+mod line;
+#[cfg(test)]
+mod logs_text;
 #[cfg(test)]
 mod names;
 #[cfg(test)]
 mod one_log;
 #[cfg(test)]
+mod plan;
+#[cfg(test)]
 mod reads;
 #[cfg(test)]
 mod scan;
+#[cfg(test)]
+mod table;

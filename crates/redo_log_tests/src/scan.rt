@@ -4,6 +4,7 @@ ghost use Rattle.std.specs.Prelude.{◌≤◌, ◌^◌};
 use crate::entry_text::entry_text;
 use crate::reads::{cut_at, in_reads_of};
 use redo_line::{Entry, Scan, Step, StreamFault, TargetName};
+use redo_logs::EntryRef;
 use std::alloc::{AllocError, Global};
 use std::process::Abort;
 use std::test::Fail;
@@ -16,7 +17,7 @@ struct Scanned {
 }
 
 fn add(alloc: Global, entries: &mut String, entry: &Entry) -> Result<(), AllocError> {
-    entries.push_str(&entry_text(alloc, entry)?)?;
+    entries.push_str(&entry_text(alloc, EntryRef::of(entry))?)?;
     entries.push_str("\n")
 }
 

@@ -20,7 +20,8 @@ pub enum EntryRef<'a> {
 }
 
 impl<'a> EntryRef<'a> {
-    pub(crate) fn of(entry: &'a Entry) -> EntryRef<'a>
+    /// The same entry, borrowed.
+    pub fn of(entry: &'a Entry) -> EntryRef<'a>
         ensures { entry_seen result ≡ entry.now }
     {
         match entry {

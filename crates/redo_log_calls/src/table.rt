@@ -1,0 +1,154 @@
+//! Calls of a table of logs. One that was refused is made again, and what the table then holds is
+//! printed after each.
+use redo_line::{Cut, Cutter, Entry, StreamFault, TargetName, read_line};
+use redo_logs::{LogState, LogTable, TableFault};
+use std::alloc::Global;
+use std::io;
+
+// How many logs a table may hold.
+const MOST: u32 = 1_048_575;
+
+/// Two logs: one gets an entry and ends, the other fails.
+pub fn table(rt: &impl Print, alloc: Global) -> io::Result<()> {
+    let mut table = LogTable::new(alloc);
+    for name in ["a", "b", "a"] {
+        if !enter(rt, alloc, &mut table, name)? {
+            return Ok(());
+        }
+    }
+    if !add_text(rt, alloc, &mut table)? {
+        return Ok(());
+    }
+    end_first(&mut table);
+    fail_second(&mut table);
+    tell(rt, &table)?;
+    println!(rt; "first_fault: {:?}", table.first_fault())?;
+    println!(rt; "all_ended: {}", table.all_ended())
+}
+
+/// As many logs as a table may hold, then one more, and one that it holds.
+pub fn full_table(rt: &impl Print, alloc: Global) -> io::Result<()> {
+    let mut table = LogTable::new(alloc);
+    for number in 0..MOST {
+        if !matches!(enter_number(alloc, &mut table, number), Ok(_)) {
+            return println!(rt; "{number} was refused");
+        }
+    }
+    println!(rt; "len: {}", table.len())?;
+    for number in [MOST, 0, MOST - 1] {
+        println!(rt;
+            "enter {number}: {:?}",
+            enter_number(alloc, &mut table, number)
+        )?;
+    }
+    println!(rt; "len: {}", table.len())
+}
+
+/// Enters the target that is named by a number.
+fn enter_number(alloc: Global, table: &mut LogTable, number: u32) -> Result<u32, TableFault> {
+    let name = format!(in alloc; "{number}").map_err(|_| TableFault::OutOfMemory)?;
+    let target = TargetName::resolve(alloc, None, name.as_bytes()).map_err(
+        |_| TableFault::OutOfMemory,
+    )?;
+    table.enter(target)
+}
+
+/// Enters a target, and answers whether there was memory for its name.
+fn enter(rt: &impl Print, alloc: Global, table: &mut LogTable, name: &str) -> io::Result<bool> {
+    for _ in 0..2 {
+        let Ok(target) = TargetName::resolve(alloc, None, name.as_bytes()) else {
+            println!(rt; "resolve: no memory")?;
+            return Ok(false);
+        };
+        let answer = table.enter(target);
+        println!(rt; "enter {name}: {answer:?}")?;
+        tell(rt, table)?;
+        if answer != Err(TableFault::OutOfMemory) {
+            break;
+        }
+    }
+    Ok(true)
+}
+
+/// Adds text to the first log, and answers whether there was memory for the text.
+fn add_text(rt: &impl Print, alloc: Global, table: &mut LogTable) -> io::Result<bool> {
+    for _ in 0..2 {
+        let Some(entry) = text_entry(alloc, table) else {
+            println!(rt; "entry: no memory")?;
+            return Ok(false);
+        };
+        match add(table, entry) {
+            Some(answer) => println!(rt; "add: {answer:?}")?,
+            None => println!(rt; "the log doesn't run")?,
+        }
+        tell(rt, table)?;
+        if table.entry(0, 0).is_some() {
+            break;
+        }
+    }
+    Ok(true)
+}
+
+fn text_entry(alloc: Global, table: &LogTable) -> Option<Entry> {
+    if table.len() == 0 {
+        return None;
+    }
+    let Ok(Cut::Line { bytes, .. }) = Cutter::new(alloc).next(b"x\n", 0) else {
+        return None;
+    };
+    read_line(alloc, table.name(0), bytes, true).ok()
+}
+
+/// Adds an entry to the first log, if it runs.
+fn add(table: &mut LogTable, entry: Entry) -> Option<Result<(), &'static str>> {
+    if table.len() == 0 {
+        return None;
+    }
+    match table.state(0) {
+        LogState::Running => Some(table.add(0, entry).map_err(|_| "no memory")),
+        _ => None,
+    }
+}
+
+/// Ends the first log, if it runs.
+fn end_first(table: &mut LogTable) {
+    if table.len() > 0
+        && let LogState::Running = table.state(0)
+    {
+        table.end(0);
+    }
+}
+
+/// Fails the second log, if it runs.
+fn fail_second(table: &mut LogTable) {
+    if table.len() > 1
+        && let LogState::Running = table.state(1)
+    {
+        table.fail(1, StreamFault::TooLong);
+    }
+}
+
+/// Prints each log and its entries.
+pub fn tell(rt: &impl Print, table: &LogTable) -> io::Result<()> {
+    for i in 0..table.len() {
+        let name = table.name(i);
+        println!(rt;
+            "log {i}: {:?} {:?}, found at {:?}",
+            name.bytes(),
+            table.state(i),
+            table.find(name)
+        )?;
+        tell_entries(rt, table, i)?;
+    }
+    Ok(())
+}
+
+fn tell_entries(rt: &impl Print, table: &LogTable, i: u32) -> io::Result<()> {
+    for k in 0..usize::MAX {
+        let Some(entry) = table.entry(i, k) else {
+            break;
+        };
+        println!(rt; "entry {k}: {entry:?}")?;
+    }
+    Ok(())
+}
