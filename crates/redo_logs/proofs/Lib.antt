@@ -1,4 +1,5 @@
 pub mod ChangedLemmas
 mod FirstFault
 mod Growing
+mod LeastFault
 mod Storing

@@ -5,11 +5,13 @@
 #![tactic(auto)]
 
 mod entry_ref;
+mod laws;
 mod log_state;
 mod log_table;
 mod table_fault;
 
 pub use entry_ref::EntryRef;
+pub use laws::least_fault;
 pub use log_state::LogState;
 pub use log_table::LogTable;
 pub use table_fault::TableFault;
