@@ -3,4 +3,5 @@ mod GatheredLemmas
 mod GrowthLemmas
 mod ReadingLemmas
 mod StreamLemmas
+mod StreamRows
 mod TurnLemmas

@@ -3,3 +3,4 @@ mod FirstFault
 mod Growing
 mod LeastFault
 mod Storing
+mod TableRows

@@ -1,0 +1,74 @@
+-- Examples of sets of streams, computed: the targets, their streams, and the logs or the least-numbered fault.
+use Rattle.std.proofs.Common.{◌≡◌, ℕ, true, false, List, [], ◌∷◌, ◌++◌, None, Some, pos, refl}
+use Rattle.std.specs.Prelude.{codes}
+use Rattle.std.specs.List.{AllByRecursion}
+use Rattle.redo_line.specs.declared.entry.Entry.TheVariants.{Text, Mention, Done}
+use Rattle.redo_line.specs.declared.entry.How.TheVariants.{Made}
+use Rattle.redo_line.specs.declared.stream_fault.StreamFault.{StreamFault}
+use Rattle.redo_line.specs.declared.stream_fault.StreamFault.TheVariants.{BadRecord, Read}
+use Rattle.redo_line.specs.Decimal.{number}
+use Rattle.redo_line.specs.Entry.{record_entry, entry_of}
+use Rattle.redo_line.specs.Feed.{Stream}
+use Rattle.redo_line.specs.Lines.{line_feed, cutting, ended, rest}
+use Rattle.redo_line.specs.Log.{stream_of, first_fault}
+use Rattle.redo_line.specs.Names.{from_back, normal}
+use Rattle.redo_line.specs.Parts.{parted, behind}
+use Rattle.redo_line.specs.Record.{fields_of, status_of}
+use Rattle.redo_logs.specs.Logs.{Log}
+use Rattle.redo_gather.specs.Streams.{whole_log, logs_of, fault_among}
+
+abbrev line : List ℕ → List ℕ
+line text = text ++ line_feed ∷ []
+
+abbrev bad : List ℕ
+bad = line (codes "@@REDO:do:7")
+
+abbrev all : Stream
+all =
+    stream_of (
+      line (codes "@@REDO:do:7:1.0000@@ a.o") ++ line (codes "@@REDO:do:7:1.0000@@ b.o") ++ line (codes "@@REDO:done:7:1.0000@@ 0 a.o") ++ line (codes "@@REDO:done:7:1.0000@@ 1 b.o") ++ line (codes "link")
+    ) false
+
+abbrev logs : List Log
+logs =
+    whole_log (codes "all") (
+      Mention Made (codes "a.o") ∷ Mention Made (codes "b.o") ∷ Done (pos 0) (codes "a.o") ∷ Done (pos 1) (codes "b.o") ∷ Text (codes "link") ∷ []
+    ) ∷
+    whole_log (codes "a.o") (Text (codes "cc a") ∷ []) ∷
+    whole_log (codes "b.o") (Text (codes "cc b") ∷ []) ∷
+    []
+
+these_logs : logs_of 1000 (codes "all" ∷ codes "a.o" ∷ codes "b.o" ∷ []) (all ∷ stream_of (line (codes "cc a")) false ∷ stream_of (line (codes "cc b")) false ∷ []) ≡ Some logs
+unfolding cutting ended rest first_fault entry_of record_entry fields_of status_of parted behind number normal from_back
+these_logs = refl
+
+no_streams : (logs_of 1000 [] [] ≡ Some []) × (fault_among 1000 [] [] ≡ None)
+no_streams = (refl, refl)
+
+record FaultRow : Type 0 where
+  streams : List Stream
+  place : ℕ
+  fault : StreamFault
+
+abbrev has_fault : Stream → Stream → ℕ → StreamFault → FaultRow
+has_fault a b place fault = record { streams = a ∷ b ∷ []; place = place; fault = fault }
+
+abbrev ok : List ℕ
+ok = line (codes "ok")
+
+-- the streams of `a` and `b`
+abbrev faults : List FaultRow
+faults =
+    has_fault (stream_of (ok ++ bad) false) (stream_of [] false) 0 (BadRecord 2) ∷
+    has_fault (stream_of (ok ++ ok ++ ok ++ ok ++ ok ++ ok ++ ok ++ ok ++ bad) false) (stream_of bad false) 0 (BadRecord 9) ∷
+    has_fault (stream_of (line (codes "x")) true) (stream_of bad false) 0 Read ∷
+    has_fault (stream_of bad true) (stream_of [] false) 0 (BadRecord 1) ∷
+    has_fault (stream_of ok false) (stream_of bad false) 1 (BadRecord 1) ∷
+    []
+
+abbrev targets : List (List ℕ)
+targets = codes "a" ∷ codes "b" ∷ []
+
+these_faults : AllByRecursion (λ row. (fault_among 1000 targets row.streams ≡ Some (row.place, row.fault)) × (logs_of 1000 targets row.streams ≡ None)) faults
+unfolding cutting ended rest first_fault entry_of record_entry fields_of status_of parted behind number normal from_back
+these_faults = ((refl, refl), ((refl, refl), ((refl, refl), ((refl, refl), ((refl, refl), tt)))))
