@@ -1,21 +1,18 @@
 -- What a loop over names has entered.
-use Rattle.std.proofs.Common.{◌≡◌, ℕ, ◌+◌, ◌≤◌, nat_eq, false, List, [], ◌∷◌, ◌++◌, None, IsSome, is_some, true≢false, length, map, position, refl, sym, ap, ◌∙◌, subst, arith}
+use Rattle.std.proofs.Common.{◌≡◌, ℕ, ◌+◌, nat_eq, false, List, [], ◌∷◌, ◌++◌, None, IsSome, is_some, true≢false, map, position, refl, sym, ap, ◌∙◌, subst}
 use Rattle.std.specs.Cmp.Lexicographic.{pointwise}
 use Rattle.std.specs.List.{IsDistinct, AllByRecursion, position_from}
 use Rattle.std.proofs.lemmas.Iterator.Adapters.{position_from-zero}
 use Rattle.std.proofs.lemmas.Cmp.{nat_list_eq_equiv}
-use Rattle.std.proofs.lemmas.List.{append_assoc, append-nil, length-append, length-map, map_push}
+use Rattle.std.proofs.lemmas.List.{append_assoc, map_push}
 use Rattle.std.proofs.lemmas.Map.Keys.{IsDistinct-head, IsDistinct-tail}
-use Rattle.redo_logs.specs.Logs.{Log, new_log, most, targets_of, place_of}
+use Rattle.redo_logs.specs.Logs.{Log, new_log, targets_of, place_of}
 
 -- the first names have a log, and these are left
 pub record Entered (names left : List (List ℕ)) (table : List Log) : Type 0 where
   pub first : List (List ℕ)
   pub names_are : names ≡ first ++ left
   pub table_is : table ≡ map new_log first
-
-pub none_entered : (names : List (List ℕ)) (table : List Log) → table ≡ [] → Entered names names table
-none_entered names table empty = record { first = []; names_are = refl; table_is = empty }
 
 -- a name in the midst of others
 in_midst : (P : List ℕ → Type 0) (first : List (List ℕ)) (name : List ℕ) (others : List (List ℕ)) → AllByRecursion P (first ++ name ∷ others) → P name
@@ -53,11 +50,3 @@ module _ (names left : List (List ℕ)) (table : List Log) (so_far : Entered nam
         ap (place_of name) so_far.table_is ∙ ap (position (pointwise nat_eq name)) (targets-entered so_far.first) ∙ position_from-zero (pointwise nat_eq name) so_far.first
         ∙ none_before so_far.first name others 0 (subst (IsDistinct (pointwise nat_eq)) names_here distinct) in
         true≢false (sym there ∙ ap is_some none)
-
-    -- and there is room for it
-    pub not_full : length names ≤ most → length table ≡ most → ⊥
-    not_full size full =
-        omega (arith, size, full, ap length names_here, ap length so_far.table_is, length-map so_far.first new_log, length-append so_far.first (name ∷ others))
-
-  pub all_entered : left ≡ [] → table ≡ map new_log names
-  all_entered none = so_far.table_is ∙ ap (map new_log) (sym (so_far.names_are ∙ ap (λ l. so_far.first ++ l) none ∙ append-nil so_far.first))

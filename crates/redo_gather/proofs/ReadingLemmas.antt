@@ -1,7 +1,7 @@
 -- What a loop over the reads of one stream has of it.
 use Rattle.std.proofs.Common.{◌≡◌, ◌≢◌, ℕ, ◌+◌, ◌-◌, ◌<◌, ◌≤◌, Bool, true, false, List, [], ◌++◌, Option, None, Some, Ok, Err, length, take, drop, refl, sym, ap, ◌∙◌, subst, arith}
 use Rattle.std.specs.List.{slice_range}
-use Rattle.std.proofs.lemmas.List.{append_assoc, length-append, length-take, take-append-drop}
+use Rattle.std.proofs.lemmas.List.{append_assoc, take-append-drop}
 use Rattle.std.proofs.Math.Seq.{take-add}
 use Rattle.redo_line.specs.declared.entry.Entry.{Entry}
 use Rattle.redo_line.specs.declared.feed.Broken.{Broken}
@@ -13,9 +13,9 @@ use Rattle.redo_line.specs.declared.scan.Step.{Step}
 use Rattle.redo_line.specs.declared.scan.Step.TheVariants.{Found, More}
 use Rattle.redo_line.specs.Scan.{Scanned, IfMore, Took, Finds, TakesAll, entries_in, so_far}
 use Rattle.redo_line.proofs.FaultLemmas.{early_fault, failed_read, no_fault}
-use Rattle.redo_line.proofs.GaveLemmas.{Gave-none, Gave-more, Gave-end, Gave-failed, weaker}
+use Rattle.redo_line.proofs.GaveLemmas.{Gave-none, Gave-more, Gave-failed, weaker}
 use Rattle.redo_logs.specs.Logs.{Log, changed, with_entry}
-use Rattle.redo_gather.specs.OneStream.{Grew, Completes, with_entries}
+use Rattle.redo_gather.specs.OneStream.{Grew, with_entries}
 use Rattle.redo_gather.proofs.GrowthLemmas.{with_none, with_one_more}
 
 -- a scan for the log of a target, within this limit
@@ -97,24 +97,9 @@ module _ (target : List ℕ) (max_bytes : ℕ) where
         (λ stream is. subst (λ (s : Stream). fault_of target max_bytes s ≡ Some Read) (same_stream stream reading.bytes true is.0 is.1) (failed_read target max_bytes reading.bytes fine))
         (Gave-failed told now after reading.bytes broken buffer reading.gave pulls)
 
-    pub at_end : (buffer : List ℕ) (completed : List Log) → Pulls now after (Ok 0) buffer → Completes target max_bytes number (so_far reading.bytes) begun completed
-        → SomeStream told (λ stream. Completes target max_bytes number stream begun completed)
-    at_end buffer completed pulls completes =
-        weaker told (λ stream. (stream.bytes ≡ reading.bytes) × (stream.fails ≡ false)) (λ stream. Completes target max_bytes number stream begun completed)
-        (λ stream is. subst (λ (s : Stream). Completes target max_bytes number s begun completed) (same_stream stream reading.bytes false is.0 is.1) completes)
-        (Gave-end told now after reading.bytes buffer reading.gave pulls)
-
     module _ (n : ℕ) (buffer : List ℕ) (some : 0 < n) (fits : n ≤ length buffer) (pulls : Pulls now after (Ok n) buffer) where
       more : Gave told (reading.bytes ++ take n buffer) after
       more = Gave-more told now after reading.bytes n buffer some reading.gave pulls
-
-      pub reads_on : (new : Scanned) (grown : List Log) → Grew number new (reading.bytes ++ take n buffer) begun grown → Reading told after number new begun grown
-      reads_on new grown grew = record { bytes = reading.bytes ++ take n buffer; gave = more; grew = grew }
-
-      -- each read takes bytes
-      pub took_more : (new : Scanned) (grown : List Log) → Grew number new (reading.bytes ++ take n buffer) begun grown → new.progress.taken ≡ scan.progress.taken + n
-      took_more new grown grew =
-          omega (arith, reading.grew.took.after.taken_is, grew.took.after.taken_is, length-append reading.bytes (take n buffer), length-take n buffer, fits)
 
       pub at_fault : (fault : StreamFault) → fault ≢ Read → fault_of scan.progress.target scan.progress.max_bytes (so_far (reading.bytes ++ take n buffer)) ≡ Some fault → SomeStream told (λ stream. fault_of target max_bytes stream ≡ Some fault)
       at_fault fault other is =

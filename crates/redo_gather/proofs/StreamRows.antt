@@ -26,13 +26,13 @@ bad = line (codes "@@REDO:do:7")
 abbrev all : Stream
 all =
     stream_of (
-      line (codes "@@REDO:do:7:1.0000@@ a.o") ++ line (codes "@@REDO:do:7:1.0000@@ b.o") ++ line (codes "@@REDO:done:7:1.0000@@ 0 a.o") ++ line (codes "@@REDO:done:7:1.0000@@ 1 b.o") ++ line (codes "link")
+    line (codes "@@REDO:do:7:1.0000@@ a.o") ++ line (codes "@@REDO:do:7:1.0000@@ b.o") ++ line (codes "@@REDO:done:7:1.0000@@ 0 a.o") ++ line (codes "@@REDO:done:7:1.0000@@ 1 b.o") ++ line (codes "link")
     ) false
 
 abbrev logs : List Log
 logs =
     whole_log (codes "all") (
-      Mention Made (codes "a.o") ∷ Mention Made (codes "b.o") ∷ Done (pos 0) (codes "a.o") ∷ Done (pos 1) (codes "b.o") ∷ Text (codes "link") ∷ []
+    Mention Made (codes "a.o") ∷ Mention Made (codes "b.o") ∷ Done (pos 0) (codes "a.o") ∷ Done (pos 1) (codes "b.o") ∷ Text (codes "link") ∷ []
     ) ∷
     whole_log (codes "a.o") (Text (codes "cc a") ∷ []) ∷
     whole_log (codes "b.o") (Text (codes "cc b") ∷ []) ∷

@@ -3,8 +3,7 @@ use Rattle.std.proofs.Common.{◌≡◌, ℕ, zero, suc, nat_eq, List, [], ◌�
 use Rattle.std.specs.Cmp.Lexicographic.{pointwise}
 use Rattle.std.specs.List.{IsDistinct}
 use Rattle.redo_line.specs.declared.entry.Entry.{Entry}
-use Rattle.redo_logs.specs.declared.log_state.LogState.{LogState}
-use Rattle.redo_logs.specs.Logs.{Log, IsTable, changed, targets_of, states_of, with_entry, with_state}
+use Rattle.redo_logs.specs.Logs.{Log, IsTable, changed, targets_of, states_of, with_entry}
 
 -- the log behind the first ones is the one of their number
 pub changed-here : (first : List Log) (log : Log) (others : List Log) (change : Log → Log) → changed (length first) change (first ++ log ∷ others) ≡ first ++ change log ∷ others
@@ -37,14 +36,6 @@ module _ (change : Log → Log) (keeps : (log : Log) → (change log).target ≡
         size = let size = table.size in omega (arith, length-changed number change logs);
         targets_differ = subst (IsDistinct (pointwise nat_eq)) (sym (targets-changed number logs)) table.targets_differ;
       }
-
--- one more entry of a log keeps the targets
-pub targets-with_entry : (number : ℕ) (entry : Entry) (logs : List Log) → targets_of (changed number (with_entry entry) logs) ≡ targets_of logs
-targets-with_entry number entry logs = targets-changed (with_entry entry) (λ log. refl) number logs
-
--- and so does another state
-pub targets-with_state : (number : ℕ) (state : LogState) (logs : List Log) → targets_of (changed number (with_state state) logs) ≡ targets_of logs
-targets-with_state number state logs = targets-changed (with_state state) (λ log. refl) number logs
 
 -- one more entry of a log keeps the states
 pub states-with_entry : (number : ℕ) (entry : Entry) (logs : List Log) → states_of (changed number (with_entry entry) logs) ≡ states_of logs
