@@ -111,3 +111,10 @@ any_streams (told ∷ others) = ((any_stream told).0 ∷ (any_streams others).0,
 pub given_stream : (told : Option Stream) (P : Stream → Type 0) → SomeStream told P → (stream : Stream) × IsTold told stream × P stream
 given_stream None P (stream, p) = (stream, tt, p)
 given_stream (Some stream) P p = (stream, refl, p)
+
+-- readers that all tell their streams
+pub all_told : (streams others : List Stream) → AreTold (map Some streams) others → others ≡ streams
+all_told [] [] are = refl
+all_told [] (other ∷ others) are = absurd are
+all_told (stream ∷ streams) [] are = absurd are
+all_told (stream ∷ streams) (other ∷ others) are = λ i. are.0 i ∷ all_told streams others are.1 i

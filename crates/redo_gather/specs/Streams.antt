@@ -1,4 +1,5 @@
--- The logs of a set of streams, and its fault.
+-- The logs of a set of streams, and its fault. Targets and streams stand in two lists of one length, each target with
+-- the stream at the same place.
 use Rattle.std.specs.Prelude.{◌≡◌, ℕ, List, [], ◌∷◌, Option, None, Some, map, zip}
 use Rattle.std.specs.Option.{option_map}
 use Rattle.redo_line.specs.declared.entry.Entry.{Entry}

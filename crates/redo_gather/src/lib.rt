@@ -13,6 +13,6 @@ mod plan;
 
 pub use gate::{Free, Gate};
 pub use gather_fault::GatherFault;
-pub use laws::logs_unless_fault;
+pub use laws::{logs_unless_fault, streams_told};
 pub use plain::gather_plain;
 pub use plan::{Plan, PlanFault};

@@ -229,34 +229,138 @@ fn a_stream_may_have_so_many_bytes(rt: HostRuntime) -> Result<(), Fail> {
     Ok(())
 }
 
-/// A reader that gives one `x` after another without end, and counts its reads.
+/// What a reader answers.
+#[derive(Clone, Copy)]
+enum Answer {
+    /// One byte, an `x`.
+    Byte,
+    End,
+    Failure,
+}
+
+/// A reader that tells nothing, gives these answers in turn and then the last one again and again, and
+/// counts its reads.
 #[derive(Drop)]
-struct Endless<'a> {
+struct Script<'a> {
+    answers: &'a [Answer],
+    last: Answer,
+    given: usize,
     reads: &'a AtomicU64,
 }
 
-impl<'a> Feed for Endless<'a> {
-    ghost tells = { λ endless. None };
+impl<'a> Feed for Script<'a> {
+    ghost tells = { λ script. None };
 
     fn pull(&mut self, buf: &mut [u8]) -> Result<usize, Broken> {
         self.reads.fetch_add(1, Ordering::SeqCst);
-        buf[0] = b'x';
-        Ok(1)
+        let answer = self.answers.get(self.given).copied().unwrap_or(self.last);
+        self.given = self.given.saturating_add(1);
+        match answer {
+            Answer::Byte => {
+                buf[0] = b'x';
+                Ok(1)
+            }
+            Answer::End => Ok(0),
+            Answer::Failure => Err(Broken),
+        }
     }
+}
+
+/// The log of `all` as a test writes it, or its fault, after so many reads.
+fn expect_reads(
+    rt: &(impl Abort + AllocGlobal),
+    answers: &[Answer],
+    last: Answer,
+    reads: u64,
+    want: Result<&str, GatherFault>,
+) -> Result<(), Fail> {
+    let alloc = rt.alloc();
+    let count = AtomicU64::new(0);
+    let names = read_index(alloc, b"1 all\n".as_slice())?.names(alloc)?;
+    let mut readers = Vec::new(alloc);
+    readers.push(Script {
+        answers,
+        last,
+        given: 0,
+        reads: &count,
+    })?;
+    if readers.len() != names.len() {
+        return Err("not a reader for each name".into());
+    }
+    match gather_plain(alloc, names, readers, 1000) {
+        Ok(table) => assert_eq!(rt; Ok(logs_text(alloc, &table)?.as_str()), want),
+        Err(fault) => assert_eq!(rt; Err(fault), want),
+    }
+    assert_eq!(rt; count.load(Ordering::SeqCst), reads);
+    Ok(())
 }
 
 #[test]
 fn a_reader_is_asked_once_more_than_there_may_be_bytes(rt: HostRuntime) -> Result<(), Fail> {
+    let want = Err(stream(0, StreamFault::TooLong));
+    expect_reads(&rt, &[], Answer::Byte, 1001, want)
+}
+
+#[test]
+fn a_failed_read_is_not_tried_again(rt: HostRuntime) -> Result<(), Fail> {
+    let want = Err(stream(0, StreamFault::Read));
+    expect_reads(&rt, &[Answer::Failure], Answer::Byte, 1, want)?;
+    expect_reads(&rt, &[Answer::Byte, Answer::Failure], Answer::End, 2, want)
+}
+
+#[test]
+fn nothing_is_read_behind_the_end(rt: HostRuntime) -> Result<(), Fail> {
+    expect_reads(&rt, &[Answer::End], Answer::Byte, 1, Ok("all: Ended\n"))?;
+    expect_reads(
+        &rt,
+        &[Answer::Byte, Answer::End],
+        Answer::Failure,
+        2,
+        Ok("all: Ended\ntext|x\n"),
+    )
+}
+
+#[test]
+fn no_reader_is_asked_behind_a_fault(rt: HostRuntime) -> Result<(), Fail> {
     let alloc = rt.alloc();
-    let reads = AtomicU64::new(0);
-    let names = read_index(alloc, b"1 all\n".as_slice())?.names(alloc)?;
+    let (first, second) = (AtomicU64::new(0), AtomicU64::new(0));
+    let names = read_index(alloc, b"1 a\n2 b\n".as_slice())?.names(alloc)?;
     let mut readers = Vec::new(alloc);
-    readers.push(Endless { reads: &reads })?;
+    for reads in [&first, &second] {
+        readers.push(Script {
+            answers: &[],
+            last: Answer::Failure,
+            given: 0,
+            reads,
+        })?;
+    }
     if readers.len() != names.len() {
         return Err("not a reader for each name".into());
     }
     let answer = gather_plain(alloc, names, readers, 1000);
-    assert_eq!(rt; answer.err(), Some(stream(0, StreamFault::TooLong)));
-    assert_eq!(rt; reads.load(Ordering::SeqCst), 1001);
+    assert_eq!(rt; answer.err(), Some(stream(0, StreamFault::Read)));
+    assert_eq!(rt; first.load(Ordering::SeqCst), 1);
+    assert_eq!(rt; second.load(Ordering::SeqCst), 0);
+    Ok(())
+}
+
+#[test]
+fn there_may_be_many_streams(rt: HostRuntime) -> Result<(), Fail> {
+    let alloc = rt.alloc();
+    let mut index = String::new(alloc);
+    let mut readers = Vec::new(alloc);
+    let mut want = String::new(alloc);
+    for i in 1..201 {
+        index.push_str(&format!(in alloc; "{i} t{i}\n")?)?;
+        let line = format!(in alloc; "line {i}\n")?;
+        readers.push(reader(alloc, &line, false, Cut::InReadsOf(3))?)?;
+        want.push_str(&format!(in alloc; "t{i}: Ended\ntext|{line}")?)?;
+    }
+    let names = read_index(alloc, index.as_bytes())?.names(alloc)?;
+    if readers.len() != names.len() {
+        return Err("not a reader for each name".into());
+    }
+    let table = gather_plain(alloc, names, readers, 1000)?;
+    assert_eq!(rt; logs_text(alloc, &table)?.as_str(), want.as_str());
     Ok(())
 }
