@@ -20,6 +20,11 @@ const RECORD: &[u8] = b"@@REDO:do:1234:1700000000.1234@@ path/to/target-1234.o\n
 const SHORT: &[u8] = b"ok\n";
 
 impl Input {
+    pub const ALL: [Input; 3] = [Input::Text, Input::Records, Input::Short];
+
+    /// Those whose entries go into a table.
+    pub const LONG: [Input; 2] = [Input::Text, Input::Records];
+
     pub fn name(self) -> &'static str {
         match self {
             Input::Text => "text, 60 bytes a line",

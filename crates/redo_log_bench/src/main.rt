@@ -1,102 +1,116 @@
-//! Measures how fast bytes in memory are scanned, beside a plain search for their line feeds. No
-//! reading of a file or a pipe is measured, and nothing is done with the entries.
+//! Measures how fast bytes are scanned, how fast their entries go into a table of logs, and how
+//! fast the logs of files are gathered, beside a plain search for line feeds.
 //!
-//! With the argument `measure` it goes over inputs of 64 MiB and prints a table of times. With
-//! `check`, or without an argument, it goes over small ones and prints how many lines were found,
-//! and no time. Passes that find different numbers of lines are an error, and the status is then 1.
+//! With the argument `measure` it goes over inputs of 64 MiB in memory and prints tables of times.
+//! `write INPUT` writes the files of eight streams into the directory in which it runs, and
+//! `gather INPUT` reads them there and prints a table of times and memory; an input is `text` or
+//! `records`. With `check`, or without an argument, it goes over small inputs in memory and prints
+//! what was found, and no time. Ways that find different numbers are an error, and the status is
+//! then 1.
 #![tactic(auto)]
 
+mod checks;
 mod failure;
+mod files;
+mod fill;
+mod fill_times;
+mod gather_times;
+mod gathering;
 mod input;
 mod pass;
+mod peak;
+mod report;
+mod target_times;
+mod targets;
 mod times;
 
+use checks::{check, counted};
 use failure::Failure;
+use files::write_streams;
+use fill_times::least_fill_times;
+use gather_times::least_gather_times;
 use input::Input;
-use pass::Pass;
-use std::alloc::Global;
+use report::{
+    print_fill_head, print_fill_rows, print_gathering, print_scan_head, print_scan_rows,
+    print_targets,
+};
 use std::env;
-use std::num::nearest_usize_to_f64;
-use std::rt::{Clock, Env};
-use times::{Times, least_times};
+use std::rt::{Clock, Env, Files};
+use target_times::least_target_times;
+use times::least_times;
 
 /// How many bytes an input has where times are taken.
 const MEASURED_BYTES: usize = 64 * 1024 * 1024;
 
-/// How many bytes an input has where none are.
-const CHECKED_BYTES: usize = 1024 * 1024;
+/// How many bytes the file of a stream has at most.
+const STREAM_BYTES: usize = 32_000_000;
 
-const INPUTS: [Input; 3] = [Input::Text, Input::Records, Input::Short];
+/// How many targets are entered where times are taken.
+const MEASURED_TARGETS: u32 = 100_000;
 
 fn main(rt: HostRuntime) -> Result<(), Failure> {
-    match argument(&rt).as_deref() {
+    let input = argument(&rt, 2);
+    match argument(&rt, 1).as_deref() {
         None | Some("check") => check(&rt),
         Some("measure") => measure(&rt),
+        Some("write") => write(&rt, named(input.as_deref())?),
+        Some("gather") => gather(&rt, named(input.as_deref())?),
         Some(_) => Err(Failure::Argument),
     }
 }
 
-/// The argument, or `None` where there is none or no memory for it.
-fn argument(rt: &(impl Env + AllocGlobal)) -> Option<String> {
-    env::args(rt).ok()?.nth(1)
+/// An argument, or `None` where there is none or no memory for it.
+fn argument(rt: &(impl Env + AllocGlobal), number: usize) -> Option<String> {
+    env::args(rt).ok()?.nth(number)
 }
 
-/// Prints how many lines each input has.
-fn check(rt: &(impl Print + AllocGlobal)) -> Result<(), Failure> {
-    for input in INPUTS {
-        let bytes = input.bytes(rt.alloc(), CHECKED_BYTES)?;
-        let lines = counted(rt.alloc(), &bytes)?;
-        println!(rt; "{}: {lines} lines", input.name())?;
+/// The input whose name among the arguments this is.
+fn named(argument: Option<&str>) -> Result<Input, Failure> {
+    match argument {
+        Some("text") => Ok(Input::Text),
+        Some("records") => Ok(Input::Records),
+        _ => Err(Failure::Argument),
     }
-    Ok(())
 }
 
-/// How many lines all passes find.
-fn counted(alloc: Global, bytes: &[u8]) -> Result<usize, Failure> {
-    let lines = Pass::Search.lines(alloc, bytes)?;
-    for pass in [Pass::Cutter, Pass::Scan] {
-        let found = pass.lines(alloc, bytes)?;
-        if found != lines {
-            return Err(Failure::Lines { lines, found });
-        }
-    }
-    Ok(lines)
-}
-
-/// Prints a row for each input and pass. MB are 1,000,000 bytes.
+/// Prints the tables of what is done with bytes in memory.
 fn measure(rt: &(impl Clock + Print + AllocGlobal)) -> Result<(), Failure> {
-    println!(rt; "| input | pass | lines | lines/s | MB/s | ns/line | time, search = 1 |")?;
-    println!(rt; "|---|---|---|---|---|---|---|")?;
-    for input in INPUTS {
+    measure_scans(rt)?;
+    println!(rt; "")?;
+    measure_filling(rt)?;
+    println!(rt; "")?;
+    let times = least_target_times(rt, MEASURED_TARGETS)?;
+    print_targets(rt, MEASURED_TARGETS, &times)
+}
+
+fn measure_scans(rt: &(impl Clock + Print + AllocGlobal)) -> Result<(), Failure> {
+    print_scan_head(rt)?;
+    for input in Input::ALL {
         let bytes = input.bytes(rt.alloc(), MEASURED_BYTES)?;
         let lines = counted(rt.alloc(), &bytes)?;
         let times = least_times(rt, &bytes, lines)?;
-        print_rows(rt, input, bytes.len(), lines, &times)?;
+        print_scan_rows(rt, input, bytes.len(), lines, &times)?;
     }
     Ok(())
 }
 
-fn print_rows(
-    rt: &impl Print,
-    input: Input,
-    bytes: usize,
-    lines: usize,
-    times: &Times,
-) -> Result<(), Failure> {
-    let megabytes = nearest_usize_to_f64(bytes) / 1e6;
-    let count = nearest_usize_to_f64(lines);
-    for pass in Pass::ALL {
-        let time = times.of(pass);
-        let seconds = time.as_secs_f64();
-        println!(rt;
-            "| {} | {} | {lines} | {:.0} | {:.0} | {:.1} | {:.2} |",
-            input.name(),
-            pass.name(),
-            count / seconds,
-            megabytes / seconds,
-            seconds * 1e9 / count,
-            time.div_duration_f64(times.search)
-        )?;
+fn measure_filling(rt: &(impl Clock + Print + AllocGlobal)) -> Result<(), Failure> {
+    print_fill_head(rt)?;
+    for input in Input::LONG {
+        let bytes = input.bytes(rt.alloc(), MEASURED_BYTES)?;
+        let lines = counted(rt.alloc(), &bytes)?;
+        let times = least_fill_times(rt, &bytes, lines)?;
+        print_fill_rows(rt, input, lines, &times)?;
     }
     Ok(())
+}
+
+fn write(rt: &(impl Files + AllocGlobal), input: Input) -> Result<(), Failure> {
+    let bytes = input.bytes(rt.alloc(), STREAM_BYTES)?;
+    write_streams(rt, &bytes)
+}
+
+fn gather<R: Clock + Files + Print + AllocGlobal>(rt: &R, input: Input) -> Result<(), Failure> {
+    let times = least_gather_times(rt)?;
+    print_gathering(rt, input, &times)
 }

@@ -4,10 +4,10 @@ use redo_line::{Cut, Cutter, Scan, Step, StreamFault, TargetName};
 use std::alloc::{AllocError, Global};
 
 /// How many bytes a pass is given at once.
-const PIECE_BYTES: usize = 64 * 1024;
+pub const PIECE_BYTES: usize = 64 * 1024;
 
 /// The scan's limit, which no input reaches.
-const MAX_BYTES: u64 = 1_073_741_824;
+pub const MAX_BYTES: u64 = 1_073_741_824;
 
 /// A way to go once over all bytes and count their lines.
 #[derive(Clone, Copy)]
@@ -49,7 +49,7 @@ fn searched(bytes: &[u8]) -> usize {
     lines
 }
 
-fn searched_piece(piece: &[u8]) -> usize {
+pub fn searched_piece(piece: &[u8]) -> usize {
     let mut lines = 0usize;
     let mut from = 0;
     'lines: while let Some(at) = memchr(b'\n', &piece[from..]) {

@@ -4,7 +4,7 @@ use std::rt::Clock;
 use std::time::{Duration, Instant};
 
 /// How often each pass is timed.
-const ROUNDS: usize = 5;
+pub const ROUNDS: usize = 5;
 
 /// The least time of each pass.
 #[derive(Clone, Copy)]
@@ -53,7 +53,7 @@ fn round(rt: &(impl Clock + AllocGlobal), bytes: &[u8], lines: usize) -> Result<
 }
 
 /// How long a pass takes, which has to find so many lines.
-fn timed(
+pub fn timed(
     rt: &(impl Clock + AllocGlobal),
     pass: Pass,
     bytes: &[u8],
