@@ -1,0 +1,88 @@
+-- Examples of expansions, computed: the logs, the options, the targets asked for, and the text.
+use Rattle.std.proofs.Common.{◌≡◌, ℕ, Bool, true, false, List, [], ◌∷◌, ◌++◌, pos, negsuc, refl}
+use Rattle.std.specs.Prelude.{codes}
+use Rattle.std.specs.Fmt.{digits}
+use Rattle.std.specs.List.{AllByRecursion}
+use Rattle.redo_line.specs.declared.entry.Entry.{Entry}
+use Rattle.redo_line.specs.declared.entry.Entry.TheVariants.{Text, Mention, Done, Closing, Note}
+use Rattle.redo_line.specs.declared.entry.How.TheVariants.{Made, Waiting, Locked, Unlocked, Unchanged}
+use Rattle.redo_line.specs.Lines.{line_feed}
+use Rattle.redo_logs.specs.declared.log_state.LogState.TheVariants.{Ended}
+use Rattle.redo_logs.specs.Logs.{Log}
+use Rattle.redo_view.specs.declared.options.Options.{Options}
+use Rattle.redo_view.specs.Expansion.{opened_within, opened_log, expansion}
+
+abbrev line : List ℕ → List ℕ
+line text = text ++ line_feed ∷ []
+
+abbrev log : List ℕ → List Entry → Log
+log target entries = record { target = target; entries = entries; state = Ended }
+
+-- recursive, unchanged, details, debug_locks
+abbrev with : Bool → Bool → Bool → Bool → Options
+with recursive unchanged details debug_locks = record { recursive = recursive; unchanged = unchanged; details = details; debug_locks = debug_locks }
+
+abbrev plain : Options
+plain = with false false true false
+
+abbrev deep : Options
+deep = with true false true false
+
+record Row : Type 0 where
+  logs : List Log
+  options : Options
+  asked : List (List ℕ)
+  text : List ℕ
+
+abbrev shows : List Log → Options → List (List ℕ) → List ℕ → Row
+shows logs options asked text = record { logs = logs; options = options; asked = asked; text = text }
+
+abbrev all : List ℕ
+all = codes "all"
+
+abbrev a : List ℕ
+a = codes "a"
+
+abbrev b : List ℕ
+b = codes "b"
+
+abbrev x : List ℕ
+x = codes "x"
+
+abbrev rows : List Row
+rows =
+    shows (log all (Text (codes "hello") ∷ []) ∷ []) plain (all ∷ []) (line (codes "redo  all") ++ line (codes "hello")) ∷
+    shows (log all [] ∷ []) plain (all ∷ []) (line (codes "redo  all")) ∷
+    -- each log is opened at its first mention, and a cycle ends
+    shows (log a (Mention Made b ∷ []) ∷ log b (Mention Made a ∷ Text (codes "t") ∷ []) ∷ []) deep (a ∷ []) (line (codes "redo  a") ++ line (codes "redo    b") ++ line (codes "t")) ∷
+    shows (log all (Mention Made a ∷ Mention Waiting x ∷ Text (codes "end") ∷ []) ∷ log a (Mention Made x ∷ []) ∷ log x (Text (codes "X") ∷ []) ∷ []) (with true false true true) (all ∷ []) (
+    line (codes "redo  all") ++ line (codes "redo    a") ++ line (codes "redo      x") ++ line (codes "X") ++ line (codes "redo    x (WAITING)") ++ line (codes "end")
+    ) ∷
+    -- a mention names, and an asking opens
+    shows (log a (Mention Made b ∷ []) ∷ log b (Text (codes "B") ∷ []) ∷ []) plain (a ∷ b ∷ a ∷ []) (line (codes "redo  a") ++ line (codes "redo    b") ++ line (codes "redo  b") ++ line (codes "B")) ∷
+    shows (log a (Mention Unchanged b ∷ Note (codes "check") b ∷ Text (codes "t") ∷ []) ∷ log b (Text (codes "B") ∷ []) ∷ []) (with true false false false) (a ∷ []) (line (codes "redo  a") ++ line (codes "redo    (b)")) ∷
+    shows (log a (Mention Unchanged b ∷ Note (codes "check") b ∷ Text (codes "t") ∷ []) ∷ log b (Text (codes "B") ∷ []) ∷ []) (with true true false false) (a ∷ []) (line (codes "redo  a") ++ line (codes "redo    b") ++ line (codes "redo    (b)")) ∷
+    shows (log all (Note (codes "resumed") x ∷ Note (codes "warning") (codes "disk is slow") ∷ Note (codes "check") [] ∷ []) ∷ []) (with false false false false) (all ∷ []) (
+    line (codes "redo  all") ++ line (codes "redo: x") ++ line (codes "redo: disk is slow") ++ line (codes "redo    ()")
+    ) ∷
+    shows (log all (Mention Locked x ∷ Mention Unlocked x ∷ Mention Made x ∷ []) ∷ []) plain (all ∷ []) (line (codes "redo  all") ++ line (codes "redo    x")) ∷
+    shows (log all (Mention Locked x ∷ Mention Unlocked x ∷ Mention Made x ∷ []) ∷ []) (with false false true true) (all ∷ []) (
+    line (codes "redo  all") ++ line (codes "redo    x (locked...)") ++ line (codes "redo    x (...unlocked!)") ++ line (codes "redo    x")
+    ) ∷
+    shows (
+    log all (Mention Made (codes "a.o") ∷ Mention Made (codes "b.o") ∷ Done (pos 0) (codes "a.o") ∷ Done (pos 1) (codes "b.o") ∷ Text (codes "link") ∷ []) ∷
+    log (codes "a.o") (Text (codes "cc a") ∷ []) ∷
+    log (codes "b.o") (Text (codes "cc b") ∷ []) ∷
+    []
+    ) deep (all ∷ []) (
+    line (codes "redo  all") ++ line (codes "redo    a.o") ++ line (codes "cc a") ++ line (codes "redo    b.o") ++ line (codes "cc b") ++ line (codes "redo    b.o (exit 1)") ++ line (codes "link")
+    ) ∷
+    shows (log all (Done (pos 0) b ∷ Done (negsuc 10) (codes "c") ∷ Done (pos 7) (codes "d") ∷ []) ∷ []) plain (all ∷ []) (
+    line (codes "redo  all") ++ line (codes "redo    c (exit -11)") ++ line (codes "redo    d (exit 7)")
+    ) ∷
+    shows (log a (Done (pos 0) b ∷ Closing (pos 3) ∷ []) ∷ []) plain (a ∷ []) (line (codes "redo  a")) ∷
+    []
+
+these_texts : AllByRecursion (λ row. expansion row.logs row.options row.asked ≡ row.text) rows
+unfolding opened_within opened_log digits
+these_texts = (refl, (refl, (refl, (refl, (refl, (refl, (refl, (refl, (refl, (refl, (refl, (refl, (refl, tt)))))))))))))

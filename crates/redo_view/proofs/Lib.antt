@@ -1,0 +1,5 @@
+mod ExpansionRows
+mod Growing
+mod Opening
+mod Reaching
+mod WritingLemmas

@@ -1,0 +1,81 @@
+-- Texts that are written in parts.
+use Rattle.std.proofs.Common.{◌≡◌, ℕ, zero, suc, ℤ, ◌+◌, ◌-◌, ◌<◌, ◌≤◌, List, [], ◌∷◌, ◌++◌, refl, Option, Result, Ok, Err, length, take, sym, ◌∙◌, ap, subst, arith, le_refl}
+use Rattle.std.specs.Prelude.{codes, pos, negsuc}
+use Rattle.std.specs.Result.{IsErr, IsErrAnd}
+use Rattle.std.proofs.lemmas.List.{append_assoc, length-append, take-append-le, replicate-append-replicate, take_all}
+use Rattle.std.proofs.Math.Seq.{take-append-add}
+use Rattle.redo_line.specs.declared.feed.Broken.{Broken}
+use Rattle.redo_line.specs.Lines.{line_feed, with_line_feed}
+use Rattle.redo_line.specs.Sink.{Taken, adds, adds-adds, Writes}
+use Rattle.redo_view.specs.declared.stop.Stop.{Stop}
+use Rattle.redo_view.specs.declared.stop.Stop.TheVariants.{OutOfMemory}
+use Rattle.redo_view.specs.Step.{Written}
+use Rattle.redo_view.specs.Text.{spaces, redo_line, exit_remark, exit_text}
+
+-- the last part, behind what was written
+pub then : (before middle after : Option Taken) (front part : List ℕ) (done : Result (Unit {0}) Broken) → middle ≡ adds before front 0 → Writes middle after part done → Writes before after (front ++ part) done
+then before middle after front part (Ok u) is wrote = wrote ∙ ap (λ t. adds t part 0) is ∙ adds-adds before front part 0 0
+then before middle after front part (Err broken) is wrote =
+    let size : length front + wrote.0 < length (front ++ part) = let l = wrote.1 in omega (arith, length-append front part) in
+    (length front + wrote.0, size, wrote.2 ∙ ap (λ t. adds t (take wrote.0 part) 1) is ∙ adds-adds before front (take wrote.0 part) 0 1 ∙ ap (λ b. adds before b 1) (sym (take-append-add front part wrote.0)))
+
+-- a part that failed before others, which is handed on
+pub stops : (before after : Option Taken) (front behind : List ℕ) (broken : Broken) (done : Result (Unit {0}) Broken) → IsErr done → Writes before after front (Err broken) → Writes before after (front ++ behind) done
+stops before after front behind broken (Ok u) failed wrote = absurd (cc)
+stops before after front behind broken (Err other) failed wrote =
+    let within = wrote.1 in
+    let in_front : wrote.0 < length (front ++ behind) = omega (arith, length-append front behind) in
+    (wrote.0, in_front, wrote.2 ∙ ap (λ b. adds before b 1) (sym (take-append-le wrote.0 front behind (omega arith))))
+
+module _ (before : Option Taken) (text : List ℕ) where
+  -- the first part of a text failed
+  pub at_first : (after : Option Taken) (part behind : List ℕ) (broken : Broken) (done : Result (Unit {0}) Broken) → IsErr done → Writes before after part (Err broken) → part ++ behind ≡ text → Writes before after text done
+  at_first after part behind broken done failed wrote is = subst (λ t. Writes before after t done) is (stops before after part behind broken done failed wrote)
+
+  -- a part failed behind what was written
+  pub in_midst : (middle after : Option Taken) (front part behind : List ℕ) (broken : Broken) (done : Result (Unit {0}) Broken) → IsErr done → middle ≡ adds before front 0 → Writes middle after part (Err broken) → (front ++ part) ++ behind ≡ text → Writes before after text done
+  in_midst middle after front part behind broken done failed written wrote is =
+      at_first after (front ++ part) behind broken done failed (then before middle after front part (Err broken) written wrote) is
+
+  -- the last part
+  pub at_last : (middle after : Option Taken) (front part : List ℕ) (done : Result (Unit {0}) Broken) → middle ≡ adds before front 0 → Writes middle after part done → front ++ part ≡ text → Writes before after text done
+  at_last middle after front part done written wrote is = subst (λ t. Writes before after t done) is (then before middle after front part done written wrote)
+
+-- one part more was written
+pub one_more : (before middle after : Option Taken) (front part : List ℕ) → middle ≡ adds before front 0 → after ≡ adds middle part 0 → after ≡ adds before (front ++ part) 0
+one_more before middle after front part written wrote = then before middle after front part (Ok tt) written wrote
+
+-- a line whose beginning has a part of its text
+pub line_parts : (begin text more : List ℕ) → (begin ++ text) ++ with_line_feed more ≡ begin ++ with_line_feed (text ++ more)
+line_parts begin text more = append_assoc begin text (with_line_feed more) ∙ ap (λ t. begin ++ t) (sym (append_assoc text more (line_feed ∷ [])))
+
+-- a status other than 0 is shown
+pub exit_shown : (depth : ℕ) (status : ℤ) (name : List ℕ) → (status ≡ pos 0 → ⊥) → exit_text depth status name ≡ redo_line depth (name ++ exit_remark status)
+exit_shown depth (pos zero) name other = absurd (other refl)
+exit_shown depth (pos (suc status)) name other = refl
+exit_shown depth (negsuc status) name other = refl
+
+-- the end of the line of a target that failed
+pub exit_parts : (number : List ℕ) → codes " (exit " ++ number ++ with_line_feed (codes ")") ≡ with_line_feed (codes " (exit " ++ number ++ codes ")")
+exit_parts number = ap (λ t. codes " (exit " ++ t) (sym (append_assoc number (codes ")") (line_feed ∷ [])))
+
+-- the text of a check
+pub check_parts : (begin text : List ℕ) → (begin ++ codes "(") ++ text ++ with_line_feed (codes ")") ≡ begin ++ with_line_feed (codes "(" ++ text ++ codes ")")
+check_parts begin text =
+    append_assoc (begin ++ codes "(") text (with_line_feed (codes ")")) ∙ append_assoc begin (codes "(") (text ++ with_line_feed (codes ")"))
+    ∙ ap (λ t. begin ++ (codes "(" ++ t)) (sym (append_assoc text (codes ")") (line_feed ∷ [])))
+
+-- some of the spaces that are left
+pub some_spaces : (count left some : ℕ) → left ≤ count → some ≤ left → spaces (count - left) ++ spaces some ≡ spaces (count - (left - some))
+some_spaces count left some within few = replicate-append-replicate (count - left) some 32 ∙ ap spaces (omega arith)
+
+-- and what is left then
+pub other_spaces : (count left some : ℕ) → left ≤ count → some ≤ left → (spaces (count - left) ++ spaces some) ++ spaces (left - some) ≡ spaces count
+other_spaces count left some within few =
+    ap (λ s. s ++ spaces (left - some)) (replicate-append-replicate (count - left) some 32) ∙ replicate-append-replicate ((count - left) + some) (left - some) 32 ∙ ap spaces (omega arith)
+
+-- all of a text was written, and then there was no memory
+pub whole_before_want : (A : Type 0) (before after : Option Taken) (text : List ℕ) (done : Result A Stop) → IsErrAnd done (λ stop. stop ≡ OutOfMemory) → after ≡ adds before text 0 → Written before after text done
+whole_before_want A before after text (Ok x) is wrote = absurd is
+whole_before_want A before after text (Err stop) is wrote =
+    subst (λ (s : Stop). Written {A = A} before after text (Err s)) (sym is) (length text, wrote ∙ ap (λ t. adds before t 0) (sym (take_all (length text) text (le_refl (length text)))))

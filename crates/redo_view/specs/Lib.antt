@@ -1,0 +1,4 @@
+pub mod Expansion
+pub mod Reached
+pub mod Step
+pub mod Text

@@ -1,0 +1,12 @@
+//! From logs to one text: the expansion of the logs at the targets asked for.
+#![tactic(auto)]
+
+mod laws;
+mod names;
+mod options;
+mod step;
+mod stop;
+mod texts;
+
+pub use laws::{each_log_once, opening_a_log};
+pub use options::Options;

@@ -1,0 +1,168 @@
+//! The texts of entries, written part by part.
+ghost use Rattle.std.specs.Prelude.{◌≡◌, ◌<◌, ◌^◌, ◌++◌, [], codes, if◌then◌else◌};
+ghost use Rattle.redo_line.specs.Lines.{with_line_feed};
+ghost use Rattle.redo_line.specs.Sink.{Writes};
+ghost use Rattle.redo_logs.specs.EntryRef.{entry_seen};
+ghost use Rattle.redo_view.specs.Text.{spaces, indent, redo_line, remark, exit_remark, exit_text, note_text, entry_text};
+
+use crate::options::Options;
+use itoa::Buffer;
+use redo_line::{Broken, How, Sink, TargetName, push_all};
+use redo_logs::EntryRef;
+
+// As many spaces are written at once.
+const SPACES: [u8; 64] = [b' '; 64];
+
+/// Writes the text of an entry that mentions nothing; of one that does it writes nothing.
+pub fn write_entry<W: Sink>(
+    options: &Options,
+    depth: usize,
+    entry: EntryRef<'_>,
+    out: &mut W,
+) -> Result<(), Broken>
+    requires { depth < 2 ^ 60 }
+    ensures { Writes (W.tells out.old) (W.tells out.new) (entry_text options.now depth (entry_seen entry.entry)) result }
+{
+    match entry {
+        EntryRef::Text(line) => write_text(options, line, out),
+        EntryRef::Done { status, name } => write_exit(depth, status, name, out),
+        EntryRef::Note { kind, text } => write_note(depth, kind, text, out),
+        EntryRef::Mention { .. } => Ok(()),
+        EntryRef::Closing { .. } => Ok(()),
+    }
+}
+
+/// Writes a mention's own line.
+pub fn write_mention<W: Sink>(
+    depth: usize,
+    how: How,
+    name: &TargetName,
+    out: &mut W,
+) -> Result<(), Broken>
+    requires { depth < 2 ^ 60 }
+    ensures { Writes (W.tells out.old) (W.tells out.new) (redo_line depth (name.now ++ remark how)) result }
+{
+    begin_line(depth, name.bytes(), out)?;
+    end_line(remark_of(how), out)
+}
+
+/// Writes the line of a target.
+pub fn write_target<W: Sink>(depth: usize, name: &TargetName, out: &mut W) -> Result<(), Broken>
+    requires { depth < 2 ^ 60 }
+    ensures { Writes (W.tells out.old) (W.tells out.new) (redo_line depth name.now) result }
+{
+    write_indent(depth, out)?;
+    end_line(name.bytes(), out)
+}
+
+fn remark_of(how: How) -> &'static [u8]
+    ensures { result.now ≡ remark how }
+{
+    match how {
+        How::Made => b"",
+        How::Waiting => b" (WAITING)",
+        How::Locked => b" (locked...)",
+        How::Unlocked => b" (...unlocked!)",
+        How::Unchanged => b" (unchanged)",
+    }
+}
+
+fn write_text<W: Sink>(options: &Options, line: &[u8], out: &mut W) -> Result<(), Broken>
+    ensures { Writes (W.tells out.old) (W.tells out.new) (if options.now.details then with_line_feed line.now else []) result }
+{
+    if options.details {
+        end_line(line, out)
+    } else {
+        Ok(())
+    }
+}
+
+fn write_exit<W: Sink>(
+    depth: usize,
+    status: i32,
+    name: &TargetName,
+    out: &mut W,
+) -> Result<(), Broken>
+    requires { depth < 2 ^ 60 }
+    ensures { Writes (W.tells out.old) (W.tells out.new) (exit_text depth status name.now) result }
+{
+    if status == 0 {
+        return Ok(());
+    }
+    begin_line(depth, name.bytes(), out)?;
+    end_exit(status, out)
+}
+
+// Writes the end of the line of a target that failed.
+fn end_exit<W: Sink>(status: i32, out: &mut W) -> Result<(), Broken>
+    ensures { Writes (W.tells out.old) (W.tells out.new) (with_line_feed (exit_remark status)) result }
+{
+    let mut buffer = Buffer::new();
+    push_all(out, b" (exit ")?;
+    push_all(out, buffer.format(status).as_bytes())?;
+    end_line(b")", out)
+}
+
+fn write_note<W: Sink>(depth: usize, kind: &[u8], text: &[u8], out: &mut W) -> Result<(), Broken>
+    requires { depth < 2 ^ 60 }
+    ensures { Writes (W.tells out.old) (W.tells out.new) (note_text depth kind.now text.now) result }
+{
+    if kind == b"check".as_slice() {
+        write_check(depth, text, out)
+    } else {
+        write_other_note(text, out)
+    }
+}
+
+fn write_other_note<W: Sink>(text: &[u8], out: &mut W) -> Result<(), Broken>
+    ensures { Writes (W.tells out.old) (W.tells out.new) (codes "redo: " ++ with_line_feed text.now) result }
+{
+    push_all(out, b"redo: ")?;
+    end_line(text, out)
+}
+
+fn write_check<W: Sink>(depth: usize, text: &[u8], out: &mut W) -> Result<(), Broken>
+    requires { depth < 2 ^ 60 }
+    ensures { Writes (W.tells out.old) (W.tells out.new) (redo_line depth (codes "(" ++ text.now ++ codes ")")) result }
+{
+    begin_line(depth, b"(", out)?;
+    push_all(out, text)?;
+    end_line(b")", out)
+}
+
+// Writes the beginning of a redo line.
+fn begin_line<W: Sink>(depth: usize, text: &[u8], out: &mut W) -> Result<(), Broken>
+    requires { depth < 2 ^ 60 }
+    ensures { Writes (W.tells out.old) (W.tells out.new) (indent depth ++ text.now) result }
+{
+    write_indent(depth, out)?;
+    push_all(out, text)
+}
+
+// Writes the end of a line.
+fn end_line<W: Sink>(text: &[u8], out: &mut W) -> Result<(), Broken>
+    ensures { Writes (W.tells out.old) (W.tells out.new) (with_line_feed text.now) result }
+{
+    push_all(out, text)?;
+    push_all(out, b"\n")
+}
+
+fn write_indent<W: Sink>(depth: usize, out: &mut W) -> Result<(), Broken>
+    requires { depth < 2 ^ 60 }
+    ensures { Writes (W.tells out.old) (W.tells out.new) (indent depth) result }
+{
+    push_all(out, b"redo")?;
+    write_spaces(2 + 2 * depth, out)
+}
+
+fn write_spaces<W: Sink>(count: usize, out: &mut W) -> Result<(), Broken>
+    ensures { Writes (W.tells out.old) (W.tells out.new) (spaces count) result }
+{
+    let mut left = count;
+    while left > 0 {
+        let some = left.min(SPACES.len());
+        push_all(out, &SPACES[..some])?;
+        left -= some;
+    }
+    Ok(())
+}
