@@ -1,4 +1,4 @@
-ghost use Rattle.std.specs.Prelude.{◌≡◌, ◌↔◌, ◌<◌, ℕ, [], ◌∷◌, ◌++◌, None, Some, Err, IfOk, OnOk, OnErr, IsSome, length, slice_get};
+ghost use Rattle.std.specs.Prelude.{◌≡◌, ◌↔◌, ◌<◌, ◌^◌, ℕ, [], ◌∷◌, ◌++◌, None, Some, Err, IfOk, OnOk, OnErr, OnSome, IsSome, length, slice_get};
 ghost use Rattle.std.specs.List.{list_all};
 ghost use Rattle.std.specs.Option.{option_map};
 ghost use Rattle.redo_logs.specs.declared.log_state.LogState.TheVariants.{Running, Ended, Failed};
@@ -142,7 +142,8 @@ impl LogTable {
 
     /// The entry number `k` of the log number `i`, both counted from 0, if there is one.
     pub fn entry(&self, i: u32, k: usize) -> Option<EntryRef<'_>>
-        ensures { option_map entry_seen result ≡ entry_at i k self.now }
+        ensures entry { option_map entry_seen result ≡ entry_at i k self.now }
+        ensures fits { OnSome result (k < 2 ^ 63) }
     {
         let (_, log) = self.logs.get_index(i as usize)?;
         let entry = log.entries.get(k)?;

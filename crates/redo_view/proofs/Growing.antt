@@ -1,5 +1,5 @@
 -- As logs are opened, the names of those that were only grow in number, and fewer logs are left.
-use Rattle.std.proofs.Common.{◌≡◌, ℕ, ◌+◌, ◌<◌, ◌≤◌, Bool, true, false, ◌⊎◌, inl, inr, List, [], ◌∷◌, ◌++◌, length, refl, sym, ap, ◌∙◌, arith}
+use Rattle.std.proofs.Common.{◌≡◌, ℕ, ◌<◌, ◌≤◌, Bool, true, false, ◌⊎◌, inl, inr, List, [], ◌∷◌, ◌++◌, length, refl, sym, ap, ◌∙◌, arith}
 use Rattle.std.specs.Prelude.{◌||◌, nat_eq, if◌then◌else◌}
 use Rattle.std.specs.List.{IsDistinct}
 use Rattle.std.specs.Cmp.Lexicographic.{pointwise, same_text}
@@ -10,6 +10,7 @@ use Rattle.std.proofs.lemmas.List.Folds.{list_any-append}
 use Rattle.std.proofs.lemmas.Map.Keys.{IsDistinct-push}
 use Rattle.redo_logs.specs.Logs.{Log, targets_of}
 use Rattle.redo_view.specs.Expansion.{is_among, with_name}
+use Rattle.redo_view.specs.Left.{one_unless, not_among, left}
 
 -- names of targets
 abbrev pub Names : Type 0
@@ -61,16 +62,6 @@ with_name-distinct name names distinct = by (is_among name names) refl
 
 -- ---- how many are left
 
--- one for a name that is not among the opened
-abbrev one_unless : Bool → ℕ
-one_unless true = 0
-one_unless false = 1
-
--- how many names are not among the opened
-abbrev not_among : Names → Names → ℕ
-not_among opened [] = 0
-not_among opened (name ∷ names) = one_unless (is_among name opened) + not_among opened names
-
 -- what is opened stays so
 one-le : (before after : Bool) → (before ≡ true → after ≡ true) → one_unless after ≤ one_unless before
 one-le true after keeps = let is = ap one_unless (keeps refl) in omega (arith, is)
@@ -101,10 +92,6 @@ not_among-lt new (name ∷ names) before after keeps listed was is =
 not_among-all : (opened names : Names) → not_among opened names ≤ length names
 not_among-all opened [] = omega arith
 not_among-all opened (name ∷ names) = omega (arith, one-le false (is_among name opened) (λ e. absurd (cc)), not_among-all opened names)
-
--- how many logs are left to open
-abbrev pub left : List Log → Names → ℕ
-left logs opened = not_among opened (targets_of logs)
 
 module _ (logs : List Log) where
   -- no more than before, where what was opened stays so

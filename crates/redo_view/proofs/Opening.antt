@@ -10,7 +10,8 @@ use Rattle.redo_logs.specs.Logs.{Log, targets_of}
 use Rattle.redo_view.specs.declared.options.Options.{Options}
 use Rattle.redo_view.specs.Expansion.{Opening, Shown, is_among, with_name, log_of, mentions, mention, begun, opens, opened_if, after_mention, after_entry, after_entries, opened_within, opened_log}
 use Rattle.redo_view.specs.Reached.{mentions_target, mentioned_in}
-use Rattle.redo_view.proofs.Growing.{Names, Keeps, with_name-keeps, left, left-le, left-lt, left-all, Growth, Grown, grown-none, grown-both, Kept, kept}
+use Rattle.redo_view.proofs.Growing.{Names, Keeps, with_name-keeps, left-le, left-lt, left-all, Growth, Grown, grown-none, grown-both, Kept, kept}
+use Rattle.redo_view.specs.Left.{left}
 
 -- whatever was opened before a log is opened stays so
 abbrev pub Keeping : Opening → Type 0

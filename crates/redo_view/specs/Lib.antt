@@ -1,4 +1,6 @@
 pub mod Expansion
+pub mod Left
 pub mod Reached
 pub mod Step
 pub mod Text
+pub mod View

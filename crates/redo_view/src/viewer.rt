@@ -1,0 +1,123 @@
+ghost use Rattle.std.specs.Prelude.{◌≡◌, ◌↔◌, ◌<◌, ℕ, true, not, None, Some, Ok, Err, OnOk, length, take};
+ghost use Rattle.std.specs.List.{list_all};
+ghost use Rattle.redo_line.specs.Sink.{adds};
+ghost use Rattle.redo_logs.specs.Logs.{has_ended, targets_of};
+ghost use Rattle.redo_view.specs.Expansion.{is_among, expansion};
+ghost use Rattle.redo_view.specs.Step.{Written};
+ghost use Rattle.redo_view.specs.View.{unknown_among, asked_from};
+
+use crate::log::show_log;
+use crate::names::Names;
+use crate::options::Options;
+use crate::step::Seen;
+use crate::stop::Stop;
+use crate::texts::write_target;
+use redo_line::{Sink, TargetName};
+use redo_logs::LogTable;
+use std::alloc::Global;
+
+/// Why logs aren't shown, or not their whole text.
+#[derive(Clone, Copy, Debug, PartialEq, Eq)]
+pub enum ViewFault {
+    /// The target asked for at this place has no log; places are counted from 0, and it is the least
+    /// one. Nothing was written.
+    Unknown { place: usize },
+    /// Writing failed. A front of the text was written, perhaps nothing.
+    Write,
+    /// There was no memory. A front of the text was written, perhaps nothing.
+    OutOfMemory,
+}
+
+/// Writes the text of logs, all of which have to have ended, at the targets asked for: for each the
+/// line that names it, and its log, unless that was shown before. docs/viewing.md has the rules.
+///
+/// Whether each target has a log is known before a byte is written, and before memory is asked for. A
+/// write that fails or takes no byte ends it, and nothing is written behind it. `out` isn't flushed.
+/// Logs that are shown one inside the other take stack.
+pub fn view<W: Sink>(
+    alloc: Global,
+    table: &LogTable,
+    options: &Options,
+    asked: &[TargetName],
+    out: &mut W,
+) -> Result<(), ViewFault>
+    requires { list_all has_ended table.now ≡ true }
+
+    // The whole text was written, and no other byte.
+    ensures ok { OnOk result (W.tells out.new ≡ adds (W.tells out.old) (expansion table.now options.now asked.now) 0) }
+    ensures known { OnOk result (unknown_among table.now asked.now ≡ None) }
+
+    // A target is unknown exactly if it has no log, and then nothing was written.
+    ensures unknown { (place : ℕ) → (result ≡ Err (ViewFault.Unknown place)) ↔ (unknown_among table.now asked.now ≡ Some place) }
+    ensures unwritten { (place : ℕ) → result ≡ Err (ViewFault.Unknown place) → W.tells out.new ≡ W.tells out.old }
+
+    // The writer failed, once, behind a front of the text; or there was no memory, and it didn't fail.
+    ensures write { result ≡ Err ViewFault.Write → (n : ℕ) × (n < length (expansion table.now options.now asked.now)) × (W.tells out.new ≡ adds (W.tells out.old) (take n (expansion table.now options.now asked.now)) 1) }
+    ensures memory { result ≡ Err ViewFault.OutOfMemory → (n : ℕ) × (W.tells out.new ≡ adds (W.tells out.old) (take n (expansion table.now options.now asked.now)) 0) }
+{
+    if let Some(place) = unknown_place(table, asked) {
+        return Err(ViewFault::Unknown { place });
+    }
+    match show_asked(alloc, table, options, asked, out) {
+        Ok(()) => Ok(()),
+        Err(Stop::Write) => Err(ViewFault::Write),
+        Err(Stop::OutOfMemory) => Err(ViewFault::OutOfMemory),
+    }
+}
+
+// The least place of a target that has no log.
+fn unknown_place(table: &LogTable, asked: &[TargetName]) -> Option<usize>
+    ensures { result ≡ unknown_among table.now asked.now }
+{
+    asked.iter().position(
+        |name: &TargetName| -> bool
+            ensures { result ≡ not (is_among name.now (targets_of table.entry.now)) }
+        { table.find(name).is_none() },
+    )
+}
+
+fn show_asked<W: Sink>(
+    alloc: Global,
+    table: &LogTable,
+    options: &Options,
+    asked: &[TargetName],
+    out: &mut W,
+) -> Result<(), Stop>
+    requires { unknown_among table.now asked.now ≡ None }
+    ensures { Written (W.tells out.old) (W.tells out.new) (expansion table.now options.now asked.now) result }
+{
+    let mut seen = Seen {
+        named: Names::new(alloc),
+        opened: Names::new(alloc),
+    };
+    for name in asked {
+        show_target(table, options, name, &mut seen, out)?;
+    }
+    Ok(())
+}
+
+// Shows the line and the log of a target, unless its log was opened before.
+fn show_target<W: Sink>(
+    table: &LogTable,
+    options: &Options,
+    name: &TargetName,
+    seen: &mut Seen,
+    out: &mut W,
+) -> Result<(), Stop>
+    requires { is_among name.now (targets_of table.now) ≡ true }
+    ensures text { Written (W.tells out.old) (W.tells out.new) (asked_from table.now options.now seen.old.named seen.old.opened name.now).text result }
+    ensures named { OnOk result (seen.new.named ≡ (asked_from table.now options.now seen.old.named seen.old.opened name.now).named) }
+    ensures opened { OnOk result (seen.new.opened ≡ (asked_from table.now options.now seen.old.named seen.old.opened name.now).opened) }
+{
+    // No more logs than there are stand one inside the other.
+    let logs = table.len();
+    prove!(logs <= 1_048_575);
+    if seen.opened.contains(name) {
+        return Ok(());
+    }
+    let Some(number) = table.find(name) else {
+        unreachable!()
+    };
+    write_target(0, name, out)?;
+    show_log(table, options, number, 1, seen, out)
+}
