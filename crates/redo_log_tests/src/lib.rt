@@ -32,3 +32,5 @@ mod reads;
 mod scan;
 #[cfg(test)]
 mod table;
+#[cfg(test)]
+mod view;
