@@ -37,7 +37,7 @@ impl Names {
         self.set.contains(name)
     }
 
-    /// Puts a name behind the others, if it isn't among them. A refusal changes nothing.
+    /// Puts a name behind the others, if it isn't among them.
     pub fn add(&mut self, name: &TargetName) -> Result<(), AllocError>
         ensures added { OnOk result (self.new ≡ with_name name.now self.old) }
     {
