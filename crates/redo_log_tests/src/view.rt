@@ -177,12 +177,20 @@ fn mentions_are_shown_and_opened_with_recursive(rt: HostRuntime) -> Result<(), F
 
 #[test]
 fn a_mention_names_and_an_asking_opens(rt: HostRuntime) -> Result<(), Fail> {
+    let given = [("a", "@@REDO:do:7:1.0000@@ b\n"), ("b", "B\n")];
     expect(
         &rt,
-        &[("a", "@@REDO:do:7:1.0000@@ b\n"), ("b", "B\n")],
+        &given,
         &PLAIN,
         &["a", "b", "a"],
         "redo  a\nredo    b\nredo  b\nB\n",
+    )?;
+    expect(
+        &rt,
+        &given,
+        &DEEP,
+        &["a", "b", "a"],
+        "redo  a\nredo    b\nB\n",
     )
 }
 
