@@ -27,3 +27,4 @@ mod SegmentLemmas
 mod SinkLemmas
 mod StatusLemmas
 mod Stripping
+pub mod WritesLemmas

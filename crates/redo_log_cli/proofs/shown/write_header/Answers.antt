@@ -1,6 +1,6 @@
 use Rattle.redo_line.specs.Lines.{with_line_feed}
 use Rattle.redo_log_cli.specs.Shown.{redo}
-use Rattle.redo_log_cli.proofs.Writing.{then, stops}
+use Rattle.redo_line.proofs.WritesLemmas.{then, stops}
 use Rattle.redo_log_cli.proofs.shown.write_header.Goals as goal
 
 pub returns-in_err-push_all : goal.returns-in_err-push_all

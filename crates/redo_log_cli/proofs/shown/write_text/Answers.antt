@@ -3,7 +3,8 @@ use Rattle.std.proofs.Common.{ℕ, List, Err, length, get_or, ◌<◌, ◌≡◌
 use Rattle.std.specs.List.{flat_map}
 use Rattle.redo_line.specs.Lines.{with_line_feed}
 use Rattle.redo_log_cli.specs.Shown.{header}
-use Rattle.redo_log_cli.proofs.Writing.{then, stops, around}
+use Rattle.redo_line.proofs.WritesLemmas.{then, stops}
+use Rattle.redo_log_cli.proofs.Writing.{around}
 use Rattle.redo_log_cli.proofs.shown.write_text.Goals as goal
 
 pub returns-in_err-write_header : goal.returns-in_err-write_header
