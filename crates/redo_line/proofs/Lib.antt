@@ -17,6 +17,7 @@ mod Numbers
 mod PartLemmas
 mod PathLemmas
 mod PieceLemmas
+pub mod PlaceLemmas
 mod ReadingLemmas
 mod RecordLemmas
 mod RecordRows

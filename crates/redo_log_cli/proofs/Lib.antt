@@ -1,10 +1,13 @@
 mod Adding
+mod Answering
 mod Collecting
 mod EntryParts
+mod Finding
 mod FirstLine
 mod IndexLaws
 mod IndexLines
 mod IndexRows
 mod Listing
+mod RunRows
 mod ShownRows
 mod Writing

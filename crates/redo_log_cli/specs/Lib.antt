@@ -1,3 +1,4 @@
 pub mod Index
+pub mod Run
 pub mod RunFault
 pub mod Shown

@@ -1,7 +1,8 @@
-//! What the program `redo-log` does, over any reader and any writer.
+//! What the program `redo-log` does, over any readers and any writer.
 //!
-//! Today that is [`show_one`]: one log, taken as lines of text, is shown under the name of its
-//! target; and [`read_index`], which reads what targets there are.
+//! [`run`] shows the logs of the targets asked for, and [`read_index`] reads what targets there are.
+//! The program does not call them yet: it calls [`show_one`], which shows one log, taken as lines of
+//! text, under the name of its target.
 #![tactic(auto)]
 
 mod collected;
@@ -9,10 +10,12 @@ mod index;
 mod index_fault;
 mod laws;
 mod run_fault;
+mod running;
 mod shown;
 
 pub use index::{Index, read_index};
 pub use index_fault::IndexFault;
-pub use laws::one_answer_of_an_index;
+pub use laws::{an_answer_for_each_run, one_answer_of_an_index};
 pub use run_fault::RunFault;
+pub use running::run;
 pub use shown::show_one;

@@ -1,4 +1,10 @@
+ghost use Rattle.std.specs.Prelude.{◌≡◌};
+ghost use Rattle.redo_log_cli.specs.declared.run_fault.RunFault.TheVariants.{OutOfMemory};
+ghost use Rattle.redo_log_cli.specs.RunFault.{fault_of_gathering};
+
+use redo_gather::GatherFault;
 use redo_line::StreamFault;
+use std::alloc::{AllocError, AllocFailed};
 
 /// Why a run showed nothing, or not the whole text.
 #[derive(Clone, Copy, Debug, PartialEq, Eq)]
@@ -11,4 +17,31 @@ pub enum RunFault {
     OutOfMemory,
     /// Writing failed. A front of the text was written, perhaps nothing.
     Write,
+}
+
+impl From<AllocError> for RunFault {
+    ghost from_gives = { λ _ fault. fault ≡ OutOfMemory };
+
+    fn from(_: AllocError) -> RunFault {
+        RunFault::OutOfMemory
+    }
+}
+
+impl<T: Drop> From<AllocFailed<T>> for RunFault {
+    ghost from_gives = { λ _ fault. fault ≡ OutOfMemory };
+
+    fn from(_: AllocFailed<T>) -> RunFault {
+        RunFault::OutOfMemory
+    }
+}
+
+impl From<GatherFault> for RunFault {
+    ghost from_gives = { λ gathering fault. fault ≡ fault_of_gathering gathering };
+
+    fn from(fault: GatherFault) -> RunFault {
+        match fault {
+            GatherFault::Stream { number, fault } => RunFault::Stream { number, fault },
+            GatherFault::OutOfMemory => RunFault::OutOfMemory,
+        }
+    }
 }
