@@ -31,12 +31,10 @@ pub stopped : (A B : Type 0) (told middle after : Option Taken) (front part behi
 stopped A B told middle after front part behind text Write written wrote is = in_midst told text middle after front part behind (record {}) (Err (record {})) refl written wrote is
 stopped A B told middle after front part behind text OutOfMemory written wrote is =
     let so_far = front ++ take wrote.0 part in
-    let split : text ≡ so_far ++ (drop wrote.0 part ++ behind) =
-    sym is ∙ append_assoc front part behind ∙ ap (λ p. front ++ (p ++ behind)) (sym (take-append-drop wrote.0 part))
-    ∙ ap (λ p. front ++ p) (append_assoc (take wrote.0 part) (drop wrote.0 part) behind) ∙ sym (append_assoc front (take wrote.0 part) (drop wrote.0 part ++ behind)) in (
+    let split : so_far ++ (drop wrote.0 part ++ behind) ≡ text = simp append_assoc (simp append_assoc at (ap (λ p. (front ++ p) ++ behind) (take-append-drop wrote.0 part))) ∙ is in (
       length so_far,
       wrote.1 ∙ ap (λ t. adds t (take wrote.0 part) 0) written ∙ adds-adds told front (take wrote.0 part) 0 0
-          ∙ ap (λ b. adds told b 0) (sym (ap (take (length so_far)) split ∙ take-append_seam so_far (drop wrote.0 part ++ behind))),
+          ∙ ap (λ b. adds told b 0) (sym (take-append_seam so_far (drop wrote.0 part ++ behind)) ∙ ap (take (length so_far)) split),
     )
 
 -- the entries of the log of a number
