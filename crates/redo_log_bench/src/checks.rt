@@ -1,3 +1,4 @@
+use crate::build::Build;
 use crate::failure::Failure;
 use crate::fill::fill;
 use crate::fill_times::Spread;
@@ -6,6 +7,8 @@ use crate::input::Input;
 use crate::pass::Pass;
 use crate::target_times::found;
 use crate::targets::{entered, held, numbered_logs, numbered_names};
+use crate::viewing::{Way, text_of};
+use crate::writers::Nowhere;
 use std::alloc::Global;
 
 /// How many bytes an input has where no times are taken.
@@ -13,6 +16,9 @@ const CHECKED_BYTES: usize = 1024 * 1024;
 
 /// How many targets are entered there.
 const CHECKED_TARGETS: u32 = 1000;
+
+/// How many targets are made in a build there, and how many lines the log of each has.
+const CHECKED_BUILD: (u32, u32) = (20, 49);
 
 /// Prints what is found in small inputs.
 pub fn check(rt: &(impl Print + AllocGlobal)) -> Result<(), Failure> {
@@ -22,7 +28,8 @@ pub fn check(rt: &(impl Print + AllocGlobal)) -> Result<(), Failure> {
     for input in Input::LONG {
         check_tables(rt, input)?;
     }
-    check_targets(rt)
+    check_targets(rt)?;
+    check_views(rt)
 }
 
 /// Prints how many lines an input has.
@@ -85,4 +92,16 @@ fn check_targets(rt: &(impl Print + AllocGlobal)) -> Result<(), Failure> {
             found,
         })
     }
+}
+
+/// Prints how many bytes the text of a build has, in each way to write it.
+fn check_views(rt: &(impl Print + AllocGlobal)) -> Result<(), Failure> {
+    let (others, lines) = CHECKED_BUILD;
+    let build = Build::new(rt.alloc(), others, lines)?;
+    let text = text_of(rt.alloc(), &build)?;
+    let bytes = text.len();
+    Way::Lines(&text).write(rt.alloc(), bytes, Nowhere)?;
+    Way::View(&build).write(rt.alloc(), bytes, Nowhere)?;
+    println!(rt; "{} entries viewed: {bytes} bytes", build.entries())?;
+    Ok(())
 }

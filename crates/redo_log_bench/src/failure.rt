@@ -1,6 +1,7 @@
 use redo_gather::GatherFault;
-use redo_line::{NameFault, StreamFault};
+use redo_line::{Broken, NameFault, StreamFault};
 use redo_logs::TableFault;
+use redo_view::ViewFault;
 use std::alloc::{AllocError, AllocFailed};
 use std::io;
 
@@ -13,12 +14,18 @@ pub enum Failure {
     Lines { lines: usize, found: usize },
     /// A table found another number of targets than were entered.
     Targets { targets: usize, found: usize },
+    /// A text was written with another number of bytes than it has.
+    Bytes { bytes: usize, found: usize },
     /// A pass refused the input.
     Stream(StreamFault),
     /// A gathering refused a stream.
     Gather(GatherFault),
     /// A table refused a target.
     Table(TableFault),
+    /// A view ended before its text did.
+    View(ViewFault),
+    /// A writer failed, or took no byte.
+    Write,
     /// There are not as many readers as targets.
     Readers,
     /// The system does not tell how much memory the process held.
@@ -44,6 +51,18 @@ impl From<GatherFault> for Failure {
 impl From<TableFault> for Failure {
     fn from(fault: TableFault) -> Failure {
         Failure::Table(fault)
+    }
+}
+
+impl From<ViewFault> for Failure {
+    fn from(fault: ViewFault) -> Failure {
+        Failure::View(fault)
+    }
+}
+
+impl From<Broken> for Failure {
+    fn from(_: Broken) -> Failure {
+        Failure::Write
     }
 }
 

@@ -1,3 +1,7 @@
+ghost use Rattle.std.specs.Prelude.{◌≡◌, true, IfOk};
+ghost use Rattle.std.specs.List.{list_all};
+ghost use Rattle.redo_logs.specs.Logs.{has_ended};
+
 use crate::failure::Failure;
 use crate::pass::{MAX_BYTES, PIECE_BYTES};
 use crate::targets::names_of;
@@ -14,7 +18,9 @@ pub fn gathered<R: Feed>(
     alloc: Global,
     targets: &LogTable,
     readers: Vec<R>,
-) -> Result<LogTable, Failure> {
+) -> Result<LogTable, Failure>
+    ensures ended { IfOk result (λ table. list_all has_ended table ≡ true) }
+{
     let names = names_of(alloc, targets)?;
     if readers.len() == names.len() {
         Ok(gather_plain(alloc, names, readers, MAX_BYTES)?)
@@ -32,7 +38,8 @@ pub fn pieces_of_streams(alloc: Global, bytes: &[u8]) -> Result<Vec<Pieces>, All
     Ok(readers)
 }
 
-fn pieces(alloc: Global, bytes: &[u8]) -> Result<Pieces, AllocError> {
+/// A reader in memory that gives these bytes.
+pub fn pieces(alloc: Global, bytes: &[u8]) -> Result<Pieces, AllocError> {
     let mut reads = Vec::new(alloc);
     for piece in bytes.chunks(PIECE_BYTES) {
         reads.push(piece.to_vec(alloc)?)?;

@@ -33,7 +33,7 @@ impl Input {
         }
     }
 
-    fn line(self) -> &'static [u8]
+    pub fn line(self) -> &'static [u8]
         ensures { 0 < length result.now }
     {
         match self {

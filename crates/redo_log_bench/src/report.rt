@@ -5,6 +5,7 @@ use crate::input::Input;
 use crate::pass::Pass;
 use crate::target_times::TargetTimes;
 use crate::times::Times;
+use crate::view_times::{ViewTimes, WriteTimes};
 use std::num::nearest_usize_to_f64;
 use std::time::Duration;
 
@@ -129,6 +130,43 @@ fn print_gather_row(
         peak / 1e6,
         peak / read
     )?;
+    Ok(())
+}
+
+/// The table of writing a text. MB are 1,000,000 bytes.
+pub fn print_view(rt: &impl Print, entries: usize, times: &ViewTimes) -> Result<(), Failure> {
+    println!(rt;
+        "| writer | way | entries | bytes | seconds | MB/s | ns/entry | time, lines = 1 |"
+    )?;
+    println!(rt; "|---|---|---|---|---|---|---|---|")?;
+    for (writer, written) in [
+        ("nowhere", times.nowhere),
+        ("memory", times.memory),
+        ("`/dev/null`", times.file),
+    ] {
+        print_view_rows(rt, writer, entries, times.bytes, &written)?;
+    }
+    Ok(())
+}
+
+fn print_view_rows(
+    rt: &impl Print,
+    writer: &str,
+    entries: usize,
+    bytes: usize,
+    written: &WriteTimes,
+) -> Result<(), Failure> {
+    let megabytes = nearest_usize_to_f64(bytes) / 1e6;
+    let count = nearest_usize_to_f64(entries);
+    for (way, time) in [("lines", written.lines), ("view", written.view)] {
+        let seconds = time.as_secs_f64();
+        println!(rt;
+            "| {writer} | {way} | {entries} | {bytes} | {seconds:.4} | {:.0} | {:.1} | {:.2} |",
+            megabytes / seconds,
+            nanoseconds(time) / count,
+            time.div_duration_f64(written.lines)
+        )?;
+    }
     Ok(())
 }
 

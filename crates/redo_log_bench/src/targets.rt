@@ -6,11 +6,16 @@ use redo_line::TargetName;
 use redo_logs::LogTable;
 use std::alloc::{AllocError, Global};
 
+/// The name `target-` with this number.
+pub fn numbered(alloc: Global, number: u32) -> Result<String, AllocError> {
+    Ok(format!(in alloc; "target-{number}")?)
+}
+
 /// The names `target-0`, `target-1` and so on.
 pub fn numbered_names(alloc: Global, count: u32) -> Result<Vec<TargetName>, Failure> {
     let mut names = Vec::with_capacity(alloc, count as usize)?;
     for number in 0..count {
-        let name = format!(in alloc; "target-{number}")?;
+        let name = numbered(alloc, number)?;
         names.push(TargetName::resolve(alloc, None, name.as_bytes())?)?;
     }
     Ok(names)
