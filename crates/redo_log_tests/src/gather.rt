@@ -3,8 +3,9 @@
 ghost use Rattle.std.specs.Prelude.{◌≡◌, ◌≤◌, ◌^◌, None, IfOk};
 ghost use Rattle.redo_line.specs.Feed.{Pulls};
 
+use crate::captures::{Cut, Given, captured, cuts};
 use crate::logs_text::logs_text;
-use crate::reads::{cut_at, in_reads_of};
+use crate::reads::in_reads_of;
 use redo_gather::{GatherFault, gather_plain};
 use redo_line::{Broken, Feed, Pieces, StreamFault};
 use redo_log_cli::read_index;
@@ -12,27 +13,6 @@ use std::alloc::Global;
 use std::process::Abort;
 use std::sync::atomic::{AtomicU64, Ordering};
 use std::test::Fail;
-
-/// A target, the bytes of its stream, and whether a failed read ends them.
-type Given<'a> = (&'a str, &'a str, bool);
-
-/// How the bytes of each stream come.
-#[derive(Clone, Copy, Debug)]
-enum Cut {
-    /// In two reads, of which the first has so many bytes.
-    At(usize),
-    /// In reads of so many bytes.
-    InReadsOf(usize),
-}
-
-fn reader(alloc: Global, stream: &str, fails: bool, cut: Cut) -> Result<Pieces, Fail> {
-    let bytes = stream.as_bytes();
-    let reads = match cut {
-        Cut::At(at) => cut_at(alloc, bytes, at)?,
-        Cut::InReadsOf(size) => in_reads_of(alloc, bytes, size)?,
-    };
-    Ok(Pieces::new(reads, fails))
-}
 
 /// The logs of the streams as a test writes them, or their fault.
 fn gathered(
@@ -44,16 +24,8 @@ fn gathered(
     requires at_least { 1 ≤ max_bytes }
     requires at_most { max_bytes ≤ 2 ^ 40 }
 {
-    let mut index = String::new(alloc);
-    let mut readers = Vec::new(alloc);
-    for (i, (name, stream, fails)) in given.iter().enumerate() {
-        index.push_str(&format!(in alloc; "{} {name}\n", i + 1)?)?;
-        readers.push(reader(alloc, stream, *fails, cut)?)?;
-    }
-    let names = read_index(alloc, index.as_bytes())?.names(alloc)?;
-    if readers.len() != names.len() {
-        return Err("not a reader for each name".into());
-    }
+    let (index, readers) = captured(alloc, given, cut)?;
+    let names = index.names(alloc)?;
     match gather_plain(alloc, names, readers, max_bytes) {
         Ok(table) => Ok(Ok(logs_text(alloc, &table)?)),
         Err(fault) => Ok(Err(fault)),
@@ -70,12 +42,8 @@ fn expect(
     requires at_least { 1 ≤ max_bytes }
     requires at_most { max_bytes ≤ 2 ^ 40 }
 {
-    let longest = given.iter().map(|given| given.1.len()).max().unwrap_or(0);
-    for at in 0..longest + 1 {
-        expect_cut(rt, given, max_bytes, Cut::At(at), want)?;
-    }
-    for size in [1, 2, 3, 1000] {
-        expect_cut(rt, given, max_bytes, Cut::InReadsOf(size), want)?;
+    for cut in &cuts(rt.alloc(), given)? {
+        expect_cut(rt, given, max_bytes, *cut, want)?;
     }
     Ok(())
 }
@@ -353,7 +321,7 @@ fn there_may_be_many_streams(rt: HostRuntime) -> Result<(), Fail> {
     for i in 1..201 {
         index.push_str(&format!(in alloc; "{i} t{i}\n")?)?;
         let line = format!(in alloc; "line {i}\n")?;
-        readers.push(reader(alloc, &line, false, Cut::InReadsOf(3))?)?;
+        readers.push(Pieces::new(in_reads_of(alloc, line.as_bytes(), 3)?, false))?;
         want.push_str(&format!(in alloc; "t{i}: Ended\ntext|{line}")?)?;
     }
     let names = read_index(alloc, index.as_bytes())?.names(alloc)?;

@@ -3,6 +3,8 @@
 #![tactic(auto)]
 
 #[cfg(test)]
+mod captures;
+#[cfg(test)]
 mod cutter;
 #[cfg(test)]
 mod devices;
@@ -28,6 +30,8 @@ mod one_log;
 mod plan;
 #[cfg(test)]
 mod reads;
+#[cfg(test)]
+mod run;
 #[cfg(test)]
 mod scan;
 #[cfg(test)]

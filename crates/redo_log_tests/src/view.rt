@@ -1,15 +1,20 @@
 //! The text of logs at the targets asked for.
-use crate::reads::in_reads_of;
+use crate::captures::{Cut, captured, whole};
+use crate::run::expect_run;
 use redo_gather::gather_plain;
-use redo_line::{Pieces, Taker, TargetName};
-use redo_log_cli::read_index;
+use redo_line::{Taker, TargetName};
 use redo_view::{Options, ViewFault, view};
 use std::alloc::Global;
 use std::process::Abort;
+use std::sync::Wait;
 use std::test::Fail;
+use std::thread::Threads;
 
 /// A target and the bytes of its stream.
 type Given<'a> = (&'a str, &'a str);
+
+/// How many bytes a stream may have.
+const MAX_BYTES: u64 = 10_000;
 
 const PLAIN: Options = Options {
     recursive: false,
@@ -55,17 +60,8 @@ fn viewed(
     room: usize,
     per_call: usize,
 ) -> Result<(Result<(), ViewFault>, Vec<u8>), Fail> {
-    let mut index = String::new(alloc);
-    let mut readers = Vec::new(alloc);
-    for (i, (name, stream)) in given.iter().enumerate() {
-        index.push_str(&format!(in alloc; "{} {name}\n", i + 1)?)?;
-        readers.push(Pieces::new(in_reads_of(alloc, stream.as_bytes(), 1)?, false))?;
-    }
-    let names = read_index(alloc, index.as_bytes())?.names(alloc)?;
-    if readers.len() != names.len() {
-        return Err("not a reader for each name".into());
-    }
-    let table = gather_plain(alloc, names, readers, 10_000)?;
+    let (index, readers) = captured(alloc, &whole(alloc, given)?, Cut::InReadsOf(1))?;
+    let table = gather_plain(alloc, index.names(alloc)?, readers, MAX_BYTES)?;
     let asked = resolved(alloc, asked)?;
     let mut out = Taker::new(alloc, room, per_call)?;
     let answer = view(alloc, &table, options, &asked, &mut out);
@@ -80,9 +76,9 @@ fn resolved(alloc: Global, names: &[&str]) -> Result<Vec<TargetName>, Fail> {
     Ok(resolved)
 }
 
-/// The whole text is this one.
+/// The whole text is this one, also where the logs are gathered and viewed in a run.
 fn expect(
-    rt: &(impl Abort + AllocGlobal),
+    rt: &(impl Abort + AllocGlobal + Threads + Wait + Sync),
     given: &[Given<'_>],
     options: &Options,
     asked: &[&str],
@@ -91,7 +87,8 @@ fn expect(
     let (answer, written) = viewed(rt.alloc(), given, options, asked, 1000, 1000)?;
     assert_eq!(rt; answer, Ok(()), "{given:?}");
     assert_eq!(rt; written.as_slice(), text.as_bytes(), "{given:?}");
-    Ok(())
+    let given = whole(rt.alloc(), given)?;
+    expect_run(rt, &given, MAX_BYTES, options, asked, Ok(()), text)
 }
 
 #[test]
@@ -218,6 +215,28 @@ fn options_choose_what_is_shown(rt: HostRuntime) -> Result<(), Fail> {
         &unchanged,
         &["a"],
         "redo  a\nredo    b\nredo    (b)\n",
+    )?;
+    let all = Options {
+        details: true,
+        ..unchanged
+    };
+    expect(
+        &rt,
+        &given,
+        &all,
+        &["a"],
+        "redo  a\nredo    b\nB\nredo    (b)\nt\n",
+    )?;
+    let locks = Options {
+        debug_locks: true,
+        ..all
+    };
+    expect(
+        &rt,
+        &given,
+        &locks,
+        &["a"],
+        "redo  a\nredo    b (unchanged)\nB\nredo    (b)\nt\n",
     )?;
     expect(
         &rt,

@@ -62,6 +62,10 @@ rows =
     shows (log a (Mention Made b ∷ []) ∷ log b (Text (codes "B") ∷ []) ∷ []) plain (a ∷ b ∷ a ∷ []) (line (codes "redo  a") ++ line (codes "redo    b") ++ line (codes "redo  b") ++ line (codes "B")) ∷
     shows (log a (Mention Unchanged b ∷ Note (codes "check") b ∷ Text (codes "t") ∷ []) ∷ log b (Text (codes "B") ∷ []) ∷ []) (with true false false false) (a ∷ []) (line (codes "redo  a") ++ line (codes "redo    (b)")) ∷
     shows (log a (Mention Unchanged b ∷ Note (codes "check") b ∷ Text (codes "t") ∷ []) ∷ log b (Text (codes "B") ∷ []) ∷ []) (with true true false false) (a ∷ []) (line (codes "redo  a") ++ line (codes "redo    b") ++ line (codes "redo    (b)")) ∷
+    -- `unchanged` opens too, and has a line of its own
+    shows (log a (Mention Unchanged b ∷ []) ∷ log b (Text (codes "B") ∷ []) ∷ []) (with true true true false) (a ∷ []) (line (codes "redo  a") ++ line (codes "redo    b") ++ line (codes "B")) ∷
+    shows (log a (Mention Unchanged b ∷ []) ∷ []) (with false true true true) (a ∷ []) (line (codes "redo  a") ++ line (codes "redo    b (unchanged)")) ∷
+    shows (log a (Mention Unchanged b ∷ []) ∷ []) (with false false true true) (a ∷ []) (line (codes "redo  a")) ∷
     shows (log all (Note (codes "resumed") x ∷ Note (codes "warning") (codes "disk is slow") ∷ Note (codes "check") [] ∷ []) ∷ []) (with false false false false) (all ∷ []) (
     line (codes "redo  all") ++ line (codes "redo: x") ++ line (codes "redo: disk is slow") ++ line (codes "redo    ()")
     ) ∷
@@ -85,4 +89,4 @@ rows =
 
 these_texts : AllByRecursion (λ row. expansion row.logs row.options row.asked ≡ row.text) rows
 unfolding opened_within opened_log digits
-these_texts = (refl, (refl, (refl, (refl, (refl, (refl, (refl, (refl, (refl, (refl, (refl, (refl, (refl, tt)))))))))))))
+these_texts = (refl, (refl, (refl, (refl, (refl, (refl, (refl, (refl, (refl, (refl, (refl, (refl, (refl, (refl, (refl, (refl, tt))))))))))))))))

@@ -1,7 +1,7 @@
 -- What is shown of a log does not depend on the text before it, and its entries are shown one after the other.
 use Rattle.std.proofs.Common.{◌≡◌, ℕ, zero, suc, ◌+◌, ◌<◌, Bool, true, false, inl, inr, List, [], ◌∷◌, ◌++◌, Option, None, Some, is_some, length, take, refl, sym, ap, ◌∙◌, subst, arith}
-use Rattle.std.specs.Prelude.{◌&&◌, ◌||◌, not, nat_eq, slice_get, cond, if◌then◌else◌}
-use Rattle.std.specs.List.{list_any, position_from}
+use Rattle.std.specs.Prelude.{◌&&◌, not, nat_eq, slice_get, cond, if◌then◌else◌}
+use Rattle.std.specs.List.{position_from}
 use Rattle.std.specs.Cmp.Lexicographic.{pointwise, same_text}
 use Rattle.std.proofs.lemmas.Bool.{and_from, not-true}
 use Rattle.std.proofs.lemmas.Iterator.Adapters.{position_from-zero}
@@ -10,6 +10,7 @@ use Rattle.std.proofs.lemmas.Option.{none-some, same_Some, slice_get_cases, slic
 use Rattle.redo_line.specs.declared.entry.Entry.{Entry}
 use Rattle.redo_line.specs.declared.entry.Entry.TheVariants.{Text, Mention, Done, Closing, Note}
 use Rattle.redo_line.specs.declared.entry.How.{How}
+use Rattle.redo_line.proofs.PlaceLemmas.{some_place}
 use Rattle.redo_logs.specs.Logs.{Log, targets_of, place_of, entry_at}
 use Rattle.redo_view.specs.declared.options.Options.{Options}
 use Rattle.redo_view.specs.Expansion.{Opening, Shown, is_among, with_name, with_text, log_of, mentions, mention_text, mention, begun, opens, opened_if, after_mention, after_entry, after_entries, opened_within, opened_log}
@@ -130,19 +131,9 @@ mid_if counts options depth how name s = record {
   text = s.text ++ (if counts then mention_text options depth how name s.named else []);
 }
 
--- the first that passes, or what comes behind it
-any_or : (passes : Bool) (i : ℕ) (rest : Option ℕ) (others : Bool) → is_some rest ≡ others → is_some (cond passes (Some i) rest) ≡ (passes || others)
-any_or true i rest others is = refl
-any_or false i rest others is = is
-
--- there is a first that passes exactly if one passes
-any_from : (test : List ℕ → Bool) (i : ℕ) (names : List (List ℕ)) → is_some (position_from test i names) ≡ list_any test names
-any_from test i [] = refl
-any_from test i (name ∷ names) = any_or (test name) i (position_from test (i + 1) names) (list_any test names) (any_from test (i + 1) names)
-
 -- a target has a log exactly if it is listed
 pub placed-listed : (name : List ℕ) (logs : List Log) → is_some (place_of name logs) ≡ is_among name (targets_of logs)
-placed-listed name logs = ap is_some (position_from-zero (pointwise nat_eq name) (targets_of logs)) ∙ any_from (pointwise nat_eq name) 0 (targets_of logs)
+placed-listed name logs = some_place (pointwise nat_eq name) (targets_of logs)
 
 -- no log is opened where there is no number
 none_opens : (recursive new : Bool) (place : Option ℕ) → (if recursive && new then place else None) ≡ None → (recursive && is_some place && new) ≡ false
