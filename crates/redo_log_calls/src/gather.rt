@@ -1,10 +1,18 @@
 //! Streams that are gathered on one thread.
+ghost use Rattle.std.specs.Prelude.{◌≡◌, true, length, IfOk, IfSome};
+ghost use Rattle.std.specs.List.{list_all};
+ghost use Rattle.redo_logs.specs.Logs.{has_ended};
+
 use crate::table::tell;
 use redo_gather::gather_plain;
 use redo_line::Pieces;
-use redo_log_cli::read_index;
+use redo_log_cli::{Index, read_index};
+use redo_logs::LogTable;
 use std::alloc::{AllocError, Global};
 use std::io;
+
+/// How many bytes a stream may have.
+pub const MAX_BYTES: u64 = 1000;
 
 /// Targets and their streams.
 pub struct Streams {
@@ -23,6 +31,16 @@ pub const WHOLE: Streams = Streams {
     ],
 };
 
+/// Three streams that have logs, of which one waits for the lock of another's target.
+pub const LOCKS: Streams = Streams {
+    index: b"1 all\n2 a\n3 x\n",
+    streams: &[
+        b"@@REDO:do:7:1.0000@@ a\n@@REDO:waiting:7:1.0000@@ x\nend\n",
+        b"@@REDO:do:7:1.0000@@ x\n",
+        b"X\n",
+    ],
+};
+
 /// A stream with a bad record.
 pub const BAD: Streams = Streams {
     index: b"1 all\n",
@@ -38,21 +56,52 @@ pub const BOTH_BAD: Streams = Streams {
     ],
 };
 
-/// Gathers the streams, each of which comes in reads of 16 bytes.
+/// Gathers the streams, and prints their logs.
 pub fn gather(rt: &impl Print, alloc: Global, given: &Streams) -> io::Result<()> {
-    let (Ok(index), Ok(readers)) = (read_index(alloc, given.index), readers(alloc, given)) else {
-        return println!(rt; "no memory for the streams");
+    match gathered(rt, alloc, given)? {
+        Some(table) => tell(rt, &table),
+        None => Ok(()),
+    }
+}
+
+/// The logs of the streams. Where there are none, it prints why.
+pub fn gathered(rt: &impl Print, alloc: Global, given: &Streams) -> io::Result<Option<LogTable>>
+    ensures { IfOk result (λ table. IfSome table (λ table. list_all has_ended table ≡ true)) }
+{
+    let Some((index, readers)) = captured(rt, alloc, given)? else {
+        return Ok(None);
     };
     let Ok(names) = index.names(alloc) else {
-        return println!(rt; "no memory for the streams");
+        println!(rt; "no memory for the streams")?;
+        return Ok(None);
     };
-    if readers.len() != names.len() {
-        return println!(rt; "not a reader for each name");
+    match gather_plain(alloc, names, readers, MAX_BYTES) {
+        Ok(table) => Ok(Some(table)),
+        Err(fault) => {
+            println!(rt; "gather_plain: {fault:?}")?;
+            Ok(None)
+        }
     }
-    match gather_plain(alloc, names, readers, 1000) {
-        Ok(table) => tell(rt, &table),
-        Err(fault) => println!(rt; "gather_plain: {fault:?}"),
+}
+
+/// An index of the targets, with a reader for each, which gives 16 bytes at once. Where there are
+/// none, it prints why.
+pub fn captured(
+    rt: &impl Print,
+    alloc: Global,
+    given: &Streams,
+) -> io::Result<Option<(Index, Vec<Pieces>)>>
+    ensures { IfOk result (λ captured. IfSome captured (λ captured. length captured.1.items ≡ length captured.0)) }
+{
+    let (Ok(index), Ok(readers)) = (read_index(alloc, given.index), readers(alloc, given)) else {
+        println!(rt; "no memory for the streams")?;
+        return Ok(None);
+    };
+    if readers.len() != index.len() as usize {
+        println!(rt; "not a reader for each name")?;
+        return Ok(None);
     }
+    Ok(Some((index, readers)))
 }
 
 fn readers(alloc: Global, given: &Streams) -> Result<Vec<Pieces>, AllocError> {

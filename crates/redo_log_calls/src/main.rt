@@ -6,6 +6,7 @@ ghost use Rattle.std.specs.Prelude.{◌≤◌, ◌<◌, ◌^◌, length, IfSome}
 
 mod gather;
 mod table;
+mod view;
 
 use memchr::memchr;
 use redo_line::{Cut, Cutter, Scan, Sink, Step, Taker, TargetName, read_line, read_number};
@@ -32,10 +33,16 @@ fn main(rt: HostRuntime) -> io::Result<ExitCode> {
         "names" => names(&rt, rt.alloc())?,
         "read_line" => read_lines(&rt, rt.alloc())?,
         "resolve" => resolve_lines(&rt)?,
+        "run_bad" => view::run_streams(&rt, &view::AT_FAULT)?,
+        "run_locks" => view::run_streams(&rt, &view::LOCKED)?,
+        "run_unknown" => view::run_streams(&rt, &view::UNKNOWN)?,
+        "run_whole" => view::run_streams(&rt, &view::OPENED)?,
         "scan_of_input" => scan_of_input(&rt)?,
         "step" => step(&rt, rt.alloc())?,
         "table" => table::table(&rt, rt.alloc())?,
         "taker" => taker(&rt, rt.alloc())?,
+        "view_locks" => view::view_logs(&rt, rt.alloc(), &view::LOCKED)?,
+        "view_whole" => view::view_logs(&rt, rt.alloc(), &view::OPENED)?,
         _ => println!(rt; "unknown calls: {calls}")?,
     }
     Ok(ExitCode::SUCCESS)

@@ -1,0 +1,106 @@
+//! The text of logs that were gathered before, and of streams in a run.
+use crate::gather::{BAD, LOCKS, MAX_BYTES, Streams, WHOLE, captured, gathered};
+use redo_gather::{Free, Plan};
+use redo_line::{Taker, TargetName};
+use redo_log_cli::run;
+use redo_view::{Options, view};
+use std::alloc::{AllocError, Global};
+use std::io;
+use std::sync::Wait;
+use std::thread::Threads;
+
+/// Streams, the target asked for, and how it is shown.
+pub struct Case {
+    given: Streams,
+    asked: &'static [u8],
+    options: Options,
+}
+
+const DEEP: Options = Options {
+    recursive: true,
+    unchanged: false,
+    details: true,
+    debug_locks: false,
+};
+
+/// A log that opens two others.
+pub const OPENED: Case = Case {
+    given: WHOLE,
+    asked: b"all",
+    options: DEEP,
+};
+
+/// A log that opens another one, which opens a third, with messages on locks.
+pub const LOCKED: Case = Case {
+    given: LOCKS,
+    asked: b"all",
+    options: Options {
+        debug_locks: true,
+        ..DEEP
+    },
+};
+
+/// A log of a stream with a bad record.
+pub const AT_FAULT: Case = Case {
+    given: BAD,
+    asked: b"all",
+    options: DEEP,
+};
+
+/// A target that has no log.
+pub const UNKNOWN: Case = Case {
+    given: WHOLE,
+    asked: b"nope",
+    options: DEEP,
+};
+
+/// Gathers the streams and views their logs, and prints the answer and the bytes written.
+pub fn view_logs(rt: &impl Print, alloc: Global, case: &Case) -> io::Result<()> {
+    let Some(table) = gathered(rt, alloc, &case.given)? else {
+        return Ok(());
+    };
+    let (Ok(asked), Ok(mut out)) = (TargetName::resolve(alloc, None, case.asked), writer(alloc))
+    else {
+        return println!(rt; "no memory for the target and the writer");
+    };
+    let answer = view(alloc, &table, &case.options, &[asked], &mut out);
+    println!(rt; "view: {answer:?}")?;
+    tell_bytes(rt, &out)
+}
+
+/// Runs the streams, and prints the answer and the bytes written.
+pub fn run_streams(
+    rt: &(impl Print + AllocGlobal + Threads + Wait + Sync),
+    case: &Case,
+) -> io::Result<()> {
+    let alloc = rt.alloc();
+    let Some((index, readers)) = captured(rt, alloc, &case.given)? else {
+        return Ok(());
+    };
+    let (Ok(asked), Ok(mut out)) = (case.asked.to_vec(alloc), writer(alloc)) else {
+        return println!(rt; "no memory for the word and the writer");
+    };
+    let plan = Plan::new(4, 64, MAX_BYTES).unwrap();
+    let answer = run(
+        rt,
+        alloc,
+        &index,
+        readers,
+        &plan,
+        &case.options,
+        &[asked],
+        &Free,
+        &mut out,
+    );
+    println!(rt; "run: {answer:?}")?;
+    tell_bytes(rt, &out)
+}
+
+/// A writer with room for each text.
+fn writer(alloc: Global) -> Result<Taker, AllocError> {
+    Taker::new(alloc, 1000, 1000)
+}
+
+fn tell_bytes(rt: &impl Print, out: &Taker) -> io::Result<()> {
+    println!(rt; "bytes: {:?}", out.bytes())
+}
