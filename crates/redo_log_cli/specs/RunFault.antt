@@ -18,9 +18,9 @@ IfStreamFault (Err (Stream number fault)) P = P number fault
 IfStreamFault (Err OutOfMemory) P = Unit {0}
 IfStreamFault (Err Write) P = Unit {0}
 
-abbrev pub IfUnknown : Result (Unit {0}) RunFault → Type 0 → Type 0
+abbrev pub IfUnknown : Result (Unit {0}) RunFault → (ℕ → Type 0) → Type 0
 IfUnknown (Ok done) P = Unit {0}
-IfUnknown (Err (Unknown place)) P = P
+IfUnknown (Err (Unknown place)) P = P place
 IfUnknown (Err (Stream number fault)) P = Unit {0}
 IfUnknown (Err OutOfMemory) P = Unit {0}
 IfUnknown (Err Write) P = Unit {0}

@@ -6,12 +6,15 @@ use redo_gather::GatherFault;
 use redo_line::StreamFault;
 use std::alloc::{AllocError, AllocFailed};
 
-/// Why a run showed nothing, or not the whole text.
+/// Why a run showed nothing, or not the whole text. A word that is unknown is told before a stream that
+/// is at fault.
 #[derive(Clone, Copy, Debug, PartialEq, Eq)]
 pub enum RunFault {
-    /// The target asked for at this place is unknown; places are counted from 0. Nothing was written.
+    /// The word at this place names no target, or is empty; places are counted from 0, and it is the
+    /// least one. Nothing was written.
     Unknown { place: usize },
-    /// The log of this stream can't be had; streams are counted from 0. Nothing was written.
+    /// The log of this stream can't be had; streams are counted from 0, and it is the least-numbered
+    /// one. `run` never tells want of memory so. Nothing was written.
     Stream { number: u32, fault: StreamFault },
     /// There was no memory. A front of the text was written, perhaps nothing.
     OutOfMemory,

@@ -1,10 +1,11 @@
-ghost use Rattle.std.specs.Prelude.{◌≡◌, ℕ, ◌<◌, ◌⊎◌, None, Some, Err, IfOk, IfErr, length, map, option_map, take};
+ghost use Rattle.std.specs.Prelude.{◌≡◌, ◌≢◌, ℕ, ◌<◌, ◌⊎◌, None, Some, Err, IfOk, IfErr, length, map, option_map, take};
+ghost use Rattle.redo_line.specs.declared.stream_fault.StreamFault.TheVariants as stream;
 ghost use Rattle.redo_line.specs.Sink.{adds};
 ghost use Rattle.redo_gather.specs.Streams.{SomeStreams};
 ghost use Rattle.redo_log_cli.specs.declared.run_fault.RunFault.TheVariants.{OutOfMemory};
 ghost use Rattle.redo_log_cli.specs.Index.{names_of};
 ghost use Rattle.redo_log_cli.specs.Run.{SomeText, answer, bytes_of_words, fault_of_word, question, target_of, targets_named, unknown_word};
-ghost use Rattle.redo_log_cli.specs.RunFault.{IfStreamFault, IfTold};
+ghost use Rattle.redo_log_cli.specs.RunFault.{IfStreamFault, IfTold, IfUnknown};
 
 use crate::index::Index;
 use crate::run_fault::RunFault;
@@ -47,7 +48,9 @@ pub fn run<T: Threads + Wait + Sync, R: Feed + Send, W: Sink, G: Gate>(
     // A word is unknown, or a stream is at fault: which one, and that nothing was written.
     ensures fault { IfTold result (λ fault. SomeStreams (map R.tells readers.items) (λ streams. answer (question index.now plan.now options.now asked.now) streams ≡ Some (Err fault))) }
     ensures unwritten { IfTold result (λ _. W.tells out.new ≡ W.tells out.old) }
+    ensures place { IfUnknown result (λ place. place < length asked.now) }
     ensures number { IfStreamFault result (λ number _. number < length index.now) }
+    ensures no_memory { IfStreamFault result (λ _ fault. fault ≢ stream.OutOfMemory) }
 
     // The writer failed, once, behind a front of the text.
     ensures write { result ≡ Err RunFault.Write → SomeText (question index.now plan.now options.now asked.now) (map R.tells readers.items) (λ text. (n : ℕ) × (n < length text) × (W.tells out.new ≡ adds (W.tells out.old) (take n text) 1)) }

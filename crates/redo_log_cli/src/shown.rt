@@ -35,7 +35,7 @@ pub fn show_one<R: Feed, W: Sink>(
     // A failed write: the stream has no fault, and the writer failed once, behind a front of the text.
     ensures write { result ≡ Err RunFault.Write → SomeStream (R.tells reader.old) (λ stream. (ending_fault max_bytes stream ≡ None) × ((n : ℕ) × (n < length (shown name.now stream.bytes)) × (W.tells out.new ≡ adds (W.tells out.old) (take n (shown name.now stream.bytes)) 1))) }
     ensures memory { result ≡ Err RunFault.OutOfMemory → W.tells out.new ≡ W.tells out.old }
-    ensures known { IfUnknown result ⊥ }
+    ensures known { IfUnknown result (λ _. ⊥) }
 {
     let lines = match collect_lines(alloc, max_bytes, reader) {
         Ok(lines) => lines,

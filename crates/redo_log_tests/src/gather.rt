@@ -1,13 +1,13 @@
 //! Streams that are gathered on one thread: their logs, or the fault of the least-numbered stream
 //! that has one.
-ghost use Rattle.std.specs.Prelude.{◌≡◌, ◌≤◌, ◌^◌, None, IfOk};
-ghost use Rattle.redo_line.specs.Feed.{Pulls};
+ghost use Rattle.std.specs.Prelude.{◌≤◌, ◌^◌};
 
 use crate::captures::{Cut, Given, captured, cuts};
 use crate::logs_text::logs_text;
 use crate::reads::in_reads_of;
+use crate::script::{Answer, Script};
 use redo_gather::{GatherFault, gather_plain};
-use redo_line::{Broken, Feed, Pieces, StreamFault};
+use redo_line::{Pieces, StreamFault};
 use redo_log_cli::read_index;
 use std::alloc::Global;
 use std::process::Abort;
@@ -195,43 +195,6 @@ fn a_stream_may_have_so_many_bytes(rt: HostRuntime) -> Result<(), Fail> {
         )?;
     }
     Ok(())
-}
-
-/// What a reader answers.
-#[derive(Clone, Copy)]
-enum Answer {
-    /// One byte, an `x`.
-    Byte,
-    End,
-    Failure,
-}
-
-/// A reader that tells nothing, gives these answers in turn and then the last one again and again, and
-/// counts its reads.
-#[derive(Drop)]
-struct Script<'a> {
-    answers: &'a [Answer],
-    last: Answer,
-    given: usize,
-    reads: &'a AtomicU64,
-}
-
-impl<'a> Feed for Script<'a> {
-    ghost tells = { λ script. None };
-
-    fn pull(&mut self, buf: &mut [u8]) -> Result<usize, Broken> {
-        self.reads.fetch_add(1, Ordering::SeqCst);
-        let answer = self.answers.get(self.given).copied().unwrap_or(self.last);
-        self.given = self.given.saturating_add(1);
-        match answer {
-            Answer::Byte => {
-                buf[0] = b'x';
-                Ok(1)
-            }
-            Answer::End => Ok(0),
-            Answer::Failure => Err(Broken),
-        }
-    }
 }
 
 /// The log of `all` as a test writes it, or its fault, after so many reads.

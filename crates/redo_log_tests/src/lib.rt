@@ -35,6 +35,8 @@ mod run;
 #[cfg(test)]
 mod scan;
 #[cfg(test)]
+mod script;
+#[cfg(test)]
 mod table;
 #[cfg(test)]
 mod view;

@@ -1,11 +1,13 @@
 //! Runs: the streams of all targets of an index, the words that ask, and the text or the fault.
 use crate::captures::{Cut, Given, captured, cuts, whole};
+use crate::script::{Answer, Script};
 use redo_gather::{Free, Plan};
 use redo_line::{StreamFault, Taker};
-use redo_log_cli::{RunFault, run};
+use redo_log_cli::{RunFault, read_index, run};
 use redo_view::Options;
 use std::process::Abort;
 use std::sync::Wait;
+use std::sync::atomic::{AtomicU64, Ordering};
 use std::test::Fail;
 use std::thread::Threads;
 
@@ -146,6 +148,33 @@ fn an_unknown_word_is_told_before_a_fault(rt: HostRuntime) -> Result<(), Fail> {
     }
     let unknown = Err(RunFault::Unknown { place: 0 });
     expect_run(&rt, &[], 1000, &PLAIN, &["a"], unknown, "")
+}
+
+#[test]
+fn no_reader_is_asked_where_a_word_is_unknown(rt: HostRuntime) -> Result<(), Fail> {
+    let alloc = rt.alloc();
+    let reads = AtomicU64::new(0);
+    let index = read_index(alloc, b"1 all\n".as_slice())?;
+    let mut readers = Vec::new(alloc);
+    readers.push(Script {
+        answers: &[],
+        last: Answer::End,
+        given: 0,
+        reads: &reads,
+    })?;
+    if readers.len() != index.len() as usize {
+        return Err("not a reader for each name".into());
+    }
+    let mut words = Vec::new(alloc);
+    words.push(b"nope".as_slice().to_vec(alloc)?)?;
+    let plan = Plan::new(4, 64, 1000)?;
+    let mut out = Taker::new(alloc, 1000, 1000)?;
+    let answer = run(
+        &rt, alloc, &index, readers, &plan, &PLAIN, &words, &Free, &mut out,
+    );
+    assert_eq!(rt; answer, Err(RunFault::Unknown { place: 0 }));
+    assert_eq!(rt; reads.load(Ordering::SeqCst), 0);
+    Ok(())
 }
 
 #[test]
