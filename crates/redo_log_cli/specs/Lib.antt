@@ -1,4 +1,6 @@
+pub mod Capture
+pub mod Failure
 pub mod Index
 pub mod Run
 pub mod RunFault
-pub mod Shown
+pub mod Words

@@ -58,7 +58,8 @@ pub fn captured(alloc: Global, given: &[Given<'_>], cut: Cut) -> Result<(Index, 
     Ok((index, readers))
 }
 
-fn reader(alloc: Global, stream: &str, fails: bool, cut: Cut) -> Result<Pieces, Fail> {
+/// A reader that gives a stream so.
+pub fn reader(alloc: Global, stream: &str, fails: bool, cut: Cut) -> Result<Pieces, Fail> {
     let bytes = stream.as_bytes();
     let reads = match cut {
         Cut::At(at) => cut_at(alloc, bytes, at)?,

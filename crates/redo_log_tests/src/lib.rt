@@ -13,6 +13,8 @@ mod entries;
 #[cfg(test)]
 mod entry_text;
 #[cfg(test)]
+mod faults;
+#[cfg(test)]
 mod gate;
 #[cfg(test)]
 mod gather;
@@ -25,7 +27,7 @@ mod logs_text;
 #[cfg(test)]
 mod names;
 #[cfg(test)]
-mod one_log;
+mod names_file;
 #[cfg(test)]
 mod plan;
 #[cfg(test)]
@@ -40,3 +42,5 @@ mod script;
 mod table;
 #[cfg(test)]
 mod view;
+#[cfg(test)]
+mod words;

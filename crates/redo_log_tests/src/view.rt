@@ -88,7 +88,7 @@ fn expect(
     assert_eq!(rt; answer, Ok(()), "{given:?}");
     assert_eq!(rt; written.as_slice(), text.as_bytes(), "{given:?}");
     let given = whole(rt.alloc(), given)?;
-    expect_run(rt, &given, MAX_BYTES, options, asked, Ok(()), text)
+    expect_run(rt, &given, MAX_BYTES, options, asked, Ok(text))
 }
 
 #[test]

@@ -1,0 +1,49 @@
+ghost use Rattle.std.specs.Prelude.{Bool};
+
+use redo_line::{Broken, Feed, Reading};
+use std::alloc::{AllocError, Global};
+use std::fs;
+use std::io::{ErrorKind, Read};
+use std::rt::Files;
+
+/// The file of a stream, as it was found when it was to be opened.
+#[derive(Drop)]
+pub enum Capture<F: Read + Drop> {
+    /// It is open.
+    Open(Reading<F>),
+    /// There is none: the stream is empty.
+    Missing,
+    /// It can't be opened: the first read fails.
+    Closed,
+}
+
+impl<F: Read + Drop> Feed for Capture<F> {
+    ghost use Rattle.redo_log_cli.specs.Capture.{capture_tells};
+
+    ghost tells = { capture_tells };
+
+    fn pull(&mut self, buf: &mut [u8]) -> Result<usize, Broken> {
+        match self {
+            Capture::Open(file) => file.pull(buf),
+            Capture::Missing => Ok(0),
+            Capture::Closed => Err(Broken),
+        }
+    }
+}
+
+/// Opens the capture of this number, `log.FID`, in a directory.
+pub fn open_capture<R: Files + AllocGlobal>(
+    rt: &R,
+    dir: &str,
+    fid: u32,
+) -> Result<Capture<R::File>, AllocError> {
+    let path = format!(in rt.alloc(); "{dir}/log.{fid}")?;
+    match fs::open(rt, path) {
+        Ok(file) => Ok(Capture::Open(Reading(file))),
+        Err(error) => match error.kind() {
+            ErrorKind::NotFound => Ok(Capture::Missing),
+            ErrorKind::OutOfMemory => Err(AllocError),
+            _ => Ok(Capture::Closed),
+        },
+    }
+}

@@ -1,0 +1,76 @@
+ghost use Rattle.std.specs.Prelude.{◌≡◌};
+ghost use Rattle.redo_log_cli.specs.declared.failure.Failure.TheVariants.{Memory};
+ghost use Rattle.redo_log_cli.specs.Failure.{status_of, status_of_stream};
+
+use crate::index_fault::IndexFault;
+use crate::run_fault::RunFault;
+use crate::words_fault::WordsFault;
+use redo_line::StreamFault;
+use std::alloc::{AllocError, AllocFailed};
+use thiserror::Error;
+
+/// Why the program did not write the whole text. `fault_line` has the line that it prints.
+#[derive(Clone, Copy, Debug, PartialEq, Eq, Error)]
+pub enum Failure {
+    /// The words of the command line ask for no run.
+    #[error("no run is asked for: {0:?}")]
+    Words(WordsFault),
+    /// The file `names` is missing, can't be read, or has more than 1,073,741,824 bytes.
+    #[error("the index can't be read")]
+    NamesRead,
+    /// The index is refused.
+    #[error("the index is refused: {0:?}")]
+    Index(IndexFault),
+    /// The run did not write the whole text.
+    #[error("the run did not write the whole text: {0:?}")]
+    Run(RunFault),
+    /// There was no memory before the run began.
+    #[error("there is no memory")]
+    Memory,
+}
+
+impl From<AllocError> for Failure {
+    ghost from_gives = { λ _ failure. failure ≡ Memory };
+
+    fn from(_: AllocError) -> Failure {
+        Failure::Memory
+    }
+}
+
+impl<T: Drop> From<AllocFailed<T>> for Failure {
+    ghost from_gives = { λ _ failure. failure ≡ Memory };
+
+    fn from(_: AllocFailed<T>) -> Failure {
+        Failure::Memory
+    }
+}
+
+/// The exit status of a program that ends so. docs/format.md has the table.
+pub fn status(failure: &Failure) -> u8
+    ensures { result ≡ status_of failure.now }
+{
+    match *failure {
+        Failure::Words(WordsFault::Help) => 0,
+        Failure::Words(WordsFault::Refused) => 2,
+        Failure::Index(IndexFault::OutOfMemory) => 7,
+        Failure::Index(_) => 3,
+        Failure::Run(RunFault::Stream { fault, .. }) => stream_status(fault),
+        Failure::NamesRead => 5,
+        Failure::Run(RunFault::Write) => 6,
+        Failure::Run(RunFault::Unknown { .. }) => 24,
+        Failure::Words(WordsFault::OutOfMemory) | Failure::Run(RunFault::OutOfMemory) => 7,
+        Failure::Memory => 7,
+    }
+}
+
+fn stream_status(fault: StreamFault) -> u8
+    ensures { result ≡ status_of_stream fault }
+{
+    match fault {
+        StreamFault::BadRecord { .. } => 4,
+        StreamFault::AfterClose { .. } => 4,
+        StreamFault::TooLong => 4,
+        StreamFault::Read => 5,
+        StreamFault::OutOfMemory => 7,
+    }
+}

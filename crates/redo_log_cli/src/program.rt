@@ -1,0 +1,197 @@
+ghost use Rattle.std.specs.Prelude.{◌≡◌, ◌<◌, IfOk, IfErr, length};
+ghost use Rattle.redo_log_cli.specs.Failure.{IfOfStream, IfOfWord, IsOfNoRun, IsStatus};
+
+use crate::capture::{Capture, open_capture};
+use crate::failure::{Failure, status};
+use crate::index::{Index, read_index};
+use crate::job::Job;
+use crate::names_file::read_names;
+use crate::run_fault::RunFault;
+use crate::running::run;
+use crate::told::fault_line;
+use crate::words::{help_text, read_words};
+use crate::words_fault::WordsFault;
+use redo_gather::{Free, Plan};
+use redo_line::{Reading, Writing};
+use std::alloc::{AllocError, Global};
+use std::io::{BufWriter, ErrorKind, Write};
+use std::rt::{Env, Files};
+use std::sync::Wait;
+use std::thread::Threads;
+use std::{env, fs};
+
+/// How many bytes a log may have.
+const MAX_BYTES: u64 = 1_073_741_824;
+
+/// How many bytes of the text are held back before they are written at once.
+const WRITE_BYTES: usize = 64 * 1024;
+
+/// The words of the process's command line, without the program's name. Words that are no text are
+/// refused.
+pub fn process_words<R: Env + AllocGlobal>(rt: &R) -> Result<Vec<String>, Failure>
+    ensures { IfErr result IsOfNoRun }
+{
+    let mut words = match env::args(rt) {
+        Ok(words) => words,
+        Err(error) => {
+            return Err(match error.kind() {
+                ErrorKind::OutOfMemory => Failure::Memory,
+                _ => Failure::Words(WordsFault::Refused),
+            });
+        }
+    };
+    let _ = words.next();
+    let mut behind = Vec::new(rt.alloc());
+    for word in words {
+        behind.push(word)?;
+    }
+    Ok(behind)
+}
+
+/// Writes the line of a failure that no run was asked for, and answers its status.
+pub fn refuse<E: Write>(alloc: Global, failure: &Failure, err: &mut E) -> u8
+    requires { IsOfNoRun failure.now }
+    ensures { IsStatus result }
+{
+    tell(alloc, failure, &Index::new(alloc), &[], err)
+}
+
+/// The program: reads the words of its command line, without its own name, and the directory that they
+/// name, and writes the text to `out`. Of a failure it writes one line to `err`. What it answers is the
+/// exit status; docs/format.md has the table.
+pub fn command<R: Files<File: Send> + Threads + Wait + Sync + AllocGlobal, W: Write, E: Write>(
+    rt: &R,
+    words: Vec<String>,
+    out: &mut W,
+    err: &mut E,
+) -> u8
+    ensures { IsStatus result }
+{
+    let alloc = rt.alloc();
+    let job = match read_words(alloc, words) {
+        Ok(job) => job,
+        Err(WordsFault::Help) => return print_help(alloc, out, err),
+        Err(fault) => return refuse(alloc, &Failure::Words(fault), err),
+    };
+    let index = match find_index(rt, job.dir()) {
+        Ok(index) => index,
+        Err(failure) => return refuse(alloc, &failure, err),
+    };
+    match show(rt, &job, &index, out) {
+        Ok(()) => 0,
+        Err(failure) => tell(alloc, &failure, &index, job.targets(), err),
+    }
+}
+
+// Writes the help text.
+fn print_help<W: Write, E: Write>(alloc: Global, out: &mut W, err: &mut E) -> u8
+    ensures { IsStatus result }
+{
+    let Ok(text) = help_text(alloc) else {
+        return refuse(alloc, &Failure::Memory, err);
+    };
+    match out.write_all(text.as_bytes()).and_then(|()| out.flush()) {
+        Ok(()) => 0,
+        Err(_) => refuse(alloc, &Failure::Run(RunFault::Write), err),
+    }
+}
+
+// Writes the line of a failure, if there is memory for it, and answers its status.
+fn tell<E: Write>(
+    alloc: Global,
+    failure: &Failure,
+    index: &Index,
+    asked: &[Vec<u8>],
+    err: &mut E,
+) -> u8
+    requires number { IfOfStream failure.now (λ number. number < length index.now) }
+    requires place { IfOfWord failure.now (λ place. place < length asked.now) }
+    ensures { IsStatus result }
+{
+    match fault_line(alloc, failure, index, asked) {
+        Ok(line) => {
+            let _ = err.write_all(&line).and_then(|()| err.flush());
+            status(failure)
+        }
+        Err(AllocError) => {
+            let _ = err
+                .write_all(b"redo-log: out of memory\n")
+                .and_then(|()| err.flush());
+            status(&Failure::Memory)
+        }
+    }
+}
+
+// Reads the index of a directory.
+fn find_index<R: Files + AllocGlobal>(rt: &R, dir: &str) -> Result<Index, Failure>
+    ensures { IfErr result IsOfNoRun }
+{
+    let alloc = rt.alloc();
+    let path = format!(in alloc; "{dir}/names")?;
+    let mut reader = match fs::open(rt, path) {
+        Ok(file) => Reading(file),
+        Err(error) => {
+            return Err(match error.kind() {
+                ErrorKind::OutOfMemory => Failure::Memory,
+                _ => Failure::NamesRead,
+            });
+        }
+    };
+    let bytes = read_names(alloc, &mut reader)?;
+    match read_index(alloc, &bytes) {
+        Ok(index) => Ok(index),
+        Err(fault) => Err(Failure::Index(fault)),
+    }
+}
+
+// Runs over the captures of a directory, and writes through a buffer.
+fn show<R: Files<File: Send> + Threads + Wait + Sync + AllocGlobal, W: Write>(
+    rt: &R,
+    job: &Job,
+    index: &Index,
+    out: &mut W,
+) -> Result<(), Failure>
+    ensures number { IfErr result (λ failure. IfOfStream failure (λ number. number < length index.now)) }
+    ensures place { IfErr result (λ failure. IfOfWord failure (λ place. place < length job.now.targets)) }
+{
+    let alloc = rt.alloc();
+    let readers = open_captures(rt, job.dir(), index)?;
+    let Ok(plan) = Plan::new(job.senders(), job.capacity(), MAX_BYTES) else {
+        unreachable!()
+    };
+    let Ok(buffered) = BufWriter::with_capacity(alloc, WRITE_BYTES, out) else {
+        return Err(Failure::Memory);
+    };
+    let mut out = Writing(buffered);
+    let answer = run(
+        rt,
+        alloc,
+        index,
+        readers,
+        &plan,
+        job.options(),
+        job.targets(),
+        &Free,
+        &mut out,
+    );
+    let Writing(mut buffered) = out;
+    let flushed = answer.and_then(|()| buffered.flush().map_err(|_| RunFault::Write));
+    // What is still held back after a fault is let go, so that nothing is written behind it.
+    let _ = buffered.into_parts();
+    flushed.map_err(Failure::Run)
+}
+
+// Opens the captures of all targets, in the order of the index.
+fn open_captures<R: Files + AllocGlobal>(
+    rt: &R,
+    dir: &str,
+    index: &Index,
+) -> Result<Vec<Capture<R::File>>, AllocError>
+    ensures { IfOk result (λ captures. length captures.items ≡ length index.now) }
+{
+    let mut captures = Vec::with_capacity(rt.alloc(), index.len() as usize)?;
+    for i in 0..index.len() {
+        captures.push(open_capture(rt, dir, index.fid(i))?)?;
+    }
+    Ok(captures)
+}

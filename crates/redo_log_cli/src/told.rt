@@ -1,0 +1,110 @@
+ghost use Rattle.std.specs.Prelude.{◌≡◌, ◌<◌, ◌++◌, IfOk, codes, length};
+ghost use Rattle.redo_log_cli.specs.Failure.{IfOfStream, IfOfWord, fault_text, index_text, line_of, of_line, text_of_stream};
+ghost use Rattle.redo_log_cli.specs.Index.{names_of};
+ghost use Rattle.redo_log_cli.specs.Run.{bytes_of_words};
+
+use crate::failure::Failure;
+use crate::index::Index;
+use crate::index_fault::IndexFault;
+use crate::run_fault::RunFault;
+use crate::words_fault::WordsFault;
+use itoa::Buffer;
+use redo_line::StreamFault;
+use std::alloc::{AllocError, Global};
+
+/// The line that the program prints of a failure, with its line feed; there is none for help. A name
+/// and a word are written byte for byte: the name from the index, the word as it was given.
+///
+/// The number of a stream has to be a place in the index, and the place of a word one in `asked`.
+pub fn fault_line(
+    alloc: Global,
+    failure: &Failure,
+    index: &Index,
+    asked: &[Vec<u8>],
+) -> Result<Vec<u8>, AllocError>
+    requires number { IfOfStream failure.now (λ number. number < length index.now) }
+    requires place { IfOfWord failure.now (λ place. place < length asked.now) }
+    ensures { IfOk result (λ line. line.items ≡ fault_text (names_of index.now) (bytes_of_words asked.now) failure.now) }
+{
+    match *failure {
+        Failure::Words(WordsFault::Help) => Ok(Vec::new(alloc)),
+        Failure::Words(WordsFault::Refused) => told(alloc, b"bad command line"),
+        Failure::Words(WordsFault::OutOfMemory) => told(alloc, b"out of memory"),
+        Failure::NamesRead => told_of(alloc, b"names", b"cannot be read"),
+        Failure::Index(fault) => told_of_index(alloc, fault),
+        Failure::Run(RunFault::Unknown { place }) => told_of(alloc, &asked[place], b"not known"),
+        Failure::Run(RunFault::Stream { number, fault }) => {
+            told_of_stream(alloc, index.name(number).bytes(), fault)
+        }
+        Failure::Run(RunFault::OutOfMemory) => told(alloc, b"out of memory"),
+        Failure::Run(RunFault::Write) => told(alloc, b"cannot write"),
+        Failure::Memory => told(alloc, b"out of memory"),
+    }
+}
+
+fn told_of_index(alloc: Global, fault: IndexFault) -> Result<Vec<u8>, AllocError>
+    ensures { IfOk result (λ line. line.items ≡ index_text fault) }
+{
+    match fault {
+        IndexFault::BadLine { line } => told_of_line(alloc, b"names", line, b"bad line"),
+        IndexFault::FidTwice { line } => {
+            told_of_line(alloc, b"names", line, b"number listed twice")
+        }
+        IndexFault::NameTwice { line } => told_of_line(alloc, b"names", line, b"name listed twice"),
+        IndexFault::TooMany => told_of(alloc, b"names", b"too many names"),
+        IndexFault::OutOfMemory => told(alloc, b"out of memory"),
+    }
+}
+
+fn told_of_stream(alloc: Global, name: &[u8], fault: StreamFault) -> Result<Vec<u8>, AllocError>
+    ensures { IfOk result (λ line. line.items ≡ line_of (text_of_stream name.now fault)) }
+{
+    match fault {
+        StreamFault::BadRecord { line } => told_of_line(alloc, name, line, b"bad record"),
+        StreamFault::AfterClose { line } => {
+            told_of_line(alloc, name, line, b"after the closing record")
+        }
+        StreamFault::TooLong => told_of(alloc, name, b"too long"),
+        StreamFault::Read => told_of(alloc, name, b"cannot be read"),
+        StreamFault::OutOfMemory => told(alloc, b"out of memory"),
+    }
+}
+
+fn told(alloc: Global, cause: &[u8]) -> Result<Vec<u8>, AllocError>
+    ensures { IfOk result (λ line. line.items ≡ line_of cause.now) }
+{
+    let mut line = Vec::from_slice(alloc, b"redo-log: ")?;
+    line.extend_from_slice(cause)?;
+    line.push(b'\n')?;
+    Ok(line)
+}
+
+fn told_of(alloc: Global, subject: &[u8], cause: &[u8]) -> Result<Vec<u8>, AllocError>
+    ensures { IfOk result (λ line. line.items ≡ line_of (subject.now ++ codes ": " ++ cause.now)) }
+{
+    let mut line = Vec::from_slice(alloc, b"redo-log: ")?;
+    line.extend_from_slice(subject)?;
+    line.extend_from_slice(b": ")?;
+    line.extend_from_slice(cause)?;
+    line.push(b'\n')?;
+    Ok(line)
+}
+
+fn told_of_line(
+    alloc: Global,
+    subject: &[u8],
+    number: u64,
+    cause: &[u8],
+) -> Result<Vec<u8>, AllocError>
+    ensures { IfOk result (λ line. line.items ≡ line_of (subject.now ++ codes ": " ++ of_line number cause.now)) }
+{
+    let mut buffer = Buffer::new();
+    let mut line = Vec::from_slice(alloc, b"redo-log: ")?;
+    line.extend_from_slice(subject)?;
+    line.extend_from_slice(b": line ")?;
+    line.extend_from_slice(buffer.format(number).as_bytes())?;
+    line.extend_from_slice(b": ")?;
+    line.extend_from_slice(cause)?;
+    line.push(b'\n')?;
+    Ok(line)
+}

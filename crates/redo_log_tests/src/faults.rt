@@ -1,0 +1,126 @@
+//! What a failure is told as: its line and its status.
+ghost use Rattle.std.specs.Prelude.{◌<◌, IsTrue};
+ghost use Rattle.redo_log_cli.specs.Failure.{IfOfStream, IfOfWord};
+
+use redo_line::StreamFault;
+use redo_log_cli::{Failure, IndexFault, RunFault, WordsFault, fault_line, read_index, status};
+use std::process::Abort;
+use std::test::Fail;
+
+/// With the targets `d/a` and `b`, and the words `x/../d/a`, nothing, and one of bytes that are no text.
+fn expect_told(
+    rt: &(impl Abort + AllocGlobal),
+    failure: Failure,
+    want: &[u8],
+    number: u8,
+) -> Result<(), Fail> {
+    let alloc = rt.alloc();
+    let index = read_index(alloc, b"7 ./d//a\n1 b\n".as_slice())?;
+    let mut words = Vec::new(alloc);
+    for word in [b"x/../d/a".as_slice(), b"", b"\xff\xfe"] {
+        words.push(word.to_vec(alloc)?)?;
+    }
+    if !has_places(&failure, index.len(), words.len()) {
+        return Err("a place that is none".into());
+    }
+    let line = fault_line(alloc, &failure, &index, &words)?;
+    assert_eq!(rt; line.as_slice(), want, "{failure:?}");
+    assert_eq!(rt; status(&failure), number, "{failure:?}");
+    Ok(())
+}
+
+/// Whether the number of a stream and the place of a word are below these.
+fn has_places(failure: &Failure, streams: u32, words: usize) -> bool
+    ensures number { IsTrue result → IfOfStream failure.now (λ number. number < streams) }
+    ensures place { IsTrue result → IfOfWord failure.now (λ place. place < words) }
+{
+    match *failure {
+        Failure::Run(RunFault::Stream { number, .. }) => number < streams,
+        Failure::Run(RunFault::Unknown { place }) => place < words,
+        _ => true,
+    }
+}
+
+fn stream(number: u32, fault: StreamFault) -> Failure {
+    Failure::Run(RunFault::Stream { number, fault })
+}
+
+fn unknown(place: usize) -> Failure {
+    Failure::Run(RunFault::Unknown { place })
+}
+
+const NO_MEMORY: &[u8] = b"redo-log: out of memory\n";
+
+#[test]
+fn each_failure_has_its_line_and_its_status(rt: HostRuntime) -> Result<(), Fail> {
+    for (failure, line, number) in [
+        (Failure::Words(WordsFault::Help), b"".as_slice(), 0),
+        (
+            Failure::Words(WordsFault::Refused),
+            b"redo-log: bad command line\n",
+            2,
+        ),
+        (Failure::Words(WordsFault::OutOfMemory), NO_MEMORY, 7),
+        (Failure::NamesRead, b"redo-log: names: cannot be read\n", 5),
+        (
+            Failure::Index(IndexFault::BadLine { line: 1 }),
+            b"redo-log: names: line 1: bad line\n",
+            3,
+        ),
+        (
+            Failure::Index(IndexFault::FidTwice { line: 20 }),
+            b"redo-log: names: line 20: number listed twice\n",
+            3,
+        ),
+        (
+            Failure::Index(IndexFault::NameTwice { line: 1048576 }),
+            b"redo-log: names: line 1048576: name listed twice\n",
+            3,
+        ),
+        (
+            Failure::Index(IndexFault::TooMany),
+            b"redo-log: names: too many names\n",
+            3,
+        ),
+        (Failure::Index(IndexFault::OutOfMemory), NO_MEMORY, 7),
+        (unknown(0), b"redo-log: x/../d/a: not known\n", 24),
+        (unknown(1), b"redo-log: : not known\n", 24),
+        (unknown(2), b"redo-log: \xff\xfe: not known\n", 24),
+        (
+            stream(0, StreamFault::BadRecord { line: 9 }),
+            b"redo-log: d/a: line 9: bad record\n",
+            4,
+        ),
+        (
+            stream(
+                1,
+                StreamFault::AfterClose {
+                    line: 18446744073709551615,
+                },
+            ),
+            b"redo-log: b: line 18446744073709551615: after the closing record\n",
+            4,
+        ),
+        (
+            stream(0, StreamFault::TooLong),
+            b"redo-log: d/a: too long\n",
+            4,
+        ),
+        (
+            stream(1, StreamFault::Read),
+            b"redo-log: b: cannot be read\n",
+            5,
+        ),
+        (stream(0, StreamFault::OutOfMemory), NO_MEMORY, 7),
+        (Failure::Run(RunFault::OutOfMemory), NO_MEMORY, 7),
+        (
+            Failure::Run(RunFault::Write),
+            b"redo-log: cannot write\n",
+            6,
+        ),
+        (Failure::Memory, NO_MEMORY, 7),
+    ] {
+        expect_told(&rt, failure, line, number)?;
+    }
+    Ok(())
+}
