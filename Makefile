@@ -1,4 +1,4 @@
-# make run       proves and builds the program, and runs it on the sample input
+# make run       proves and builds the program, and runs it on the sample captures
 # make check     everything that a change has to pass
 # make install   installs the program as $(PREFIX)/bin/redo-log
 PREFIX ?= /usr/local
@@ -6,11 +6,11 @@ PREFIX ?= /usr/local
 .PHONY: run check install
 
 run:
-	cd crates/redo_log && rt run <stdin
+	cd crates/redo_log && rt run -- --dir ../../sample all
 
 check:
 	bash .ci/run
 
 install:
-	cd crates/redo_log && rt run <stdin >/dev/null
+	cd crates/redo_log && rt run -- --help >/dev/null
 	install -D crates/redo_log/out/redo_log $(DESTDIR)$(PREFIX)/bin/redo-log
