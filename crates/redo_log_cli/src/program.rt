@@ -1,5 +1,6 @@
-ghost use Rattle.std.specs.Prelude.{◌≡◌, ◌<◌, IfOk, IfErr, length};
-ghost use Rattle.redo_log_cli.specs.Failure.{IfOfStream, IfOfWord, IsOfNoRun, IsStatus};
+ghost use Rattle.std.specs.Prelude.{◌≡◌, ◌<◌, ◌⊎◌, IfOk, IfErr, length};
+ghost use Rattle.redo_log_cli.specs.declared.failure.Failure.TheVariants.{Memory};
+ghost use Rattle.redo_log_cli.specs.Failure.{IfOfStream, IfOfWord, IsOfNoRun, IsStatus, status_of};
 
 use crate::capture::{Capture, open_capture};
 use crate::failure::{Failure, status};
@@ -48,10 +49,11 @@ pub fn process_words<R: Env + AllocGlobal>(rt: &R) -> Result<Vec<String>, Failur
     Ok(behind)
 }
 
-/// Writes the line of a failure that no run was asked for, and answers its status.
+/// Writes the line of a failure that no run was asked for, and answers its status, or that of want of
+/// memory where there is none for the line.
 pub fn refuse<E: Write>(alloc: Global, failure: &Failure, err: &mut E) -> u8
     requires { IsOfNoRun failure.now }
-    ensures { IsStatus result }
+    ensures { (result ≡ status_of failure.now) ⊎ (result ≡ status_of Memory) }
 {
     tell(alloc, failure, &Index::new(alloc), &[], err)
 }
@@ -106,7 +108,7 @@ fn tell<E: Write>(
 ) -> u8
     requires number { IfOfStream failure.now (λ number. number < length index.now) }
     requires place { IfOfWord failure.now (λ place. place < length asked.now) }
-    ensures { IsStatus result }
+    ensures { (result ≡ status_of failure.now) ⊎ (result ≡ status_of Memory) }
 {
     match fault_line(alloc, failure, index, asked) {
         Ok(line) => {
