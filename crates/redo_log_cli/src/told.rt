@@ -1,4 +1,4 @@
-ghost use Rattle.std.specs.Prelude.{◌≡◌, ◌<◌, ◌++◌, IfOk, codes, length};
+ghost use Rattle.std.specs.Prelude.{◌≡◌, ◌<◌, ◌++◌, IfOk, codes, flat_map, length};
 ghost use Rattle.redo_log_cli.specs.Failure.{IfOfStream, IfOfWord, fault_text, index_text, line_of, of_line, text_of_stream};
 ghost use Rattle.redo_log_cli.specs.Index.{names_of};
 ghost use Rattle.redo_log_cli.specs.Run.{bytes_of_words};
@@ -28,17 +28,17 @@ pub fn fault_line(
 {
     match *failure {
         Failure::Words(WordsFault::Help) => Ok(Vec::new(alloc)),
-        Failure::Words(WordsFault::Refused) => told(alloc, b"bad command line"),
-        Failure::Words(WordsFault::OutOfMemory) => told(alloc, b"out of memory"),
-        Failure::NamesRead => told_of(alloc, b"names", b"cannot be read"),
+        Failure::Words(WordsFault::Refused) => told(alloc, &[b"bad command line"]),
+        Failure::Words(WordsFault::OutOfMemory) => told(alloc, &[b"out of memory"]),
+        Failure::NamesRead => told(alloc, &[b"names: cannot be read"]),
         Failure::Index(fault) => told_of_index(alloc, fault),
-        Failure::Run(RunFault::Unknown { place }) => told_of(alloc, &asked[place], b"not known"),
+        Failure::Run(RunFault::Unknown { place }) => told(alloc, &[&asked[place], b": not known"]),
         Failure::Run(RunFault::Stream { number, fault }) => {
             told_of_stream(alloc, index.name(number).bytes(), fault)
         }
-        Failure::Run(RunFault::OutOfMemory) => told(alloc, b"out of memory"),
-        Failure::Run(RunFault::Write) => told(alloc, b"cannot write"),
-        Failure::Memory => told(alloc, b"out of memory"),
+        Failure::Run(RunFault::OutOfMemory) => told(alloc, &[b"out of memory"]),
+        Failure::Run(RunFault::Write) => told(alloc, &[b"cannot write"]),
+        Failure::Memory => told(alloc, &[b"out of memory"]),
     }
 }
 
@@ -51,8 +51,8 @@ fn told_of_index(alloc: Global, fault: IndexFault) -> Result<Vec<u8>, AllocError
             told_of_line(alloc, b"names", line, b"number listed twice")
         }
         IndexFault::NameTwice { line } => told_of_line(alloc, b"names", line, b"name listed twice"),
-        IndexFault::TooMany => told_of(alloc, b"names", b"too many names"),
-        IndexFault::OutOfMemory => told(alloc, b"out of memory"),
+        IndexFault::TooMany => told(alloc, &[b"names: too many names"]),
+        IndexFault::OutOfMemory => told(alloc, &[b"out of memory"]),
     }
 }
 
@@ -64,30 +64,10 @@ fn told_of_stream(alloc: Global, name: &[u8], fault: StreamFault) -> Result<Vec<
         StreamFault::AfterClose { line } => {
             told_of_line(alloc, name, line, b"after the closing record")
         }
-        StreamFault::TooLong => told_of(alloc, name, b"too long"),
-        StreamFault::Read => told_of(alloc, name, b"cannot be read"),
-        StreamFault::OutOfMemory => told(alloc, b"out of memory"),
+        StreamFault::TooLong => told(alloc, &[name, b": too long"]),
+        StreamFault::Read => told(alloc, &[name, b": cannot be read"]),
+        StreamFault::OutOfMemory => told(alloc, &[b"out of memory"]),
     }
-}
-
-fn told(alloc: Global, cause: &[u8]) -> Result<Vec<u8>, AllocError>
-    ensures { IfOk result (λ line. line.items ≡ line_of cause.now) }
-{
-    let mut line = Vec::from_slice(alloc, b"redo-log: ")?;
-    line.extend_from_slice(cause)?;
-    line.push(b'\n')?;
-    Ok(line)
-}
-
-fn told_of(alloc: Global, subject: &[u8], cause: &[u8]) -> Result<Vec<u8>, AllocError>
-    ensures { IfOk result (λ line. line.items ≡ line_of (subject.now ++ codes ": " ++ cause.now)) }
-{
-    let mut line = Vec::from_slice(alloc, b"redo-log: ")?;
-    line.extend_from_slice(subject)?;
-    line.extend_from_slice(b": ")?;
-    line.extend_from_slice(cause)?;
-    line.push(b'\n')?;
-    Ok(line)
 }
 
 fn told_of_line(
@@ -99,12 +79,14 @@ fn told_of_line(
     ensures { IfOk result (λ line. line.items ≡ line_of (subject.now ++ codes ": " ++ of_line number cause.now)) }
 {
     let mut buffer = Buffer::new();
-    let mut line = Vec::from_slice(alloc, b"redo-log: ")?;
-    line.extend_from_slice(subject)?;
-    line.extend_from_slice(b": line ")?;
-    line.extend_from_slice(buffer.format(number).as_bytes())?;
-    line.extend_from_slice(b": ")?;
-    line.extend_from_slice(cause)?;
-    line.push(b'\n')?;
-    Ok(line)
+    let number = buffer.format(number).as_bytes();
+    told(alloc, &[subject, b": line ", number, b": ", cause])
+}
+
+// A line that says these parts, one behind the other.
+fn told(alloc: Global, parts: &[&[u8]]) -> Result<Vec<u8>, AllocError>
+    ensures { IfOk result (λ line. line.items ≡ line_of (flat_map (λ part. part.now) parts.now)) }
+{
+    let text = parts.concat(alloc)?;
+    [b"redo-log: ".as_slice(), &text, b"\n"].concat(alloc)
 }
