@@ -76,25 +76,13 @@ fault_text targets asked Memory = line_of (codes "out of memory")
 -- a fact of the number of a stream, and of the place of a word
 abbrev pub IfOfStream : Failure → (ℕ → Type 0) → Type 0
 IfOfStream (Run (run.Stream number fault)) P = P number
-IfOfStream (Run (run.Unknown place)) P = Unit {0}
-IfOfStream (Run run.OutOfMemory) P = Unit {0}
-IfOfStream (Run run.Write) P = Unit {0}
-IfOfStream (Words fault) P = Unit {0}
-IfOfStream NamesRead P = Unit {0}
-IfOfStream (Index fault) P = Unit {0}
-IfOfStream Memory P = Unit {0}
+IfOfStream other P = Unit {0}
 
 abbrev pub IfOfWord : Failure → (ℕ → Type 0) → Type 0
-IfOfWord (Run (run.Stream number fault)) P = Unit {0}
 IfOfWord (Run (run.Unknown place)) P = P place
-IfOfWord (Run run.OutOfMemory) P = Unit {0}
-IfOfWord (Run run.Write) P = Unit {0}
-IfOfWord (Words fault) P = Unit {0}
-IfOfWord NamesRead P = Unit {0}
-IfOfWord (Index fault) P = Unit {0}
-IfOfWord Memory P = Unit {0}
+IfOfWord other P = Unit {0}
 
--- how many bytes the file `names` may have
+-- how many bytes a log may have, and the file `names`
 abbrev pub most_bytes : ℕ
 most_bytes = 1073741824
 

@@ -1,6 +1,10 @@
-ghost use Rattle.std.specs.Prelude.{◌≡◌, ◌<◌, ◌⊎◌, IfOk, IfErr, length};
+ghost use Rattle.std.specs.Prelude.{◌≡◌, ◌<◌, ◌⊎◌, None, IfOk, IfErr, length};
+ghost use Rattle.redo_line.specs.Fault.{ending_fault};
+ghost use Rattle.redo_line.specs.Feed.{SomeStream};
+ghost use Rattle.redo_line.specs.Lines.{all_lines};
 ghost use Rattle.redo_log_cli.specs.declared.failure.Failure.TheVariants.{Memory};
-ghost use Rattle.redo_log_cli.specs.Failure.{IfOfStream, IfOfWord, IsOfNoRun, IsStatus, status_of};
+ghost use Rattle.redo_log_cli.specs.Failure.{IfOfStream, IfOfWord, IsOfNoRun, IsStatus, most_bytes, status_of};
+ghost use Rattle.redo_log_cli.specs.Index.{IsFine, entries_of};
 
 use crate::capture::{Capture, open_capture};
 use crate::failure::{Failure, status};
@@ -13,7 +17,7 @@ use crate::told::fault_line;
 use crate::words::{help_text, read_words};
 use crate::words_fault::WordsFault;
 use redo_gather::{Free, Plan};
-use redo_line::{Reading, Writing};
+use redo_line::{Feed, Reading, Writing};
 use std::alloc::{AllocError, Global};
 use std::io::{BufWriter, ErrorKind, Write};
 use std::rt::{Env, Files};
@@ -139,7 +143,15 @@ fn find_index<R: Files + AllocGlobal>(rt: &R, dir: &str) -> Result<Index, Failur
             });
         }
     };
-    let bytes = read_names(alloc, &mut reader)?;
+    index_of(alloc, &mut reader)
+}
+
+// The index that a reader gives: all of its bytes, and no more than there may be.
+fn index_of<R: Feed>(alloc: Global, reader: &mut R) -> Result<Index, Failure>
+    ensures listed { IfOk result (λ index. SomeStream (R.tells reader.old) (λ stream. (ending_fault most_bytes stream ≡ None) × IsFine (all_lines stream.bytes) × (index ≡ entries_of (all_lines stream.bytes)))) }
+    ensures refused { IfErr result IsOfNoRun }
+{
+    let bytes = read_names(alloc, reader)?;
     match read_index(alloc, &bytes) {
         Ok(index) => Ok(index),
         Err(fault) => Err(Failure::Index(fault)),
@@ -158,9 +170,7 @@ fn show<R: Files<File: Send> + Threads + Wait + Sync + AllocGlobal, W: Write>(
 {
     let alloc = rt.alloc();
     let readers = open_captures(rt, job.dir(), index)?;
-    let Ok(plan) = Plan::new(job.senders(), job.capacity(), MAX_BYTES) else {
-        unreachable!()
-    };
+    let plan = plan_of(job);
     let Ok(buffered) = BufWriter::with_capacity(alloc, WRITE_BYTES, out) else {
         return Err(Failure::Memory);
     };
@@ -181,6 +191,16 @@ fn show<R: Files<File: Send> + Threads + Wait + Sync + AllocGlobal, W: Write>(
     // What is still held back after a fault is let go, so that nothing is written behind it.
     let _ = buffered.into_parts();
     flushed.map_err(Failure::Run)
+}
+
+// The numbers that a job asks for, and how many bytes a log may have.
+fn plan_of(job: &Job) -> Plan
+    ensures { result ≡ record { senders = job.now.senders; capacity = job.now.capacity; max_bytes = most_bytes } }
+{
+    let Ok(plan) = Plan::new(job.senders(), job.capacity(), MAX_BYTES) else {
+        unreachable!()
+    };
+    plan
 }
 
 // Opens the captures of all targets, in the order of the index.
