@@ -1,10 +1,11 @@
-# Reads the names of a target, of the directory where its make is, and of what it needs, an empty line, the index, sorted
-# by name, and `run`, the book of this run: what began, and from whose recipe; what ended, with which status and where
-# its closing record is; what a log mentions. When a line of the target's recipe
-#   begins  it lists the target, if it is new, and prints its number; then `above`, if its recipe led here; or `new`, with
-#           records of what it needs, if it begins; or where its closing record is
-#   ends    it prints records of what the recipe led to and no log mentions
-# and then it writes the same of the whole run to the file `all`, unless a recipe has that name.
+# Reads the names of a target, of the directory where its make is, and of what it needs, an empty line, the index, which
+# is sorted by name, and `run`, the book of this run: what began, and from whose recipe; what ended, with which status
+# and where its closing record is; what a log mentions. When a line of the target's recipe
+#   begins  it lists the target, if it is new, and prints its number; then `above`, if its recipe led here; or `new`,
+#           with records of what it needs, if it begins; or where its closing record is
+#   ends    it prints `last`, with records of what the recipe led to and no log mentions; or `shared`, where a line that
+#           another make runs for the target has not ended yet
+# and then it writes the same records of the whole run to the file `all`, unless a recipe has that name.
 function is_absolute(path) {
   return path ~ /^\//
 }
@@ -45,15 +46,16 @@ NR == 1 { target = $0 }
 NR == 2 { here = $0; needs = " " }
 NR == FNR && !listed { if (NR > 2) needs = needs $0 " "; listed = NR > 2 && $0 == ""; next }
 NR == FNR { names[$1] = substr($0, length($1) + 2); number[names[$1]] = $1; sorted[++count] = $1 }
-$1 == "began" { led[$2] = $3; delete status_of[$2]; delete closing[$2] }
-$1 == "ended" { status_of[$2] = $3; closing[$2] = $4 }
+$1 == "began" { led[$2] = $3; lines[$2]++; delete status_of[$2]; delete closing[$2] }
+$1 == "ended" { status_of[$2] = $3; lines[$2]--; closing[$2] = $4 }
 $1 == "named" { named[$2] = 1 }
 END {
   run = ENVIRON["at"] "/run"
   if (!(target in number)) list(target)
   self = number[target]
   if (step == "ends") {
-    mention_led()
+    print (lines[self] > 1 ? "shared" : "last")
+    if (lines[self] <= 1) mention_led()
     print "ended", self, status, size + length(text) >>run
     status_of[self] = status
   } else {
@@ -62,7 +64,7 @@ END {
       print "above"
       exit
     }
-    print self in led ? closing[self] : "new"
+    print (!(self in led) ? "new" : lines[self] > 0 ? "" : closing[self])
     if (!(self in led)) mention_needs()
     split(ENVIRON["CAPTURE_LED"], from)
     led[self] = from[1] ? from[1] : 1
