@@ -152,10 +152,7 @@ fn index_of<R: Feed>(alloc: Global, reader: &mut R) -> Result<Index, Failure>
     ensures refused { IfErr result IsOfNoRun }
 {
     let bytes = read_names(alloc, reader)?;
-    match read_index(alloc, &bytes) {
-        Ok(index) => Ok(index),
-        Err(fault) => Err(Failure::Index(fault)),
-    }
+    read_index(alloc, &bytes).map_err(Failure::Index)
 }
 
 // Runs over the captures of a directory, and writes through a buffer.

@@ -1,0 +1,30 @@
+"""What the tests of the built program share: where it is, and a count of what was as expected."""
+import os
+import sys
+
+TOP = os.path.dirname(os.path.dirname(os.path.abspath(__file__)))
+PROGRAM = os.path.join(TOP, "crates/redo_log/out/redo_log")
+
+
+def contents(path):
+    """The text of a file of the repository."""
+    with open(os.path.join(TOP, path), encoding="utf-8") as file:
+        return file.read()
+
+
+class Checks:
+    def __init__(self):
+        self.passed = 0
+        self.failed = 0
+
+    def expect(self, name, found, wanted):
+        if found == wanted:
+            self.passed += 1
+        else:
+            self.failed += 1
+            print(f"{name}: {str(found)[:1500]}, not {str(wanted)[:1500]}")
+
+    def end(self, name):
+        """Prints the count and ends the process, with 1 if something was not as expected."""
+        print(f"{name}: {self.passed} passed, {self.failed} failed")
+        sys.exit(self.failed > 0)
