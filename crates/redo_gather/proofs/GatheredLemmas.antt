@@ -10,8 +10,9 @@ use Rattle.redo_logs.specs.declared.log_state.LogState.TheVariants.{Running}
 use Rattle.redo_logs.specs.Logs.{Log, new_log, targets_of, states_of, changed, has_ended}
 use Rattle.redo_logs.proofs.ChangedLemmas.{changed-here}
 use Rattle.redo_gather.specs.declared.gather_fault.GatherFault.{GatherFault}
-use Rattle.redo_gather.specs.GatherFault.{fault_of_stream, IfStreamFault}
-use Rattle.redo_gather.specs.OneStream.{Completes, ended_with}
+use Rattle.redo_gather.specs.GatherFault.{IfStreamFault}
+use Rattle.redo_gather.specs.Private.GatherFault.{fault_of_stream}
+use Rattle.redo_gather.specs.Private.OneStream.{Completes, ended_with}
 use Rattle.redo_gather.specs.Streams.{AreTold, SomeStreams, whole_log, logs_of, fault_among}
 use Rattle.redo_gather.proofs.StreamLemmas.{whole_logs, one_more, fault_behind, count_told, told-append, any_streams, given_stream}
 

@@ -5,7 +5,7 @@ use Rattle.redo_line.specs.declared.entry.Entry.{Entry}
 use Rattle.redo_logs.specs.declared.log_state.LogState.TheVariants.{Ended}
 use Rattle.redo_logs.specs.Logs.{Log, changed, with_entry, with_state}
 use Rattle.redo_logs.proofs.ChangedLemmas.{changed-none}
-use Rattle.redo_gather.specs.OneStream.{with_entries, ended_with}
+use Rattle.redo_gather.specs.Private.OneStream.{with_entries, ended_with}
 
 -- one change after another
 changed-changed : (number : ℕ) (second first both : Log → Log) → ((log : Log) → second (first log) ≡ both log) → (logs : List Log)

@@ -7,7 +7,7 @@ use Rattle.redo_line.specs.Feed.{Stream, SomeStream}
 use Rattle.redo_line.specs.Log.{fault_of}
 use Rattle.redo_logs.specs.declared.log_state.LogState.TheVariants.{Running}
 use Rattle.redo_logs.specs.Logs.{Log, targets_of, states_of, has_ended}
-use Rattle.redo_gather.specs.OneStream.{Completes}
+use Rattle.redo_gather.specs.Private.OneStream.{Completes}
 use Rattle.redo_gather.specs.Streams.{SomeStreams, logs_of, fault_among}
 use Rattle.redo_gather.proofs.GatheredLemmas.{Gathered, count_logs, next_runs, one_gathered, fault_gathered, all_gathered, all_targets, all_have_ended}
 

@@ -1,17 +1,8 @@
 -- The faults of a gathering.
 use Rattle.std.specs.Prelude.{ℕ, Result, Ok, Err}
 use Rattle.redo_line.specs.declared.stream_fault.StreamFault.{StreamFault}
-use Rattle.redo_line.specs.declared.stream_fault.StreamFault.TheVariants as stream
 use Rattle.redo_gather.specs.declared.gather_fault.GatherFault.{GatherFault}
 use Rattle.redo_gather.specs.declared.gather_fault.GatherFault.TheVariants.{Stream, OutOfMemory}
-
--- what the fault of a stream is for the gathering
-abbrev pub fault_of_stream : ℕ → StreamFault → GatherFault
-fault_of_stream number (stream.BadRecord line) = Stream number (stream.BadRecord line)
-fault_of_stream number (stream.AfterClose line) = Stream number (stream.AfterClose line)
-fault_of_stream number stream.TooLong = Stream number stream.TooLong
-fault_of_stream number stream.Read = Stream number stream.Read
-fault_of_stream number stream.OutOfMemory = OutOfMemory
 
 -- a fact of a stream's fault, and of its number
 abbrev pub IfStreamFault : {A : Type 0} → Result A GatherFault → (ℕ → StreamFault → Type 0) → Type 0

@@ -1,4 +1,4 @@
 pub mod GatherFault
-pub mod OneStream
 pub mod Plan
+pub mod Private
 pub mod Streams

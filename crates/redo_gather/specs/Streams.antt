@@ -1,6 +1,6 @@
 -- The logs of a set of streams, and its fault. Targets and streams stand in two lists of one length, each target with
 -- the stream at the same place.
-use Rattle.std.specs.Prelude.{◌≡◌, ℕ, List, [], ◌∷◌, Option, None, Some, map, zip}
+use Rattle.std.specs.Prelude.{◌≡◌, ◌↔◌, ℕ, List, [], ◌∷◌, Option, None, Some, IsSome, map, zip}
 use Rattle.std.specs.Option.{option_map}
 use Rattle.redo_line.specs.declared.entry.Entry.{Entry}
 use Rattle.redo_line.specs.declared.stream_fault.StreamFault.{StreamFault}
@@ -53,3 +53,23 @@ logs_of max_bytes targets streams = all_of (map (log_with max_bytes) (zip target
 -- the least number of a stream that has a fault, and its fault
 abbrev pub fault_among : ℕ → List (List ℕ) → List Stream → Option (ℕ × StreamFault)
 fault_among max_bytes targets streams = first_fault (map (fault_with max_bytes) (zip targets streams))
+
+-- these are the logs of the streams that readers give
+abbrev pub AreLogs : ℕ → List (List ℕ) → List (Option Stream) → List Log → Type 0
+AreLogs max_bytes targets told logs = SomeStreams told (λ streams. logs_of max_bytes targets streams ≡ Some logs)
+
+-- this is the fault among the streams that readers give
+abbrev pub IsFault : ℕ → List (List ℕ) → List (Option Stream) → ℕ → StreamFault → Type 0
+IsFault max_bytes targets told number fault = SomeStreams told (λ streams. fault_among max_bytes targets streams ≡ Some (number, fault))
+
+-- there are logs exactly where there is no fault
+abbrev pub HasLogsUnlessFault : ℕ → List (List ℕ) → List Stream → Type 0
+HasLogsUnlessFault max_bytes targets streams = IsSome (logs_of max_bytes targets streams) ↔ (fault_among max_bytes targets streams ≡ None)
+
+-- logs that these streams are told to have, they have; and so a fault among them
+abbrev pub TellsLogs : ℕ → List (List ℕ) → List Stream → Type 0
+TellsLogs max_bytes targets streams = (logs : List Log) → AreLogs max_bytes targets (map Some streams) logs → logs_of max_bytes targets streams ≡ Some logs
+
+abbrev pub TellsFault : ℕ → List (List ℕ) → List Stream → Type 0
+TellsFault max_bytes targets streams =
+    (number : ℕ) (fault : StreamFault) → IsFault max_bytes targets (map Some streams) number fault → fault_among max_bytes targets streams ≡ Some (number, fault)

@@ -1,6 +1,6 @@
 ghost use Rattle.std.specs.Prelude.{◌≡◌};
 ghost use Rattle.redo_gather.specs.declared.gather_fault.GatherFault.TheVariants.{OutOfMemory};
-ghost use Rattle.redo_gather.specs.GatherFault.{fault_of_stream};
+ghost use Rattle.redo_gather.specs.Private.GatherFault.{fault_of_stream};
 
 use redo_line::StreamFault;
 use std::alloc::{AllocError, AllocFailed};

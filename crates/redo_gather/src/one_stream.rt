@@ -1,11 +1,10 @@
-ghost use Rattle.std.specs.Prelude.{◌≡◌, ◌≢◌, ◌<◌, ◌≤◌, ◌^◌, ◌⊎◌, ◌++◌, ℕ, List, Some, IfErr, OnOk, length, slice_get};
+ghost use Rattle.std.specs.Prelude.{◌≡◌, ◌≢◌, ◌<◌, ◌≤◌, ◌^◌, List, None, Some, IfErr, OnOk, length, slice_get};
 ghost use Rattle.redo_line.specs.Feed.{SomeStream};
-ghost use Rattle.redo_line.specs.Log.{fault_of};
-ghost use Rattle.redo_line.specs.Scan.{so_far};
+ghost use Rattle.redo_line.specs.Scan.{took};
 ghost use Rattle.redo_line.specs.declared.stream_fault.StreamFault.TheVariants.{OutOfMemory, Read};
 ghost use Rattle.redo_logs.specs.declared.log_state.LogState.TheVariants.{Running};
 ghost use Rattle.redo_logs.specs.Logs.{Log, states_of};
-ghost use Rattle.redo_gather.specs.OneStream.{Grew, Completes};
+ghost use Rattle.redo_gather.specs.Private.OneStream.{Grew, Completes, CompletesTaken, IsFaultBehind, IsFaultOfTold};
 
 use redo_line::{Broken, Feed, Scan, Step, StreamFault, TargetName};
 use redo_logs::LogTable;
@@ -27,7 +26,7 @@ pub fn gather_stream<R: Feed>(
     requires room { 0 < length buf.old }
     requires running { slice_get (states_of table.old) number ≡ Some Running }
     ensures log { OnOk result (SomeStream (R.tells reader.old) (λ stream. Completes target max_bytes number stream table.old table.new)) }
-    ensures fault { IfErr result (λ fault. (fault ≡ OutOfMemory) ⊎ SomeStream (R.tells reader.old) (λ stream. fault_of target max_bytes stream ≡ Some fault)) }
+    ensures fault { IfErr result (IsFaultOfTold target max_bytes (R.tells reader.old)) }
     ensures buf { length buf.new ≡ length buf.old }
 {
     let mut scan = Scan::new(alloc, target, max_bytes);
@@ -44,8 +43,8 @@ pub fn gather_stream<R: Feed>(
 // Adds the entry of the unended line, if there is one, and ends the log.
 fn complete(table: &mut LogTable, number: u32, scan: Scan) -> Result<(), StreamFault>
     requires running { slice_get (states_of table.old) number ≡ Some Running }
-    ensures log { (bytes : List ℕ) (begun : List Log) → Grew number scan bytes begun table.old → OnOk result (Completes scan.progress.target scan.progress.max_bytes number (so_far bytes) begun table.new) }
-    ensures fault { (bytes : List ℕ) (begun : List Log) → Grew number scan bytes begun table.old → IfErr result (λ fault. fault ≡ OutOfMemory) }
+    ensures log { (begun : List Log) → Grew number scan begun table.old → OnOk result (CompletesTaken number scan begun table.new) }
+    ensures fault { scan.refused ≡ None → IfErr result (λ fault. fault ≡ OutOfMemory) }
 {
     if let Some(last) = scan.finish()? {
         table.add(number, last)?;
@@ -62,11 +61,10 @@ fn add_piece(
     piece: &[u8],
 ) -> Result<(), StreamFault>
     requires running { slice_get (states_of table.old) number ≡ Some Running }
-    ensures grew { (bytes : List ℕ) (begun : List Log) → Grew number scan.old bytes begun table.old → OnOk result (Grew number scan.new (bytes ++ piece.now) begun table.new) }
-    ensures fault { (bytes : List ℕ) (begun : List Log) → Grew number scan.old bytes begun table.old → IfErr result (λ fault. (fault ≡ OutOfMemory) ⊎ (fault_of scan.old.progress.target scan.old.progress.max_bytes (so_far (bytes ++ piece.now)) ≡ Some fault)) }
+    ensures grew { (begun : List Log) → Grew number scan.old begun table.old → OnOk result (Grew number scan.new begun table.new) }
+    ensures took { scan.old.refused ≡ None → OnOk result (scan.new ≡ took piece.now scan.old) }
+    ensures fault { scan.old.refused ≡ None → IfErr result (IsFaultBehind scan.old piece.now) }
     ensures reads_nothing { IfErr result (λ fault. fault ≢ Read) }
-    ensures target { scan.new.progress.target ≡ scan.old.progress.target }
-    ensures max_bytes { scan.new.progress.max_bytes ≡ scan.old.progress.max_bytes }
     ensures states { states_of table.new ≡ states_of table.old }
 {
     let mut from = 0;

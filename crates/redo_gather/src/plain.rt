@@ -1,10 +1,10 @@
-ghost use Rattle.std.specs.Prelude.{◌≡◌, ◌≢◌, ◌<◌, ◌≤◌, ◌^◌, true, Some, IfOk, nat_eq, length, map};
+ghost use Rattle.std.specs.Prelude.{◌≡◌, ◌≢◌, ◌<◌, ◌≤◌, ◌^◌, true, IfOk, nat_eq, length, map};
 ghost use Rattle.std.specs.List.{IsDistinct, list_all};
 ghost use Rattle.std.specs.Cmp.Lexicographic.{pointwise};
 ghost use Rattle.redo_line.specs.declared.stream_fault.StreamFault.TheVariants.{OutOfMemory};
 ghost use Rattle.redo_logs.specs.Logs.{new_log, most, targets_of, has_ended};
 ghost use Rattle.redo_gather.specs.GatherFault.{IfStreamFault};
-ghost use Rattle.redo_gather.specs.Streams.{SomeStreams, logs_of, fault_among};
+ghost use Rattle.redo_gather.specs.Streams.{AreLogs, IsFault};
 
 use crate::gather_fault::GatherFault;
 use crate::one_stream::gather_stream;
@@ -35,12 +35,12 @@ pub fn gather_plain<R: Feed>(
     requires size { length names.items ≤ most }
 
     // The logs of the streams, all of them whole.
-    ensures logs { IfOk result (λ table. SomeStreams (map R.tells readers.items) (λ streams. logs_of max_bytes names.items streams ≡ Some table)) }
+    ensures logs { IfOk result (AreLogs max_bytes names.items (map R.tells readers.items)) }
     ensures targets { IfOk result (λ table. targets_of table ≡ names.items) }
     ensures ended { IfOk result (λ table. list_all has_ended table ≡ true) }
 
     // The fault of the least-numbered stream that has one.
-    ensures fault { IfStreamFault result (λ number fault. SomeStreams (map R.tells readers.items) (λ streams. fault_among max_bytes names.items streams ≡ Some (number, fault))) }
+    ensures fault { IfStreamFault result (IsFault max_bytes names.items (map R.tells readers.items)) }
     ensures number { IfStreamFault result (λ number fault. number < length names.items) }
     ensures no_memory { IfStreamFault result (λ number fault. fault ≢ OutOfMemory) }
 {

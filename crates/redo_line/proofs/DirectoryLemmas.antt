@@ -3,26 +3,29 @@ use Rattle.std.proofs.Common.{◌≡◌, ℕ, ◌<◌, Bool, true, false, cond, 
 use Rattle.std.specs.List.{AllByRecursion, onto_first, join_with_byte}
 use Rattle.std.proofs.lemmas.Bool.{eqb-true, eqb-false}
 use Rattle.std.proofs.lemmas.List.{append-nil, take_at}
-use Rattle.redo_line.specs.Names.{slash, HasNoSlash, segments, is_absolute, without_last, from_back, left_of, written, directory_of, normal}
-use Rattle.redo_line.specs.Path.{built, StandsFor, StandsForMore, Adds}
+use Rattle.redo_line.specs.Names.{slash, segments, is_absolute, without_last, from_back, left_of, written, directory_of, normal, HasNoSlash}
+use Rattle.redo_line.specs.Private.Path.{built, StandsFor, StandsForMore, Adds}
 use Rattle.redo_line.proofs.NameLemmas.{cut, cut-cons, cut-free, cut-each, left_again, left_some}
 use Rattle.redo_line.proofs.SegmentLemmas.{Some_first, cut-some}
 use Rattle.redo_line.proofs.PathLemmas.{AfterSlash, WithoutSlash, join_some}
 
--- the segments of what has a slash, by its last one
-cut-last_by : (byte : ℕ) (front last : List ℕ) (is : Bool) → eqb byte slash ≡ is → Some_first (cut front) → cut (front ++ slash ∷ last) ≡ cut front ++ last ∷ []
-    → cut (byte ∷ (front ++ slash ∷ last)) ≡ cut (byte ∷ front) ++ last ∷ []
-cut-last_by byte front last true is some rest =
-    cut-cons byte (front ++ slash ∷ last) true is ∙ ap (λ ps. [] ∷ ps) rest ∙ ap (λ ps. ps ++ last ∷ []) (sym (cut-cons byte front true is))
-cut-last_by byte front last false is some rest =
-    cut-cons byte (front ++ slash ∷ last) false is ∙ ap (onto_first byte) (rest ∙ ap (λ ps. ps ++ last ∷ []) some.2)
-    ∙ ap (λ ps. ps ++ last ∷ []) (sym (cut-cons byte front false is ∙ ap (onto_first byte) some.2))
+-- the segments of what stands before a slash and behind it
+cut-slash_by : (byte : ℕ) (front more : List ℕ) (is : Bool) → eqb byte slash ≡ is → Some_first (cut front) → cut (front ++ slash ∷ more) ≡ cut front ++ cut more
+    → cut (byte ∷ (front ++ slash ∷ more)) ≡ cut (byte ∷ front) ++ cut more
+cut-slash_by byte front more true is some rest =
+    cut-cons byte (front ++ slash ∷ more) true is ∙ ap (λ ps. [] ∷ ps) rest ∙ ap (λ ps. ps ++ cut more) (sym (cut-cons byte front true is))
+cut-slash_by byte front more false is some rest =
+    cut-cons byte (front ++ slash ∷ more) false is ∙ ap (onto_first byte) (rest ∙ ap (λ ps. ps ++ cut more) some.2)
+    ∙ ap (λ ps. ps ++ cut more) (sym (cut-cons byte front false is ∙ ap (onto_first byte) some.2))
 
-cut-last : (front last : List ℕ) → HasNoSlash last → cut (front ++ slash ∷ last) ≡ cut front ++ last ∷ []
-cut-last [] last free = cut-cons slash last true refl ∙ ap (λ ps. [] ∷ ps) (cut-free last free)
-cut-last (byte ∷ front) last free = cut-last_by byte front last (eqb byte slash) refl (cut-some front) (cut-last front last free)
+pub cut-slash : (front more : List ℕ) → cut (front ++ slash ∷ more) ≡ cut front ++ cut more
+cut-slash [] more = cut-cons slash more true refl
+cut-slash (byte ∷ front) more = cut-slash_by byte front more (eqb byte slash) refl (cut-some front) (cut-slash front more)
 
-without_last-push : (parts : List (List ℕ)) (last : List ℕ) → without_last (parts ++ last ∷ []) ≡ parts
+pub cut-last : (front last : List ℕ) → HasNoSlash last → cut (front ++ slash ∷ last) ≡ cut front ++ last ∷ []
+cut-last front last free = cut-slash front last ∙ ap (λ ps. cut front ++ ps) (cut-free last free)
+
+pub without_last-push : (parts : List (List ℕ)) (last : List ℕ) → without_last (parts ++ last ∷ []) ≡ parts
 without_last-push [] last = refl
 without_last-push (part ∷ []) last = refl
 without_last-push (part ∷ next ∷ parts) last = ap (λ ps. part ∷ ps) (without_last-push (next ∷ parts) last)

@@ -5,7 +5,7 @@ use Rattle.redo_line.specs.declared.entry.Entry.{Entry}
 use Rattle.redo_line.specs.declared.stream_fault.StreamFault.{StreamFault}
 use Rattle.redo_line.specs.declared.stream_fault.StreamFault.TheVariants.{BadRecord, AfterClose}
 use Rattle.redo_line.specs.Log.{closes, first_fault}
-use Rattle.redo_line.specs.Scan.{closed_by}
+use Rattle.redo_line.specs.Private.Progress.{closed_by}
 
 -- of entries without a fault, only their number and the last of them tell what the fault behind them is
 pub first_fault-append-none : (closed : Bool) (line : ℕ) (xs ys : List (Option Entry)) → first_fault closed line xs ≡ None

@@ -5,13 +5,14 @@ use Rattle.std.proofs.lemmas.Bool.{ltb-true, ltb-false, lt-ltb, le-ltb}
 use Rattle.std.proofs.lemmas.List.{append_assoc, map-append, length-append, length-map, take_all, take-append-le}
 use Rattle.redo_line.specs.declared.entry.Entry.{Entry}
 use Rattle.redo_line.specs.declared.stream_fault.StreamFault.{StreamFault}
-use Rattle.redo_line.specs.declared.stream_fault.StreamFault.TheVariants.{AfterClose, TooLong, Read}
+use Rattle.redo_line.specs.declared.stream_fault.StreamFault.TheVariants.{BadRecord, AfterClose, TooLong, Read, OutOfMemory}
 use Rattle.redo_line.specs.Entry.{entry_of}
+use Rattle.redo_line.specs.Laws.{IsMetEarly}
 use Rattle.redo_line.specs.Fault.{ending_fault}
 use Rattle.redo_line.specs.Feed.{Stream}
 use Rattle.redo_line.specs.Lines.{with_line_feed, ended, rest, unended}
 use Rattle.redo_line.specs.Log.{stream_of, line_entries, entries_of, first_fault, line_fault, or_else, fault_of, lines_before, part_of, unless_fault, log_of}
-use Rattle.redo_line.specs.Scan.{closed_by}
+use Rattle.redo_line.specs.Private.Progress.{closed_by}
 use Rattle.redo_line.proofs.EntryListLemmas.{first_fault-append-none, first_fault-append-some, IsFaultAt, fault_within, each_some}
 use Rattle.redo_line.proofs.LineLemmas.{ended-append, rest-append, are_lines}
 
@@ -106,6 +107,13 @@ early_fault target max_bytes bytes more failed fails fault other is = by (early 
         let over : max_bytes < length (bytes ++ more) = omega (arith, length-append bytes more) in
         ap (λ o. or_else o (ending_fault max_bytes (stream_of (bytes ++ more) fails))) (ap (line_fault target) same ∙ long.0)
         ∙ ap (λ b. cond b (Some TooLong) (cond fails (Some Read) None)) (lt-ltb max_bytes (length (bytes ++ more)) over) ∙ ap Some (sym long.2)
+
+pub not_a_read : (fault : StreamFault) → IsMetEarly fault → fault ≢ Read
+not_a_read (BadRecord line) met is = absurd (cc)
+not_a_read (AfterClose line) met is = absurd (cc)
+not_a_read TooLong met is = absurd (cc)
+not_a_read Read met is = absurd met
+not_a_read OutOfMemory met is = absurd met
 
 -- lines that stand behind the one at fault are not before it
 pub lines_before-append : (place : ℕ) (fault : StreamFault) (lines more : List (List ℕ)) → IsFaultAt 1 place fault → place ≤ length lines

@@ -3,7 +3,8 @@ use Rattle.std.proofs.Common.{◌≡◌, ℕ, ◌&&◌, true, false, List, [], �
 use Rattle.std.specs.Prelude.{option_map}
 use Rattle.std.proofs.lemmas.Bool.{and_left, and_right}
 use Rattle.redo_line.specs.Parts.{parted, behind}
-use Rattle.redo_line.specs.Record.{colon, at_sign, space, is_kind, is_pid, is_time, checked, kind_and_text, fields_of}
+use Rattle.redo_line.specs.Record.{colon, at_sign, space, is_kind, is_pid, is_time, checked, fields_of}
+use Rattle.redo_line.specs.Private.Record.{kind_and_text}
 
 pub if_none : {X : Type 0} (result : Option X) (P : Type 0) → P → IfNone result P
 if_none None P p = p

@@ -2,7 +2,12 @@
 use Rattle.std.proofs.Common.{◌≡◌, ℕ, ◌<◌, ◌≤◌, Bool, true, false, List, [], ◌∷◌, ◌++◌, Option, None, Some, Ok, Err, length, take, drop, refl, sym, ◌∙◌, ap, subst, arith, le_refl}
 use Rattle.std.proofs.lemmas.List.{append_assoc, append-nil, length-append, take-append-drop}
 use Rattle.redo_line.specs.declared.feed.Broken.{Broken}
-use Rattle.redo_line.specs.Feed.{Stream, Pulls, Gave, SomeStream}
+use Rattle.redo_line.specs.Feed.{Stream, Pulls, SomeStream}
+
+-- these bytes came since a reader told `first`, and now it tells `now`
+abbrev pub Gave : Option Stream → List ℕ → Option Stream → Type 0
+Gave None bytes now = now ≡ None
+Gave (Some stream) bytes now = (coming : Stream) × (now ≡ Some coming) × (stream.bytes ≡ bytes ++ coming.bytes) × (stream.fails ≡ coming.fails)
 
 pub Gave-none : (told : Option Stream) → Gave told [] told
 Gave-none None = refl

@@ -5,12 +5,15 @@ mod EntryLemmas
 mod EntryListLemmas
 pub mod FaultLemmas
 mod FieldLemmas
+mod FirstByteLemmas
 mod FirstPlace
 pub mod GaveLemmas
 mod LeastFaultLemmas
 pub mod LineLemmas
 mod LineRows
+pub mod LogLemmas
 mod LogRows
+mod NameLaws
 mod NameLemmas
 mod NameRows
 mod Numbers

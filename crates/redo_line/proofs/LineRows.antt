@@ -21,6 +21,10 @@ a_line_and_a_rest : (ended (codes "abc" ++ line_feed ∷ codes "d") ≡ codes "a
 unfolding cutting ended rest
 a_line_and_a_rest = (refl, refl)
 
+a_carriage_return_stays : all_lines (codes "a" ++ 13 ∷ line_feed ∷ []) ≡ (codes "a" ++ 13 ∷ []) ∷ []
+unfolding cutting ended rest
+a_carriage_return_stays = refl
+
 empty_lines : all_lines (line_feed ∷ line_feed ∷ codes " a " ++ line_feed ∷ codes " b") ≡ [] ∷ [] ∷ codes " a " ∷ codes " b" ∷ []
 unfolding cutting ended rest
 empty_lines = refl

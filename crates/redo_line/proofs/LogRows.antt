@@ -15,6 +15,7 @@ use Rattle.redo_line.specs.Log.{stream_of, first_fault, fault_of, part_of, log_o
 use Rattle.redo_line.specs.Names.{from_back, normal}
 use Rattle.redo_line.specs.Parts.{parted, behind}
 use Rattle.redo_line.specs.Record.{fields_of, status_of}
+use Rattle.redo_line.specs.Scan.{Scanned, RefusesFirst}
 
 abbrev line : List ℕ → List ℕ
 line text = text ++ line_feed ∷ []
@@ -44,6 +45,7 @@ logs =
     has_log (codes "all") most (codes "x") (Text (codes "x") ∷ []) ∷
     has_log (codes "all") most (codes "@@REDO:do:7") (Text (codes "@@REDO:do:7") ∷ []) ∷
     has_log (codes "a") most closing (Closing (pos 0) ∷ []) ∷
+    has_log (codes "a") most (codes "@@REDO:done:7:1.0000@@ 0 a") (Text (codes "@@REDO:done:7:1.0000@@ 0 a") ∷ []) ∷
     has_log (codes "b") most (closing ++ codes "z") (Done (pos 0) (codes "a") ∷ Text (codes "z") ∷ []) ∷
     has_log (codes "a") 27 closing (Closing (pos 0) ∷ []) ∷
     has_log (codes "all") 4 (line (codes "abc")) (Text (codes "abc") ∷ []) ∷
@@ -52,7 +54,7 @@ logs =
 
 these_logs : AllByRecursion (λ row. log_of row.target row.max_bytes (stream_of row.bytes false) ≡ Some row.log) logs
 unfolding cutting ended rest first_fault entry_of record_entry fields_of status_of parted behind number normal from_back
-these_logs = (refl, (refl, (refl, (refl, (refl, (refl, (refl, (refl, (refl, tt)))))))))
+these_logs = (refl, (refl, (refl, (refl, (refl, (refl, (refl, (refl, (refl, (refl, tt))))))))))
 
 record FaultRow : Type 0 where
   target : List ℕ
@@ -72,6 +74,7 @@ faults =
     has_fault (codes "all") most (bad ++ line (codes "ok")) false (BadRecord 1) [] ∷
     has_fault (codes "a") most (closing ++ codes "z") false (AfterClose 2) (Closing (pos 0) ∷ []) ∷
     has_fault (codes "a") most (closing ++ bad) false (AfterClose 2) (Closing (pos 0) ∷ []) ∷
+    has_fault (codes "a") most (closing ++ line (codes "t")) false (AfterClose 2) (Closing (pos 0) ∷ []) ∷
     has_fault (codes "a") 28 (closing ++ codes "z") false (AfterClose 2) (Closing (pos 0) ∷ []) ∷
     has_fault (codes "a") 27 (closing ++ codes "z") false TooLong (Closing (pos 0) ∷ []) ∷
     has_fault (codes "a") 26 (closing ++ codes "z") false TooLong [] ∷
@@ -86,12 +89,31 @@ faults =
 
 these_faults : AllByRecursion (λ row. fault_of row.target row.max_bytes (stream_of row.bytes row.fails) ≡ Some row.fault) faults
 unfolding cutting ended rest first_fault entry_of record_entry fields_of status_of parted behind number normal from_back
-these_faults = (refl, (refl, (refl, (refl, (refl, (refl, (refl, (refl, (refl, (refl, (refl, (refl, (refl, (refl, tt))))))))))))))
+these_faults = (refl, (refl, (refl, (refl, (refl, (refl, (refl, (refl, (refl, (refl, (refl, (refl, (refl, (refl, (refl, tt)))))))))))))))
 
 these_parts : AllByRecursion (λ row. part_of row.target row.max_bytes (stream_of row.bytes row.fails) ≡ row.part) faults
 unfolding cutting ended rest first_fault entry_of record_entry fields_of status_of parted behind number normal from_back
-these_parts = (refl, (refl, (refl, (refl, (refl, (refl, (refl, (refl, (refl, (refl, (refl, (refl, (refl, (refl, tt))))))))))))))
+these_parts = (refl, (refl, (refl, (refl, (refl, (refl, (refl, (refl, (refl, (refl, (refl, (refl, (refl, (refl, (refl, tt)))))))))))))))
 
 a_fault_leaves_no_log : log_of (codes "a") most (stream_of bad false) ≡ None
 unfolding cutting ended rest first_fault entry_of record_entry fields_of status_of parted behind number normal from_back
 a_fault_leaves_no_log = refl
+
+a_failed_read_leaves_no_log : log_of (codes "a") most (stream_of (line (codes "x")) true) ≡ None
+unfolding cutting ended rest first_fault entry_of record_entry fields_of status_of parted behind number normal from_back
+a_failed_read_leaves_no_log = refl
+
+-- a scan that took a closing record, and one that took as many bytes as it may
+abbrev behind_closing : Scanned
+behind_closing = record { target = codes "a"; max_bytes = most; bytes = closing; refused = None }
+
+abbrev at_the_limit : Scanned
+at_the_limit = record { target = codes "a"; max_bytes = 27; bytes = closing; refused = None }
+
+a_late_byte_is_refused_first : RefusesFirst behind_closing (codes "zz") (AfterClose 2)
+unfolding cutting ended rest first_fault entry_of record_entry fields_of status_of parted behind number normal from_back
+a_late_byte_is_refused_first = record { refused_none = refl; of_place = tt; fault_is = refl }
+
+a_byte_too_many_is_refused_first : RefusesFirst at_the_limit (codes "zz") TooLong
+unfolding cutting ended rest first_fault entry_of record_entry fields_of status_of parted behind number normal from_back
+a_byte_too_many_is_refused_first = record { refused_none = refl; of_place = tt; fault_is = refl }

@@ -3,8 +3,8 @@ use Rattle.std.proofs.Common.{◌≡◌, ◌≢◌, ℕ, zero, suc, ◌+◌, ◌
 use Rattle.std.specs.List.{AllByRecursion, slice_split, onto_first, join_with_byte}
 use Rattle.std.proofs.lemmas.Bool.{ne_eqb, eqb-false, false≢true}
 use Rattle.std.proofs.lemmas.List.{append-nil}
-use Rattle.redo_line.specs.Path.{IsLeft}
-use Rattle.redo_line.specs.Names.{slash, HasNoSlash, dot_dot, segments, is_absolute, without_last, Kind, Skipped, Upward, Ordinary, kind_of, Behind, taken_off, in_front, from_back, left_of, written, directory_of, normal, IsNormal}
+use Rattle.redo_line.specs.Private.Path.{IsLeft}
+use Rattle.redo_line.specs.Names.{slash, dot_dot, segments, is_absolute, without_last, Kind, Skipped, Upward, Ordinary, kind_of, Behind, taken_off, in_front, from_back, left_of, written, directory_of, normal, IsNormal, HasNoSlash}
 
 abbrev pub Each : List (List ℕ) → Type 0
 Each parts = AllByRecursion HasNoSlash parts

@@ -6,8 +6,8 @@ use Rattle.std.proofs.lemmas.List.{append_assoc, append-nil, length-append, get_
 use Rattle.std.proofs.lemmas.List.Concat.{flat_map-append}
 use Rattle.std.proofs.lemmas.List.Elements.{All-from_recursion}
 use Rattle.memchr.specs.Find.{Passes, Nowhere, NoneAfter, is_byte}
-use Rattle.redo_line.specs.Names.{slash, dot_dot, HasNoSlash, Kind, Skipped, Upward, Ordinary, kind_of, from_back, left_of, in_front, taken_off}
-use Rattle.redo_line.specs.Path.{built, StandsFor, StandsForMore, Adds, EndsSo, with_separator}
+use Rattle.redo_line.specs.Names.{slash, dot_dot, Kind, Skipped, Upward, Ordinary, kind_of, from_back, left_of, in_front, taken_off, HasNoSlash}
+use Rattle.redo_line.specs.Private.Path.{built, StandsFor, StandsForMore, Adds, EndsSo, with_separator}
 use Rattle.redo_line.proofs.NameLemmas.{Each, AllOrdinary, from_back-cons, from_back-behind, each-append, each-upward, left_some}
 
 -- the last slash stands before what holds none

@@ -4,7 +4,8 @@ use Rattle.std.specs.List.{flat_map}
 use Rattle.std.proofs.lemmas.List.{length-append, length-take, length-drop, drop_more, drop_all, drop-drop, take_at, take-append-le, drop-append-le}
 use Rattle.redo_line.specs.declared.feed.Broken.{Broken}
 use Rattle.redo_line.specs.Feed.{InMidst, PullsFrom}
-use Rattle.redo_line.specs.Pieces.{Reads, stream_of, from_first_byte, GivesFirst, without_front, unread}
+use Rattle.redo_line.specs.Pieces.{Reads, stream_of, from_first_byte, GivesFirst}
+use Rattle.redo_line.specs.Private.Pieces.{without_front, unread}
 
 without_front-none : (reads : List (List ℕ)) → without_front 0 reads ≡ reads
 without_front-none [] = refl

@@ -32,6 +32,7 @@ abbrev rows : List Row
 rows =
     text (codes "hello") ∷
     text [] ∷
+    text (codes "t ") ∷
     text (codes "x @@REDO:do:7:1@@ a") ∷
     text (codes "@@REDO") ∷
     unended (codes "@@REDO:do:7:1.0000@@ a") ∷
@@ -43,6 +44,7 @@ rows =
     row (codes "@@REDO:unchanged:7:1@@ x") (Some (Mention Unchanged (codes "x"))) ∷
     row (codes "@@REDO:done:7:1@@ 2 b") (Some (Done (pos 2) (codes "b"))) ∷
     row (codes "@@REDO:done:7:1@@ -11 b") (Some (Done (negsuc 10) (codes "b"))) ∷
+    row (codes "@@REDO:done:7:1@@ -12 b") (Some (Done (negsuc 11) (codes "b"))) ∷
     row (codes "@@REDO:done:7:1@@ -0 b") (Some (Done (pos 0) (codes "b"))) ∷
     row (codes "@@REDO:done:7:1@@ 007  b") (Some (Done (pos 7) (codes " b"))) ∷
     row (codes "@@REDO:done:7:1@@ 0 ./all") (Some (Closing (pos 0))) ∷
@@ -68,7 +70,7 @@ rows =
 
 all_rows : AllByRecursion (λ row. entry_of (codes "all") row.line row.ended ≡ row.entry) rows
 unfolding entry_of record_entry fields_of status_of parted behind number normal from_back
-all_rows = (refl, (refl, (refl, (refl, (refl, (refl, (refl, (refl, (refl, (refl, (refl, (refl, (refl, (refl, (refl, (refl, (refl, (refl, (refl, (refl, (refl, (refl, (refl, (refl, (refl, (refl, (refl, (refl, (refl, (refl, (refl, (refl, (refl, (refl, tt))))))))))))))))))))))))))))))))))
+all_rows = (refl, (refl, (refl, (refl, (refl, (refl, (refl, (refl, (refl, (refl, (refl, (refl, (refl, (refl, (refl, (refl, (refl, (refl, (refl, (refl, (refl, (refl, (refl, (refl, (refl, (refl, (refl, (refl, (refl, (refl, (refl, (refl, (refl, (refl, (refl, (refl, tt))))))))))))))))))))))))))))))))))))
 
 -- in the log of another target names are relative to its directory
 in_a_directory : entry_of (codes "d/a") (codes "@@REDO:do:7:1@@ ../e//x") true ≡ Some (Mention Made (codes "e/x"))

@@ -8,7 +8,8 @@ use Rattle.redo_line.specs.Entry.{entry_of}
 use Rattle.redo_line.specs.Fault.{ending_fault}
 use Rattle.redo_line.specs.Lines.{cutting, ended, rest, unended}
 use Rattle.redo_line.specs.Log.{line_entries, entries_of, first_fault, line_fault, or_else, fault_of, unless_fault, log_of}
-use Rattle.redo_line.specs.Scan.{Progress, so_far, IsAfter, entries_in, Refuses, text_of}
+use Rattle.redo_line.specs.Scan.{so_far, entries_so_far, text_of}
+use Rattle.redo_line.specs.Private.Progress.{Progress, IsAfter, Refuses}
 use Rattle.redo_line.proofs.EntryListLemmas.{IsFaultAt}
 use Rattle.redo_line.proofs.FaultLemmas.{rest_entries, fault_line}
 use Rattle.redo_line.proofs.ScanLemmas.{found, fine_is, part_u}
@@ -37,7 +38,7 @@ not_read p u left fault (inl memory) read = absurd (cc)
 not_read p u left fault (inr refuses) read = so_far_not_read p.target p.max_bytes (u ++ left) fault refuses.fault_is read
 
 -- the entries that lines have
-each_found : (target : List ℕ) (lines : List (List ℕ)) → filter_map (λ entry. entry) (line_entries target lines) ≡ found target lines
+pub each_found : (target : List ℕ) (lines : List (List ℕ)) → filter_map (λ entry. entry) (line_entries target lines) ≡ found target lines
 each_found target [] = refl
 each_found target (line ∷ lines) = ap (cons_option (entry_of target line true)) (each_found target lines)
 
@@ -47,18 +48,18 @@ rest_found target [] = refl
 rest_found target (byte ∷ last) = refl
 
 -- the entries found and the unended line are the log
-pub whole_log : (p : Progress) (bytes : List ℕ) → IsAfter p bytes → log_of p.target p.max_bytes (so_far bytes) ≡ Some (entries_in p bytes ++ option_to_list (text_of (unended (rest bytes))))
+pub whole_log : (p : Progress) (bytes : List ℕ) → IsAfter p bytes → log_of p.target p.max_bytes (so_far bytes) ≡ Some (entries_so_far p.target p.max_bytes bytes ++ option_to_list (text_of (unended (rest bytes))))
 whole_log p bytes after =
     ap (λ o. unless_fault o (filter_map (λ entry. entry) (entries_of p.target bytes))) after.fine
     ∙ ap Some (filter_map-append (λ entry. entry) (line_entries p.target (ended bytes)) (rest_entries p.target (rest bytes))
     ∙ ap (λ es. es ++ filter_map (λ entry. entry) (rest_entries p.target (rest bytes))) (each_found p.target (ended bytes) ∙ sym (part_u p bytes after))
-    ∙ ap (λ es. entries_in p bytes ++ es) (rest_found p.target (rest bytes)))
+    ∙ ap (λ es. entries_so_far p.target p.max_bytes bytes ++ es) (rest_found p.target (rest bytes)))
 
 -- as the code tells them apart
 pub log_with : (p : Progress) (bytes : List ℕ) (after : IsAfter p bytes) (last : Option (List ℕ)) → last ≡ unended p.kept
-    → log_of p.target p.max_bytes (so_far bytes) ≡ Some (entries_in p bytes ++ option_to_list (text_of last))
+    → log_of p.target p.max_bytes (so_far bytes) ≡ Some (entries_so_far p.target p.max_bytes bytes ++ option_to_list (text_of last))
 log_with p bytes after last is =
-    whole_log p bytes after ∙ ap (λ o. Some (entries_in p bytes ++ option_to_list (text_of o))) (sym (is ∙ ap unended after.kept_is))
+    whole_log p bytes after ∙ ap (λ o. Some (entries_so_far p.target p.max_bytes bytes ++ option_to_list (text_of o))) (sym (is ∙ ap unended after.kept_is))
 
 -- before the first byte
 pub nothing_yet : (target : List ℕ) (max_bytes : ℕ) (kept : List ℕ) → kept ≡ []
@@ -72,6 +73,6 @@ nothing_yet target max_bytes kept none = record {
   closed_is = refl;
 }
 
-pub none_found : (p : Progress) → IsAfter p [] → entries_in p [] ≡ []
+pub none_found : (p : Progress) → IsAfter p [] → entries_so_far p.target p.max_bytes [] ≡ []
 unfolding cutting ended
 none_found p after = part_u p [] after

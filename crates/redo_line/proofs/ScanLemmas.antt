@@ -13,7 +13,8 @@ use Rattle.redo_line.specs.Entry.{entry_of}
 use Rattle.redo_line.specs.Fault.{ending_fault}
 use Rattle.redo_line.specs.Lines.{line_feed, with_line_feed, ended, rest}
 use Rattle.redo_line.specs.Log.{closes, line_entries, entries_of, first_fault, line_fault, or_else, fault_of, lines_before, part_of}
-use Rattle.redo_line.specs.Scan.{Progress, so_far, closed_by, IsAfter, entries_in, EndsLine, Refuses}
+use Rattle.redo_line.specs.Scan.{so_far, entries_so_far, EndsLine, EndsNone}
+use Rattle.redo_line.specs.Private.Progress.{Progress, closed_by, IsAfter, Refuses}
 use Rattle.redo_line.proofs.EntryListLemmas.{first_fault-append-none, first_fault-front-none, closed_by-append, first_fault-bad, first_fault-fine, first_fault-nil, IsFaultAt}
 use Rattle.redo_line.proofs.FaultLemmas.{rest_entries, entries_of-append, late_byte, lines_before-append, no_fault}
 use Rattle.redo_line.proofs.LineLemmas.{ended-append, are_lines}
@@ -42,7 +43,7 @@ at_line target max_bytes front bytes fault front_is some =
     ap (λ f. or_else (line_fault target f) (ending_fault max_bytes (so_far bytes))) front_is
     ∙ ap (λ o. or_else o (ending_fault max_bytes (so_far bytes))) some
 
-fine_part : (target : List ℕ) (max_bytes : ℕ) (bytes : List ℕ) → fault_of target max_bytes (so_far bytes) ≡ None → length bytes ≤ max_bytes
+pub fine_part : (target : List ℕ) (max_bytes : ℕ) (bytes : List ℕ) → fault_of target max_bytes (so_far bytes) ≡ None → length bytes ≤ max_bytes
     → part_of target max_bytes (so_far bytes) ≡ found target (ended bytes)
 fine_part target max_bytes bytes none within =
     ap (λ o. found target (lines_before o (ended (take max_bytes bytes)))) none ∙ ap (λ f. found target (ended f)) (take_all max_bytes bytes within)
@@ -97,7 +98,7 @@ module _ (p : Progress) (u : List ℕ) (after : IsAfter p u) where
       ap (first_fault false 1) (entries_of-append p.target u a) ∙ goes_on (entries_of p.target (rest u ++ a))
       ∙ ap (λ (k : List ℕ). first_fault p.closed (p.lines + 1) (entries_of p.target (k ++ a))) (sym after.kept_is)
 
-  pub part_u : entries_in p u ≡ found p.target (ended u)
+  pub part_u : entries_so_far p.target p.max_bytes u ≡ found p.target (ended u)
   part_u = fine_part p.target p.max_bytes u after.fine fine_u.1
 
   module _ (left a : List ℕ) (a_is : a ≡ take (p.max_bytes - p.taken) left) where
@@ -110,7 +111,7 @@ module _ (p : Progress) (u : List ℕ) (after : IsAfter p u) where
     refuses_line : (fault : StreamFault) → IsFaultAt 1 p.lines fault → line_fault p.target (u ++ a) ≡ Some fault → (more : List (List ℕ)) → ended (u ++ a) ≡ ended u ++ more → Refuses p u left fault
     refuses_line fault at some more lines = record {
       fault_is = at_line p.target p.max_bytes (u ++ a) (u ++ left) fault front_is some;
-      part_is =
+      entries =
           ap (λ o. found p.target (lines_before o (ended (take p.max_bytes (u ++ left))))) (at_line p.target p.max_bytes (u ++ a) (u ++ left) fault front_is some)
           ∙ ap (λ (f : List ℕ). found p.target (lines_before (Some fault) (ended f))) front_is
           ∙ ap (λ ls. found p.target (lines_before (Some fault) ls)) lines
@@ -193,14 +194,14 @@ module _ (p : Progress) (u : List ℕ) (after : IsAfter p u) where
           closed_is = closed_is ∙ sym (ap (closed_by false) (entries_then ∙ ap (λ e. before ++ e ∷ []) entry_is) ∙ closed_by-append false before (Some entry ∷ []));
         }
 
-        pub ends_line : EndsLine p.target u slice entry
-        ends_line = record { line = line; lines_are = lines_then; nothing_behind = rest_then; entry_is = entry_is }
-
-        pub one_entry_more : entries_in p (u ++ slice) ≡ entries_in p u ++ entry ∷ []
+        one_entry_more : entries_so_far p.target p.max_bytes (u ++ slice) ≡ entries_so_far p.target p.max_bytes u ++ entry ∷ []
         one_entry_more =
             fine_part p.target p.max_bytes (u ++ slice) fine_then slice_within
             ∙ ap (found p.target) lines_then ∙ filter_map-append (λ line. entry_of p.target line true) (ended u) (line ∷ [])
             ∙ ap (λ e. found p.target (ended u) ++ cons_option e []) entry_is ∙ ap (λ es. es ++ entry ∷ []) (sym part_u)
+
+        pub ends_line : EndsLine p.target p.max_bytes u slice entry
+        ends_line = record { fine = fine_then; line = line; lines_are = lines_then; nothing_behind = rest_then; entry_is = entry_is; entries = one_entry_more }
 
     -- bytes in which no line ends
     module _ (kept : List ℕ) (cut : Cuts p.kept a [] kept) (open_log : (p.closed ≡ false) ⊎ (a ≡ [])) where
@@ -230,7 +231,7 @@ module _ (p : Progress) (u : List ℕ) (after : IsAfter p u) where
           let fault = too_long p.target p.max_bytes (u ++ a) (u ++ left) front_is still_fine over in
           record {
             fault_is = fault;
-            part_is =
+            entries =
                 ap (λ o. found p.target (lines_before o (ended (take p.max_bytes (u ++ left))))) fault
                 ∙ ap (λ (f : List ℕ). found p.target (ended f)) front_is ∙ ap (found p.target) no_line ∙ sym part_u;
           }
@@ -239,7 +240,7 @@ module _ (p : Progress) (u : List ℕ) (after : IsAfter p u) where
         fine_all : fault_of p.target p.max_bytes (so_far (u ++ left)) ≡ None
         fine_all = ap (λ (b : List ℕ). fault_of p.target p.max_bytes (so_far (u ++ b))) all ∙ fine_is p.target p.max_bytes (u ++ a) still_fine a_within
 
-        pub same_lines : ended (u ++ left) ≡ ended u
+        same_lines : ended (u ++ left) ≡ ended u
         same_lines = ap (λ (b : List ℕ). ended (u ++ b)) all ∙ no_line
 
         pub after_rest : (taken : ℕ) → taken ≡ p.taken + length left
@@ -252,10 +253,13 @@ module _ (p : Progress) (u : List ℕ) (after : IsAfter p u) where
           closed_is = after.closed_is ∙ ap (λ ls. closed_by false (line_entries p.target ls)) (sym same_lines);
         }
 
-        pub same_entries : entries_in p (u ++ left) ≡ entries_in p u
+        same_entries : entries_so_far p.target p.max_bytes (u ++ left) ≡ entries_so_far p.target p.max_bytes u
         same_entries =
             let within = ap (λ (b : List ℕ). length (u ++ b)) all in let fits = a_within in
             fine_part p.target p.max_bytes (u ++ left) fine_all (omega (arith, within, fits)) ∙ ap (found p.target) same_lines ∙ sym part_u
+
+        pub ends_none : EndsNone p.target p.max_bytes u left
+        ends_none = record { fine = fine_all; lines = same_lines; entries = same_entries }
 
 -- the number of the line behind them is none that a machine can't hold
 pub next_line_fits : (now p : Progress) → p ≡ now → (u : List ℕ) → IsAfter now u → now.max_bytes ≤ 2 ^ 40 → Fits w64 (p.lines + 1)

@@ -1,8 +1,9 @@
 -- What one step of a scan gives, by what its cutter found in the bytes of a piece that are within the limit.
-use Rattle.std.proofs.Common.{◌≡◌, ◌⊎◌, inl, inr, ℕ, ◌+◌, ◌-◌, ◌<◌, ◌≤◌, ◌==◌, ◌&&◌, not, Bool, true, false, List, [], ◌∷◌, ◌++◌, None, Some, Result, Ok, Err, IfErr, IsErrAnd, length, take, drop, refl, sym, ◌∙◌, ap, subst, arith}
+use Rattle.std.proofs.Common.{◌≡◌, ◌⊎◌, inl, inr, ℕ, zero, suc, ◌+◌, ◌-◌, ◌<◌, ◌≤◌, Bool, true, false, List, [], ◌∷◌, ◌++◌, None, Some, Result, Ok, Err, IfErr, IsErrAnd, length, take, drop, refl, sym, ◌∙◌, ap, subst, arith}
 use Rattle.std.specs.List.{slice_range}
-use Rattle.std.proofs.lemmas.Bool.{and_parts, and_cases, eqb-true, not-false}
-use Rattle.std.proofs.lemmas.List.{length-take, take_all, take-append-le, take-append-drop, nil_from_length}
+use Rattle.std.proofs.lemmas.List.{append-nil, length-take, take_all, take-append-le, take-append-drop}
+use Rattle.std.proofs.Math.Seq.{take-nil}
+use Rattle.std.proofs.lemmas.Option.{same_Some}
 use Rattle.redo_line.specs.declared.cutter.Cut.{Cut}
 use Rattle.redo_line.specs.declared.cutter.Cut.TheVariants.{Line, More}
 use Rattle.redo_line.specs.declared.entry.Entry.{Entry}
@@ -10,9 +11,10 @@ use Rattle.redo_line.specs.declared.stream_fault.StreamFault.{StreamFault}
 use Rattle.redo_line.specs.declared.stream_fault.StreamFault.TheVariants.{BadRecord, AfterClose, TooLong, OutOfMemory}
 use Rattle.redo_line.specs.Cut.{Cuts, IfLine, IfMore}
 use Rattle.redo_line.specs.Entry.{entry_of}
+use Rattle.redo_line.specs.Lines.{ended, rest}
 use Rattle.redo_line.specs.Log.{closes}
-use Rattle.redo_line.specs.Scan.{Progress, IsAfter, Finds, TakesAll, Refuses}
-use Rattle.redo_line.proofs.ScanLemmas.{late_refuses, bad_refuses, after_line, ends_line, one_entry_more, long_refuses, same_lines, after_rest, same_entries}
+use Rattle.redo_line.specs.Private.Progress.{Progress, IsAfter, Finds, TakesAll, Refuses, byte_fault, first_byte_fault}
+use Rattle.redo_line.proofs.ScanLemmas.{late_refuses, bad_refuses, after_line, ends_line, long_refuses, after_rest, ends_none}
 
 -- what is known of a cutter's answer
 pub of_line : (cut : Cut) (bytes : List ℕ) (upto : ℕ) (P : List ℕ → ℕ → Type 0) → cut ≡ Line bytes upto → IfLine cut P → P bytes upto
@@ -26,17 +28,17 @@ pub handed_on : {X : Type 0} (result : Result X StreamFault) (given : StreamFaul
 handed_on (Ok step) given P is p = tt
 handed_on (Err fault) given P is p = subst P (sym is) p
 
-some_byte : (a : List ℕ) → not (length a == 0) ≡ true → (byte : ℕ) × (bytes : List ℕ) × (a ≡ byte ∷ bytes)
-some_byte [] is = absurd (cc)
-some_byte (byte ∷ bytes) is = (byte, bytes, refl)
-
-no_byte : (a : List ℕ) → not (length a == 0) ≡ false → a ≡ []
-no_byte a is = nil_from_length a (eqb-true (length a) 0 (not-false (length a == 0) is))
-
 -- a line without an entry is refused, if not for memory
 pub no_entry : (given : StreamFault) (number : ℕ) (none : Type 0) (P : StreamFault → Type 0) → (given ≡ OutOfMemory) ⊎ ((given ≡ BadRecord number) × none) → (none → P (BadRecord number)) → (given ≡ OutOfMemory) ⊎ P given
 no_entry given number none P (inl memory) bad = inl memory
 no_entry given number none P (inr is) bad = inr (subst P (sym is.0) (bad is.1))
+
+-- no byte ends no line
+cuts_nothing : (kept a : List ℕ) → a ≡ [] → Cuts kept a [] kept
+cuts_nothing kept a none taken is = (
+  ap (λ (b : List ℕ). ended (taken ++ b)) none ∙ ap ended (append-nil taken) ∙ sym (append-nil (ended taken)),
+  ap (λ (b : List ℕ). rest (taken ++ b)) none ∙ ap rest (append-nil taken) ∙ is,
+)
 
 -- The state of the scan as it is seen and as it was taken apart, the bytes taken before, the piece from a place on,
 -- and of this the bytes that are within the limit.
@@ -48,19 +50,46 @@ module _ (now p : Progress) (same : p ≡ now) (u : List ℕ) (after_now : IsAft
   refuses : (fault : StreamFault) → Refuses p u left fault → Refuses now u (drop from piece) fault
   refuses fault is = subst (λ (l : List ℕ). Refuses now u l fault) left_is (subst (λ q. Refuses q u left fault) same is)
 
-  pub refuses_late : (p.closed && not (length a == 0)) ≡ true → Refuses now u (drop from piece) (AfterClose (p.lines + 1))
-  refuses_late is =
-      let both = and_parts p.closed (not (length a == 0)) is in
-      let some = some_byte a both.1 in
-      refuses (AfterClose (p.lines + 1)) (late_refuses p u after left a a_is both.0 some.0 some.1 some.2)
+  -- what is known of the first byte
+  first_is : (byte : ℕ) (bytes : List ℕ) (room : ℕ) (closed : Bool) → left ≡ byte ∷ bytes → p.max_bytes - p.taken ≡ room → p.closed ≡ closed
+      → first_byte_fault p left ≡ byte_fault room p.lines closed
+  first_is byte bytes room closed some room_is closed_is = ap (first_byte_fault p) some ∙ ap (λ n. byte_fault n p.lines p.closed) room_is ∙ ap (byte_fault room p.lines) closed_is
 
-  module _ (is : (p.closed && not (length a == 0)) ≡ false) where
+  a_at : (room : ℕ) (bytes : List ℕ) → p.max_bytes - p.taken ≡ room → left ≡ bytes → a ≡ take room bytes
+  a_at room bytes room_is some = a_is ∙ ap (λ n. take n left) room_is ∙ ap (take room) some
+
+  -- it is at fault by where it stands
+  pub refuses_first : (fault : StreamFault) → first_byte_fault now left ≡ Some fault → Refuses now u (drop from piece) fault
+  refuses_first fault now_is = refuses fault (by left (p.max_bytes - p.taken) p.closed refl refl refl)
+    where
+      is : first_byte_fault p left ≡ Some fault
+      is = ap (λ q. first_byte_fault q left) same ∙ now_is
+
+      by : (bytes : List ℕ) (room : ℕ) (closed : Bool) → left ≡ bytes → p.max_bytes - p.taken ≡ room → p.closed ≡ closed → Refuses p u left fault
+      by [] room closed none room_is closed_is = absurd (let same = ap (first_byte_fault p) none in cc)
+      by (byte ∷ bytes) zero closed some room_is closed_is =
+          let told : Some TooLong ≡ Some fault = sym (first_is byte bytes zero closed some room_is closed_is) ∙ is in
+          let none : a ≡ [] = a_at zero (byte ∷ bytes) room_is some in
+          let fewer : length a < length left = omega (arith, ap length none, ap length some) in
+          subst (Refuses p u left) (same_Some TooLong fault told) (long_refuses p u after left a a_is p.kept (cuts_nothing p.kept a none) (inr none) fewer)
+      by (byte ∷ bytes) (suc room) true some room_is closed_is =
+          let told : Some (AfterClose (p.lines + 1)) ≡ Some fault = sym (first_is byte bytes (suc room) true some room_is closed_is) ∙ is in
+          subst (Refuses p u left) (same_Some (AfterClose (p.lines + 1)) fault told) (late_refuses p u after left a a_is closed_is byte (take room bytes) (a_at (suc room) (byte ∷ bytes) room_is some))
+      by (byte ∷ bytes) (suc room) false some room_is closed_is = absurd (let told = sym (first_is byte bytes (suc room) false some room_is closed_is) ∙ is in cc)
+
+  -- it is not
+  module _ (now_is : first_byte_fault now left ≡ None) where
+    is : first_byte_fault p left ≡ None
+    is = ap (λ q. first_byte_fault q left) same ∙ now_is
+
     open_or_none : (p.closed ≡ false) ⊎ (a ≡ [])
-    open_or_none = by (and_cases p.closed (not (length a == 0)) is)
+    open_or_none = by left (p.max_bytes - p.taken) p.closed refl refl refl
       where
-        by : (p.closed ≡ false) ⊎ (not (length a == 0) ≡ false) → (p.closed ≡ false) ⊎ (a ≡ [])
-        by (inl open_log) = inl open_log
-        by (inr none) = inr (no_byte a none)
+        by : (bytes : List ℕ) (room : ℕ) (closed : Bool) → left ≡ bytes → p.max_bytes - p.taken ≡ room → p.closed ≡ closed → (p.closed ≡ false) ⊎ (a ≡ [])
+        by [] room closed none room_is closed_is = inr (a_at room [] room_is none ∙ take-nil room)
+        by (byte ∷ bytes) zero closed some room_is closed_is = absurd (let told = sym (first_is byte bytes zero closed some room_is closed_is) ∙ is in cc)
+        by (byte ∷ bytes) (suc room) true some room_is closed_is = absurd (let told = sym (first_is byte bytes (suc room) true some room_is closed_is) ∙ is in cc)
+        by (byte ∷ bytes) (suc room) false some room_is closed_is = inl closed_is
 
     module _ (line : List ℕ) (upto : ℕ) (place : (0 < upto) × (upto ≤ length a)) (cut : Cuts p.kept (slice_range a 0 upto) (line ∷ []) []) where
       slice_is : slice_range piece from (from + upto) ≡ take upto a
@@ -92,9 +121,8 @@ module _ (now p : Progress) (same : p ≡ now) (u : List ℕ) (after_now : IsAft
           let parts = sym (take-append-drop upto a) in
           let behind = after_line p u after left a a_is (take upto a) (drop upto a) line cut_front parts open_log entry entry_is kept (p.taken + upto) closed none (ap (λ n. p.taken + n) (sym size)) closed_is in
           let ends = ends_line p u after left a a_is (take upto a) (drop upto a) line cut_front parts open_log entry entry_is in
-          let more = one_entry_more p u after left a a_is (take upto a) (drop upto a) line cut_front parts open_log entry entry_is in
           let then : Progress = record { target = p.target; max_bytes = p.max_bytes; kept = kept; taken = p.taken + upto; lines = p.lines + 1; closed = closed } in
-          let finds : Finds p then u (take upto a) entry = record { after = behind; ends = ends; entries = more } in
+          let finds : Finds p then u (take upto a) entry = record { after = behind; ends = ends } in
           subst (λ (s : List ℕ). Finds now then u s entry) (sym slice_is) (subst (λ (q : Progress). Finds q then u (take upto a) entry) same finds)
 
     module _ (kept : List ℕ) (cut : Cuts p.kept a [] kept) where
@@ -107,8 +135,7 @@ module _ (now p : Progress) (same : p ≡ now) (u : List ℕ) (after_now : IsAft
           let few = ap length a_is ∙ length-take (p.max_bytes - p.taken) left in
           let all : left ≡ a = sym (a_is ∙ take_all (p.max_bytes - p.taken) left (omega (arith, few, fits))) in
           let behind = after_rest p u after left a a_is kept cut open_or_none all (p.taken + length left) refl in
-          let lines = same_lines p u after left a a_is kept cut open_or_none all in
-          let entries = same_entries p u after left a a_is kept cut open_or_none all in
+          let ends = ends_none p u after left a a_is kept cut open_or_none all in
           let then : Progress = record { target = p.target; max_bytes = p.max_bytes; kept = kept; taken = p.taken + length left; lines = p.lines; closed = p.closed } in
-          let takes : TakesAll p then u left = record { after = behind; lines = lines; entries = entries } in
+          let takes : TakesAll p then u left = record { after = behind; ends = ends } in
           subst (λ (l : List ℕ). TakesAll now then u l) left_is (subst (λ (q : Progress). TakesAll q then u left) same takes)

@@ -1,7 +1,8 @@
 -- What a writer took in several writes.
 use Rattle.std.proofs.Common.{◌≡◌, ℕ, zero, suc, ◌+◌, List, ◌++◌, Option, Ok, take, drop, refl, sym, ◌∙◌, ap}
 use Rattle.std.proofs.Math.Seq.{take-add}
-use Rattle.redo_line.specs.Sink.{Taken, adds, adds-adds, after_push}
+use Rattle.redo_line.proofs.WritesLemmas.{adds-adds}
+use Rattle.redo_line.specs.Sink.{Taken, adds, after_push}
 
 after_push-some : (before : Option Taken) (bytes : List ℕ) (n : ℕ) → (n ≡ 0 → ⊥) → after_push before bytes (Ok n) ≡ adds before (take n bytes) 0
 after_push-some before bytes zero some = absurd (some refl)

@@ -1,10 +1,17 @@
 -- A text that is written in parts.
-use Rattle.std.proofs.Common.{◌≡◌, ◌+◌, ◌<◌, List, ℕ, ◌++◌, Option, Result, Ok, Err, length, take, sym, ◌∙◌, ap, arith}
+use Rattle.std.proofs.Common.{◌≡◌, ◌+◌, ◌<◌, List, ℕ, ◌++◌, Option, None, Some, Result, Ok, Err, length, take, refl, sym, ◌∙◌, ap, add_assoc, arith}
 use Rattle.std.specs.Result.{IsErr}
-use Rattle.std.proofs.lemmas.List.{length-append, take-append-le}
+use Rattle.std.proofs.lemmas.List.{append_assoc, length-append, take-append-le}
 use Rattle.std.proofs.Math.Seq.{take-append-add}
 use Rattle.redo_line.specs.declared.feed.Broken.{Broken}
-use Rattle.redo_line.specs.Sink.{Taken, adds, adds-adds, Writes}
+use Rattle.redo_line.specs.Sink.{Taken, adds, Writes}
+
+-- what came in two parts came as one
+pub adds-adds : (taken : Option Taken) (bytes more : List ℕ) (m n : ℕ) → adds (adds taken bytes m) more n ≡ adds taken (bytes ++ more) (m + n)
+adds-adds None bytes more m n = refl
+adds-adds (Some taken) bytes more m n =
+    ap (λ (b : List ℕ). Some (record { bytes = b; failures = (taken.failures + m) + n })) (append_assoc taken.bytes bytes more)
+    ∙ ap (λ (k : ℕ). Some (record { bytes = taken.bytes ++ (bytes ++ more); failures = k })) (add_assoc taken.failures m n)
 
 -- the last part, behind what was written
 pub then : (before middle after : Option Taken) (front part : List ℕ) (done : Result (Unit {0}) Broken) → middle ≡ adds before front 0 → Writes middle after part done → Writes before after (front ++ part) done

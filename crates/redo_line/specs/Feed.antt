@@ -1,5 +1,5 @@
 -- What a reader gives.
-use Rattle.std.specs.Prelude.{◌≡◌, ℕ, ◌<◌, ◌≤◌, Bool, true, false, List, [], ◌∷◌, ◌++◌, length, take, drop, Option, None, Some, Result, Ok, Err}
+use Rattle.std.specs.Prelude.{◌≡◌, ℕ, ◌<◌, ◌≤◌, Bool, true, false, List, [], ◌∷◌, length, take, drop, Option, None, Some, Result, Ok, Err}
 use Rattle.redo_line.specs.declared.feed.Broken.{Broken}
 
 -- the bytes that a reader gives from here on, and whether a failed read ends them; if not, an end of input does
@@ -33,11 +33,6 @@ PullsFrom (byte ∷ bytes) fails after answer buffer = InMidst (record { bytes =
 abbrev pub Pulls : Option Stream → Option Stream → Result ℕ Broken → List ℕ → Type 0
 Pulls None after answer buffer = after ≡ None
 Pulls (Some stream) after answer buffer = PullsFrom stream.bytes stream.fails after answer buffer
-
--- these bytes came since a reader told `first`, and now it tells `now`
-abbrev pub Gave : Option Stream → List ℕ → Option Stream → Type 0
-Gave None bytes now = now ≡ None
-Gave (Some stream) bytes now = (coming : Stream) × (now ≡ Some coming) × (stream.bytes ≡ bytes ++ coming.bytes) × (stream.fails ≡ coming.fails)
 
 -- a fact of the stream that a reader tells; of a reader that tells nothing it holds of some stream
 abbrev pub SomeStream : Option Stream → (Stream → Type 0) → Type 0

@@ -3,13 +3,14 @@ pub mod Decimal
 pub mod Entry
 pub mod Fault
 pub mod Feed
+pub mod Laws
 pub mod Line
 pub mod Lines
 pub mod Log
 pub mod Names
 pub mod Parts
-pub mod Path
 pub mod Pieces
+pub mod Private
 pub mod Record
 pub mod Scan
 pub mod Sink

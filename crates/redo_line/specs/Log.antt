@@ -44,11 +44,15 @@ IsAtFault target bytes line fault =
     (IsLate target bytes line × (fault ≡ AfterClose line))
     ⊎ ((IsLate target bytes line → ⊥) × IsBad target bytes line × (fault ≡ BadRecord line))
 
+-- a line that is neither
+abbrev pub IsFineLine : List ℕ → List ℕ → ℕ → Type 0
+IsFineLine target bytes line = (IsLate target bytes line → ⊥) × (IsBad target bytes line → ⊥)
+
 -- the fault of the least line that is late or bad
 pub record IsLeastFault (target bytes : List ℕ) (fault : StreamFault) : Type 0 where
   pub line : ℕ
   pub at_fault : IsAtFault target bytes line fault
-  pub none_before : (earlier : ℕ) → earlier < line → (IsLate target bytes earlier → ⊥) × (IsBad target bytes earlier → ⊥)
+  pub none_before : (earlier : ℕ) → earlier < line → IsFineLine target bytes earlier
 
 -- the entries of ended lines, each where it has one
 abbrev pub line_entries : List ℕ → List (List ℕ) → List (Option Entry)

@@ -25,12 +25,3 @@ GivesFirst [] fails after answer buffer = AtEnd fails answer × (after ≡ recor
 GivesFirst (read ∷ reads) fails after answer buffer =
     let n = min (length read) (length buffer) in
     (answer ≡ Ok n) × (take n buffer ≡ take n read) × (after ≡ record { reads = drop n read ∷ reads; fails = fails })
-
--- the first of these reads without its first n bytes, and the others
-abbrev pub without_front : ℕ → List (List ℕ) → List (List ℕ)
-without_front n [] = []
-without_front n (read ∷ reads) = drop n read ∷ reads
-
--- what is left to give of reads of which those before `at` were given, and so were `from` bytes of that one
-abbrev pub unread : List (List ℕ) → ℕ → ℕ → List (List ℕ)
-unread reads at from = without_front from (drop at reads)

@@ -120,10 +120,6 @@ fields_of bytes =
     (parted colon kind.1))
     (parted colon bytes)
 
--- of a record, what an entry is made of
-abbrev pub kind_and_text : Fields → List ℕ × List ℕ
-kind_and_text fields = (fields.kind, fields.text)
-
 abbrev pub status_behind : List ℕ → Option (List ℕ) → Option ℤ
 status_behind bytes None = option_and_then (λ (value : ℕ). Some (pos value)) (number_of 9 bytes)
 status_behind bytes (Some digits) = option_and_then (λ (value : ℕ). Some (neg_ℤ (pos value))) (number_of 9 digits)

@@ -1,7 +1,5 @@
 -- What a writer took.
-use Rattle.std.specs.Prelude.{◌≡◌, ◌<◌, length, ℕ, zero, suc, ◌+◌, List, [], ◌++◌, take, Option, None, Some, Result, Ok, Err, refl}
-use Rattle.std.proofs.Common.{add_assoc, ap, ◌∙◌}
-use Rattle.std.proofs.lemmas.List.{append_assoc}
+use Rattle.std.specs.Prelude.{◌≡◌, ◌<◌, length, ℕ, zero, suc, ◌+◌, List, [], ◌++◌, take, Option, None, Some, Result, Ok, Err}
 use Rattle.redo_line.specs.declared.feed.Broken.{Broken}
 
 -- the bytes that a writer took so far, and how often it failed or took none
@@ -13,13 +11,6 @@ pub record Taken : Type 0 where
 abbrev pub adds : Option Taken → List ℕ → ℕ → Option Taken
 adds None bytes failures = None
 adds (Some taken) bytes failures = Some (record { bytes = taken.bytes ++ bytes; failures = taken.failures + failures })
-
--- what came in two parts came as one
-pub adds-adds : (taken : Option Taken) (bytes more : List ℕ) (m n : ℕ) → adds (adds taken bytes m) more n ≡ adds taken (bytes ++ more) (m + n)
-adds-adds None bytes more m n = refl
-adds-adds (Some taken) bytes more m n =
-    ap (λ (b : List ℕ). Some (record { bytes = b; failures = (taken.failures + m) + n })) (append_assoc taken.bytes bytes more)
-    ∙ ap (λ (k : ℕ). Some (record { bytes = taken.bytes ++ (bytes ++ more); failures = k })) (add_assoc taken.failures m n)
 
 -- the bytes that one write took
 abbrev pub bytes_of : List ℕ → Result ℕ Broken → List ℕ

@@ -1,19 +1,20 @@
 //! Laws about the definitions alone: their contracts are theorems, and their bodies are empty.
-ghost use Rattle.std.specs.Prelude.{◌≡◌, ◌≢◌, ℕ, Bool, true, false, List, ◌++◌, Option, None, Some, IsSome, map};
-ghost use Rattle.redo_line.specs.declared.entry.Entry.{Entry};
+ghost use Rattle.std.specs.Prelude.{◌≡◌, ℕ, Bool, true, List, [], ◌++◌, Option, None, Some, IfSome, IsSome};
+ghost use Rattle.std.specs.List.{AllByRecursion};
 ghost use Rattle.redo_line.specs.declared.stream_fault.StreamFault.{StreamFault};
-ghost use Rattle.redo_line.specs.declared.stream_fault.StreamFault.TheVariants.{Read};
 ghost use Rattle.redo_line.specs.Entry.{IsEntry, entry_of};
 ghost use Rattle.redo_line.specs.Feed.{Stream};
+ghost use Rattle.redo_line.specs.Laws.{Goes, GoesWithUpward, IsOrdinary, IsRelative, StandsIn, Stay};
+ghost use Rattle.redo_line.specs.Laws.{IsOnly, IsOnlyCutting, HasEachEntry, ClosesLast, EarlyFaultStays, PartBeforeItStays, FailedReadIsFault, FailedReadLosesNone, EntriesLeadPart, EntriesLeadLog};
 ghost use Rattle.redo_line.specs.Lines.{AreLines, ended, rest};
-ghost use Rattle.redo_line.specs.Log.{IsLate, IsBad, IsLeastFault, stream_of, entries_of, line_fault, fault_of, part_of, log_of};
-ghost use Rattle.redo_line.specs.Names.{normal, IsNormal};
+ghost use Rattle.redo_line.specs.Log.{IsFineLine, IsLeastFault, line_fault, log_of};
+ghost use Rattle.redo_line.specs.Names.{dot, is_absolute, normal, HasNoSlash, IsNormal};
 ghost use Rattle.redo_line.specs.Record.{Fields, IsRecord};
 
 /// Bytes are cut into lines and a rest in just one way.
 pub fn one_cutting()
     ensures exists { (bytes : List ℕ) → AreLines bytes (ended bytes) (rest bytes) }
-    ensures only { (bytes : List ℕ) (lines : List (List ℕ)) (last : List ℕ) → AreLines bytes lines last → (lines ≡ ended bytes) × (last ≡ rest bytes) }
+    ensures only { (bytes : List ℕ) → IsOnlyCutting bytes (ended bytes) (rest bytes) }
 {}
 
 /// Of what was cut before, only the rest tells how the bytes after it are cut.
@@ -27,6 +28,23 @@ pub fn normal_form_of_normal_form()
     ensures { (of : Option (List ℕ)) (name value : List ℕ) → normal of name ≡ Some value → IsNormal value }
 {}
 
+/// Of a name's segments an empty one and `.` go; `..` goes, with an ordinary segment right before it; and
+/// where no such is left, `..` at the front and ordinary segments behind them, all stay.
+pub fn segments_of_a_name()
+    ensures empty { Goes [] }
+    ensures dot { Goes dot }
+    ensures upward { (segment : List ℕ) → IsOrdinary segment → GoesWithUpward segment }
+    ensures left { (ups : ℕ) (kept : List (List ℕ)) → AllByRecursion IsOrdinary kept → Stay ups kept }
+{}
+
+/// A name in the log of a target stands in the target's directory: for a target without a slash that is
+/// where it stands itself, and for another all before its last slash. An absolute name stands for itself.
+pub fn directory_of_a_name()
+    ensures beside { (target name : List ℕ) → HasNoSlash target → normal (Some target) name ≡ normal None name }
+    ensures within { (front last name : List ℕ) → HasNoSlash last → IsRelative name → StandsIn front last name }
+    ensures absolute { (of : Option (List ℕ)) (name : List ℕ) → is_absolute name ≡ true → normal of name ≡ normal None name }
+{}
+
 /// A record can be read in one way alone: it has one kind, pid, time and text.
 pub fn one_reading()
     ensures { (line : List ℕ) (fields others : Fields) → IsRecord line fields → IsRecord line others → fields ≡ others }
@@ -35,8 +53,8 @@ pub fn one_reading()
 /// The entry of a line that is computed is the one that the line has, if it has one; and every
 /// record has one.
 pub fn entry_of_a_line()
-    ensures is { (target line : List ℕ) (ended : Bool) (entry : Entry) → entry_of target line ended ≡ Some entry → IsEntry target line ended entry }
-    ensures only { (target line : List ℕ) (ended : Bool) (entry : Entry) → IsEntry target line ended entry → entry_of target line ended ≡ Some entry }
+    ensures is { (target line : List ℕ) (ended : Bool) → IfSome (entry_of target line ended) (IsEntry target line ended) }
+    ensures only { (target line : List ℕ) (ended : Bool) → IsOnly (IsEntry target line ended) (entry_of target line ended) }
     ensures record { (target line : List ℕ) (fields : Fields) → IsRecord line fields → IsSome (entry_of target line true) }
 {}
 
@@ -44,22 +62,35 @@ pub fn entry_of_a_line()
 pub fn least_line_at_fault()
     ensures some { (target bytes : List ℕ) (fault : StreamFault) → line_fault target bytes ≡ Some fault → IsLeastFault target bytes fault }
     ensures only { (target bytes : List ℕ) (fault : StreamFault) → IsLeastFault target bytes fault → line_fault target bytes ≡ Some fault }
-    ensures none { (target bytes : List ℕ) → line_fault target bytes ≡ None → (line : ℕ) → (IsLate target bytes line → ⊥) × (IsBad target bytes line → ⊥) }
+    ensures none { (target bytes : List ℕ) → line_fault target bytes ≡ None → (line : ℕ) → IsFineLine target bytes line }
 {}
 
-/// A fault that is met before a stream was read to its end is the fault of the whole stream.
+/// A bad record, a line behind the closing one or too many bytes are met before a stream was read to its
+/// end. Such a fault is that of the whole stream, and the same entries stand before it.
 pub fn early_fault()
-    ensures fault { (target : List ℕ) (max_bytes : ℕ) (bytes more : List ℕ) (failed fails : Bool) (fault : StreamFault) → fault ≢ Read → fault_of target max_bytes (stream_of bytes failed) ≡ Some fault → fault_of target max_bytes (stream_of (bytes ++ more) fails) ≡ Some fault }
-    ensures part { (target : List ℕ) (max_bytes : ℕ) (bytes more : List ℕ) (failed fails : Bool) (fault : StreamFault) → fault ≢ Read → fault_of target max_bytes (stream_of bytes failed) ≡ Some fault → part_of target max_bytes (stream_of (bytes ++ more) fails) ≡ part_of target max_bytes (stream_of bytes failed) }
+    ensures fault { (target : List ℕ) (max_bytes : ℕ) → EarlyFaultStays target max_bytes }
+    ensures part { (target : List ℕ) (max_bytes : ℕ) → PartBeforeItStays target max_bytes }
 {}
 
 /// Where a read fails behind bytes that have no fault, that is the fault, and no entry is lost.
 pub fn failed_read()
-    ensures fault { (target : List ℕ) (max_bytes : ℕ) (bytes : List ℕ) → fault_of target max_bytes (stream_of bytes false) ≡ None → fault_of target max_bytes (stream_of bytes true) ≡ Some Read }
-    ensures part { (target : List ℕ) (max_bytes : ℕ) (bytes : List ℕ) → fault_of target max_bytes (stream_of bytes false) ≡ None → part_of target max_bytes (stream_of bytes true) ≡ part_of target max_bytes (stream_of bytes false) }
+    ensures fault { (target : List ℕ) (max_bytes : ℕ) → FailedReadIsFault target max_bytes }
+    ensures part { (target : List ℕ) (max_bytes : ℕ) → FailedReadLosesNone target max_bytes }
+{}
+
+/// Where bytes have no fault, their entries are the first ones of every stream that begins with them: of
+/// those before its fault, if it has one, and of its log, if it has that.
+pub fn entries_stay()
+    ensures part { (target : List ℕ) (max_bytes : ℕ) → EntriesLeadPart target max_bytes }
+    ensures log { (target : List ℕ) (max_bytes : ℕ) → EntriesLeadLog target max_bytes }
 {}
 
 /// A log has one entry for each line of its stream, in order.
 pub fn an_entry_for_each_line()
-    ensures { (target : List ℕ) (max_bytes : ℕ) (stream : Stream) (entries : List Entry) → log_of target max_bytes stream ≡ Some entries → map Some entries ≡ entries_of target stream.bytes }
+    ensures { (target : List ℕ) (max_bytes : ℕ) (stream : Stream) → IfSome (log_of target max_bytes stream) (HasEachEntry target stream) }
+{}
+
+/// In a log nothing stands behind the record that closes it.
+pub fn closing_stands_last()
+    ensures { (target : List ℕ) (max_bytes : ℕ) (stream : Stream) → IfSome (log_of target max_bytes stream) ClosesLast }
 {}

@@ -13,6 +13,7 @@ mod decimal;
 mod entry;
 mod failures;
 mod feed;
+mod history;
 mod laws;
 mod line;
 mod line_text;
@@ -34,8 +35,9 @@ pub use decimal::read_number;
 pub use entry::{Entry, How};
 pub use feed::{Broken, Feed};
 pub use laws::{
-    an_entry_for_each_line, cutting_goes_on, early_fault, entry_of_a_line, failed_read,
-    least_line_at_fault, normal_form_of_normal_form, one_cutting, one_reading,
+    an_entry_for_each_line, closing_stands_last, cutting_goes_on, directory_of_a_name, early_fault,
+    entries_stay, entry_of_a_line, failed_read, least_line_at_fault, normal_form_of_normal_form,
+    one_cutting, one_reading, segments_of_a_name,
 };
 pub use line::{LineFault, read_line};
 pub use line_text::LineText;

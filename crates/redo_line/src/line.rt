@@ -3,7 +3,8 @@ ghost use Rattle.std.specs.List.{starts_with};
 ghost use Rattle.redo_line.specs.Parts.{parted};
 ghost use Rattle.redo_line.specs.Record.{mark, space};
 ghost use Rattle.redo_line.specs.Entry.{entry_of, behind_mark, done_parted};
-ghost use Rattle.redo_line.specs.Line.{bad_name, Reads};
+ghost use Rattle.redo_line.specs.Line.{bad_name};
+ghost use Rattle.redo_line.specs.Private.Line.{Reads};
 ghost use Rattle.redo_line.specs.declared.entry.Entry.TheVariants.{Text};
 ghost use Rattle.redo_line.specs.declared.line.LineFault.TheVariants.{BadRecord, OutOfMemory};
 

@@ -1,11 +1,12 @@
-ghost use Rattle.std.specs.Prelude.{◌≡◌, ℕ, ◌<◌, ◌↔◌, List, [], ◌++◌, Some, Err, IsTrue, IfOk, length, option_copied, if◌then◌else◌};
+ghost use Rattle.std.specs.Prelude.{◌≡◌, ◌<◌, ◌↔◌, [], Some, Err, IsTrue, IfOk, length, option_copied, if◌then◌else◌};
 ghost use Rattle.std.proofs.Common.{rules};
 ghost use Rattle.std.specs.Cmp.Rules.{hashing};
 ghost use Rattle.std.specs.Cmp.Lexicographic.{nat_list_eq_equiv, pointwise};
 ghost use Rattle.std.specs.Cmp.{partial_equiv_from_equiv};
 ghost use Rattle.std.specs.Prelude.{nat_eq};
 ghost use Rattle.std.specs.Hash as fed;
-ghost use Rattle.redo_line.specs.Names.{normal, segments, is_absolute, directory_of, from_back};
+ghost use Rattle.redo_line.specs.Names.{normal, segments, is_absolute, directory_of, IsNormal};
+ghost use Rattle.redo_line.specs.Private.Path.{LeavesSame};
 ghost use Rattle.redo_line.specs.declared.name.NameFault.TheVariants.{OutOfMemory};
 
 use crate::normal_form::{add_segments, last_segment};
@@ -68,9 +69,10 @@ impl TargetName {
         Ok(TargetName { bytes })
     }
 
-    /// The bytes of the name.
+    /// The bytes of the name, which are a normal form.
     pub fn bytes(&self) -> &[u8]
-        ensures { result.now ≡ self.now }
+        ensures bytes { result.now ≡ self.now }
+        ensures normal { IsNormal self.now }
     {
         &self.bytes
     }
@@ -79,7 +81,7 @@ impl TargetName {
     pub fn same(&self, other: &TargetName) -> bool
         ensures { IsTrue result ↔ (self.now ≡ other.now) }
     {
-        self.bytes() == other.bytes()
+        self == other
     }
 
     /// The same name again.
@@ -117,7 +119,7 @@ fn own_name(absolute: bool) -> u8
 // What a name is relative to: whether that is absolute, and the directory's name.
 fn directory<'a>(of: Option<&'a TargetName>, name: &[u8]) -> (bool, &'a [u8])
     ensures absolute { result.0 ≡ (directory_of (is_absolute name.now) (option_copied of.entry)).0 }
-    ensures segments { (behind : List (List ℕ)) → from_back (segments result.1.now ++ behind) ≡ from_back ((directory_of (is_absolute name.now) (option_copied of.entry)).1 ++ behind) }
+    ensures segments { LeavesSame (segments result.1.now) (directory_of (is_absolute name.now) (option_copied of.entry)).1 }
 {
     if begins_with_slash(name) {
         return (true, b"");

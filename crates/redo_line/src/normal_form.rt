@@ -1,8 +1,8 @@
 //! The way of a normal form from the front: the segments that stay so far are kept as the bytes of
 //! the name that they make, without the first slash of a relative one.
 ghost use Rattle.std.specs.Prelude.{◌≡◌, ℕ, ◌↔◌, ◌≤◌, List, [], ◌∷◌, ◌++◌, IsTrue, OnOk, length, take};
-ghost use Rattle.redo_line.specs.Names.{slash, HasNoSlash, kind_of, Skipped, Upward, segments};
-ghost use Rattle.redo_line.specs.Path.{Adds, EndsSo, with_separator};
+ghost use Rattle.redo_line.specs.Names.{slash, kind_of, Skipped, Upward, segments, HasNoSlash};
+ghost use Rattle.redo_line.specs.Private.Path.{Adds, EndsSo, with_separator};
 
 use bstr::ByteSlice;
 use memchr::memrchr;
@@ -79,7 +79,8 @@ fn is_upward(segment: &[u8]) -> bool
 /// What stands behind the last slash, and how many bytes stand before it. Without a slash it is
 /// all, with nothing before it.
 pub fn last_segment(name: &[u8]) -> (usize, &[u8])
-    ensures slash { (front last : List ℕ) → HasNoSlash last → name.now ≡ front ++ slash ∷ last → (result.0 ≡ length front) × (result.1.now ≡ last) }
+    ensures slash { (front last : List ℕ) → HasNoSlash last → name.now ≡ front ++ slash ∷ last →
+        (result.0 ≡ length front) × (result.1.now ≡ last) }
     ensures none { HasNoSlash name.now → (result.0 ≡ 0) × (result.1.now ≡ name.now) }
     ensures bound { result.0 ≤ length name.now }
 {

@@ -1,6 +1,7 @@
 ghost use Rattle.std.specs.Prelude.{◌≡◌, ◌<◌, ◌≤◌, Some, IfOk, map, length, slice_index_or, vec_len};
 ghost use Rattle.redo_line.specs.Feed.{Pulls};
-ghost use Rattle.redo_line.specs.Pieces.{Reads, stream_of, from_first_byte, GivesFirst, unread};
+ghost use Rattle.redo_line.specs.Pieces.{Reads, stream_of, from_first_byte, GivesFirst};
+ghost use Rattle.redo_line.specs.Private.Pieces.{unread_of};
 
 use crate::feed::{Broken, Feed};
 use std::marker::Model;
@@ -16,12 +17,13 @@ pub struct Pieces {
 }
 
 impl Model for Pieces {
-    ghost use Rattle.std.specs.Prelude.{◌<◌, ◌≤◌, map, length, slice_index_or, vec_len};
-    ghost use Rattle.redo_line.specs.Pieces.{Reads, unread};
+    ghost use Rattle.std.specs.Prelude.{◌≤◌, vec_len};
+    ghost use Rattle.redo_line.specs.Pieces.{Reads};
+    ghost use Rattle.redo_line.specs.Private.Pieces.{unread_of};
 
     ghost Value = { Reads };
 
-    ghost view = { λ pieces. record { reads = unread (map (λ read. read.items) pieces.reads.items) pieces.at pieces.from; fails = pieces.fails } };
+    ghost view = { λ pieces. record { reads = unread_of pieces.reads.items pieces.at pieces.from; fails = pieces.fails } };
 
     ghost invariant = { λ pieces. pieces.at ≤ vec_len pieces.reads };
 }
@@ -61,7 +63,7 @@ impl Pieces {
 // The place of the next byte to give: a read, and how many bytes of it were given.
 fn next_byte(reads: &[Vec<u8>], mut at: usize, mut from: usize) -> (usize, usize)
     requires { at ≤ length reads.now }
-    ensures reads { unread (map (λ read. read.items) reads.now) result.0 result.1 ≡ from_first_byte (unread (map (λ read. read.items) reads.now) at from) }
+    ensures reads { unread_of reads.now result.0 result.1 ≡ from_first_byte (unread_of reads.now at from) }
     ensures at { result.0 ≤ length reads.now }
     ensures byte { (v : _) → result.0 < length reads.now → result.1 < vec_len (slice_index_or reads.now result.0 v) }
 {

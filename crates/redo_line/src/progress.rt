@@ -1,7 +1,9 @@
-ghost use Rattle.std.specs.Prelude.{◌≡◌, ◌↔◌, Err, ◌==◌, ◌&&◌, not, ◌<◌, ◌≤◌, ◌^◌, ◌⊎◌, List, ℕ, true, None, Some, [], IfOk, IfErr, length, take, drop, slice_range};
+ghost use Rattle.std.specs.Prelude.{◌≡◌, ◌↔◌, Err, ◌<◌, ◌≤◌, ◌+◌, ◌^◌, ◌⊎◌, List, ℕ, true, None, Some, [], IfOk, IfErr, length, take, drop, slice_range};
 ghost use Rattle.redo_line.specs.Entry.{entry_of};
 ghost use Rattle.redo_line.specs.Lines.{unended};
-ghost use Rattle.redo_line.specs.Scan.{IsAfter, Finds, TakesAll, IfFound, IfMore, Refuses};
+ghost use Rattle.redo_line.specs.Private.Progress.{IsAfter, Finds, TakesAll, Refuses, first_byte_fault};
+ghost use Rattle.redo_line.specs.Scan.{IfFound, IfMore};
+ghost use Rattle.redo_line.specs.declared.stream_fault.StreamFault.{StreamFault};
 ghost use Rattle.redo_line.specs.declared.stream_fault.StreamFault.TheVariants.{BadRecord, OutOfMemory};
 
 use crate::cutter::{Cut, Cutter};
@@ -27,11 +29,18 @@ pub struct Progress {
 }
 
 impl Model for Progress {
-    ghost use Rattle.redo_line.specs.Scan as spec;
+    ghost use Rattle.redo_line.specs.Private.Progress as spec;
 
     ghost Value = { spec.Progress };
 
-    ghost view = { λ p. record { target = p.target; max_bytes = p.max_bytes; kept = p.cutter; taken = p.taken; lines = p.lines; closed = p.closed } };
+    ghost view = { λ p. record {
+      target = p.target;
+      max_bytes = p.max_bytes;
+      kept = p.cutter;
+      taken = p.taken;
+      lines = p.lines;
+      closed = p.closed;
+    } };
 }
 
 impl Progress {
@@ -58,20 +67,21 @@ impl Progress {
         requires limit { self.old.max_bytes ≤ 2 ^ 40 }
         requires after { (before : List ℕ) × IsAfter self.old before }
         ensures place { IfOk result (λ step. IfFound step (λ entry upto. (from < upto) × (upto ≤ length piece.now))) }
-        ensures found { (before : List ℕ) → IsAfter self.old before → IfOk result (λ step. IfFound step (λ entry upto. Finds self.old self.new before (slice_range piece.now from upto) entry)) }
-        ensures more { (before : List ℕ) → IsAfter self.old before → IfOk result (λ step. IfMore step (TakesAll self.old self.new before (drop from piece.now))) }
-        ensures refuses { (before : List ℕ) → IsAfter self.old before → IfErr result (λ fault. (fault ≡ OutOfMemory) ⊎ Refuses self.old before (drop from piece.now) fault) }
+        ensures found { (before : List ℕ) → IsAfter self.old before →
+            IfOk result (λ step. IfFound step (λ entry upto. Finds self.old self.new before (slice_range piece.now from upto) entry)) }
+        ensures more { (before : List ℕ) → IsAfter self.old before →
+            IfOk result (λ step. IfMore step (TakesAll self.old self.new before (drop from piece.now))) }
+        ensures refuses { (before : List ℕ) → IsAfter self.old before →
+            IfErr result (λ fault. (fault ≡ OutOfMemory) ⊎ Refuses self.old before (drop from piece.now) fault) }
+        ensures at_once { (fault : StreamFault) → first_byte_fault self.old (drop from piece.now) ≡ Some fault → result ≡ Err fault }
         ensures target { self.new.target ≡ self.old.target }
         ensures max_bytes { self.new.max_bytes ≡ self.old.max_bytes }
     {
         let left = &piece[from..];
-        let room = self.max_bytes - self.taken;
-        let allowed = within(left, room);
-        if is_late(self.closed, allowed) {
-            return Err(StreamFault::AfterClose {
-                line: self.lines + 1,
-            });
+        if let Some(fault) = self.first_byte_fault(left) {
+            return Err(fault);
         }
+        let allowed = within(left, self.max_bytes - self.taken);
         match self.cutter.next(allowed, 0)? {
             Cut::Line { bytes, upto } => {
                 let entry = read_entry(self.alloc, &self.target, bytes, self.lines + 1)?;
@@ -93,6 +103,26 @@ impl Progress {
         }
     }
 
+    // What the first of these bytes is at fault for by where it stands: past the limit, or behind the
+    // line that closes the log. To know it takes no memory.
+    fn first_byte_fault(&self, left: &[u8]) -> Option<StreamFault>
+        requires taken { self.now.taken ≤ self.now.max_bytes }
+        requires lines { self.now.lines + 1 < 2 ^ 64 }
+        ensures { result ≡ first_byte_fault self.now left.now }
+    {
+        if left.is_empty() {
+            None
+        } else if self.taken == self.max_bytes {
+            Some(StreamFault::TooLong)
+        } else if self.closed {
+            Some(StreamFault::AfterClose {
+                line: self.lines + 1,
+            })
+        } else {
+            None
+        }
+    }
+
     // The unended line of all bytes that were taken.
     pub fn finish(self) -> Option<LineText>
         ensures { result ≡ unended self.kept }
@@ -110,13 +140,6 @@ fn within(bytes: &[u8], room: u64) -> &[u8]
     } else {
         &bytes[..room as usize]
     }
-}
-
-// Whether bytes stand behind the line that closes the log.
-fn is_late(closed: bool, bytes: &[u8]) -> bool
-    ensures { result ≡ (closed && not (length bytes.now == 0)) }
-{
-    closed && !bytes.is_empty()
 }
 
 fn read_entry(

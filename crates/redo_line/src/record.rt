@@ -1,6 +1,7 @@
 ghost use Rattle.std.specs.Prelude.{◌≡◌, ◌≢◌, ◌<◌, [], None, Some, IfSome, IfNone, length, option_map};
 ghost use Rattle.std.specs.List.{list_all};
 ghost use Rattle.redo_line.specs.Decimal.{are_digits};
+ghost use Rattle.redo_line.specs.Private.Record.{kind_and_text};
 ghost use Rattle.redo_line.specs.Record as spec;
 
 use crate::decimal::{are_digits, read_number};
@@ -37,7 +38,7 @@ pub struct Fields<'a> {
 
 // Reads a record from what stands behind its mark.
 pub fn read_fields(bytes: &[u8]) -> Option<Fields<'_>>
-    ensures some { IfSome result (λ read. option_map spec.kind_and_text (spec.fields_of bytes.now) ≡ Some (read.kind.now, read.text.now)) }
+    ensures some { IfSome result (λ read. option_map kind_and_text (spec.fields_of bytes.now) ≡ Some (read.kind.now, read.text.now)) }
     ensures none { IfNone result (spec.fields_of bytes.now ≡ None) }
 {
     let (kind, behind) = split_at_first(b':', bytes)?;

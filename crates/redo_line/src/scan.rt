@@ -1,11 +1,12 @@
-ghost use Rattle.std.specs.Prelude.{◌≡◌, ◌≢◌, ◌<◌, ◌≤◌, ◌^◌, ◌⊎◌, ◌++◌, List, ℕ, [], None, Some, Ok, Err, IfOk, IfErr, OnOk, length, drop, slice_range, option_to_list};
+ghost use Rattle.std.specs.Prelude.{◌≡◌, ◌≢◌, ◌<◌, ◌≤◌, ◌^◌, ◌++◌, [], None, Some, Ok, Err, IfOk, IfErr, length, drop, slice_range, option_to_list};
 ghost use Rattle.redo_line.specs.Lines.{rest, unended};
 ghost use Rattle.redo_line.specs.Log.{log_of};
-ghost use Rattle.redo_line.specs.Scan.{Took, Finds, TakesAll, IfFound, IfMore, Refuses, entries_in, so_far, text_of};
+ghost use Rattle.redo_line.specs.Scan.{Finds, TakesAll, IfFound, IfMore, IsFine, MayRefuse, RefusesFirst, entries_in, refused_with, so_far, text_of};
 ghost use Rattle.redo_line.specs.declared.stream_fault.StreamFault.{StreamFault};
-ghost use Rattle.redo_line.specs.declared.stream_fault.StreamFault.TheVariants.{OutOfMemory, Read};
+ghost use Rattle.redo_line.specs.declared.stream_fault.StreamFault.TheVariants.{Read};
 
 use crate::entry::Entry;
+use crate::history::History;
 use crate::name::TargetName;
 use crate::progress::Progress;
 use crate::stream_fault::StreamFault;
@@ -21,21 +22,29 @@ pub enum Step {
     More,
 }
 
-/// Reads the log of a target from a stream that comes in pieces, up to the stream's fault.
+/// Reads the log of a target from a stream that comes in pieces, up to the stream's fault. It is seen
+/// as the bytes that it took, with the target, the limit, and what it refused.
 #[derive(Debug, Drop)]
 pub struct Scan {
     progress: Progress,
+    history: History,
     refused: Option<StreamFault>,
 }
 
 impl Model for Scan {
-    ghost use Rattle.redo_line.specs.Scan.{Scanned, IsScan};
+    ghost use Rattle.redo_line.specs.Scan.{Scanned};
+    ghost use Rattle.redo_line.specs.Private.Progress.{IsScan};
 
     ghost Value = { Scanned };
 
-    ghost view = { λ scan. record { progress = scan.progress; refused = scan.refused } };
+    ghost view = { λ scan. record {
+      target = scan.progress.target;
+      max_bytes = scan.progress.max_bytes;
+      bytes = scan.history.bytes;
+      refused = scan.refused;
+    } };
 
-    ghost invariant = { λ scan. IsScan (record { progress = scan.progress; refused = scan.refused }) };
+    ghost invariant = { λ scan. IsScan scan.progress scan.history.bytes scan.refused };
 }
 
 impl Scan {
@@ -44,13 +53,13 @@ impl Scan {
     pub fn new(alloc: Global, target: TargetName, max_bytes: u64) -> Scan
         requires at_least { 1 ≤ max_bytes }
         requires at_most { max_bytes ≤ 2 ^ 40 }
-        ensures took { Took result [] }
-        ensures none_found { entries_in result.progress [] ≡ [] }
-        ensures target { result.progress.target ≡ target }
-        ensures max_bytes { result.progress.max_bytes ≡ max_bytes }
+        ensures scan { result ≡ record { target = target; max_bytes = max_bytes; bytes = []; refused = None } }
+        ensures fine { IsFine result }
+        ensures none_found { entries_in result ≡ [] }
     {
         Scan {
             progress: Progress::new(alloc, target, max_bytes),
+            history: History::none(),
             refused: None,
         }
     }
@@ -66,27 +75,34 @@ impl Scan {
 
         // The bytes up to the place end one line more, which has this entry, and have no fault.
         ensures place { IfOk result (λ step. IfFound step (λ entry upto. (from < upto) × (upto ≤ length piece.now))) }
-        ensures found { (before : List ℕ) → Took self.old before → IfOk result (λ step. IfFound step (λ entry upto. Finds self.old.progress self.new.progress before (slice_range piece.now from upto) entry)) }
+        ensures found { IfOk result (λ step. IfFound step (λ entry upto. Finds self.old self.new (slice_range piece.now from upto) entry)) }
 
         // Or all that is left of the piece was taken. It ends no line more, and has no fault.
-        ensures more { (before : List ℕ) → Took self.old before → IfOk result (λ step. IfMore step (TakesAll self.old.progress self.new.progress before (drop from piece.now))) }
-        ensures goes_on { OnOk result (self.new.refused ≡ None) }
+        ensures more { IfOk result (λ step. IfMore step (TakesAll self.old self.new (drop from piece.now))) }
 
         // The bytes have this fault, and no entry more before it.
-        ensures refuses { (before : List ℕ) → Took self.old before → IfErr result (λ fault. (fault ≡ OutOfMemory) ⊎ Refuses self.old.progress before (drop from piece.now) fault) }
+        ensures refuses { self.old.refused ≡ None → IfErr result (MayRefuse self.old (drop from piece.now)) }
+
+        // Where the very first byte is late, or one too many, that is answered, without a request for memory.
+        ensures at_once { (fault : StreamFault) → RefusesFirst self.old (drop from piece.now) fault → result ≡ Err fault }
 
         // A refusal is kept, and answered to every call.
-        ensures kept { IfErr result (λ fault. self.new.refused ≡ Some fault) }
-        ensures again { (fault : StreamFault) → self.old.refused ≡ Some fault → (result ≡ Err fault) × (self.new ≡ self.old) }
+        ensures kept { IfErr result (λ fault. self.new ≡ refused_with fault self.old) }
+        ensures again { (fault : StreamFault) → self.old.refused ≡ Some fault → result ≡ Err fault }
         ensures reads_nothing { IfErr result (λ fault. fault ≢ Read) }
-        ensures target { self.new.progress.target ≡ self.old.progress.target }
-        ensures max_bytes { self.new.progress.max_bytes ≡ self.old.progress.max_bytes }
     {
         if let Some(fault) = self.refused {
             return Err(fault);
         }
         match self.progress.advance(piece, from) {
-            Ok(step) => Ok(step),
+            Ok(Step::Found { entry, upto }) => {
+                self.history = History::then(&self.history, &piece[from..upto]);
+                Ok(Step::Found { entry, upto })
+            }
+            Ok(Step::More) => {
+                self.history = History::then(&self.history, &piece[from..]);
+                Ok(Step::More)
+            }
             Err(fault) => {
                 self.refused = Some(fault);
                 Err(fault)
@@ -97,8 +113,9 @@ impl Scan {
     /// The unended line of all bytes that were taken, as text, or `None` if there is none. What was
     /// refused before is answered again.
     pub fn finish(self) -> Result<Option<Entry>, StreamFault>
-        ensures rest { (bytes : List ℕ) → Took self bytes → result ≡ Ok (text_of (unended (rest bytes))) }
-        ensures log { (bytes : List ℕ) → Took self bytes → IfOk result (λ last. log_of self.progress.target self.progress.max_bytes (so_far bytes) ≡ Some (entries_in self.progress bytes ++ option_to_list last)) }
+        ensures rest { self.refused ≡ None → result ≡ Ok (text_of (unended (rest self.bytes))) }
+        ensures log { self.refused ≡ None →
+            IfOk result (λ last. log_of self.target self.max_bytes (so_far self.bytes) ≡ Some (entries_in self ++ option_to_list last)) }
         ensures again { (fault : StreamFault) → self.refused ≡ Some fault → result ≡ Err fault }
         ensures reads_nothing { IfErr result (λ fault. fault ≢ Read) }
     {

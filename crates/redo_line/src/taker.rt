@@ -23,7 +23,7 @@ impl Model for Taker {
 
     ghost Value = { Held };
 
-    ghost view = { λ taker. record { bytes = taker.held.items; failures = taker.failures.count; room = taker.room; per_call = taker.per_call } };
+    ghost view = { λ t. record { bytes = t.held.items; failures = t.failures.count; room = t.room; per_call = t.per_call } };
 
     ghost invariant = { λ taker. (vec_len taker.held ≤ taker.room) × (taker.room ≤ vec_capacity taker.held) };
 }

@@ -1,135 +1,157 @@
-//! Measures how fast bytes are scanned, how fast their entries go into a table of logs, and how
-//! fast the logs of files are gathered, beside a plain search for line feeds; and how fast the logs
-//! of a build are viewed, beside the writing of their finished text.
-//!
-//! With the argument `measure` it goes over inputs of 64 MiB in memory and prints tables of times.
-//! `view` prints a table of times of a view. `write INPUT` writes the files of eight streams into
-//! the directory in which it runs, and `gather INPUT` reads them there and prints a table of times
-//! and memory; an input is `text` or `records`. With `check`, or without an argument, it goes over
-//! small inputs in memory and prints what was found, and no time. Ways that find different numbers
-//! are an error, and the status is then 1.
+//! Measures the calls of the libraries: scans of bytes, the table of logs, a gathering on one thread
+//! and a view; bench/README.md has what each row is. With the argument `measure` it prints a table of
+//! times. Else it goes over less, prints what was found, and no time. Where ways find different
+//! numbers the status is 1.
 #![tactic(auto)]
 
-mod build;
-mod checks;
-mod failure;
-mod files;
-mod fill;
-mod fill_times;
-mod gather_times;
-mod gathering;
-mod input;
-mod pass;
-mod peak;
-mod report;
-mod target_times;
-mod targets;
-mod times;
-mod view_times;
-mod viewing;
-mod writers;
+mod inputs;
+mod logs;
+mod scans;
+mod tables;
 
-use build::Build;
-use checks::{check, counted};
-use failure::Failure;
-use files::write_streams;
-use fill_times::least_fill_times;
-use gather_times::least_gather_times;
-use input::Input;
-use report::{
-    print_fill_head, print_fill_rows, print_gathering, print_scan_head, print_scan_rows,
-    print_targets, print_view,
-};
+use inputs::{INPUTS, build, repeated};
+use logs::{gather, view};
+use scans::{cutter, scan, search};
 use std::env;
-use std::rt::{Clock, Env, Files};
-use target_times::least_target_times;
-use times::least_times;
-use view_times::least_view_times;
+use std::num::nearest_usize_to_f64;
+use std::rt::Clock;
+use std::test::Fail;
+use std::time::Duration;
+use tables::{add, enter, find};
 
-/// How many bytes an input has where times are taken.
-const MEASURED_BYTES: usize = 64 * 1024 * 1024;
+/// What was found, and how long it took.
+#[derive(Clone, Copy)]
+pub struct Taken {
+    pub found: usize,
+    pub time: Duration,
+}
 
-/// How many bytes the file of a stream has at most.
-const STREAM_BYTES: usize = 32_000_000;
+/// A call that is measured, or what stands beside it.
+#[derive(Clone, Copy, Debug)]
+enum Way {
+    Search,
+    Cutter,
+    Scan,
+    Add { logs: usize },
+    Gather,
+    Enter,
+    Find,
+    View,
+}
 
-/// How many targets are entered where times are taken.
-const MEASURED_TARGETS: u32 = 100_000;
+/// What is done with bytes; the first one stands beside those that follow.
+const OF_BYTES: [Way; 7] = [
+    Way::Search,
+    Way::Cutter,
+    Way::Scan,
+    Way::Add { logs: 1 },
+    Way::Add { logs: 8 },
+    Way::Add { logs: 1000 },
+    Way::Gather,
+];
 
-/// How many targets are made in a build where times are taken, and how many lines the log of each
-/// has.
-const MEASURED_BUILD: (u32, u32) = (1000, 999);
+/// What the ways go over, in so many rounds: each takes of it what it needs.
+#[derive(Drop)]
+struct Given {
+    rounds: u32,
+    bytes: Vec<u8>,
+    streams: Vec<Vec<u8>>,
+    targets: usize,
+}
 
-fn main(rt: HostRuntime) -> Result<(), Failure> {
-    let input = argument(&rt, 2);
-    match argument(&rt, 1).as_deref() {
-        None | Some("check") => check(&rt),
-        Some("measure") => measure(&rt),
-        Some("view") => measure_view(&rt),
-        Some("write") => write(&rt, named(input.as_deref())?),
-        Some("gather") => gather(&rt, named(input.as_deref())?),
-        Some(_) => Err(Failure::Argument),
+fn main(rt: HostRuntime) -> Result<(), Fail> {
+    match argument(&rt).as_deref() {
+        Some("measure") => print_all(&rt, 64, 5),
+        _ => print_all(&rt, 1, 0),
     }
 }
 
-/// An argument, or `None` where there is none or no memory for it.
-fn argument(rt: &(impl Env + AllocGlobal), number: usize) -> Option<String> {
-    env::args(rt).ok()?.nth(number)
+/// The argument, if there is one.
+fn argument(rt: &HostRuntime) -> Option<String> {
+    env::args(rt).ok()?.nth(1)
 }
 
-/// The input whose name among the arguments this is.
-fn named(argument: Option<&str>) -> Result<Input, Failure> {
-    match argument {
-        Some("text") => Ok(Input::Text),
-        Some("records") => Ok(Input::Records),
-        _ => Err(Failure::Argument),
+/// Goes over `scale` MiB, over 1,000 times as many targets, and over a build of 16 times as many. The
+/// times are those of so many rounds; where there is none, no time is printed.
+fn print_all(rt: &(impl Clock + Print + AllocGlobal), scale: u32, rounds: u32) -> Result<(), Fail> {
+    if rounds > 0 {
+        println!(rt;
+            "| input | way | found | seconds | ns each | time, first = 1 |\n|---|---|---|---|---|---|"
+        )?;
     }
-}
-
-/// Prints the tables of what is done with bytes in memory.
-fn measure(rt: &(impl Clock + Print + AllocGlobal)) -> Result<(), Failure> {
-    measure_scans(rt)?;
-    println!(rt; "")?;
-    measure_filling(rt)?;
-    println!(rt; "")?;
-    let times = least_target_times(rt, MEASURED_TARGETS)?;
-    print_targets(rt, MEASURED_TARGETS, &times)
-}
-
-fn measure_scans(rt: &(impl Clock + Print + AllocGlobal)) -> Result<(), Failure> {
-    print_scan_head(rt)?;
-    for input in Input::ALL {
-        let bytes = input.bytes(rt.alloc(), MEASURED_BYTES)?;
-        let lines = counted(rt.alloc(), &bytes)?;
-        let times = least_times(rt, &bytes, lines)?;
-        print_scan_rows(rt, input, bytes.len(), lines, &times)?;
+    let mut given = Given {
+        rounds,
+        bytes: Vec::new(rt.alloc()),
+        streams: build(rt.alloc(), scale.saturating_mul(16), 999)?,
+        targets: scale.saturating_mul(1000) as usize,
+    };
+    print_rows(rt, "targets", &[Way::Enter, Way::Find], &given)?;
+    print_rows(rt, "a build", &[Way::Gather, Way::View], &given)?;
+    for (name, line) in INPUTS {
+        (given.bytes, given.streams) = repeated(rt.alloc(), line, scale)?;
+        print_rows(rt, name, &OF_BYTES, &given)?;
     }
     Ok(())
 }
 
-fn measure_filling(rt: &(impl Clock + Print + AllocGlobal)) -> Result<(), Failure> {
-    print_fill_head(rt)?;
-    for input in Input::LONG {
-        let bytes = input.bytes(rt.alloc(), MEASURED_BYTES)?;
-        let lines = counted(rt.alloc(), &bytes)?;
-        let times = least_fill_times(rt, &bytes, lines)?;
-        print_fill_rows(rt, input, lines, &times)?;
+/// What a way finds, and how long it takes.
+fn measured(rt: &(impl Clock + AllocGlobal), way: Way, given: &Given) -> Result<Taken, Fail> {
+    match way {
+        Way::Search => search(rt, &given.bytes),
+        Way::Cutter => cutter(rt, &given.bytes),
+        Way::Scan => scan(rt, &given.bytes),
+        Way::Add { logs } => add(rt, &given.bytes, logs),
+        Way::Gather => gather(rt, &given.streams),
+        Way::Enter => enter(rt, given.targets),
+        Way::Find => find(rt, given.targets),
+        Way::View => view(rt, &given.streams),
+    }
+}
+
+/// A row for each way, which has to find what the first one found.
+fn print_rows(
+    rt: &(impl Clock + Print + AllocGlobal),
+    name: &str,
+    ways: &[Way],
+    given: &Given,
+) -> Result<(), Fail> {
+    let mut first = None;
+    for way in ways {
+        let least = least(rt, *way, given)?;
+        let peer = first.unwrap_or(least);
+        if least.found != peer.found {
+            return Err(Fail::new("two ways found different numbers"));
+        }
+        match given.rounds {
+            0 => println!(rt; "{name}, {way:?}: {}", least.found)?,
+            _ => print_times(rt, name, *way, least, peer)?,
+        }
+        first = Some(peer);
     }
     Ok(())
 }
 
-fn measure_view<R: Clock + Files + Print + AllocGlobal>(rt: &R) -> Result<(), Failure> {
-    let (others, lines) = MEASURED_BUILD;
-    let build = Build::new(rt.alloc(), others, lines)?;
-    let times = least_view_times(rt, &build)?;
-    print_view(rt, build.entries(), &times)
+/// The least time of the rounds, after one that does not count.
+fn least(rt: &(impl Clock + AllocGlobal), way: Way, given: &Given) -> Result<Taken, Fail> {
+    let mut least = measured(rt, way, given)?;
+    least.time = Duration::MAX;
+    for _ in 0..given.rounds {
+        least.time = least.time.min(measured(rt, way, given)?.time);
+    }
+    Ok(least)
 }
 
-fn write(rt: &(impl Files + AllocGlobal), input: Input) -> Result<(), Failure> {
-    let bytes = input.bytes(rt.alloc(), STREAM_BYTES)?;
-    write_streams(rt, &bytes)
-}
-
-fn gather<R: Clock + Files + Print + AllocGlobal>(rt: &R, input: Input) -> Result<(), Failure> {
-    let times = least_gather_times(rt)?;
-    print_gathering(rt, input, &times)
+fn print_times(
+    rt: &impl Print,
+    name: &str,
+    way: Way,
+    least: Taken,
+    peer: Taken,
+) -> Result<(), Fail> {
+    let found = least.found;
+    let seconds = least.time.as_secs_f64();
+    let each = seconds * 1e9 / nearest_usize_to_f64(found);
+    let ratio = least.time.div_duration_f64(peer.time);
+    println!(rt; "| {name} | {way:?} | {found} | {seconds:.4} | {each:.1} | {ratio:.2} |")?;
+    Ok(())
 }

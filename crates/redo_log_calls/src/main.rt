@@ -14,6 +14,8 @@ use redo_log_cli::{Index, read_index};
 use std::alloc::Global;
 use std::io::{BufRead, BufReader, Read};
 use std::process::ExitCode;
+use std::sync::Wait;
+use std::thread::Threads;
 use std::{env, io, str};
 
 fn main(rt: HostRuntime) -> io::Result<ExitCode> {
@@ -21,31 +23,49 @@ fn main(rt: HostRuntime) -> io::Result<ExitCode> {
         println!(rt; "no argument")?;
         return Ok(ExitCode::from(7));
     };
-    match calls.as_str() {
-        "cutter" => cutter(&rt, rt.alloc(), b"ab", b"c\nd", 2)?,
-        "long_cutter" => cutter(&rt, rt.alloc(), &[b'a'; 20], b"cccccccccccc\nd", 13)?,
-        "full_table" => table::full_table(&rt, rt.alloc())?,
-        "gather_whole" => gather::gather(&rt, rt.alloc(), &gather::WHOLE)?,
-        "gather_bad" => gather::gather(&rt, rt.alloc(), &gather::BAD)?,
-        "gather_both_bad" => gather::gather(&rt, rt.alloc(), &gather::BOTH_BAD)?,
-        "index" => index(&rt, rt.alloc())?,
-        "index_of_input" => index_of_input(&rt)?,
-        "names" => names(&rt, rt.alloc())?,
-        "read_line" => read_lines(&rt, rt.alloc())?,
-        "resolve" => resolve_lines(&rt)?,
-        "run_bad" => view::run_streams(&rt, &view::AT_FAULT)?,
-        "run_locks" => view::run_streams(&rt, &view::LOCKED)?,
-        "run_unknown" => view::run_streams(&rt, &view::UNKNOWN)?,
-        "run_whole" => view::run_streams(&rt, &view::OPENED)?,
-        "scan_of_input" => scan_of_input(&rt)?,
-        "step" => step(&rt, rt.alloc())?,
-        "table" => table::table(&rt, rt.alloc())?,
-        "taker" => taker(&rt, rt.alloc())?,
-        "view_locks" => view::view_logs(&rt, rt.alloc(), &view::LOCKED)?,
-        "view_whole" => view::view_logs(&rt, rt.alloc(), &view::OPENED)?,
-        _ => println!(rt; "unknown calls: {calls}")?,
-    }
+    make(&rt, &calls)?;
     Ok(ExitCode::SUCCESS)
+}
+
+/// Makes the calls of this name.
+fn make(
+    rt: &(impl Input + Print + AllocGlobal + Threads + Wait + Sync),
+    calls: &str,
+) -> io::Result<()> {
+    match calls {
+        "cutter" => cutter(rt, rt.alloc(), b"ab", b"c\nd", 2),
+        "long_cutter" => cutter(rt, rt.alloc(), &[b'a'; 20], b"cccccccccccc\nd", 13),
+        "index" => index(rt, rt.alloc()),
+        "index_of_input" => index_of_input(rt),
+        "names" => names(rt, rt.alloc()),
+        "read_line" => read_lines(rt, rt.alloc()),
+        "resolve" => resolve_lines(rt),
+        "scan_of_input" => scan_of_input(rt),
+        "step" => step(rt, rt.alloc()),
+        "taker" => taker(rt, rt.alloc()),
+        _ => make_with_logs(rt, calls),
+    }
+}
+
+/// Makes the calls of this name that need a table of logs.
+fn make_with_logs(
+    rt: &(impl Print + AllocGlobal + Threads + Wait + Sync),
+    calls: &str,
+) -> io::Result<()> {
+    match calls {
+        "full_table" => table::full_table(rt, rt.alloc()),
+        "gather_whole" => gather::gather(rt, rt.alloc(), &gather::WHOLE),
+        "gather_bad" => gather::gather(rt, rt.alloc(), &gather::BAD),
+        "gather_both_bad" => gather::gather(rt, rt.alloc(), &gather::BOTH_BAD),
+        "run_bad" => view::run_streams(rt, &view::AT_FAULT),
+        "run_locks" => view::run_streams(rt, &view::LOCKED),
+        "run_unknown" => view::run_streams(rt, &view::UNKNOWN),
+        "run_whole" => view::run_streams(rt, &view::OPENED),
+        "table" => table::table(rt, rt.alloc()),
+        "view_locks" => view::view_logs(rt, rt.alloc(), &view::LOCKED),
+        "view_whole" => view::view_logs(rt, rt.alloc(), &view::OPENED),
+        _ => println!(rt; "unknown calls: {calls}"),
+    }
 }
 
 /// The argument, or `None` where there is none or no memory for it.
@@ -99,12 +119,17 @@ fn index(rt: &impl Print, alloc: Global) -> io::Result<()> {
 
 /// The index that standard input is: how much it lists, and all of it, or its fault.
 fn index_of_input(rt: &(impl Input + Print + AllocGlobal)) -> io::Result<()> {
-    let mut bytes = Vec::new(rt.alloc());
-    rt.reader().read_to_end(&mut bytes)?;
-    match read_index(rt.alloc(), &bytes) {
+    match read_index(rt.alloc(), &all_input(rt)?) {
         Ok(index) => tell_index(rt, &index),
         Err(fault) => println!(rt; "read_index: {fault:?}"),
     }
+}
+
+/// The bytes of standard input.
+fn all_input(rt: &(impl Input + AllocGlobal)) -> io::Result<Vec<u8>> {
+    let mut bytes = Vec::new(rt.alloc());
+    rt.reader().read_to_end(&mut bytes)?;
+    Ok(bytes)
 }
 
 fn tell_index(rt: &impl Print, index: &Index) -> io::Result<()> {
@@ -141,18 +166,20 @@ fn names(rt: &impl Print, alloc: Global) -> io::Result<()> {
 /// log; without a target the name stands alone.
 fn resolve_lines(rt: &(impl Input + Print + AllocGlobal)) -> io::Result<()> {
     for line in BufReader::new(rt.alloc(), rt.reader())?.lines(rt.alloc()) {
-        let line = line?;
-        let Some((of, name)) = line.split_once('\t') else {
-            println!(rt; "no tab")?;
-            continue;
-        };
-        let target = TargetName::resolve(rt.alloc(), None, of.as_bytes()).ok();
-        match TargetName::resolve(rt.alloc(), target.as_ref(), name.as_bytes()) {
-            Ok(name) => println!(rt; "{}", str::from_utf8(name.bytes()).unwrap_or("no text"))?,
-            Err(fault) => println!(rt; "{fault:?}")?,
-        }
+        resolve_line(rt, rt.alloc(), &line?)?;
     }
     Ok(())
+}
+
+fn resolve_line(rt: &impl Print, alloc: Global, line: &str) -> io::Result<()> {
+    let Some((of, name)) = line.split_once('\t') else {
+        return println!(rt; "no tab");
+    };
+    let target = TargetName::resolve(alloc, None, of.as_bytes()).ok();
+    match TargetName::resolve(alloc, target.as_ref(), name.as_bytes()) {
+        Ok(name) => println!(rt; "{}", str::from_utf8(name.bytes()).unwrap_or("no text")),
+        Err(fault) => println!(rt; "{fault:?}"),
+    }
 }
 
 /// The entry of a line of each kind. A line is what a cutter makes of its bytes.
@@ -168,16 +195,20 @@ fn read_lines(rt: &impl Print, alloc: Global) -> io::Result<()> {
         b"@@REDO:check:7:1@@ b\n".as_slice(),
         b"@@REDO:do:7\n".as_slice(),
     ] {
-        match Cutter::new(alloc).next(bytes, 0) {
-            Ok(Cut::Line { bytes, .. }) => match read_line(alloc, &target, bytes, true) {
-                Ok(entry) => println!(rt; "read_line: {entry:?}")?,
-                Err(fault) => println!(rt; "read_line: {fault:?}")?,
-            },
-            Ok(Cut::More) => println!(rt; "next: no line")?,
-            Err(_) => println!(rt; "next: no memory")?,
-        }
+        tell_entry(rt, alloc, &target, bytes)?;
     }
     Ok(())
+}
+
+fn tell_entry(rt: &impl Print, alloc: Global, target: &TargetName, bytes: &[u8]) -> io::Result<()> {
+    match Cutter::new(alloc).next(bytes, 0) {
+        Ok(Cut::Line { bytes, .. }) => match read_line(alloc, target, bytes, true) {
+            Ok(entry) => println!(rt; "read_line: {entry:?}"),
+            Err(fault) => println!(rt; "read_line: {fault:?}"),
+        },
+        Ok(Cut::More) => println!(rt; "next: no line"),
+        Err(_) => println!(rt; "next: no memory"),
+    }
 }
 
 /// A scan of two pieces, and the calls behind a refusal.
@@ -216,15 +247,20 @@ fn tell_steps(rt: &impl Print, scan: &mut Scan, piece: &[u8]) -> io::Result<()> 
 /// The scan of the stream that standard input is behind its first line, which says how: the most
 /// bytes that are allowed, a space, the size of a piece, a space, and the target.
 fn scan_of_input(rt: &(impl Input + Print + AllocGlobal)) -> io::Result<()> {
-    let mut bytes = Vec::new(rt.alloc());
-    rt.reader().read_to_end(&mut bytes)?;
+    let bytes = all_input(rt)?;
     let Some((max_bytes, size, target, stream)) = read_job(&bytes) else {
         return println!(rt; "a bad first line");
     };
-    let Ok(target) = TargetName::resolve(rt.alloc(), None, target) else {
-        return println!(rt; "a bad target");
-    };
-    let mut scan = Scan::new(rt.alloc(), target, max_bytes);
+    match TargetName::resolve(rt.alloc(), None, target) {
+        Ok(target) => scan_stream(rt, Scan::new(rt.alloc(), target, max_bytes), stream, size),
+        Err(_) => println!(rt; "a bad target"),
+    }
+}
+
+/// Prints what a scan of a stream in pieces of this size finds.
+fn scan_stream(rt: &impl Print, mut scan: Scan, stream: &[u8], size: usize) -> io::Result<()>
+    requires { 0 < size }
+{
     for piece in stream.chunks(size) {
         if !scan_piece(rt, &mut scan, piece)? {
             break;

@@ -22,6 +22,10 @@ pub fn table(rt: &impl Print, alloc: Global) -> io::Result<()> {
     end_first(&mut table);
     fail_second(&mut table);
     tell(rt, &table)?;
+    tell_ends(rt, &table)
+}
+
+fn tell_ends(rt: &impl Print, table: &LogTable) -> io::Result<()> {
     println!(rt; "first_fault: {:?}", table.first_fault())?;
     println!(rt; "all_ended: {}", table.all_ended())
 }

@@ -9,7 +9,8 @@ use Rattle.clap.specs.Walk.{Text, first_of, one_of, rows_of}
 use Rattle.clap.specs.declared.parser.matches.Found.{Found}
 use Rattle.clap.proofs.CallerReads.{signed_reads}
 use Rattle.clap.proofs.WalkLemmas.{first_value-rows, one_text-rows, raw_values-rows}
-use Rattle.redo_log_cli.specs.Words.{IsFlag, IsFlagText, IsNumber, IsNumberTo, is_on, is_true, number_of, number_or, targets_of}
+use Rattle.redo_log_cli.specs.Job.{is_on, is_true, number_of, number_or, targets_of}
+use Rattle.redo_log_cli.specs.Private.Taken.{IsFlag, IsFlagText, IsNumber, IsNumberTo}
 
 -- a flag's answer
 pub flag_is : (found : Found) (id : Text) (answer : Bool) → IsFlag id (rows_of found)

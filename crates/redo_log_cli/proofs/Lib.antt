@@ -1,15 +1,6 @@
-mod Adding
-mod Answering
-mod EntryParts
+mod Answered
 mod FileLemmas
-mod Finding
-mod FirstLine
 mod Getters
-mod IndexLaws
-mod IndexLines
-mod IndexRows
-mod Listing
 mod OneKind
-mod RunRows
 mod Sound
 mod WordsRows

@@ -16,7 +16,7 @@ use Rattle.clap.specs.declared.builder.action.ArgAction.{ArgAction}
 use Rattle.clap.specs.declared.builder.action.ArgAction.TheVariants as action
 use Rattle.clap.specs.declared.builder.value_parser.ValueParser.{ValueParser}
 use Rattle.clap.specs.declared.error.kind.ErrorKind.TheVariants as kind
-use Rattle.redo_log_cli.specs.Words.{redo_log}
+use Rattle.redo_log_cli.specs.CommandLine.{redo_log}
 
 record IsOne (kinds : Kinds) : Type 0 where
   one : length kinds ≤ 1

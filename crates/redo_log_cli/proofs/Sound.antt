@@ -28,7 +28,9 @@ use Rattle.clap.specs.declared.parser.matches.Found.{Found}
 use Rattle.clap.specs.declared.parser.matches.MatchedArg.{MatchedArg}
 use Rattle.clap.proofs.CallerLemmas.{entry_by_id, present_has_entry, required_present}
 use Rattle.clap.proofs.WalkLemmas.{one_text-rows, raw_values-rows}
-use Rattle.redo_log_cli.specs.Words.{AreSound, IsFlag, IsFlagText, IsNumber, IsNumberTo, fault_of_words, first_told, redo_log, told, words_rule}
+use Rattle.redo_log_cli.specs.CommandLine.{redo_log, words_rule}
+use Rattle.redo_log_cli.specs.Private.Taken.{AreSound, IsFlag, IsFlagText, IsNumber, IsNumberTo}
+use Rattle.redo_log_cli.specs.Words.{fault_of_words, first_told, told}
 use Rattle.redo_log_cli.specs.declared.words_fault.WordsFault.{WordsFault}
 use Rattle.redo_log_cli.specs.declared.words_fault.WordsFault.TheVariants.{OutOfMemory}
 use Rattle.redo_log_cli.proofs.OneKind.{one_kind}

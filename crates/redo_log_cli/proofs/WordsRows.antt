@@ -5,7 +5,9 @@ use Rattle.std.specs.List.{AllByRecursion}
 use Rattle.clap.proofs.OnLiterals.{clap_on_literals}
 use Rattle.redo_view.specs.declared.options.Options.{Options}
 use Rattle.redo_log_cli.specs.declared.words_fault.WordsFault.TheVariants.{Help, Refused}
-use Rattle.redo_log_cli.specs.Words.{Parts, fault_of_words, parts_asked, redo_log}
+use Rattle.redo_log_cli.specs.CommandLine.{redo_log}
+use Rattle.redo_log_cli.specs.Job.{Parts}
+use Rattle.redo_log_cli.specs.Words.{fault_of_words, parts_asked}
 
 record Row : Type 0 where
   words : List (List ℕ)

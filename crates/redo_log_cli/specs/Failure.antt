@@ -6,9 +6,9 @@ use Rattle.redo_line.specs.declared.stream_fault.StreamFault.TheVariants as stre
 use Rattle.redo_line.specs.Lines.{with_line_feed}
 use Rattle.redo_log_cli.specs.declared.failure.Failure.{Failure}
 use Rattle.redo_log_cli.specs.declared.failure.Failure.TheVariants.{Words, NamesRead, Index, Run, Memory}
-use Rattle.redo_log_cli.specs.declared.index_fault.IndexFault.{IndexFault}
-use Rattle.redo_log_cli.specs.declared.index_fault.IndexFault.TheVariants as index
-use Rattle.redo_log_cli.specs.declared.run_fault.RunFault.TheVariants as run
+use Rattle.redo_index.specs.declared.index_fault.IndexFault.{IndexFault}
+use Rattle.redo_index.specs.declared.index_fault.IndexFault.TheVariants as index
+use Rattle.redo_run.specs.declared.run_fault.RunFault.TheVariants as run
 use Rattle.redo_log_cli.specs.declared.words_fault.WordsFault.TheVariants as words
 
 abbrev pub status_of_stream : StreamFault → ℕ
@@ -81,10 +81,6 @@ IfOfStream other P = Unit {0}
 abbrev pub IfOfWord : Failure → (ℕ → Type 0) → Type 0
 IfOfWord (Run (run.Unknown place)) P = P place
 IfOfWord other P = Unit {0}
-
--- how many bytes a log may have, and the file `names`
-abbrev pub most_bytes : ℕ
-most_bytes = 1073741824
 
 -- a failure before a run
 abbrev pub IsOfNoRun : Failure → Type 0

@@ -1,6 +1,7 @@
 pub mod Capture
+pub mod CommandLine
 pub mod Failure
-pub mod Index
-pub mod Run
-pub mod RunFault
+pub mod Job
+pub mod NamesFile
+pub mod Private
 pub mod Words

@@ -1,10 +1,11 @@
-ghost use Rattle.std.specs.Prelude.{Bool};
+ghost use Rattle.std.specs.Prelude.{IfOk, IfErr};
+ghost use Rattle.redo_log_cli.specs.Private.Opening.{IsCaptureOf, IsWantOfMemory};
 
 use redo_line::{Broken, Feed, Reading};
 use std::alloc::{AllocError, Global};
-use std::fs;
 use std::io::{ErrorKind, Read};
 use std::rt::Files;
+use std::{fs, io};
 
 /// The file of a stream, as it was found when it was to be opened.
 #[derive(Drop)]
@@ -38,7 +39,15 @@ pub fn open_capture<R: Files + AllocGlobal>(
     fid: u32,
 ) -> Result<Capture<R::File>, AllocError> {
     let path = format!(in rt.alloc(); "{dir}/log.{fid}")?;
-    match fs::open(rt, path) {
+    capture_of(fs::open(rt, path))
+}
+
+// The capture of a file that was to be opened.
+fn capture_of<F: Read + Drop>(opened: io::Result<F>) -> Result<Capture<F>, AllocError>
+    ensures capture { IfOk result (λ capture. IsCaptureOf opened capture) }
+    ensures memory { IfErr result (λ _. IsWantOfMemory opened) }
+{
+    match opened {
         Ok(file) => Ok(Capture::Open(Reading(file))),
         Err(error) => match error.kind() {
             ErrorKind::NotFound => Ok(Capture::Missing),

@@ -2,8 +2,9 @@ ghost use Rattle.std.specs.Prelude.{◌≡◌, ◌<◌, IfOk, length, map};
 ghost use Rattle.clap.specs.Matches.{found_of};
 ghost use Rattle.clap.specs.Walk.{rows_of};
 ghost use Rattle.redo_gather.specs.Plan.{AreSenders, IsCapacity};
-ghost use Rattle.redo_log_cli.specs.Run.{bytes_of_words};
-ghost use Rattle.redo_log_cli.specs.Words.{AreSound, parts_of};
+ghost use Rattle.redo_run.specs.Run.{bytes_of_words};
+ghost use Rattle.redo_log_cli.specs.Job.{parts_of};
+ghost use Rattle.redo_log_cli.specs.Private.Taken.{AreSound};
 
 use clap::ArgMatches;
 use redo_view::Options;
@@ -29,14 +30,14 @@ pub struct Job {
 
 impl Model for Job {
     ghost use Rattle.std.specs.String.{string_bytes};
-    ghost use Rattle.redo_log_cli.specs.Run.{bytes_of_words};
-    ghost use Rattle.redo_log_cli.specs.Words.{IsJob, Parts};
+    ghost use Rattle.redo_log_cli.specs.Job.{Parts};
+    ghost use Rattle.redo_log_cli.specs.Private.Taken.{IsJob, parts_with};
 
     ghost Value = { Parts };
 
-    ghost view = { λ job. record { options = job.options; dir = string_bytes job.dir; senders = job.senders; capacity = job.capacity; targets = bytes_of_words job.targets.items } };
+    ghost view = { λ job. parts_with job.options (string_bytes job.dir) job.senders job.capacity job.targets.items };
 
-    ghost invariant = { λ job. IsJob (record { options = job.options; dir = string_bytes job.dir; senders = job.senders; capacity = job.capacity; targets = bytes_of_words job.targets.items }) };
+    ghost invariant = { λ job. IsJob (parts_with job.options (string_bytes job.dir) job.senders job.capacity job.targets.items) };
 }
 
 impl Job {

@@ -1,8 +1,7 @@
-ghost use Rattle.std.specs.Prelude.{◌≡◌, ◌⊎◌, Err, IfOk, IfErr, IsSome, None};
-ghost use Rattle.redo_line.specs.Fault.{ending_fault};
+ghost use Rattle.std.specs.Prelude.{◌≡◌, ◌⊎◌, Err, IfOk, IfErr};
 ghost use Rattle.redo_line.specs.Feed.{SomeStream};
 ghost use Rattle.redo_log_cli.specs.declared.failure.Failure.TheVariants.{Memory, NamesRead};
-ghost use Rattle.redo_log_cli.specs.Failure.{most_bytes};
+ghost use Rattle.redo_log_cli.specs.NamesFile.{AreAllOf, CannotBeRead};
 
 use crate::failure::Failure;
 use redo_line::{Broken, Feed};
@@ -17,8 +16,8 @@ const READ_BYTES: usize = 64 * 1024;
 /// All bytes of the file `names`, which may have 1,073,741,824. It is `NamesRead` where a read fails, an
 /// interrupted one too, or there are more bytes, and `Memory` where there is none.
 pub fn read_names<R: Feed>(alloc: Global, reader: &mut R) -> Result<Vec<u8>, Failure>
-    ensures bytes { IfOk result (λ bytes. SomeStream (R.tells reader.old) (λ stream. (ending_fault most_bytes stream ≡ None) × (bytes.items ≡ stream.bytes))) }
-    ensures unreadable { result ≡ Err Failure.NamesRead → SomeStream (R.tells reader.old) (λ stream. IsSome (ending_fault most_bytes stream)) }
+    ensures bytes { IfOk result (λ bytes. SomeStream (R.tells reader.old) (AreAllOf bytes.items)) }
+    ensures unreadable { result ≡ Err Failure.NamesRead → SomeStream (R.tells reader.old) CannotBeRead }
     ensures either { IfErr result (λ failure. (failure ≡ NamesRead) ⊎ (failure ≡ Memory)) }
 {
     let mut room = vec![in alloc; 0u8; READ_BYTES]?;

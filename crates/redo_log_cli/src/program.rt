@@ -1,29 +1,31 @@
-ghost use Rattle.std.specs.Prelude.{◌≡◌, ◌<◌, ◌⊎◌, None, IfOk, IfErr, length};
-ghost use Rattle.redo_line.specs.Fault.{ending_fault};
+ghost use Rattle.std.specs.Prelude.{◌≡◌, ◌≢◌, ◌<◌, ◌⊎◌, Err, IfOk, IfErr, length, map};
+ghost use Rattle.std.specs.IoError.{error_kind};
+ghost use Rattle.redo_line.specs.declared.stream_fault.StreamFault.TheVariants as stream;
 ghost use Rattle.redo_line.specs.Feed.{SomeStream};
-ghost use Rattle.redo_line.specs.Lines.{all_lines};
+ghost use Rattle.redo_run.specs.RunFault.{IfStreamFault, IfUnknown};
 ghost use Rattle.redo_log_cli.specs.declared.failure.Failure.TheVariants.{Memory};
-ghost use Rattle.redo_log_cli.specs.Failure.{IfOfStream, IfOfWord, IsOfNoRun, IsStatus, most_bytes, status_of};
-ghost use Rattle.redo_log_cli.specs.Index.{IsFine, entries_of};
+ghost use Rattle.redo_log_cli.specs.Failure.{IfOfStream, IfOfWord, IsOfNoRun, IsStatus, status_of};
+ghost use Rattle.redo_log_cli.specs.NamesFile.{most_bytes};
+ghost use Rattle.redo_log_cli.specs.Private.Opening.{failure_after};
+ghost use Rattle.redo_log_cli.specs.Private.Program.{IsAnswer, IsFlushedAfter, TellsIndex, asked_by};
 
 use crate::capture::{Capture, open_capture};
 use crate::failure::{Failure, status};
-use crate::index::{Index, read_index};
 use crate::job::Job;
 use crate::names_file::read_names;
-use crate::run_fault::RunFault;
-use crate::running::run;
 use crate::told::fault_line;
 use crate::words::{help_text, read_words};
 use crate::words_fault::WordsFault;
 use redo_gather::{Free, Plan};
+use redo_index::{Index, read_index};
 use redo_line::{Feed, Reading, Writing};
+use redo_run::{RunFault, run};
 use std::alloc::{AllocError, Global};
 use std::io::{BufWriter, ErrorKind, Write};
 use std::rt::{Env, Files};
 use std::sync::Wait;
 use std::thread::Threads;
-use std::{env, fs};
+use std::{env, fs, io};
 
 /// How many bytes a log may have.
 const MAX_BYTES: u64 = 1_073_741_824;
@@ -83,9 +85,12 @@ pub fn command<R: Files<File: Send> + Threads + Wait + Sync + AllocGlobal, W: Wr
         Ok(index) => index,
         Err(failure) => return refuse(alloc, &failure, err),
     };
-    match show(rt, &job, &index, out) {
+    let Ok(readers) = open_captures(rt, job.dir(), &index) else {
+        return refuse(alloc, &Failure::Memory, err);
+    };
+    match show(rt, &job, &index, readers, out) {
         Ok(()) => 0,
-        Err(failure) => tell(alloc, &failure, &index, job.targets(), err),
+        Err(fault) => tell(alloc, &Failure::Run(fault), &index, job.targets(), err),
     }
 }
 
@@ -134,8 +139,17 @@ fn find_index<R: Files + AllocGlobal>(rt: &R, dir: &str) -> Result<Index, Failur
 {
     let alloc = rt.alloc();
     let path = format!(in alloc; "{dir}/names")?;
-    let mut reader = match fs::open(rt, path) {
-        Ok(file) => Reading(file),
+    index_of(alloc, fs::open(rt, path).map(Reading))
+}
+
+// The index of a file that was to be opened: that of all its bytes, and no more than there may be.
+fn index_of<F: Feed>(alloc: Global, opened: io::Result<F>) -> Result<Index, Failure>
+    ensures read { IfOk opened (λ reader. SomeStream (F.tells reader) (TellsIndex result)) }
+    ensures unopened { IfErr opened (λ error. result ≡ Err (failure_after (error_kind error))) }
+    ensures refused { IfErr result IsOfNoRun }
+{
+    let mut reader = match opened {
+        Ok(reader) => reader,
         Err(error) => {
             return Err(match error.kind() {
                 ErrorKind::OutOfMemory => Failure::Memory,
@@ -143,33 +157,28 @@ fn find_index<R: Files + AllocGlobal>(rt: &R, dir: &str) -> Result<Index, Failur
             });
         }
     };
-    index_of(alloc, &mut reader)
-}
-
-// The index that a reader gives: all of its bytes, and no more than there may be.
-fn index_of<R: Feed>(alloc: Global, reader: &mut R) -> Result<Index, Failure>
-    ensures listed { IfOk result (λ index. SomeStream (R.tells reader.old) (λ stream. (ending_fault most_bytes stream ≡ None) × IsFine (all_lines stream.bytes) × (index ≡ entries_of (all_lines stream.bytes)))) }
-    ensures refused { IfErr result IsOfNoRun }
-{
-    let bytes = read_names(alloc, reader)?;
+    let bytes = read_names(alloc, &mut reader)?;
     read_index(alloc, &bytes).map_err(Failure::Index)
 }
 
-// Runs over the captures of a directory, and writes through a buffer.
-fn show<R: Files<File: Send> + Threads + Wait + Sync + AllocGlobal, W: Write>(
-    rt: &R,
+// Runs a job over readers, one for each target of the index, and writes the text through a buffer.
+fn show<T: Threads + Wait + Sync + AllocGlobal, F: Feed + Send, W: Write>(
+    rt: &T,
     job: &Job,
     index: &Index,
+    readers: Vec<F>,
     out: &mut W,
-) -> Result<(), Failure>
-    ensures number { IfErr result (λ failure. IfOfStream failure (λ number. number < length index.now)) }
-    ensures place { IfErr result (λ failure. IfOfWord failure (λ place. place < length job.now.targets)) }
+) -> Result<(), RunFault>
+    requires { length readers.items ≡ length index.now }
+    ensures answer { IsAnswer (asked_by job.now index.now) (map F.tells readers.items) result }
+    ensures place { IfUnknown result (λ place. place < length job.now.targets) }
+    ensures number { IfStreamFault result (λ number _. number < length index.now) }
+    ensures no_memory { IfStreamFault result (λ _ fault. fault ≢ stream.OutOfMemory) }
 {
     let alloc = rt.alloc();
-    let readers = open_captures(rt, job.dir(), index)?;
     let plan = plan_of(job);
     let Ok(buffered) = BufWriter::with_capacity(alloc, WRITE_BYTES, out) else {
-        return Err(Failure::Memory);
+        return Err(RunFault::OutOfMemory);
     };
     let mut out = Writing(buffered);
     let answer = run(
@@ -184,10 +193,23 @@ fn show<R: Files<File: Send> + Threads + Wait + Sync + AllocGlobal, W: Write>(
         &mut out,
     );
     let Writing(mut buffered) = out;
-    let flushed = answer.and_then(|()| buffered.flush().map_err(|_| RunFault::Write));
+    let flushed = flush_after(answer, &mut buffered);
     // What is still held back after a fault is let go, so that nothing is written behind it.
     let _ = buffered.into_parts();
-    flushed.map_err(Failure::Run)
+    flushed
+}
+
+// Flushes a writer, where a run wrote the whole text to it.
+fn flush_after<W: Write>(answer: Result<(), RunFault>, out: &mut W) -> Result<(), RunFault>
+    ensures { IsFlushedAfter answer result }
+{
+    match answer {
+        Ok(()) => match out.flush() {
+            Ok(()) => Ok(()),
+            Err(_) => Err(RunFault::Write),
+        },
+        Err(fault) => Err(fault),
+    }
 }
 
 // The numbers that a job asks for, and how many bytes a log may have.

@@ -4,7 +4,9 @@ ghost use Rattle.clap.specs.Matches.{found_of};
 ghost use Rattle.clap.specs.Simple.{app_of, matches_of};
 ghost use Rattle.clap.specs.Walk.{rows_of, rule_of};
 ghost use Rattle.redo_log_cli.specs.declared.words_fault.WordsFault.TheVariants.{OutOfMemory};
-ghost use Rattle.redo_log_cli.specs.Words.{AreSound, fault_of_words, checked_rule, flag_rule, flags, parts_asked, redo_log, values, with_rules};
+ghost use Rattle.redo_log_cli.specs.CommandLine.{checked_rule, flag_rule, flags, redo_log, values, with_rules};
+ghost use Rattle.redo_log_cli.specs.Private.Taken.{AreSound};
+ghost use Rattle.redo_log_cli.specs.Words.{fault_of_words, parts_asked};
 
 use crate::job::{Job, job_of};
 use crate::words_fault::WordsFault;

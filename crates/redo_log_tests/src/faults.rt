@@ -4,6 +4,7 @@ ghost use Rattle.redo_log_cli.specs.Failure.{IfOfStream, IfOfWord};
 
 use redo_line::StreamFault;
 use redo_log_cli::{Failure, IndexFault, RunFault, WordsFault, fault_line, read_index, status};
+use std::alloc::{AllocError, Global};
 use std::process::Abort;
 use std::test::Fail;
 
@@ -16,17 +17,26 @@ fn expect_told(
 ) -> Result<(), Fail> {
     let alloc = rt.alloc();
     let index = read_index(alloc, b"7 ./d//a\n1 b\n".as_slice())?;
-    let mut words = Vec::new(alloc);
-    for word in [b"x/../d/a".as_slice(), b"", b"\xff\xfe"] {
-        words.push(word.to_vec(alloc)?)?;
-    }
+    let words = words(alloc)?;
     if !has_places(&failure, index.len(), words.len()) {
         return Err("a place that is none".into());
     }
     let line = fault_line(alloc, &failure, &index, &words)?;
-    assert_eq!(rt; line.as_slice(), want, "{failure:?}");
-    assert_eq!(rt; status(&failure), number, "{failure:?}");
+    expect_line(rt, &failure, &line, want, number);
     Ok(())
+}
+
+fn words(alloc: Global) -> Result<Vec<Vec<u8>>, AllocError> {
+    let mut words = Vec::new(alloc);
+    for word in [b"x/../d/a".as_slice(), b"", b"\xff\xfe"] {
+        words.push(word.to_vec(alloc)?)?;
+    }
+    Ok(words)
+}
+
+fn expect_line(rt: &impl Abort, failure: &Failure, line: &[u8], want: &[u8], number: u8) {
+    assert_eq!(rt; line, want, "{failure:?}");
+    assert_eq!(rt; status(failure), number, "{failure:?}");
 }
 
 /// Whether the number of a stream and the place of a word are below these.

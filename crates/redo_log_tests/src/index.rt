@@ -1,6 +1,7 @@
 //! Indexes: what they list, and which line is refused.
 use redo_line::TargetName;
 use redo_log_cli::{Index, IndexFault, read_index};
+use std::process::Abort;
 use std::test::Fail;
 
 /// An index, and the numbers and the names that it lists.
@@ -27,27 +28,38 @@ const REFUSED: [(&str, IndexFault); 10] = [
 
 #[test]
 fn an_index_lists_its_lines(rt: HostRuntime) -> Result<(), Fail> {
-    for (bytes, entries) in LISTED {
+    for (bytes, entries) in &LISTED {
         let index = read_index(rt.alloc(), bytes.as_bytes())?;
         assert_eq!(rt; index.len() as usize, entries.len(), "{bytes:?}");
         for (i, &(number, name)) in entries.iter().enumerate() {
-            let i = i as u32;
-            assert!(rt; i < index.len());
-            assert_eq!(rt; index.fid(i), number, "{bytes:?}");
-            assert_eq!(rt; index.name(i).bytes(), name.as_bytes(), "{bytes:?}");
-            let target = TargetName::resolve(rt.alloc(), None, name.as_bytes())?;
-            assert_eq!(rt; index.find(&target), Some(i));
+            expect_entry(&rt, &index, i as u32, number, name)?;
         }
     }
     Ok(())
 }
 
+/// What the index lists at this place.
+fn expect_entry(
+    rt: &(impl Abort + AllocGlobal),
+    index: &Index,
+    i: u32,
+    number: u32,
+    name: &str,
+) -> Result<(), Fail> {
+    assert!(rt; i < index.len());
+    assert_eq!(rt; index.fid(i), number, "{name:?}");
+    assert_eq!(rt; index.name(i).bytes(), name.as_bytes());
+    let target = TargetName::resolve(rt.alloc(), None, name.as_bytes())?;
+    assert_eq!(rt; index.find(&target), Some(i));
+    Ok(())
+}
+
 #[test]
 fn the_least_bad_line_is_refused_with_its_first_cause(rt: HostRuntime) -> Result<(), Fail> {
-    for (bytes, fault) in REFUSED {
+    for (bytes, fault) in &REFUSED {
         assert_eq!(rt;
             read_index(rt.alloc(), bytes.as_bytes()).err(),
-            Some(fault),
+            Some(*fault),
             "{bytes:?}"
         );
     }
@@ -56,11 +68,15 @@ fn the_least_bad_line_is_refused_with_its_first_cause(rt: HostRuntime) -> Result
 
 #[test]
 fn a_target_that_is_not_listed_is_not_found(rt: HostRuntime) -> Result<(), Fail> {
-    let index = read_index(rt.alloc(), b"1 a\n2 b/c\n".as_slice())?;
     let other = TargetName::resolve(rt.alloc(), None, b"b")?;
-    assert_eq!(rt; index.find(&other), None);
-    let none = Index::new(rt.alloc());
-    assert_eq!(rt; none.len(), 0);
-    assert_eq!(rt; none.find(&other), None);
+    let index = read_index(rt.alloc(), b"1 a\n2 b/c\n".as_slice())?;
+    expect_not_found(&rt, &index, 2, &other);
+    expect_not_found(&rt, &Index::new(rt.alloc()), 0, &other);
     Ok(())
+}
+
+/// The index lists so many targets, and not this one.
+fn expect_not_found(rt: &impl Abort, index: &Index, len: u32, other: &TargetName) {
+    assert_eq!(rt; index.len(), len);
+    assert_eq!(rt; index.find(other), None);
 }

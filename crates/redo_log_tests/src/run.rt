@@ -1,10 +1,12 @@
 //! Runs: the streams of all targets of an index, the words that ask, and the text or the fault.
-use crate::captures::{Cut, Given, captured, cuts, whole};
-use crate::script::{Answer, Script};
+use crate::captures::captured;
 use redo_gather::{Free, Plan};
+use redo_gather_tests::cases::{ASKED, CHOSEN, Case, LOGS, MAX_BYTES, MENTIONS, PLAIN, STATUSES};
+use redo_given::{Answer, Cut, Given, Script, cuts, whole};
 use redo_line::{StreamFault, Taker};
 use redo_log_cli::{Failure, RunFault, fault_line, read_index, run, status};
 use redo_view::Options;
+use std::alloc::{AllocError, Global};
 use std::process::Abort;
 use std::sync::Wait;
 use std::sync::atomic::{AtomicU64, Ordering};
@@ -56,10 +58,10 @@ fn ran(
 }
 
 /// The text of a run, or its fault, the line of it and the status.
-pub type Want<'a> = Result<&'a str, (RunFault, &'a str, u8)>;
+type Want<'a> = Result<&'a str, (RunFault, &'a str, u8)>;
 
 /// However the streams are cut into reads, this is answered, and the text or nothing written.
-pub fn expect_run(
+fn expect_run(
     rt: &(impl Abort + AllocGlobal + Threads + Wait + Sync),
     given: &[Given<'_>],
     max_bytes: u64,
@@ -69,27 +71,60 @@ pub fn expect_run(
 ) -> Result<(), Fail> {
     let alloc = rt.alloc();
     let plan = Plan::new(4, 64, max_bytes)?;
-    let (answer, line, status, text) = match want {
-        Ok(text) => (Ok(()), "", 0, text),
-        Err((fault, line, status)) => (Err(fault), line, status, ""),
-    };
+    let (outcome, text) = outcome_of(alloc, want)?;
     for cut in &cuts(alloc, given)? {
         let mut out = Taker::new(alloc, 1000, 1000)?;
         let ran = ran(rt, given, *cut, &plan, options, asked, &mut out)?;
-        assert_eq!(rt; ran.answer, answer, "{given:?} {cut:?}");
-        assert_eq!(rt; ran.line.as_slice(), line.as_bytes(), "{given:?} {cut:?}");
-        assert_eq!(rt; ran.status, status, "{given:?} {cut:?}");
-        assert_eq!(rt; out.bytes(), text.as_bytes(), "{given:?} {cut:?}");
+        expect_outcome(rt, &ran, &outcome, out.bytes(), text.as_bytes());
     }
     Ok(())
 }
 
-const PLAIN: Options = Options {
-    recursive: false,
-    unchanged: false,
-    details: true,
-    debug_locks: false,
-};
+/// What is wanted, and the text that is written.
+fn outcome_of<'a>(alloc: Global, want: Want<'a>) -> Result<(Outcome, &'a str), AllocError> {
+    let (answer, line, status, text) = match want {
+        Ok(text) => (Ok(()), "", 0, text),
+        Err((fault, line, status)) => (Err(fault), line, status, ""),
+    };
+    let line = line.as_bytes().to_vec(alloc)?;
+    let outcome = Outcome {
+        answer,
+        line,
+        status,
+    };
+    Ok((outcome, text))
+}
+
+fn expect_outcome(rt: &impl Abort, ran: &Outcome, want: &Outcome, written: &[u8], text: &[u8]) {
+    assert_eq!(rt; ran, want);
+    assert_eq!(rt; written, text);
+}
+
+/// A run writes the text of each case.
+fn expect_texts(
+    rt: &(impl Abort + AllocGlobal + Threads + Wait + Sync),
+    cases: &[Case],
+) -> Result<(), Fail> {
+    for (given, options, asked, text) in cases {
+        let given = whole(rt.alloc(), given)?;
+        expect_run(rt, &given, MAX_BYTES, options, asked, Ok(text))?;
+    }
+    Ok(())
+}
+
+#[test]
+fn a_run_writes_the_text_of_its_logs(rt: HostRuntime) -> Result<(), Fail> {
+    for cases in [
+        LOGS.as_slice(),
+        MENTIONS.as_slice(),
+        ASKED.as_slice(),
+        CHOSEN.as_slice(),
+        STATUSES.as_slice(),
+    ] {
+        expect_texts(&rt, cases)?;
+    }
+    Ok(())
+}
 
 const BAD: &str = "@@REDO:do:7\n";
 
@@ -107,77 +142,96 @@ fn unknown<'a>(place: usize, line: &'a str) -> Want<'a> {
     Err((RunFault::Unknown { place }, line, 24))
 }
 
-#[test]
-fn a_stream_at_fault_is_told_and_nothing_written(rt: HostRuntime) -> Result<(), Fail> {
-    for (given, number, fault, line, status) in [
-        (
-            [("all", "ok\n@@REDO:do:7\n", false), ("b", "", false)],
-            0,
-            StreamFault::BadRecord { line: 2 },
-            "redo-log: all: line 2: bad record\n",
-            4,
-        ),
-        (
-            [("a", CLOSING_AND_MORE, false), ("all", "", false)],
-            0,
-            StreamFault::AfterClose { line: 2 },
-            "redo-log: a: line 2: after the closing record\n",
-            4,
-        ),
-        (
-            [("a", BAD_NINTH, false), ("all", BAD, false)],
-            0,
-            StreamFault::BadRecord { line: 9 },
-            "redo-log: a: line 9: bad record\n",
-            4,
-        ),
-        (
-            [("a", "x\n", true), ("all", BAD, false)],
-            0,
-            StreamFault::Read,
-            "redo-log: a: cannot be read\n",
-            5,
-        ),
-        (
-            [("a", BAD, true), ("all", "", false)],
-            0,
-            StreamFault::BadRecord { line: 1 },
-            "redo-log: a: line 1: bad record\n",
-            4,
-        ),
-        (
-            [("all", "x\n", false), ("d//b", BAD, false)],
-            1,
-            StreamFault::BadRecord { line: 1 },
-            "redo-log: d/b: line 1: bad record\n",
-            4,
-        ),
-    ] {
-        let want = stream(number, fault, line, status);
-        expect_run(&rt, &given, 1000, &PLAIN, &["all"], want)?;
-    }
-    Ok(())
-}
+/// Two streams, and the number of the one that is told, its fault, the line and the status.
+type AtFault = ([Given<'static>; 2], u32, StreamFault, &'static str, u8);
 
-#[test]
-fn a_stream_may_have_so_many_bytes(rt: HostRuntime) -> Result<(), Fail> {
-    let too_long = stream(0, StreamFault::TooLong, "redo-log: a: too long\n", 4);
-    let after_close = stream(
+const AT_FAULT: [AtFault; 6] = [
+    (
+        [("all", "ok\n@@REDO:do:7\n", false), ("b", "", false)],
+        0,
+        StreamFault::BadRecord { line: 2 },
+        "redo-log: all: line 2: bad record\n",
+        4,
+    ),
+    (
+        [("a", CLOSING_AND_MORE, false), ("all", "", false)],
         0,
         StreamFault::AfterClose { line: 2 },
         "redo-log: a: line 2: after the closing record\n",
         4,
-    );
-    for (text, max_bytes, want) in [
-        ("abc\n", 4, Ok("redo  a\nabc\n")),
-        ("abc\nd", 4, too_long),
-        (CLOSING, 27, Ok("redo  a\n")),
-        (CLOSING_AND_MORE, 28, after_close),
-        (CLOSING_AND_MORE, 27, too_long),
-        (CLOSING_AND_MORE, 26, too_long),
-    ] {
-        let given = whole(rt.alloc(), &[("a", text)])?;
-        expect_run(&rt, &given, max_bytes, &PLAIN, &["a"], want)?;
+    ),
+    (
+        [("a", BAD_NINTH, false), ("all", BAD, false)],
+        0,
+        StreamFault::BadRecord { line: 9 },
+        "redo-log: a: line 9: bad record\n",
+        4,
+    ),
+    (
+        [("a", "x\n", true), ("all", BAD, false)],
+        0,
+        StreamFault::Read,
+        "redo-log: a: cannot be read\n",
+        5,
+    ),
+    (
+        [("a", BAD, true), ("all", "", false)],
+        0,
+        StreamFault::BadRecord { line: 1 },
+        "redo-log: a: line 1: bad record\n",
+        4,
+    ),
+    (
+        [("all", "x\n", false), ("d//b", BAD, false)],
+        1,
+        StreamFault::BadRecord { line: 1 },
+        "redo-log: d/b: line 1: bad record\n",
+        4,
+    ),
+];
+
+#[test]
+fn a_stream_at_fault_is_told_and_nothing_written(rt: HostRuntime) -> Result<(), Fail> {
+    for (given, number, fault, line, status) in &AT_FAULT {
+        let want = stream(*number, *fault, line, *status);
+        expect_run(&rt, given, 1000, &PLAIN, &["all"], want)?;
+    }
+    Ok(())
+}
+
+const TOO_LONG: Want<'static> = Err((
+    RunFault::Stream {
+        number: 0,
+        fault: StreamFault::TooLong,
+    },
+    "redo-log: a: too long\n",
+    4,
+));
+
+const AFTER_CLOSE: Want<'static> = Err((
+    RunFault::Stream {
+        number: 0,
+        fault: StreamFault::AfterClose { line: 2 },
+    },
+    "redo-log: a: line 2: after the closing record\n",
+    4,
+));
+
+/// The stream of `a`, a limit, and what a run answers within it.
+const LIMITED: [(&str, u64, Want<'static>); 6] = [
+    ("abc\n", 4, Ok("redo  a\nabc\n")),
+    ("abc\nd", 4, TOO_LONG),
+    (CLOSING, 27, Ok("redo  a\n")),
+    (CLOSING_AND_MORE, 28, AFTER_CLOSE),
+    (CLOSING_AND_MORE, 27, TOO_LONG),
+    (CLOSING_AND_MORE, 26, TOO_LONG),
+];
+
+#[test]
+fn a_stream_may_have_so_many_bytes(rt: HostRuntime) -> Result<(), Fail> {
+    for (text, max_bytes, want) in &LIMITED {
+        let given = [("a", *text, false)];
+        expect_run(&rt, &given, *max_bytes, &PLAIN, &["a"], *want)?;
     }
     Ok(())
 }
@@ -213,12 +267,7 @@ fn no_reader_is_asked_where_a_word_is_unknown(rt: HostRuntime) -> Result<(), Fai
     let reads = AtomicU64::new(0);
     let index = read_index(alloc, b"1 all\n".as_slice())?;
     let mut readers = Vec::new(alloc);
-    readers.push(Script {
-        answers: &[],
-        last: Answer::End,
-        given: 0,
-        reads: &reads,
-    })?;
+    readers.push(Script::new(&[], Answer::End, &reads))?;
     if readers.len() != index.len() as usize {
         return Err("not a reader for each name".into());
     }
@@ -248,37 +297,35 @@ fn a_word_is_a_name_relative_to_the_base(rt: HostRuntime) -> Result<(), Fail> {
     Ok(())
 }
 
-/// What a writer with so much room, that takes so many bytes at once, holds in the end, and the answer.
-fn hello(
-    rt: &(impl AllocGlobal + Threads + Wait + Sync),
+/// What a run of one stream ends with, where the writer has so much room and takes so many bytes at
+/// once, and what was written.
+fn expect_hello(
+    rt: &(impl Abort + AllocGlobal + Threads + Wait + Sync),
     room: usize,
     per_call: usize,
-) -> Result<(Outcome, Vec<u8>), Fail> {
+    want: Want<'_>,
+    text: &[u8],
+) -> Result<(), Fail> {
     let alloc = rt.alloc();
-    let given = whole(alloc, &[("all", "hello\n")])?;
+    let given = [("all", "hello\n", false)];
     let plan = Plan::new(4, 64, 1000)?;
     let mut out = Taker::new(alloc, room, per_call)?;
     let cut = Cut::InReadsOf(1);
     let ran = ran(rt, &given, cut, &plan, &PLAIN, &["all"], &mut out)?;
-    Ok((ran, out.bytes().to_vec(alloc)?))
+    let (outcome, _) = outcome_of(alloc, want)?;
+    expect_outcome(rt, &ran, &outcome, out.bytes(), text);
+    Ok(())
 }
+
+const CANNOT_WRITE: Want<'static> = Err((RunFault::Write, "redo-log: cannot write\n", 6));
 
 #[test]
 fn a_writer_that_fails_ends_a_run(rt: HostRuntime) -> Result<(), Fail> {
-    let text = b"redo  all\nhello\n".as_slice();
-    let line = b"redo-log: cannot write\n".as_slice();
-    for room in 0..text.len() {
-        let (ran, written) = hello(&rt, room, 1000)?;
-        assert_eq!(rt; ran.answer, Err(RunFault::Write), "{room}");
-        assert_eq!(rt; ran.line.as_slice(), line, "{room}");
-        assert_eq!(rt; ran.status, 6, "{room}");
-        assert_eq!(rt; written.as_slice(), &text[..room], "{room}");
+    let text = "redo  all\nhello\n";
+    let bytes = text.as_bytes();
+    for room in 0..bytes.len() {
+        expect_hello(&rt, room, 1000, CANNOT_WRITE, &bytes[..room])?;
     }
-    let (ran, written) = hello(&rt, text.len(), 3)?;
-    assert_eq!(rt; ran.answer, Ok(()));
-    assert_eq!(rt; written.as_slice(), text);
-    let (ran, written) = hello(&rt, text.len(), 0)?;
-    assert_eq!(rt; ran.answer, Err(RunFault::Write));
-    assert_eq!(rt; written.len(), 0);
-    Ok(())
+    expect_hello(&rt, bytes.len(), 3, Ok(text), bytes)?;
+    expect_hello(&rt, bytes.len(), 0, CANNOT_WRITE, b"")
 }

@@ -67,15 +67,27 @@ fn expect_job(
     want: &Want<'_>,
 ) -> Result<(), Fail> {
     let job = read(rt, words)??;
-    assert_eq!(rt; job.options(), &want.options, "{words:?}");
-    assert_eq!(rt; job.dir(), want.dir, "{words:?}");
-    assert_eq!(rt; job.senders(), want.senders, "{words:?}");
-    assert_eq!(rt; job.capacity(), want.capacity, "{words:?}");
-    assert_eq!(rt; job.targets().len(), want.targets.len(), "{words:?}");
-    for (target, name) in job.targets().iter().zip(want.targets) {
-        assert_eq!(rt; target.as_slice(), name.as_bytes(), "{words:?}");
-    }
+    expect_options(rt, &job, want);
+    expect_numbers(rt, &job, want);
+    expect_targets(rt, &job, want.targets);
     Ok(())
+}
+
+fn expect_options(rt: &impl Abort, job: &Job, want: &Want<'_>) {
+    assert_eq!(rt; job.options(), &want.options);
+    assert_eq!(rt; job.dir(), want.dir);
+}
+
+fn expect_numbers(rt: &impl Abort, job: &Job, want: &Want<'_>) {
+    assert_eq!(rt; job.senders(), want.senders);
+    assert_eq!(rt; job.capacity(), want.capacity);
+}
+
+fn expect_targets(rt: &impl Abort, job: &Job, names: &[&str]) {
+    assert_eq!(rt; job.targets().len(), names.len(), "{names:?}");
+    for (target, name) in job.targets().iter().zip(names) {
+        assert_eq!(rt; target.as_slice(), name.as_bytes(), "{names:?}");
+    }
 }
 
 #[test]

@@ -8,7 +8,7 @@ use Rattle.redo_logs.specs.declared.log_state.LogState.{LogState}
 use Rattle.redo_logs.specs.declared.log_state.LogState.TheVariants.{Running, Ended, Failed}
 use Rattle.redo_logs.specs.declared.log_table.Log.{Log as Stored}
 use Rattle.redo_logs.specs.Logs.{Log, IsTable, most, fault_in, behind_one, first_fault, first_failed}
-use Rattle.redo_logs.specs.Stored.{log_of}
+use Rattle.redo_logs.specs.Private.Stored.{log_of}
 
 -- what each of these values says of a fault
 abbrev faults_of : List Stored → List (Option StreamFault)

@@ -11,7 +11,7 @@ use Rattle.indexmap.proofs.MapLemmas.{some_index}
 use Rattle.redo_logs.specs.declared.log_state.LogState.TheVariants.{Running}
 use Rattle.redo_logs.specs.declared.log_table.Log.{Log as Stored}
 use Rattle.redo_logs.specs.Logs.{Log, IsTable, most, new_log, targets_of, place_of}
-use Rattle.redo_logs.specs.Stored.{log_of}
+use Rattle.redo_logs.specs.Private.Stored.{log_of}
 use Rattle.redo_logs.proofs.Storing.{targets_stored, place_stored}
 
 -- what isn't there is `None`

@@ -8,7 +8,7 @@ use Rattle.indexmap.specs.IndexMap.{set_value_at}
 use Rattle.redo_line.specs.declared.entry.Entry.{Entry}
 use Rattle.redo_logs.specs.declared.log_table.Log.{Log as Stored}
 use Rattle.redo_logs.specs.Logs.{Log, changed, with_entry, targets_of, states_of, place_of, ends, has_ended}
-use Rattle.redo_logs.specs.Stored.{log_of}
+use Rattle.redo_logs.specs.Private.Stored.{log_of}
 use Rattle.redo_logs.proofs.ChangedLemmas.{changed-none}
 
 -- the targets are the keys

@@ -1,3 +1,4 @@
 pub mod EntryRef
+pub mod Laws
 pub mod Logs
-pub mod Stored
+pub mod Private

@@ -1,9 +1,11 @@
-ghost use Rattle.std.specs.Prelude.{◌≡◌, ◌↔◌, ◌<◌, ◌^◌, ℕ, [], ◌∷◌, ◌++◌, None, Some, Err, IfOk, OnOk, OnErr, OnSome, IsSome, length, slice_get};
+ghost use Rattle.std.specs.Prelude.{◌≡◌, ◌↔◌, ◌<◌, ◌^◌, ℕ, [], ◌∷◌, ◌++◌, length, slice_get};
+ghost use Rattle.std.specs.Prelude.{None, Some, Err, IfOk, OnOk, OnErr, OnSome, IsSome};
 ghost use Rattle.std.specs.List.{list_all};
 ghost use Rattle.std.specs.Option.{option_map};
 ghost use Rattle.redo_logs.specs.declared.log_state.LogState.TheVariants.{Running, Ended, Failed};
 ghost use Rattle.redo_logs.specs.EntryRef.{entry_seen};
-ghost use Rattle.redo_logs.specs.Logs.{IsTable, most, new_log, with_entry, with_state, changed, targets_of, states_of, place_of, entry_at, first_failed, has_ended};
+ghost use Rattle.redo_logs.specs.Logs.{IsTable, most, new_log, with_entry, with_state, changed};
+ghost use Rattle.redo_logs.specs.Logs.{targets_of, states_of, place_of, entry_at, first_failed, has_ended};
 
 use crate::entry_ref::EntryRef;
 use crate::log_state::LogState;
@@ -36,7 +38,7 @@ impl Model for LogTable {
 
     ghost Value = { List Log };
 
-    ghost use Rattle.redo_logs.specs.Stored.{log_of};
+    ghost use Rattle.redo_logs.specs.Private.Stored.{log_of};
 
     ghost view = { λ table. map log_of table.logs.entries };
 

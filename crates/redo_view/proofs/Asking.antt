@@ -1,21 +1,26 @@
 -- What is shown of the targets asked for, one after another.
 use Rattle.std.proofs.Common.{◌≡◌, ℕ, zero, suc, ◌+◌, ◌<◌, cond, get_or, drop, Bool, true, false, not, List, [], ◌∷◌, ◌++◌, Option, None, Some, Result, Ok, Err, length, take, refl, sym, ap, ◌∙◌, subst, arith}
+use Rattle.std.specs.Prelude.{OnOk}
 use Rattle.std.specs.Result.{IsErrAnd}
 use Rattle.std.specs.List.{position_from}
 use Rattle.std.proofs.lemmas.Bool.{not-false}
 use Rattle.std.proofs.lemmas.Iterator.Adapters.{position_from-zero}
 use Rattle.std.proofs.lemmas.List.{append_assoc, append-nil, take_more, take-append-drop}
 use Rattle.redo_line.specs.declared.feed.Broken.{Broken}
-use Rattle.redo_line.specs.Sink.{Taken, adds, adds-adds, Writes}
+use Rattle.redo_line.proofs.WritesLemmas.{adds-adds}
+use Rattle.redo_line.specs.Sink.{Taken, adds, Writes}
 use Rattle.redo_logs.specs.Logs.{Log, targets_of}
 use Rattle.redo_view.specs.declared.options.Options.{Options}
+use Rattle.redo_view.specs.declared.step.Seen.{Seen}
 use Rattle.redo_view.specs.declared.stop.Stop.{Stop}
 use Rattle.redo_view.specs.declared.stop.Stop.TheVariants.{Write}
 use Rattle.redo_view.specs.Text.{redo_line}
-use Rattle.redo_view.specs.Expansion.{Shown, is_among, with_text, opened_log, asked_if, after_asked, expansion}
-use Rattle.redo_view.specs.Step.{Written}
-use Rattle.redo_view.specs.View.{from_here, asked_from, unknown_among}
-use Rattle.redo_view.proofs.Shifting.{shown_after, opened-shift}
+use Rattle.redo_view.specs.Expansion.{Shown, is_among, with_text, opened_log, unless_opened, after_asked, expansion}
+use Rattle.redo_view.specs.Private.Stopped.{Written}
+use Rattle.redo_view.specs.Laws.{behind_text}
+use Rattle.redo_view.specs.Private.Seen.{IsSeen, SawAsked, from_here, asked_from}
+use Rattle.redo_view.specs.View.{unknown_among}
+use Rattle.redo_view.proofs.Shifting.{opened-shift}
 use Rattle.redo_view.proofs.Showing.{adds-nothing, stopped}
 
 -- a part behind what was written
@@ -33,37 +38,46 @@ write_stopped A told after part rest broken (Err stop) is wrote =
 module _ (logs : List Log) (options : Options) where
   -- the line of a target, and then its log
   pub asked_is : (name : List ℕ) (named opened : List (List ℕ)) → is_among name opened ≡ false
-      → asked_from logs options named opened name ≡ shown_after (redo_line 0 name) (opened_log logs options name 1 (from_here named opened))
+      → asked_from logs options named opened name ≡ behind_text (redo_line 0 name) (opened_log logs options name 1 (from_here named opened))
   asked_is name named opened new =
-      ap (λ b. asked_if logs options b name (from_here named opened)) new
+      ap (λ b. unless_opened logs options b name (from_here named opened)) new
       ∙ ap (λ (t : List ℕ). opened_log logs options name 1 (record { named = named; opened = opened; text = t })) (sym (append-nil (redo_line 0 name)))
       ∙ opened-shift logs options name 1 (redo_line 0 name) (from_here named opened)
 
   pub asked_not : (name : List ℕ) (named opened : List (List ℕ)) → is_among name opened ≡ true → asked_from logs options named opened name ≡ from_here named opened
-  asked_not name named opened old = ap (λ b. asked_if logs options b name (from_here named opened)) old
+  asked_not name named opened old = ap (λ b. unless_opened logs options b name (from_here named opened)) old
 
-  asked_shift : (b : Bool) (name text : List ℕ) (shown : Shown) → asked_if logs options b name (shown_after text shown) ≡ shown_after text (asked_if logs options b name shown)
+  pub saw_asked : (A : Type 0) (name : List ℕ) (before after : Seen) (done : Result A Stop) → is_among name before.opened ≡ false
+      → OnOk done (IsSeen after (opened_log logs options name 1 (from_here before.named before.opened))) → SawAsked logs options name before after done
+  saw_asked A name before after (Ok x) new saw =
+      let is = asked_is name before.named before.opened new in record {
+        named = saw.named ∙ sym (ap (λ (s : Shown). s.named) is);
+        opened = saw.opened ∙ sym (ap (λ (s : Shown). s.opened) is);
+      }
+  saw_asked A name before after (Err stop) new saw = saw
+
+  asked_shift : (b : Bool) (name text : List ℕ) (shown : Shown) → unless_opened logs options b name (behind_text text shown) ≡ behind_text text (unless_opened logs options b name shown)
   asked_shift true name text shown = refl
   asked_shift false name text shown =
       ap (λ (t : List ℕ). opened_log logs options name 1 (record { named = shown.named; opened = shown.opened; text = t })) (append_assoc text shown.text (redo_line 0 name))
       ∙ opened-shift logs options name 1 text (with_text (redo_line 0 name) shown)
 
   -- one target, behind what was shown before
-  pub one_asked : (name : List ℕ) (shown : Shown) → asked_if logs options (is_among name shown.opened) name shown ≡ shown_after shown.text (asked_from logs options shown.named shown.opened name)
+  pub one_asked : (name : List ℕ) (shown : Shown) → unless_opened logs options (is_among name shown.opened) name shown ≡ behind_text shown.text (asked_from logs options shown.named shown.opened name)
   one_asked name shown =
-      ap (λ (t : List ℕ). asked_if logs options (is_among name shown.opened) name (record { named = shown.named; opened = shown.opened; text = t })) (sym (append-nil shown.text))
+      ap (λ (t : List ℕ). unless_opened logs options (is_among name shown.opened) name (record { named = shown.named; opened = shown.opened; text = t })) (sym (append-nil shown.text))
       ∙ asked_shift (is_among name shown.opened) name shown.text (from_here shown.named shown.opened)
 
-  asked-append : (first others : List (List ℕ)) (shown : Shown) → after_asked logs options (first ++ others) shown ≡ after_asked logs options others (after_asked logs options first shown)
+  pub asked-append : (first others : List (List ℕ)) (shown : Shown) → after_asked logs options (first ++ others) shown ≡ after_asked logs options others (after_asked logs options first shown)
   asked-append [] others shown = refl
-  asked-append (name ∷ first) others shown = asked-append first others (asked_if logs options (is_among name shown.opened) name shown)
+  asked-append (name ∷ first) others shown = asked-append first others (unless_opened logs options (is_among name shown.opened) name shown)
 
   -- the text only grows
   asked-grows : (asked : List (List ℕ)) (shown : Shown) → (rest : List ℕ) × ((after_asked logs options asked shown).text ≡ shown.text ++ rest)
   asked-grows [] shown = ([], sym (append-nil shown.text))
   asked-grows (name ∷ asked) shown =
       let one = one_asked name shown in
-      let more = asked-grows asked (asked_if logs options (is_among name shown.opened) name shown) in
+      let more = asked-grows asked (unless_opened logs options (is_among name shown.opened) name shown) in
       let own = (asked_from logs options shown.named shown.opened name).text in (
         own ++ more.0,
         more.1 ∙ ap (λ (s : Shown). s.text ++ more.0) one ∙ append_assoc shown.text own more.0,
@@ -86,12 +100,12 @@ module _ (logs : List Log) (options : Options) where
     abbrev pub own : Shown
     own = asked_from logs options named opened name
 
-    next : asked_so_far asked (k + 1) ≡ shown_after (asked_so_far asked k).text own
+    next : asked_so_far asked (k + 1) ≡ behind_text (asked_so_far asked k).text own
     next =
         ap (λ names. after_asked logs options names (record { named = []; opened = []; text = [] })) (take_more asked k default below ∙ ap (λ n. take k asked ++ n ∷ []) name_is)
         ∙ asked-append (take k asked) (name ∷ []) (record { named = []; opened = []; text = [] })
         ∙ one_asked name (asked_so_far asked k)
-        ∙ (λ i. shown_after (asked_so_far asked k).text (asked_from logs options (sym so_far.named_is i) (sym so_far.opened_is i) name))
+        ∙ (λ i. behind_text (asked_so_far asked k).text (asked_from logs options (sym so_far.named_is i) (sym so_far.opened_is i) name))
 
     pub one_more_asked : (after : Option Taken) (named' opened' : List (List ℕ)) → after ≡ adds now own.text 0 → named' ≡ own.named → opened' ≡ own.opened → Asked asked (k + 1) told after named' opened'
     one_more_asked after named' opened' wrote named_is opened_is =

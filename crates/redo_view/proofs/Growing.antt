@@ -10,7 +10,7 @@ use Rattle.std.proofs.lemmas.List.Folds.{list_any-append}
 use Rattle.std.proofs.lemmas.Map.Keys.{IsDistinct-push}
 use Rattle.redo_logs.specs.Logs.{Log, targets_of}
 use Rattle.redo_view.specs.Expansion.{is_among, with_name}
-use Rattle.redo_view.specs.Left.{one_unless, not_among, left}
+use Rattle.redo_view.specs.Private.Left.{one_unless, not_among, left}
 
 -- names of targets
 abbrev pub Names : Type 0
@@ -22,43 +22,31 @@ Names = List (List ℕ)
 abbrev pub Keeps : Names → Names → Type 0
 Keeps names more = (name : List ℕ) → is_among name names ≡ true → is_among name more ≡ true
 
--- the others are still among them once a name stands behind, if it wasn't among them
-pub with_name-keeps : (name : List ℕ) (names : Names) → Keeps names (with_name name names)
-with_name-keeps name names = by (is_among name names)
-  where
-    by : (known : Bool) → Keeps names (if known then names else names ++ name ∷ [])
-    by true other among = among
-    by false other among = list_any-append (pointwise nat_eq other) names (name ∷ []) ∙ or_left (is_among other names) (is_among other (name ∷ [])) among
+-- the others are still among them once a name stands behind
+pub more-keeps : (name : List ℕ) (names : Names) → Keeps names (names ++ name ∷ [])
+more-keeps name names other among = list_any-append (pointwise nat_eq other) names (name ∷ []) ∙ or_left (is_among other names) (is_among other (name ∷ [])) among
 
 -- the name itself is
-pub with_name-has : (name : List ℕ) (names : Names) → is_among name (with_name name names) ≡ true
-with_name-has name names = by (is_among name names) refl
-  where
-    by : (known : Bool) → is_among name names ≡ known → is_among name (if known then names else names ++ name ∷ []) ≡ true
-    by true is = is
-    by false is =
-        list_any-append (pointwise nat_eq name) names (name ∷ [])
-        ∙ or_right (is_among name names) (is_among name (name ∷ [])) (or_left (pointwise nat_eq name name) false (nat_list_eq_equiv.refl name))
+pub more-has : (name : List ℕ) (names : Names) → is_among name (names ++ name ∷ []) ≡ true
+more-has name names =
+    list_any-append (pointwise nat_eq name) names (name ∷ [])
+    ∙ or_right (is_among name names) (is_among name (name ∷ [])) (or_left (pointwise nat_eq name name) false (nat_list_eq_equiv.refl name))
 
 -- and nothing else is new
-pub with_name-only : (other name : List ℕ) (names : Names) → is_among other (with_name name names) ≡ true → (is_among other names ≡ true) ⊎ (other ≡ name)
-with_name-only other name names = by (is_among name names)
+pub more-only : (other name : List ℕ) (names : Names) → is_among other (names ++ name ∷ []) ≡ true → (is_among other names ≡ true) ⊎ (other ≡ name)
+more-only other name names among =
+    elim (or_cases (is_among other names) (is_among other (name ∷ [])) (sym (list_any-append (pointwise nat_eq other) names (name ∷ [])) ∙ among)) [ inl old ↦ inl old | inr new ↦ one new ]
   where
     one : (pointwise nat_eq other name || false) ≡ true → (is_among other names ≡ true) ⊎ (other ≡ name)
     one is = elim (or_cases (pointwise nat_eq other name) false is) [ inl same ↦ inr (same_text other name (sym same)) | inr none ↦ absurd (cc) ]
 
-    by : (known : Bool) → is_among other (if known then names else names ++ name ∷ []) ≡ true → (is_among other names ≡ true) ⊎ (other ≡ name)
-    by true among = inl among
-    by false among =
-        elim (or_cases (is_among other names) (is_among other (name ∷ [])) (sym (list_any-append (pointwise nat_eq other) names (name ∷ [])) ∙ among)) [ inl old ↦ inl old | inr new ↦ one new ]
+-- no name comes to stand there twice where one comes that wasn't among them
+pub more-distinct : (name : List ℕ) (names : Names) → is_among name names ≡ false → IsDistinct (pointwise nat_eq) names → IsDistinct (pointwise nat_eq) (names ++ name ∷ [])
+more-distinct name names new distinct = IsDistinct-push nat_list_eq_equiv names name distinct new
 
--- no name comes to stand there twice
-pub with_name-distinct : (name : List ℕ) (names : Names) → IsDistinct (pointwise nat_eq) names → IsDistinct (pointwise nat_eq) (with_name name names)
-with_name-distinct name names distinct = by (is_among name names) refl
-  where
-    by : (known : Bool) → is_among name names ≡ known → IsDistinct (pointwise nat_eq) (if known then names else names ++ name ∷ [])
-    by true is = distinct
-    by false is = IsDistinct-push nat_list_eq_equiv names name distinct is
+-- a name that wasn't among them is put behind them
+pub with_name-new : (name : List ℕ) (names : Names) → is_among name names ≡ false → with_name name names ≡ names ++ name ∷ []
+with_name-new name names new = ap (λ known. if known then names else names ++ name ∷ []) new
 
 -- ---- how many are left
 
@@ -99,9 +87,9 @@ module _ (logs : List Log) where
   left-le before after keeps = not_among-le (targets_of logs) before after keeps
 
   -- fewer, where a log is opened that wasn't
-  pub left-lt : (name : List ℕ) (opened : Names) → is_among name (targets_of logs) ≡ true → is_among name opened ≡ false → left logs (with_name name opened) < left logs opened
+  pub left-lt : (name : List ℕ) (opened : Names) → is_among name (targets_of logs) ≡ true → is_among name opened ≡ false → left logs (opened ++ name ∷ []) < left logs opened
   left-lt name opened listed was =
-      not_among-lt name (targets_of logs) opened (with_name name opened) (with_name-keeps name opened) listed was (with_name-has name opened)
+      not_among-lt name (targets_of logs) opened (opened ++ name ∷ []) (more-keeps name opened) listed was (more-has name opened)
 
   -- and never more than there are
   pub left-all : (opened : Names) → left logs opened ≤ length logs

@@ -1,5 +1,6 @@
 mod Asking
 mod ExpansionRows
+mod FirstMention
 mod Growing
 mod Opening
 mod Reaching

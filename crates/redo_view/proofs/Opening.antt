@@ -1,5 +1,5 @@
 -- There is one opening: what a log's entries do depends only on the openings of logs that were not opened before.
-use Rattle.std.proofs.Common.{◌≡◌, ℕ, zero, suc, ◌+◌, ◌<◌, ◌≤◌, Bool, true, false, List, [], ◌∷◌, length, refl, sym, ap, ◌∙◌, arith}
+use Rattle.std.proofs.Common.{◌≡◌, ℕ, zero, suc, ◌+◌, ◌<◌, ◌≤◌, Bool, true, false, List, [], ◌∷◌, ◌++◌, length, refl, sym, ap, ◌∙◌, arith}
 use Rattle.std.specs.Prelude.{◌&&◌, not, nat_eq}
 use Rattle.std.specs.Cmp.Lexicographic.{pointwise}
 use Rattle.std.proofs.lemmas.Bool.{and_parts, or_left, or_right, and_from, not-true}
@@ -8,10 +8,11 @@ use Rattle.redo_line.specs.declared.entry.Entry.{Entry}
 use Rattle.redo_line.specs.declared.entry.Entry.TheVariants.{Text, Mention, Done, Closing, Note}
 use Rattle.redo_logs.specs.Logs.{Log, targets_of}
 use Rattle.redo_view.specs.declared.options.Options.{Options}
-use Rattle.redo_view.specs.Expansion.{Opening, Shown, is_among, with_name, log_of, mentions, mention, begun, opens, opened_if, after_mention, after_entry, after_entries, opened_within, opened_log}
+use Rattle.redo_view.specs.Expansion.{Opening, Shown, is_among, log_of, mentions, mention, begun, opens, opened_if, mentioned_if, after_entry, after_entries, opened_within, opened_log}
+use Rattle.redo_view.specs.Laws.{GoesOver}
 use Rattle.redo_view.specs.Reached.{mentions_target, mentioned_in}
-use Rattle.redo_view.proofs.Growing.{Names, Keeps, with_name-keeps, left-le, left-lt, left-all, Growth, Grown, grown-none, grown-both, Kept, kept}
-use Rattle.redo_view.specs.Left.{left}
+use Rattle.redo_view.proofs.Growing.{Names, Keeps, more-keeps, left-le, left-lt, left-all, Growth, Grown, grown-none, grown-both, Kept, kept}
+use Rattle.redo_view.specs.Private.Left.{left}
 
 -- whatever was opened before a log is opened stays so
 abbrev pub Keeping : Opening → Type 0
@@ -20,11 +21,7 @@ Keeping inner = (name : List ℕ) (depth : ℕ) (shown : Shown) → Keeps shown.
 module _ (logs : List Log) (options : Options) where
   -- how many logs are left once this one is opened
   abbrev pub left_after : List ℕ → Shown → ℕ
-  left_after name shown = left logs (with_name name shown.opened)
-
-  -- to open a log is to go over its entries
-  abbrev pub GoesOver : Opening → Type 0
-  GoesOver inner = (target : List ℕ) (depth : ℕ) (shown : Shown) → inner target depth shown ≡ after_entries logs options inner depth (log_of target logs) (begun target shown)
+  left_after name shown = left logs (shown.opened ++ name ∷ [])
 
   -- a log is opened where logs are opened recursively, it is there, and it was not opened
   pub opens-parts : (name : List ℕ) (shown : Shown) → opens logs options name shown ≡ true
@@ -60,7 +57,7 @@ module _ (logs : List Log) (options : Options) where
     entry_grows (Text line) does depth shown fits = grown-none Q growth shown.opened
     entry_grows (Mention how name) does depth shown fits = by (mentions options how) refl
       where
-        by : (counts : Bool) → mentions options how ≡ counts → Grown Q shown.opened (after_mention logs options counts inner depth how name shown).opened
+        by : (counts : Bool) → mentions options how ≡ counts → Grown Q shown.opened (mentioned_if logs options counts inner depth how name shown).opened
         by true counts =
             let named = mention options depth how name shown in
             let mentioned = and_from (mentions options how) (pointwise nat_eq name name) counts (nat_list_eq_equiv.refl name) in
@@ -108,7 +105,7 @@ module _ (logs : List Log) (options : Options) where
       entry_agrees (Text line) depth shown fits = refl
       entry_agrees (Mention how name) depth shown fits = by (mentions options how)
         where
-          by : (counts : Bool) → after_mention logs options counts one depth how name shown ≡ after_mention logs options counts other depth how name shown
+          by : (counts : Bool) → mentioned_if logs options counts one depth how name shown ≡ mentioned_if logs options counts other depth how name shown
           by true = let named = mention options depth how name shown in inner_agrees name (depth + 1) named fits (opens logs options name named) refl
           by false = refl
       entry_agrees (Done status name) depth shown fits = refl
@@ -141,7 +138,7 @@ module _ (logs : List Log) (options : Options) where
   unfolding opened_within
   within_keeps zero target depth shown name among = among
   within_keeps (suc levels) target depth shown name among =
-      entries_keep (opened_within logs options levels) (within_keeps levels) (log_of target logs) depth (begun target shown) name (with_name-keeps target shown.opened name among)
+      entries_keep (opened_within logs options levels) (within_keeps levels) (log_of target logs) depth (begun target shown) name (more-keeps target shown.opened name among)
 
   -- so nothing is lost as a log is opened
   pub log_keeps : Keeping (opened_log logs options)
@@ -158,14 +155,14 @@ module _ (logs : List Log) (options : Options) where
       ∙ sym (within-more (suc levels) target depth shown)
 
   -- so there are levels enough
-  pub log_goes_over : GoesOver (opened_log logs options)
+  pub log_goes_over : GoesOver logs options (opened_log logs options)
   log_goes_over target depth shown =
       within-all target depth shown ∙ within-more (length logs) target depth shown
       ∙ entries_agree (opened_within logs options (length logs)) (opened_log logs options) log_keeps (length logs) (λ name d s is less. enough (length logs) name d s less ∙ sym (within-all name d s))
-      (log_of target logs) depth (begun target shown) (left-all logs (with_name target shown.opened))
+      (log_of target logs) depth (begun target shown) (left-all logs (shown.opened ++ target ∷ []))
 
   -- any opening that goes over a log's entries is this one, by how many logs are left
-  module _ (other : Opening) (goes_over : GoesOver other) where
+  module _ (other : Opening) (goes_over : GoesOver logs options other) where
     -- at a log behind which fewer than these are left
     same_below : (bound : ℕ) (target : List ℕ) (depth : ℕ) (shown : Shown) → left_after target shown < bound → other target depth shown ≡ opened_log logs options target depth shown
     same_below zero target depth shown fits = absurd (omega (arith, fits))

@@ -3,16 +3,16 @@ use Rattle.std.proofs.Common.{◌≡◌, ℕ, zero, suc, ◌+◌, ◌<◌, Bool,
 use Rattle.std.specs.Prelude.{◌&&◌, not, nat_eq}
 use Rattle.std.specs.List.{IsDistinct}
 use Rattle.std.specs.Cmp.Lexicographic.{pointwise, same_text}
-use Rattle.std.proofs.lemmas.Bool.{and_parts, and_cases, and_from, or_cases, or_left, or_right, not-false, both_ways}
+use Rattle.std.proofs.lemmas.Bool.{and_parts, and_cases, and_from, or_cases, or_left, or_right, not-false, not-true, both_ways}
 use Rattle.std.proofs.lemmas.Cmp.{nat_list_eq_equiv}
 use Rattle.redo_line.specs.declared.entry.Entry.{Entry}
 use Rattle.redo_line.specs.declared.entry.Entry.TheVariants.{Text, Mention, Done, Closing, Note}
 use Rattle.redo_logs.specs.Logs.{Log, targets_of}
 use Rattle.redo_view.specs.declared.options.Options.{Options}
-use Rattle.redo_view.specs.Expansion.{Shown, is_among, with_name, with_text, log_of, mentions, mention, begun, opens, opened_if, after_mention, after_entry, after_entries, opened_log, asked_if, after_asked, expanded}
+use Rattle.redo_view.specs.Expansion.{Shown, is_among, with_text, log_of, mentions, mention, begun, opens, opened_if, mentioned_if, after_entry, after_entries, opened_log, unless_opened, after_asked, expanded}
 use Rattle.redo_view.specs.Reached.{mentions_target, mentioned_in, LeadsTo, IsReached}
 use Rattle.redo_view.specs.Text.{redo_line}
-use Rattle.redo_view.proofs.Growing.{Names, Keeps, with_name-has, with_name-only, with_name-distinct, Growth, Grown, grown-none, grown-both, Kept, kept}
+use Rattle.redo_view.proofs.Growing.{Names, Keeps, more-has, more-only, more-distinct, Growth, Grown, grown-none, grown-both, Kept, kept}
 use Rattle.redo_view.proofs.Opening.{left_after, opens-parts, entries_grow, entries_keep, log_keeps, log_goes_over}
 
 -- what is shown at first
@@ -36,45 +36,45 @@ module _ (logs : List Log) (options : Options) where
   -- With `recursive`, what holds of a target holds of those that its log mentions too, and a relation that holds of the
   -- entries of such a target's log holds of its opening.
   module _ (Q : Names → Names → Type 0) (growth : Growth Q) (Good : List ℕ → Type 0) (next : (from name : List ℕ) → Good from → options.recursive ≡ true → Mentions from name → Good name)
-      (ends : (target : List ℕ) (depth : ℕ) (shown : Shown) → Good target → Q (with_name target shown.opened) (behind_log target depth shown) → Q shown.opened (behind_log target depth shown))
+      (ends : (target : List ℕ) (depth : ℕ) (shown : Shown) → Good target → is_among target shown.opened ≡ false → Q (shown.opened ++ target ∷ []) (behind_log target depth shown) → Q shown.opened (behind_log target depth shown))
     where
       -- this is so of logs behind which fewer than these are left
       abbrev Below : ℕ → Type 0
-      Below bound = (target : List ℕ) (depth : ℕ) (shown : Shown) → left_after logs options target shown < bound → Good target → Grown Q shown.opened (behind_log target depth shown)
+      Below bound = (target : List ℕ) (depth : ℕ) (shown : Shown) → left_after logs options target shown < bound → Good target → is_among target shown.opened ≡ false → Grown Q shown.opened (behind_log target depth shown)
 
       -- one log, where it is so of the logs that its entries open
       log_grows : (bound : ℕ) → Below bound → Below (suc bound)
-      log_grows bound below target depth shown fits good =
-          (log_keeps logs options target depth shown, ends target depth shown good (subst (λ (s : Shown). Q (with_name target shown.opened) s.opened) (sym (log_goes_over logs options target depth shown)) entries.1))
+      log_grows bound below target depth shown fits good new =
+          (log_keeps logs options target depth shown, ends target depth shown good new (subst (λ (s : Shown). Q (shown.opened ++ target ∷ []) s.opened) (sym (log_goes_over logs options target depth shown)) entries.1))
         where
-          entries : Grown Q (with_name target shown.opened) (after_entries logs options (opened_log logs options) depth (log_of target logs) (begun target shown)).opened
+          entries : Grown Q (shown.opened ++ target ∷ []) (after_entries logs options (opened_log logs options) depth (log_of target logs) (begun target shown)).opened
           entries =
               entries_grow logs options Q growth (opened_log logs options) bound (log_of target logs)
-              (λ name d s mentioned is less. let parts = opens-parts logs options name s is in below name d s less (next target name good parts.0 (parts.1, mentioned))) depth (begun target shown) (omega (arith, fits))
+              (λ name d s mentioned is less. let parts = opens-parts logs options name s is in below name d s less (next target name good parts.0 (parts.1, mentioned)) (not-true (is_among name s.opened) parts.2)) depth (begun target shown) (omega (arith, fits))
 
       -- so of any
       grows_below : (bound : ℕ) → Below bound
-      grows_below zero = λ target depth shown fits good. absurd (omega (arith, fits))
+      grows_below zero = λ target depth shown fits good new. absurd (omega (arith, fits))
       grows_below (suc bound) = log_grows bound (grows_below bound)
 
       -- the log of a target that is asked for, unless it was opened
-      one_asked_grows : (target : List ℕ) (shown : Shown) → Good target → (known : Bool) → Grown Q shown.opened (asked_if logs options known target shown).opened
-      one_asked_grows target shown good true = grown-none Q growth shown.opened
-      one_asked_grows target shown good false = grows_below (suc (left_after logs options target shown)) target 1 (with_text (redo_line 0 target) shown) (omega arith) good
+      one_asked_grows : (target : List ℕ) (shown : Shown) → Good target → (known : Bool) → is_among target shown.opened ≡ known → Grown Q shown.opened (unless_opened logs options known target shown).opened
+      one_asked_grows target shown good true is = grown-none Q growth shown.opened
+      one_asked_grows target shown good false is = grows_below (suc (left_after logs options target shown)) target 1 (with_text (redo_line 0 target) shown) (omega arith) good is
 
       -- targets that are asked for, in order
       asked_grow : (asked : Names) → ((target : List ℕ) → is_among target asked ≡ true → Good target) → (shown : Shown) → Grown Q shown.opened (behind_asked asked shown)
       asked_grow [] good shown = grown-none Q growth shown.opened
       asked_grow (target ∷ targets) good shown =
-          let after = asked_if logs options (is_among target shown.opened) target shown in
+          let after = unless_opened logs options (is_among target shown.opened) target shown in
           let first = good target (or_left (pointwise nat_eq target target) (is_among target targets) (nat_list_eq_equiv.refl target)) in
-          grown-both Q growth shown.opened after.opened (behind_asked targets after) (one_asked_grows target shown first (is_among target shown.opened))
+          grown-both Q growth shown.opened after.opened (behind_asked targets after) (one_asked_grows target shown first (is_among target shown.opened) refl)
           (asked_grow targets (λ t among. good t (or_right (pointwise nat_eq t target) (is_among t targets) among)) after)
 
   -- what was opened stays so
   asked_keep : (asked : Names) (shown : Shown) → Keeps shown.opened (behind_asked asked shown)
   asked_keep asked shown =
-      (asked_grow Kept kept (λ name. Unit {0}) (λ from name good recursive mentioned. tt) (λ target depth s good rest. tt) asked (λ target among. tt) shown).0
+      (asked_grow Kept kept (λ name. Unit {0}) (λ from name good recursive mentioned. tt) (λ target depth s good new rest. tt) asked (λ target among. tt) shown).0
 
   -- ---- no log is opened twice
 
@@ -90,7 +90,7 @@ module _ (logs : List Log) (options : Options) where
   pub opened_once : (asked : Names) → IsDistinct (pointwise nat_eq) (expanded logs options asked).opened
   unfolding IsDistinct
   opened_once asked =
-      (asked_grow StaysDistinct distinct (λ name. Unit {0}) (λ from name good recursive mentioned. tt) (λ target depth shown good rest is. rest (with_name-distinct target shown.opened is)) asked (λ target among. tt) nothing_shown).1 tt
+      (asked_grow StaysDistinct distinct (λ name. Unit {0}) (λ from name good recursive mentioned. tt) (λ target depth shown good new rest is. rest (more-distinct target shown.opened new is)) asked (λ target among. tt) nothing_shown).1 tt
 
   -- ---- only reached logs are opened
 
@@ -119,14 +119,14 @@ module _ (logs : List Log) (options : Options) where
     reached = record { none = λ names all. all; both = λ before between after first keeps second all. second (first all) }
 
     -- a reached target more
-    one_reached : (target : List ℕ) (names : Names) → IsReached logs options asked target → AllReached names → AllReached (with_name target names)
+    one_reached : (target : List ℕ) (names : Names) → IsReached logs options asked target → AllReached names → AllReached (names ++ target ∷ [])
     one_reached target names is all name among =
-        elim (with_name-only name target names among) [ inl old ↦ all name old | inr same ↦ subst (IsReached logs options asked) (sym same) is ]
+        elim (more-only name target names among) [ inl old ↦ all name old | inr same ↦ subst (IsReached logs options asked) (sym same) is ]
 
     -- so all that is opened is reached
     pub opened-reached : (target : List ℕ) → is_among target (expanded logs options asked).opened ≡ true → IsReached logs options asked target
     opened-reached =
-        (asked_grow StaysReached reached (IsReached logs options asked) reached-more (λ target depth shown is rest all. rest (one_reached target shown.opened is all)) asked (λ target among. inl among) nothing_shown).1
+        (asked_grow StaysReached reached (IsReached logs options asked) reached-more (λ target depth shown is new rest all. rest (one_reached target shown.opened is all)) asked (λ target among. inl among) nothing_shown).1
         (λ name among. absurd (cc))
 
   -- ---- all reached logs are opened
@@ -135,7 +135,7 @@ module _ (logs : List Log) (options : Options) where
   own : (target : List ℕ) (depth : ℕ) (shown : Shown) → is_among target (behind_log target depth shown) ≡ true
   own target depth shown =
       ap (λ (s : Shown). is_among target s.opened) (log_goes_over logs options target depth shown)
-      ∙ entries_keep logs options (opened_log logs options) (log_keeps logs options) (log_of target logs) depth (begun target shown) target (with_name-has target shown.opened)
+      ∙ entries_keep logs options (opened_log logs options) (log_keeps logs options) (log_of target logs) depth (begun target shown) target (more-has target shown.opened)
 
   module _ (recursive : options.recursive ≡ true) (name : List ℕ) (listed : is_among name (targets_of logs) ≡ true) where
     -- a mention opens its log, or that is among the opened
@@ -155,7 +155,7 @@ module _ (logs : List Log) (options : Options) where
         let parts = and_parts (mentions options how) (pointwise nat_eq name other) mentioned in
         subst (λ n. is_among name (after_entry logs options (opened_log logs options) depth (Mention how n) shown).opened ≡ true) (same_text name other (sym parts.1)) (by (mentions options how) parts.0)
       where
-        by : (counts : Bool) → counts ≡ true → is_among name (after_mention logs options counts (opened_log logs options) depth how name shown).opened ≡ true
+        by : (counts : Bool) → counts ≡ true → is_among name (mentioned_if logs options counts (opened_log logs options) depth how name shown).opened ≡ true
         by true is = let named = mention options depth how name shown in behind_mention (depth + 1) named (opens logs options name named) refl
         by false is = absurd (cc)
     behind_entry (Done status other) mentioned depth shown = absurd (cc)
@@ -194,16 +194,16 @@ module _ (logs : List Log) (options : Options) where
 
   module _ (recursive : options.recursive ≡ true) where
     -- if it is so of the logs that were opened from a log, it is so of that log too
-    log_closes : (target : List ℕ) (depth : ℕ) (shown : Shown) → Closes (with_name target shown.opened) (behind_log target depth shown) → Closes shown.opened (behind_log target depth shown)
-    log_closes target depth shown rest from is was = by (is_among from (with_name target shown.opened)) refl
+    log_closes : (target : List ℕ) (depth : ℕ) (shown : Shown) → Closes (shown.opened ++ target ∷ []) (behind_log target depth shown) → Closes shown.opened (behind_log target depth shown)
+    log_closes target depth shown rest from is was = by (is_among from (shown.opened ++ target ∷ [])) refl
       where
         itself : HasMentioned target (behind_log target depth shown)
         itself name mentioned =
             ap (λ (s : Shown). is_among name s.opened) (log_goes_over logs options target depth shown) ∙ behind_entries recursive name mentioned.0 (log_of target logs) mentioned.1 depth (begun target shown)
 
-        by : (known : Bool) → is_among from (with_name target shown.opened) ≡ known → HasMentioned from (behind_log target depth shown)
+        by : (known : Bool) → is_among from (shown.opened ++ target ∷ []) ≡ known → HasMentioned from (behind_log target depth shown)
         by true known =
-            elim (with_name-only from target shown.opened known) [
+            elim (more-only from target shown.opened known) [
               | inl old ↦ absurd (both_ways (is_among from shown.opened) was old)
               | inr same ↦ subst (λ t. HasMentioned t (behind_log target depth shown)) (sym same) itself
             ]
@@ -212,7 +212,7 @@ module _ (logs : List Log) (options : Options) where
     -- so it is of all that was opened for the targets asked for
     asked_close : (asked : Names) → Closes [] (expanded logs options asked).opened
     asked_close asked =
-        (asked_grow Closes closes (λ name. Unit {0}) (λ from name good is mentioned. tt) (λ target depth shown good rest. log_closes target depth shown rest) asked (λ target among. tt) nothing_shown).1
+        (asked_grow Closes closes (λ name. Unit {0}) (λ from name good is mentioned. tt) (λ target depth shown good new rest. log_closes target depth shown rest) asked (λ target among. tt) nothing_shown).1
 
     -- what is opened at the beginning of a chain is so at its end
     along : (asked chain : Names) (from to : List ℕ) → is_among from (expanded logs options asked).opened ≡ true → LeadsTo logs options from chain to → is_among to (expanded logs options asked).opened ≡ true
@@ -223,13 +223,13 @@ module _ (logs : List Log) (options : Options) where
   asked-opened : (asked : Names) (target : List ℕ) (shown : Shown) → is_among target asked ≡ true → is_among target (behind_asked asked shown) ≡ true
   asked-opened [] target shown among = absurd (cc)
   asked-opened (first ∷ targets) target shown among =
-      let after = asked_if logs options (is_among first shown.opened) first shown in
+      let after = unless_opened logs options (is_among first shown.opened) first shown in
       elim (or_cases (pointwise nat_eq target first) (is_among target targets) among) [
         | inl here ↦ asked_keep targets after target (ap (λ t. is_among t after.opened) (same_text target first (sym here)) ∙ by (is_among first shown.opened) refl)
         | inr there ↦ asked-opened targets target after there
       ]
     where
-      by : (known : Bool) → is_among first shown.opened ≡ known → is_among first (asked_if logs options known first shown).opened ≡ true
+      by : (known : Bool) → is_among first shown.opened ≡ known → is_among first (unless_opened logs options known first shown).opened ≡ true
       by true is = is
       by false is = own first 1 (with_text (redo_line 0 first) shown)
 

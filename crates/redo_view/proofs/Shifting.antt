@@ -13,33 +13,30 @@ use Rattle.redo_line.specs.declared.entry.How.{How}
 use Rattle.redo_line.proofs.PlaceLemmas.{some_place}
 use Rattle.redo_logs.specs.Logs.{Log, targets_of, place_of, entry_at}
 use Rattle.redo_view.specs.declared.options.Options.{Options}
-use Rattle.redo_view.specs.Expansion.{Opening, Shown, is_among, with_name, with_text, log_of, mentions, mention_text, mention, begun, opens, opened_if, after_mention, after_entry, after_entries, opened_within, opened_log}
-use Rattle.redo_view.specs.Step.{own_text, named_after, opened_by, opened_after}
+use Rattle.redo_view.specs.Expansion.{Opening, Shown, is_among, with_name, with_text, log_of, mentions, mention_text, mention, begun, opens, opened_if, mentioned_if, after_entry, after_entries, opened_within, opened_log}
+use Rattle.redo_view.specs.Laws.{behind_text}
+use Rattle.redo_view.specs.Private.Step.{own_text, named_after, opened_by, opened_after}
 
 -- ---- a text before what is shown
-
--- the same, behind a text
-abbrev pub shown_after : List ℕ → Shown → Shown
-shown_after x s = record { named = s.named; opened = s.opened; text = x ++ s.text }
 
 -- the same, with no text before it
 abbrev without_text : Shown → Shown
 without_text s = record { named = s.named; opened = s.opened; text = [] }
 
 -- all that was shown is its text and what has none
-after_own : (s : Shown) → s ≡ shown_after s.text (without_text s)
+after_own : (s : Shown) → s ≡ behind_text s.text (without_text s)
 after_own s = λ i. record { named = s.named; opened = s.opened; text = sym (append-nil s.text) i }
 
 -- an opening that does the same behind any text
 abbrev pub Shifts : Opening → Type 0
-Shifts inner = (name : List ℕ) (depth : ℕ) (x : List ℕ) (s : Shown) → inner name depth (shown_after x s) ≡ shown_after x (inner name depth s)
+Shifts inner = (name : List ℕ) (depth : ℕ) (x : List ℕ) (s : Shown) → inner name depth (behind_text x s) ≡ behind_text x (inner name depth s)
 
 -- text is added behind any other
-text-shift : (x text : List ℕ) (s : Shown) → with_text text (shown_after x s) ≡ shown_after x (with_text text s)
+text-shift : (x text : List ℕ) (s : Shown) → with_text text (behind_text x s) ≡ behind_text x (with_text text s)
 text-shift x text s = λ i. record { named = s.named; opened = s.opened; text = append_assoc x s.text text i }
 
 -- and so is a mention
-mention-shift : (options : Options) (depth : ℕ) (how : How) (name x : List ℕ) (s : Shown) → mention options depth how name (shown_after x s) ≡ shown_after x (mention options depth how name s)
+mention-shift : (options : Options) (depth : ℕ) (how : How) (name x : List ℕ) (s : Shown) → mention options depth how name (behind_text x s) ≡ behind_text x (mention options depth how name s)
 mention-shift options depth how name x s = λ i. record {
   named = with_name name s.named;
   opened = s.opened;
@@ -50,17 +47,17 @@ module _ (logs : List Log) (options : Options) where
   module _ (inner : Opening) (shifts : Shifts inner) where
     -- the log that a mention opens, or doesn't
     mentioned-shift : (depth : ℕ) (how : How) (name x : List ℕ) (s : Shown) (opening : Bool)
-        → opened_if logs options opening inner name (depth + 1) (mention options depth how name (shown_after x s))
-        ≡ shown_after x (opened_if logs options opening inner name (depth + 1) (mention options depth how name s))
+        → opened_if logs options opening inner name (depth + 1) (mention options depth how name (behind_text x s))
+        ≡ behind_text x (opened_if logs options opening inner name (depth + 1) (mention options depth how name s))
     mentioned-shift depth how name x s true = ap (inner name (depth + 1)) (mention-shift options depth how name x s) ∙ shifts name (depth + 1) x (mention options depth how name s)
     mentioned-shift depth how name x s false = mention-shift options depth how name x s
 
     -- one entry
-    one-shift : (depth : ℕ) (entry : Entry) (x : List ℕ) (s : Shown) → after_entry logs options inner depth entry (shown_after x s) ≡ shown_after x (after_entry logs options inner depth entry s)
+    one-shift : (depth : ℕ) (entry : Entry) (x : List ℕ) (s : Shown) → after_entry logs options inner depth entry (behind_text x s) ≡ behind_text x (after_entry logs options inner depth entry s)
     one-shift depth (Text line) x s = text-shift x (own_text options depth s.named (Text line)) s
     one-shift depth (Mention how name) x s = by (mentions options how)
       where
-        by : (counts : Bool) → after_mention logs options counts inner depth how name (shown_after x s) ≡ shown_after x (after_mention logs options counts inner depth how name s)
+        by : (counts : Bool) → mentioned_if logs options counts inner depth how name (behind_text x s) ≡ behind_text x (mentioned_if logs options counts inner depth how name s)
         by true = mentioned-shift depth how name x s (opens logs options name (mention options depth how name s))
         by false = refl
     one-shift depth (Done status name) x s = text-shift x (own_text options depth s.named (Done status name)) s
@@ -68,7 +65,7 @@ module _ (logs : List Log) (options : Options) where
     one-shift depth (Note kind text) x s = text-shift x (own_text options depth s.named (Note kind text)) s
 
     -- entries in order
-    all-shift : (depth : ℕ) (entries : List Entry) (x : List ℕ) (s : Shown) → after_entries logs options inner depth entries (shown_after x s) ≡ shown_after x (after_entries logs options inner depth entries s)
+    all-shift : (depth : ℕ) (entries : List Entry) (x : List ℕ) (s : Shown) → after_entries logs options inner depth entries (behind_text x s) ≡ behind_text x (after_entries logs options inner depth entries s)
     all-shift depth [] x s = refl
     all-shift depth (entry ∷ entries) x s =
         ap (λ t. after_entries logs options inner depth entries t) (one-shift depth entry x s) ∙ all-shift depth entries x (after_entry logs options inner depth entry s)
@@ -80,18 +77,18 @@ module _ (logs : List Log) (options : Options) where
   within-shift (suc levels) target depth x s = all-shift (opened_within logs options levels) (within-shift levels) depth (log_of target logs) x (begun target s)
 
   -- so what a log adds does not depend on the text before it
-  pub opened-shift : (target : List ℕ) (depth : ℕ) (x : List ℕ) (s : Shown) → opened_log logs options target depth (shown_after x s) ≡ shown_after x (opened_log logs options target depth s)
+  pub opened-shift : (target : List ℕ) (depth : ℕ) (x : List ℕ) (s : Shown) → opened_log logs options target depth (behind_text x s) ≡ behind_text x (opened_log logs options target depth s)
   unfolding opened_log
   opened-shift target depth x s = within-shift (length logs + 1) target depth x s
 
   -- nor what an entry adds
   pub entry-shift : (depth : ℕ) (entry : Entry) (x : List ℕ) (s : Shown)
-      → after_entry logs options (opened_log logs options) depth entry (shown_after x s) ≡ shown_after x (after_entry logs options (opened_log logs options) depth entry s)
+      → after_entry logs options (opened_log logs options) depth entry (behind_text x s) ≡ behind_text x (after_entry logs options (opened_log logs options) depth entry s)
   entry-shift depth entry x s = one-shift (opened_log logs options) opened-shift depth entry x s
 
   -- nor what entries add
   pub entries-shift : (depth : ℕ) (entries : List Entry) (x : List ℕ) (s : Shown)
-      → after_entries logs options (opened_log logs options) depth entries (shown_after x s) ≡ shown_after x (after_entries logs options (opened_log logs options) depth entries s)
+      → after_entries logs options (opened_log logs options) depth entries (behind_text x s) ≡ behind_text x (after_entries logs options (opened_log logs options) depth entries s)
   entries-shift depth entries x s = all-shift (opened_log logs options) opened-shift depth entries x s
 
   -- ---- text is only added
@@ -155,7 +152,7 @@ module _ (logs : List Log) (options : Options) (inner : Opening) (depth : ℕ) w
   entry-alone (Text line) s is = refl
   entry-alone (Mention how name) s is = by (mentions options how) is
     where
-      by : (counts : Bool) → (if counts then opened_by logs options name s.opened else None) ≡ None → after_mention logs options counts inner depth how name s ≡ mid_if counts options depth how name s
+      by : (counts : Bool) → (if counts then opened_by logs options name s.opened else None) ≡ None → mentioned_if logs options counts inner depth how name s ≡ mid_if counts options depth how name s
       by true none =
           let mentioned = mention options depth how name s in
           let new = not (is_among name s.opened) in
@@ -180,7 +177,7 @@ module _ (logs : List Log) (options : Options) (inner : Opening) (depth : ℕ) w
     where
       by : (counts : Bool) → (if counts then opened_by logs options name s.opened else None) ≡ Some number
           → (n : List ℕ) × (place_of n logs ≡ Some number) × (is_among n s.opened ≡ false) × (is_among n (targets_of logs) ≡ true)
-          × (after_mention logs options counts inner depth how name s ≡ inner n (depth + 1) (mid_if counts options depth how name s))
+          × (mentioned_if logs options counts inner depth how name s ≡ inner n (depth + 1) (mid_if counts options depth how name s))
       by true some =
           let mentioned = mention options depth how name s in
           let new = not (is_among name s.opened) in

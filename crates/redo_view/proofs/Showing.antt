@@ -5,18 +5,21 @@ use Rattle.std.proofs.lemmas.Option.{slice_get_within}
 use Rattle.std.proofs.lemmas.List.{append_assoc, append-nil, take-append-drop}
 use Rattle.std.proofs.Math.Seq.{take-append_seam}
 use Rattle.redo_line.specs.declared.entry.Entry.{Entry}
-use Rattle.redo_line.specs.Sink.{Taken, adds, adds-adds}
+use Rattle.redo_line.proofs.WritesLemmas.{adds-adds}
+use Rattle.redo_line.specs.Sink.{Taken, adds}
 use Rattle.redo_logs.specs.Logs.{Log, targets_of, place_of, entry_at}
 use Rattle.redo_view.specs.declared.options.Options.{Options}
 use Rattle.redo_view.specs.declared.stop.Stop.{Stop}
 use Rattle.redo_view.specs.declared.stop.Stop.TheVariants.{Write, OutOfMemory}
 use Rattle.redo_view.specs.Expansion.{Opening, Shown, is_among, with_name, log_of, begun, after_entry, after_entries, opened_log}
-use Rattle.redo_view.specs.Left.{left}
-use Rattle.redo_view.specs.Step.{Written, own_text, named_after, opened_after}
-use Rattle.redo_view.specs.View.{from_here}
+use Rattle.redo_view.specs.Laws.{behind_text}
+use Rattle.redo_view.specs.Private.Left.{left}
+use Rattle.redo_view.specs.Private.Step.{own_text, named_after, opened_after}
+use Rattle.redo_view.specs.Private.Seen.{from_here}
+use Rattle.redo_view.specs.Private.Stopped.{Written}
 use Rattle.redo_view.proofs.Growing.{Names, left-le, left-lt}
 use Rattle.redo_view.proofs.Opening.{log_keeps, entries_keep, log_goes_over}
-use Rattle.redo_view.proofs.Shifting.{shown_after, mid, OpensOne, opened-shift, text-grows, entry-alone, entry-opens, placed-listed, all_entries, entries-next}
+use Rattle.redo_view.proofs.Shifting.{mid, OpensOne, opened-shift, text-grows, entry-alone, entry-opens, placed-listed, all_entries, entries-next}
 use Rattle.redo_view.proofs.WritingLemmas.{in_midst}
 
 pub adds-nothing : (told : Option Taken) → told ≡ adds told [] 0
@@ -54,7 +57,7 @@ one_left number k logs entry at = by (slice_get logs number) at
     by (Some log) at = slice_get_within log.entries k entry at
 
 -- entries in two parts
-entries-append : (logs : List Log) (options : Options) (inner : Opening) (depth : ℕ) (first others : List Entry) (shown : Shown)
+pub entries-append : (logs : List Log) (options : Options) (inner : Opening) (depth : ℕ) (first others : List Entry) (shown : Shown)
     → after_entries logs options inner depth (first ++ others) shown ≡ after_entries logs options inner depth others (after_entries logs options inner depth first shown)
 entries-append logs options inner depth [] others shown = refl
 entries-append logs options inner depth (entry ∷ first) others shown = entries-append logs options inner depth first others (after_entry logs options inner depth entry shown)
@@ -76,7 +79,7 @@ module _ (logs : List Log) (options : Options) (target : List ℕ) (depth : ℕ)
     pub opened_is : others ≡ (so_far k).opened
     pub told_is : now ≡ adds told (so_far k).text 0
 
-  pub at_start : (told : Option Taken) → Went 0 told told (with_name target named) (with_name target opened)
+  pub at_start : (told : Option Taken) → Went 0 told told (with_name target named) (opened ++ target ∷ [])
   at_start told = record { named_is = refl; opened_is = refl; told_is = adds-nothing told }
 
   -- at the end
@@ -101,7 +104,7 @@ module _ (logs : List Log) (options : Options) (target : List ℕ) (depth : ℕ)
   pub fewer : (number k : ℕ) (told now : Option Taken) (names others : Names) → place_of target logs ≡ Some number → is_among target opened ≡ false → Went k told now names others → left logs others < left logs opened
   fewer number k told now names others placed new went =
       let listed : is_among target (targets_of logs) ≡ true = sym (placed-listed target logs) ∙ ap is_some placed in
-      let kept = left-le logs (with_name target opened) (so_far k).opened (entries_keep logs options (opened_log logs options) (log_keeps logs options) (take k entries) depth (begun target (from_here named opened))) in
+      let kept = left-le logs (opened ++ target ∷ []) (so_far k).opened (entries_keep logs options (opened_log logs options) (log_keeps logs options) (take k entries) depth (begun target (from_here named opened))) in
       omega (arith, ap (left logs) went.opened_is, kept, left-lt logs target opened listed new)
 
   module _ (k : ℕ) (entry : Entry) (at : slice_get entries k ≡ Some entry) (told now : Option Taken) (names others : Names) (went : Went k told now names others) where
@@ -163,7 +166,7 @@ module _ (logs : List Log) (options : Options) (target : List ℕ) (depth : ℕ)
       same_inner : (names' others' : Names) → names' ≡ named_then → others' ≡ others → inner_from names' others' ≡ inner
       same_inner names' others' named_is opened_is = λ i. inner_from (named_is i) (opened_is i)
 
-      inside : so_far (k + 1) ≡ shown_after ((so_far k).text ++ own) inner
+      inside : so_far (k + 1) ≡ behind_text ((so_far k).text ++ own) inner
       inside =
           next ∙ parts.4 ∙ ap (opened_log logs options name (depth + 1)) own_is
           ∙ ap (λ (t : List ℕ). opened_log logs options name (depth + 1) (record { named = named_then; opened = others; text = t })) (sym (append-nil ((so_far k).text ++ own)))

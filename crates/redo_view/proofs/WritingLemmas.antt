@@ -9,7 +9,7 @@ use Rattle.redo_line.specs.Sink.{Taken, adds, Writes}
 use Rattle.redo_line.proofs.WritesLemmas.{then, stops}
 use Rattle.redo_view.specs.declared.stop.Stop.{Stop}
 use Rattle.redo_view.specs.declared.stop.Stop.TheVariants.{OutOfMemory}
-use Rattle.redo_view.specs.Step.{Written}
+use Rattle.redo_view.specs.Private.Stopped.{Written}
 use Rattle.redo_view.specs.Text.{spaces, redo_line, exit_remark, exit_text}
 
 module _ (before : Option Taken) (text : List ℕ) where

@@ -1,4 +1,6 @@
--- The expansion of logs at the targets asked for.
+-- The expansion of logs at the targets asked for: these targets are gone over in order, each log of theirs is opened, and its
+-- entries are gone over in order. Where an entry mentions a target, the log of that target is opened in its midst, one level
+-- deeper, unless it was opened before. Each step takes what was shown before it and gives what is shown after it.
 use Rattle.std.specs.Prelude.{ℕ, zero, suc, ◌+◌, Bool, true, false, not, ◌&&◌, List, [], ◌∷◌, ◌++◌, length, nat_eq, if◌then◌else◌}
 use Rattle.std.specs.List.{list_any}
 use Rattle.std.specs.Cmp.Lexicographic.{pointwise}
@@ -27,10 +29,7 @@ with_name name names = if is_among name names then names else names ++ name ∷ 
 abbrev pub with_text : List ℕ → Shown → Shown
 with_text text shown = record { named = shown.named; opened = shown.opened; text = shown.text ++ text }
 
--- the entries of a target's log
-abbrev pub log_of : List ℕ → List Log → List Entry
-log_of target [] = []
-log_of target (log ∷ logs) = if pointwise nat_eq target log.target then log.entries else log_of target logs
+-- ---- a mention, without the log that it opens
 
 -- a record that mentions a target
 abbrev pub mentions : Options → How → Bool
@@ -46,7 +45,7 @@ mention_text options depth how name named =
     if options.debug_locks then redo_line depth (name ++ remark how)
     else if is_among name named then [] else redo_line depth name
 
--- a mention's line is shown, and its target is named
+-- the mention's line is shown, and its target is named
 abbrev pub mention : Options → ℕ → How → List ℕ → Shown → Shown
 mention options depth how name shown = record {
   named = with_name name shown.named;
@@ -54,60 +53,80 @@ mention options depth how name shown = record {
   text = shown.text ++ mention_text options depth how name shown.named;
 }
 
+-- ---- a log
+
+-- the entries of a target's log
+abbrev pub log_of : List ℕ → List Log → List Entry
+log_of target [] = []
+log_of target (log ∷ logs) = if pointwise nat_eq target log.target then log.entries else log_of target logs
+
 -- the log of a target is begun: the target is named and opened
 abbrev pub begun : List ℕ → Shown → Shown
-begun target shown = record { named = with_name target shown.named; opened = with_name target shown.opened; text = shown.text }
+begun target shown = record { named = with_name target shown.named; opened = shown.opened ++ target ∷ []; text = shown.text }
 
--- What is shown once a log was opened: of which target, how deep, and what was shown before.
+-- How logs are opened: of which target, how deep, what was shown before, and what is shown once the whole log was.
 abbrev pub Opening : Type 0
 Opening = List ℕ → ℕ → Shown → Shown
 
 module _ (logs : List Log) (options : Options) where
-  -- whether the log of a mentioned target is opened
+  -- whether the log of a mentioned target is opened: it is there, and wasn't opened before
   abbrev pub opens : List ℕ → Shown → Bool
   opens name shown = options.recursive && is_among name (targets_of logs) && not (is_among name shown.opened)
 
-  -- in what follows `inner` opens the logs that a log mentions
+  -- What follows says what entries do, once it is known how the logs are opened that they mention: by `open_mentioned`.
+
+  -- the log of a mentioned target is opened, or isn't
   abbrev pub opened_if : Bool → Opening → List ℕ → ℕ → Shown → Shown
-  opened_if true inner name depth shown = inner name depth shown
-  opened_if false inner name depth shown = shown
+  opened_if true open_mentioned name depth shown = open_mentioned name depth shown
+  opened_if false open_mentioned name depth shown = shown
 
-  abbrev pub after_mention : Bool → Opening → ℕ → How → List ℕ → Shown → Shown
-  after_mention true inner depth how name shown =
-      let mentioned = mention options depth how name shown in opened_if (opens name mentioned) inner name (depth + 1) mentioned
-  after_mention false inner depth how name shown = shown
+  -- behind a mention: its line is shown and its target named, and then the target's log is opened, one level deeper
+  abbrev pub after_mention : Opening → ℕ → How → List ℕ → Shown → Shown
+  after_mention open_mentioned depth how name shown =
+      let mentioned = mention options depth how name shown in
+      opened_if (opens name mentioned) open_mentioned name (depth + 1) mentioned
 
-  -- one entry: its text is shown, or its mention, and then the log that it mentions, one level deeper
+  -- a record is a mention, or isn't one and shows nothing
+  abbrev pub mentioned_if : Bool → Opening → ℕ → How → List ℕ → Shown → Shown
+  mentioned_if true open_mentioned depth how name shown = after_mention open_mentioned depth how name shown
+  mentioned_if false open_mentioned depth how name shown = shown
+
+  -- behind one entry
   abbrev pub after_entry : Opening → ℕ → Entry → Shown → Shown
-  after_entry inner depth (Text line) shown = with_text (entry_text options depth (Text line)) shown
-  after_entry inner depth (Mention how name) shown = after_mention (mentions options how) inner depth how name shown
-  after_entry inner depth (Done status name) shown = with_text (entry_text options depth (Done status name)) shown
-  after_entry inner depth (Closing status) shown = with_text (entry_text options depth (Closing status)) shown
-  after_entry inner depth (Note kind text) shown = with_text (entry_text options depth (Note kind text)) shown
+  after_entry open_mentioned depth (Text line) shown = with_text (entry_text options depth (Text line)) shown
+  after_entry open_mentioned depth (Mention how name) shown = mentioned_if (mentions options how) open_mentioned depth how name shown
+  after_entry open_mentioned depth (Done status name) shown = with_text (entry_text options depth (Done status name)) shown
+  after_entry open_mentioned depth (Closing status) shown = with_text (entry_text options depth (Closing status)) shown
+  after_entry open_mentioned depth (Note kind text) shown = with_text (entry_text options depth (Note kind text)) shown
 
-  -- entries in order
+  -- behind entries, in order
   abbrev pub after_entries : Opening → ℕ → List Entry → Shown → Shown
-  after_entries inner depth [] shown = shown
-  after_entries inner depth (entry ∷ entries) shown = after_entries inner depth entries (after_entry inner depth entry shown)
+  after_entries open_mentioned depth [] shown = shown
+  after_entries open_mentioned depth (entry ∷ entries) shown =
+      after_entries open_mentioned depth entries (after_entry open_mentioned depth entry shown)
 
-  -- the log of a target, with the logs that are opened from it, so many deep
+  -- The log of a target: it is begun, and its entries are gone over, where the logs that they mention are opened in the same
+  -- way. So that this ends, only so many levels of logs are opened one inside the other, and nothing is shown below them.
   unfoldable pub opened_within : ℕ → Opening
   opened_within zero target depth shown = shown
   opened_within (suc levels) target depth shown = after_entries (opened_within levels) depth (log_of target logs) (begun target shown)
 
-  -- the log of a target, with all logs that are opened from it: each was not opened before, so they stand no deeper than
-  -- there are logs
+  -- No log is opened twice, so one level more than there are logs is never used up: the law `opening_a_log` has the sentence
+  -- above without a word on levels, and says that it holds of nothing else.
   unfoldable pub opened_log : Opening
   opened_log target depth shown = opened_within (length logs + 1) target depth shown
 
-  abbrev pub asked_if : Bool → List ℕ → Shown → Shown
-  asked_if true target shown = shown
-  asked_if false target shown = opened_log target 1 (with_text (redo_line 0 target) shown)
+  -- ---- the targets asked for
 
-  -- a target that is asked for: its line and its log, unless the log was opened before
+  -- a target that is asked for: nothing is shown if its log was opened before, and else its line, at depth 0, and its log
+  abbrev pub unless_opened : Bool → List ℕ → Shown → Shown
+  unless_opened true target shown = shown
+  unless_opened false target shown = opened_log target 1 (with_text (redo_line 0 target) shown)
+
+  -- behind targets that are asked for, in order
   abbrev pub after_asked : List (List ℕ) → Shown → Shown
   after_asked [] shown = shown
-  after_asked (target ∷ targets) shown = after_asked targets (asked_if (is_among target shown.opened) target shown)
+  after_asked (target ∷ targets) shown = after_asked targets (unless_opened (is_among target shown.opened) target shown)
 
   -- all that is shown of the targets asked for
   abbrev pub expanded : List (List ℕ) → Shown

@@ -1,6 +1,7 @@
 pub mod Expansion
-pub mod Left
+pub mod Laws
+pub mod Private
 pub mod Reached
-pub mod Step
 pub mod Text
 pub mod View
+pub mod Written

@@ -26,8 +26,10 @@ module _ (logs : List Log) (options : Options) where
   LeadsTo from (next ∷ others) to =
       (is_among next (targets_of logs) ≡ true) × (mentioned_in options next (log_of from logs) ≡ true) × LeadsTo next others to
 
-  -- asked for or, with `recursive`, at the end of a chain of mentions that begins at a target asked for
+  -- at the end of a chain of mentions that begins at a target asked for
+  abbrev pub IsLedTo : List (List ℕ) → List ℕ → Type 0
+  IsLedTo asked target = (from : List ℕ) × (chain : List (List ℕ)) × (is_among from asked ≡ true) × LeadsTo from chain target
+
+  -- asked for or, with `recursive`, led to
   abbrev pub IsReached : List (List ℕ) → List ℕ → Type 0
-  IsReached asked target =
-      (is_among target asked ≡ true)
-      ⊎ ((options.recursive ≡ true) × ((from : List ℕ) × (chain : List (List ℕ)) × (is_among from asked ≡ true) × LeadsTo from chain target))
+  IsReached asked target = (is_among target asked ≡ true) ⊎ ((options.recursive ≡ true) × IsLedTo asked target)

@@ -1,10 +1,7 @@
 //! A whole log, with the logs that it mentions.
-ghost use Rattle.std.specs.Prelude.{◌≡◌, ◌<◌, ◌+◌, ◌^◌, ℕ, List, false, Some, OnOk};
-ghost use Rattle.redo_logs.specs.Logs.{place_of};
-ghost use Rattle.redo_view.specs.Expansion.{is_among, opened_log};
-ghost use Rattle.redo_view.specs.Left.{left};
-ghost use Rattle.redo_view.specs.Step.{Written};
-ghost use Rattle.redo_view.specs.View.{from_here};
+ghost use Rattle.std.specs.Prelude.{◌<◌, ◌+◌, ◌^◌};
+ghost use Rattle.redo_view.specs.Private.Left.{left};
+ghost use Rattle.redo_view.specs.Private.Seen.{IsNew, WroteLog, SawLog};
 
 use crate::options::Options;
 use crate::step::{Seen, show_entry};
@@ -21,11 +18,10 @@ pub fn show_log<W: Sink>(
     seen: &mut Seen,
     out: &mut W,
 ) -> Result<(), Stop>
-    requires known { (target : List ℕ) × (place_of target table.now ≡ Some number) × (is_among target seen.old.opened ≡ false) }
+    requires known { IsNew table.now options.now number seen.old }
     requires depth { depth + left table.now seen.old.opened < 2 ^ 60 }
-    ensures text { (target : List ℕ) → place_of target table.now ≡ Some number → Written (W.tells out.old) (W.tells out.new) (opened_log table.now options.now target depth (from_here seen.old.named seen.old.opened)).text result }
-    ensures named { (target : List ℕ) → place_of target table.now ≡ Some number → OnOk result (seen.new.named ≡ (opened_log table.now options.now target depth (from_here seen.old.named seen.old.opened)).named) }
-    ensures opened { (target : List ℕ) → place_of target table.now ≡ Some number → OnOk result (seen.new.opened ≡ (opened_log table.now options.now target depth (from_here seen.old.named seen.old.opened)).opened) }
+    ensures text { WroteLog table.now options.now number depth seen.old (W.tells out.old) (W.tells out.new) result }
+    ensures seen { SawLog table.now options.now number depth seen.old seen.new result }
 {
     let target = table.name(number);
     seen.named.add(target)?;

@@ -1,10 +1,11 @@
 //! One entry of a log: its own text, and which log it opens.
-ghost use Rattle.std.specs.Prelude.{◌≡◌, ◌<◌, ◌^◌, ◌&&◌, not, [], None, IfOk, OnOk, if◌then◌else◌};
+ghost use Rattle.std.specs.Prelude.{◌≡◌, ◌<◌, ◌^◌, IfOk, OnOk};
+ghost use Rattle.redo_line.specs.declared.entry.Entry.TheVariants.{Mention};
 ghost use Rattle.redo_line.specs.Sink.{Writes};
 ghost use Rattle.redo_logs.specs.EntryRef.{entry_seen};
-ghost use Rattle.redo_logs.specs.Logs.{place_of};
-ghost use Rattle.redo_view.specs.Expansion.{with_name, mentions, mention_text};
-ghost use Rattle.redo_view.specs.Step.{Written, own_text, named_after, opened_by, opened_after};
+ghost use Rattle.redo_view.specs.Expansion.{mentions, mention_text};
+ghost use Rattle.redo_view.specs.Private.Stopped.{Written};
+ghost use Rattle.redo_view.specs.Private.Step.{own_text, named_after, opened_by, opened_after};
 
 use crate::names::Names;
 use crate::options::Options;
@@ -57,10 +58,10 @@ fn show_mention<W: Sink>(
     out: &mut W,
 ) -> Result<Option<u32>, Stop>
     requires { depth < 2 ^ 60 }
-    ensures text { Written (W.tells out.old) (W.tells out.new) (if mentions options.now how then mention_text options.now depth how name.now seen.old.named else []) result }
-    ensures named { OnOk result (seen.new.named ≡ (if mentions options.now how then with_name name.now seen.old.named else seen.old.named)) }
+    ensures text { Written (W.tells out.old) (W.tells out.new) (own_text options.now depth seen.old.named (Mention how name.now)) result }
+    ensures named { OnOk result (seen.new.named ≡ named_after options.now seen.old.named (Mention how name.now)) }
     ensures opened { seen.new.opened ≡ seen.old.opened }
-    ensures opens { IfOk result (λ inner. inner ≡ (if mentions options.now how then opened_by table.now options.now name.now seen.old.opened else None)) }
+    ensures opens { IfOk result (λ inner. inner ≡ opened_after table.now options.now seen.old.opened (Mention how name.now)) }
 {
     if !is_mention(options, how) {
         return Ok(None);

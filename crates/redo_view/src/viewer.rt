@@ -1,10 +1,12 @@
-ghost use Rattle.std.specs.Prelude.{◌≡◌, ◌↔◌, ◌<◌, ℕ, true, not, None, Some, Ok, Err, OnOk, length, take};
+ghost use Rattle.std.specs.Prelude.{◌≡◌, ◌↔◌, ℕ, true, not, None, Some, Err, OnOk};
 ghost use Rattle.std.specs.List.{list_all};
-ghost use Rattle.redo_line.specs.Sink.{adds};
 ghost use Rattle.redo_logs.specs.Logs.{has_ended, targets_of};
+ghost use Rattle.redo_view.specs.declared.viewer.ViewFault.TheVariants.{Unknown, Write, OutOfMemory};
 ghost use Rattle.redo_view.specs.Expansion.{is_among, expansion};
-ghost use Rattle.redo_view.specs.Step.{Written};
-ghost use Rattle.redo_view.specs.View.{unknown_among, asked_from};
+ghost use Rattle.redo_view.specs.Private.Seen.{WroteAsked, SawAsked};
+ghost use Rattle.redo_view.specs.Private.Stopped.{Written};
+ghost use Rattle.redo_view.specs.View.{unknown_among};
+ghost use Rattle.redo_view.specs.Written.{WroteAll, WroteFront, WroteNothing, WroteUntilFailed};
 
 use crate::log::show_log;
 use crate::names::Names;
@@ -44,16 +46,18 @@ pub fn view<W: Sink>(
     requires { list_all has_ended table.now ≡ true }
 
     // The whole text was written, and no other byte.
-    ensures ok { OnOk result (W.tells out.new ≡ adds (W.tells out.old) (expansion table.now options.now asked.now) 0) }
+    ensures ok { OnOk result (WroteAll (W.tells out.old) (W.tells out.new) (expansion table.now options.now asked.now)) }
     ensures known { OnOk result (unknown_among table.now asked.now ≡ None) }
 
     // A target is unknown exactly if it has no log, and then nothing was written.
-    ensures unknown { (place : ℕ) → (result ≡ Err (ViewFault.Unknown place)) ↔ (unknown_among table.now asked.now ≡ Some place) }
-    ensures unwritten { (place : ℕ) → result ≡ Err (ViewFault.Unknown place) → W.tells out.new ≡ W.tells out.old }
+    ensures unknown { (place : ℕ) → (result ≡ Err (Unknown place)) ↔ (unknown_among table.now asked.now ≡ Some place) }
+    ensures unwritten { (place : ℕ) → result ≡ Err (Unknown place) → WroteNothing (W.tells out.old) (W.tells out.new) }
 
-    // The writer failed, once, behind a front of the text; or there was no memory, and it didn't fail.
-    ensures write { result ≡ Err ViewFault.Write → (n : ℕ) × (n < length (expansion table.now options.now asked.now)) × (W.tells out.new ≡ adds (W.tells out.old) (take n (expansion table.now options.now asked.now)) 1) }
-    ensures memory { result ≡ Err ViewFault.OutOfMemory → (n : ℕ) × (W.tells out.new ≡ adds (W.tells out.old) (take n (expansion table.now options.now asked.now)) 0) }
+    // The writer failed, once, behind a front of the text.
+    ensures write { result ≡ Err Write → WroteUntilFailed (W.tells out.old) (W.tells out.new) (expansion table.now options.now asked.now) }
+
+    // There was no memory: a front of the text was written, and the writer didn't fail.
+    ensures memory { result ≡ Err OutOfMemory → WroteFront (W.tells out.old) (W.tells out.new) (expansion table.now options.now asked.now) }
 {
     if let Some(place) = unknown_place(table, asked) {
         return Err(ViewFault::Unknown { place });
@@ -105,9 +109,8 @@ fn show_target<W: Sink>(
     out: &mut W,
 ) -> Result<(), Stop>
     requires { is_among name.now (targets_of table.now) ≡ true }
-    ensures text { Written (W.tells out.old) (W.tells out.new) (asked_from table.now options.now seen.old.named seen.old.opened name.now).text result }
-    ensures named { OnOk result (seen.new.named ≡ (asked_from table.now options.now seen.old.named seen.old.opened name.now).named) }
-    ensures opened { OnOk result (seen.new.opened ≡ (asked_from table.now options.now seen.old.named seen.old.opened name.now).opened) }
+    ensures text { WroteAsked table.now options.now name.now seen.old (W.tells out.old) (W.tells out.new) result }
+    ensures seen { SawAsked table.now options.now name.now seen.old seen.new result }
 {
     // No more logs than there are stand one inside the other.
     let logs = table.len();

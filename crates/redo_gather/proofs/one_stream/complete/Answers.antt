@@ -3,7 +3,7 @@ use Rattle.redo_logs.specs.Logs.{states_of, changed, with_state}
 use Rattle.redo_logs.specs.declared.log_state.LogState.TheVariants.{Ended}
 use Rattle.redo_logs.proofs.ChangedLemmas.{states-with_entry}
 use Rattle.redo_line.specs.Scan.{entries_in}
-use Rattle.redo_gather.specs.OneStream.{with_entries}
+use Rattle.redo_gather.specs.Private.OneStream.{with_entries}
 use Rattle.redo_gather.proofs.GrowthLemmas.{with_end, with_last, without_last}
 use Rattle.redo_gather.proofs.one_stream.complete.Goals as goal
 use Rattle.redo_gather.proofs.one_stream.complete.Goals.{in-Some+in_ok-add, in_default}
@@ -18,8 +18,8 @@ end-requires c =
     record { running = ap (λ states. slice_get states c.args.number) same ∙ c.requires.running }
 
 pub returns-clause-log : goal.returns-clause-log
-returns-clause-log c bytes begun grew =
-    let entries = entries_in c.args.scan.progress bytes in
+returns-clause-log c begun grew =
+    let entries = entries_in c.args.scan in
     let after : c.match-branch-2.table ≡ changed c.args.number (with_entries (entries ++ option_to_list c.in_ok-last.field-0)) begun =
     elim c.match-branch-2.branch [
       | in-Some+in_ok-add w ↦
@@ -31,6 +31,6 @@ returns-clause-log c bytes begun grew =
     ] in
     record {
       entries = entries ++ option_to_list c.in_ok-last.field-0;
-      entries_are = c.in_ok-last.ensures.log bytes grew.took;
+      entries_are = c.in_ok-last.ensures.log grew.fine.refused_none;
       table_is = c.end.ensures ∙ ap (changed c.args.number (with_state Ended)) after ∙ with_end c.args.number (entries ++ option_to_list c.in_ok-last.field-0) begun;
     }

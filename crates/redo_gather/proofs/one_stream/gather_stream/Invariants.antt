@@ -12,4 +12,4 @@ invariant-reads g l =
 
 -- each turn is a read, and takes bytes of those that are within the limit, or is the last one
 abbrev pub decreases-reads : goal.decreases-reads
-decreases-reads g l = l.max_bytes + 1 - l.scan.progress.taken
+decreases-reads g l = l.max_bytes + 1 - length l.scan.bytes

@@ -2,7 +2,7 @@ use Rattle.std.proofs.Common.{◌≡◌, ◌<◌, ℕ, length, map, Some, List, 
 use Rattle.redo_line.specs.Feed.{SomeStream}
 use Rattle.redo_line.specs.Log.{fault_of}
 use Rattle.redo_logs.specs.Logs.{Log}
-use Rattle.redo_gather.specs.OneStream.{Completes}
+use Rattle.redo_gather.specs.Private.OneStream.{Completes}
 use Rattle.redo_gather.specs.Streams.{SomeStreams, fault_among}
 use Rattle.redo_gather.proofs.GatheredLemmas.{Gathered, none_gathered, of_stream}
 use Rattle.redo_gather.proofs.TurnLemmas.{below_names, below_logs, log_runs, one_more_read, fault_read, all_logs, all_of_names, all_whole}

@@ -1,6 +1,6 @@
 use Rattle.std.proofs.Common.{sym, subst}
 use Rattle.redo_line.specs.Entry.{done}
-use Rattle.redo_line.specs.Line.{Reads}
+use Rattle.redo_line.specs.Private.Line.{Reads}
 use Rattle.redo_line.proofs.ReadingLemmas.{bad_name_read, done_by_parts}
 use Rattle.redo_line.proofs.line.read_done.Goals as goal
 

@@ -1,6 +1,6 @@
 use Rattle.std.proofs.Common.{◌≡◌, ◌-◌, ◌≤◌, ℕ, List, Some, length, drop, sym, ap, ◌∙◌, subst}
 use Rattle.redo_line.specs.declared.entry.Entry.TheVariants.{Mention, Note}
-use Rattle.redo_line.specs.Line.{Reads}
+use Rattle.redo_line.specs.Private.Line.{Reads}
 use Rattle.redo_line.proofs.ReadingLemmas.{bad_name_read, named_read, no_memory_read, behind_line, what_it_says, what_none_says, text_ends, end_fits, end_is}
 use Rattle.redo_line.proofs.line.read_record.Goals as goal
 

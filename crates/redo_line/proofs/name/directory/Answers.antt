@@ -18,6 +18,6 @@ pub returns-in-Some-clause-segments : goal.returns-in-Some-clause-segments
 returns-in-Some-clause-segments c behind =
     let found = c.last_segment-above in
     directory_is c.bytes-bytes.result.now found.result.0 found.result.1.now found.ensures.slash found.ensures.none behind
-    ∙ ap (λ (t : List ℕ). from_back (without_last (segments t) ++ behind)) c.bytes-bytes.ensures
+    ∙ ap (λ (t : List ℕ). from_back (without_last (segments t) ++ behind)) c.bytes-bytes.ensures.bytes
     ∙ ap (λ a. from_back ((directory_of a (Some c.in-Some.target.now)).1 ++ behind)) c.if-begins_with_slash.ensures
     ∙ ap (λ o. from_back ((directory_of (is_absolute c.args.name.now) (option_copied o)).1 ++ behind)) (sym c.in-Some.is)

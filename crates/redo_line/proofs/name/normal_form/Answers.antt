@@ -3,7 +3,7 @@ use Rattle.std.specs.Option.{option_copied}
 use Rattle.std.proofs.lemmas.Bool.{eqb-true, eqb-false}
 use Rattle.std.proofs.lemmas.List.{nil_from_length}
 use Rattle.redo_line.specs.Names.{segments}
-use Rattle.redo_line.specs.Path.{Adds}
+use Rattle.redo_line.specs.Private.Path.{Adds}
 use Rattle.redo_line.proofs.DirectoryLemmas.{normal_is_path, normal_is_single}
 use Rattle.redo_line.proofs.name.normal_form.Goals as goal
 use Rattle.redo_line.proofs.name.normal_form.Goals.{then-is_empty+in_ok-push, else-is_empty}

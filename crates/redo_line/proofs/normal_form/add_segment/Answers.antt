@@ -1,7 +1,7 @@
 use Rattle.std.proofs.Common.{[], ◌∷◌, ℕ, List, subst, sym}
 use Rattle.std.proofs.lemmas.Bool.{iff_false}
 use Rattle.std.proofs.lemmas.Result.{on_ok_weaker}
-use Rattle.redo_line.specs.Path.{Adds}
+use Rattle.redo_line.specs.Private.Path.{Adds}
 use Rattle.redo_line.proofs.PathLemmas.{adds_skipped, adds_ordinary, ordinary_else}
 use Rattle.redo_line.proofs.normal_form.add_segment.Goals as goal
 

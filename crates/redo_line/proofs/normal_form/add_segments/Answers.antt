@@ -1,6 +1,6 @@
 use Rattle.std.proofs.Common.{ℕ, List, sym, subst, ◌∙◌}
 use Rattle.std.specs.List.{AllByRecursion}
-use Rattle.redo_line.specs.Names.{HasNoSlash, segments}
+use Rattle.redo_line.specs.Names.{segments, HasNoSlash}
 use Rattle.redo_line.proofs.NameLemmas.{cut-each}
 use Rattle.redo_line.proofs.SegmentLemmas.{split_is}
 use Rattle.redo_line.proofs.PathLemmas.{Halfway, none_yet, one_more, all_added}

@@ -1,7 +1,7 @@
 use Rattle.std.proofs.Common.{ℕ, List}
 use Rattle.std.specs.List.{AllByRecursion}
-use Rattle.redo_line.specs.Names.{HasNoSlash, segments}
-use Rattle.redo_line.specs.Path.{StandsFor}
+use Rattle.redo_line.specs.Names.{segments, HasNoSlash}
+use Rattle.redo_line.specs.Private.Path.{StandsFor}
 use Rattle.redo_line.proofs.PathLemmas.{Halfway}
 use Rattle.redo_line.proofs.normal_form.add_segments.Given as goal
 

@@ -1,6 +1,6 @@
 use Rattle.std.proofs.Common.{◌++◌, [], ◌∷◌, ℕ, List, Bool, Some, None, subst, sym}
 use Rattle.std.proofs.lemmas.Result.{on_ok_weaker}
-use Rattle.redo_line.specs.Path.{EndsSo, Adds, with_separator}
+use Rattle.redo_line.specs.Private.Path.{EndsSo, Adds, with_separator}
 use Rattle.redo_line.proofs.PathLemmas.{adds_removed, adds_at_root, adds_upward}
 use Rattle.redo_line.proofs.normal_form.add_upward.Goals as goal
 

@@ -1,5 +1,6 @@
 use Rattle.std.proofs.Common.{◌≡◌, ◌-◌, ◌≤◌, length, map}
-use Rattle.redo_line.specs.Pieces.{unread, from_first_byte}
+use Rattle.redo_line.specs.Pieces.{from_first_byte}
+use Rattle.redo_line.specs.Private.Pieces.{unread}
 use Rattle.redo_line.proofs.pieces.next_byte.Given as goal
 
 -- the reads that were passed over gave no byte

@@ -1,5 +1,5 @@
 use Rattle.std.proofs.Common.{◌≡◌, ◌≤◌, map, take}
-use Rattle.redo_log_cli.specs.Run.{bytes_of_words}
+use Rattle.redo_run.specs.Run.{bytes_of_words}
 use Rattle.redo_log_cli.proofs.job.bytes_of.Given as goal
 
 -- the first words are copied

@@ -2,7 +2,8 @@ use Rattle.std.proofs.Common.{◌≡◌, ◌∙◌, ◌≤◌, arith, refl, code
 use Rattle.std.specs.Str.Parse.{ParsesUnsigned, ExplainsUnsignedError, HasUnsignedDigitsIfOk}
 use Rattle.clap.specs.Matches.{found_of}
 use Rattle.clap.specs.Walk.{rows_of}
-use Rattle.redo_log_cli.specs.Words.{IsJob, number_or}
+use Rattle.redo_log_cli.specs.Job.{number_or}
+use Rattle.redo_log_cli.specs.Private.Taken.{IsJob}
 use Rattle.redo_log_cli.proofs.Getters.{flag_is, number_is, targets_are, text_is}
 use Rattle.redo_log_cli.proofs.job.job_of.Goals as goal
 

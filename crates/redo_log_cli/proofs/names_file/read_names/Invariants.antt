@@ -1,6 +1,6 @@
 use Rattle.std.proofs.Common.{◌≡◌, ◌≤◌, ◌-◌, ◌+◌, length}
-use Rattle.redo_line.specs.Feed.{Gave}
-use Rattle.redo_log_cli.specs.Failure.{most_bytes}
+use Rattle.redo_line.proofs.GaveLemmas.{Gave}
+use Rattle.redo_log_cli.specs.NamesFile.{most_bytes}
 use Rattle.redo_log_cli.proofs.names_file.read_names.Given as goal
 
 -- these bytes came, and no more than there may be

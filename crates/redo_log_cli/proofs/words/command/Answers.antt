@@ -1,7 +1,7 @@
 use Rattle.std.proofs.Common.{◌≡◌, ◌∙◌, ap, true, refl}
 use Rattle.std.proofs.lemmas.Result.{IfOk-weaker}
 use Rattle.clap.specs.Simple.{Shape, app_of, on_top}
-use Rattle.redo_log_cli.specs.Words.{flags, plain, redo_log, values, with_rules}
+use Rattle.redo_log_cli.specs.CommandLine.{flags, plain, redo_log, values, with_rules}
 use Rattle.redo_log_cli.proofs.words.command.Goals as goal
 
 redo_log_is : with_rules values (with_rules flags plain) ≡ redo_log

@@ -3,7 +3,7 @@ use Rattle.std.proofs.lemmas.Result.{IfOk-weaker}
 use Rattle.clap.specs.Simple.{app_of, with_rule}
 use Rattle.clap.specs.Walk.{Rule, rule_of}
 use Rattle.clap.specs.declared.builder.action.ArgAction.TheVariants.{SetFalse, SetTrue}
-use Rattle.redo_log_cli.specs.Words.{flag_rule, letter_rule}
+use Rattle.redo_log_cli.specs.CommandLine.{flag_rule, letter_rule}
 use Rattle.redo_log_cli.proofs.words.with_flags.Goals as goal
 
 pub returns : goal.returns

@@ -5,7 +5,7 @@ use Rattle.clap.specs.Simple.{app_of, with_rule}
 use Rattle.clap.specs.Walk.{Rule, rule_of}
 use Rattle.clap.specs.declared.builder.action.ArgAction.TheVariants.{Append}
 use Rattle.clap.specs.declared.builder.value_parser.ValueParser.TheVariants.{Signed}
-use Rattle.redo_log_cli.specs.Words.{checked_rule, number_rule, text_rule, words_rule}
+use Rattle.redo_log_cli.specs.CommandLine.{checked_rule, number_rule, text_rule, words_rule}
 use Rattle.redo_log_cli.proofs.words.with_values.Goals as goal
 
 pub returns : goal.returns

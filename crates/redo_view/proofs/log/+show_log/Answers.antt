@@ -3,7 +3,8 @@ use Rattle.std.proofs.lemmas.Option.{same_Some}
 use Rattle.std.proofs.lemmas.Result.{err_from_is_err_and}
 use Rattle.redo_line.specs.Sink.{adds}
 use Rattle.redo_view.specs.Expansion.{Shown, is_among, with_name}
-use Rattle.redo_view.specs.Left.{left}
+use Rattle.redo_view.specs.Private.Left.{left}
+use Rattle.redo_view.proofs.Growing.{with_name-new}
 use Rattle.redo_view.proofs.Shifting.{first_log}
 use Rattle.redo_view.proofs.Showing as showing
 use Rattle.redo_view.proofs.log.+show_log.Goals as goal
@@ -13,12 +14,15 @@ pub entries-init : goal.entries-init
 entries-init g t c target placed =
     let first = first_log target c.args.table.now c.args.number placed in
     let same : c.name-target.result.now ≡ target = same_Some _ _ (sym c.name-target.ensures ∙ first.0) in
+    let given = first_log c.requires.known.0 c.args.table.now c.args.number c.requires.known.1 in
     let named = c.args.seen.now.named in
     let opened = c.args.seen.now.opened in
     let start = showing.at_start c.args.table.now c.args.options.now target c.args.depth named opened (g.W.Sink.tells c.args.out.now) in
     record {
       named_is = c.in_ok-add.ensures.added ∙ ap (λ (n : List ℕ). with_name n named) same;
-      opened_is = c.in_ok-add-2.ensures.added ∙ ap (λ (n : List ℕ). with_name n opened) same;
+      opened_is =
+          c.in_ok-add-2.ensures.added ∙ ap (λ (n : List ℕ). with_name n opened) same
+          ∙ with_name-new target opened (ap (λ (n : List ℕ). is_among n opened) (same_Some _ _ (sym first.0 ∙ given.0)) ∙ c.requires.known.2);
       told_is = start.told_is;
     }
 
@@ -76,7 +80,7 @@ entries-preserved g t c target placed =
           let shown = w.in_ok-show_log.ensures in
           showing.one_opened c.args.table.now c.args.options.now target c.args.depth c.args.seen.now.named c.args.seen.now.opened c.entries.k _ at _ _ _ _ went w.in-Some-2.inner opens
           _ _ c.in_ok-inner.ensures.named c.in_ok-inner.ensures.opened _ (tells c.match-branch-4.out) c.in_ok-inner.ensures.text c.match-branch-4.seen.named c.match-branch-4.seen.opened
-          (ap tells w.out-is ∙ shown.text _ name_placed) (ap (λ s. s.named) w.seen-is ∙ shown.named _ name_placed) (ap (λ s. s.opened) w.seen-is ∙ shown.opened _ name_placed)
+          (ap tells w.out-is ∙ shown.text _ name_placed) (ap (λ s. s.named) w.seen-is ∙ (shown.seen _ name_placed).named) (ap (λ s. s.opened) w.seen-is ∙ (shown.seen _ name_placed).opened)
       | in_default-2 w ↦
           let none = sym c.in_ok-inner.ensures.opens ∙ w.in_default-2.is in
           let one = showing.one_shown c.args.table.now c.args.options.now target c.args.depth c.args.seen.now.named c.args.seen.now.opened c.entries.k _ at _ _ _ _ went (tells c.match-branch-4.out) none (ap tells w.out-is ∙ c.in_ok-inner.ensures.text) in
@@ -95,16 +99,10 @@ returns-clause-text g t c target placed =
     let whole = showing.all_shown c.args.table.now c.args.options.now target c.args.depth c.args.seen.now.named c.args.seen.now.opened c.entries.k none in
     went.told_is ∙ ap (λ (s : Shown). adds (g.W.Sink.tells c.args.out.now) s.text 0) whole
 
-pub returns-clause-named : goal.returns-clause-named
-returns-clause-named g t c target placed =
+pub returns-clause-seen : goal.returns-clause-seen
+returns-clause-seen g t c target placed =
     let first = first_log target c.args.table.now c.args.number placed in
     let went = c.entries.invariant target placed in
     let none = sym (first.1 c.entries.k) ∙ sym c.in_default.ensures.entry in
-    went.named_is ∙ ap (λ (s : Shown). s.named) (showing.all_shown c.args.table.now c.args.options.now target c.args.depth c.args.seen.now.named c.args.seen.now.opened c.entries.k none)
-
-pub returns-clause-opened : goal.returns-clause-opened
-returns-clause-opened g t c target placed =
-    let first = first_log target c.args.table.now c.args.number placed in
-    let went = c.entries.invariant target placed in
-    let none = sym (first.1 c.entries.k) ∙ sym c.in_default.ensures.entry in
-    went.opened_is ∙ ap (λ (s : Shown). s.opened) (showing.all_shown c.args.table.now c.args.options.now target c.args.depth c.args.seen.now.named c.args.seen.now.opened c.entries.k none)
+    let whole = showing.all_shown c.args.table.now c.args.options.now target c.args.depth c.args.seen.now.named c.args.seen.now.opened c.entries.k none in
+    record { named = went.named_is ∙ ap (λ (s : Shown). s.named) whole; opened = went.opened_is ∙ ap (λ (s : Shown). s.opened) whole }

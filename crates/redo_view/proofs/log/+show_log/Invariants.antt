@@ -1,6 +1,6 @@
 use Rattle.std.proofs.Common.{◌≡◌, ◌-◌, ℕ, List, Some, length}
 use Rattle.redo_logs.specs.Logs.{place_of}
-use Rattle.redo_view.specs.Left.{left}
+use Rattle.redo_view.specs.Private.Left.{left}
 use Rattle.redo_view.proofs.Showing.{Went, entries_at}
 use Rattle.redo_view.proofs.log.+show_log.Given as goal
 

@@ -1,6 +1,6 @@
 use Rattle.std.proofs.Common.{◌≡◌, Bool, true, [], sym, ◌∙◌, subst, if◌then◌else◌}
 use Rattle.redo_view.specs.Expansion.{mentions, mention_text}
-use Rattle.redo_view.specs.Step.{Written}
+use Rattle.redo_view.specs.Private.Stopped.{Written}
 use Rattle.redo_view.proofs.WritingLemmas.{whole_before_want}
 use Rattle.redo_view.proofs.step.show_mention.Goals as goal
 

@@ -14,7 +14,7 @@ returns-in_err-begin_line g c =
     let name = c.args.name.now in
     let begun = indent c.args.depth in
     at_first told (exit_text c.args.depth c.args.status name) _ (begun ++ name) (with_line_feed (exit_remark c.args.status)) _ _ c.from_residual.ensures.0
-    (subst (λ (n : List ℕ). Writes told (g.W.Sink.tells c.begin_line.new.out) (begun ++ n) (Err c.in_err-begin_line.field-0.0)) c.bytes.ensures c.in_err-begin_line.ensures)
+    (subst (λ (n : List ℕ). Writes told (g.W.Sink.tells c.begin_line.new.out) (begun ++ n) (Err c.in_err-begin_line.field-0.0)) c.bytes.ensures.bytes c.in_err-begin_line.ensures)
     (line_parts begun name (exit_remark c.args.status) ∙ sym (exit_shown c.args.depth c.args.status name (λ is. c.if-status-eq0.false (ap (of_z w32) is))))
 
 pub returns : goal.returns
@@ -24,6 +24,6 @@ returns g c =
     let name = c.args.name.now in
     let begun = indent c.args.depth in
     at_last told (exit_text c.args.depth c.args.status name) middle _ (begun ++ name) (with_line_feed (exit_remark c.args.status)) _
-    (subst (λ (n : List ℕ). middle ≡ adds told (begun ++ n) 0) c.bytes.ensures c.in_ok-begin_line.ensures)
+    (subst (λ (n : List ℕ). middle ≡ adds told (begun ++ n) 0) c.bytes.ensures.bytes c.in_ok-begin_line.ensures)
     (subst (λ (status : ℤ). Writes middle (g.W.Sink.tells c.end_exit.new.out) (with_line_feed (exit_remark status)) c.end_exit.result) (to_z-of_z w32 c.args.status c.ranges.status) c.end_exit.ensures)
     (line_parts begun name (exit_remark c.args.status) ∙ sym (exit_shown c.args.depth c.args.status name (λ is. c.if-status-eq0.false (ap (of_z w32) is))))

@@ -11,7 +11,7 @@ returns-in_err-begin_line g c =
     let name = c.args.name.now in
     let begun = indent c.args.depth in
     at_first told (redo_line c.args.depth (name ++ remark c.args.how)) _ (begun ++ name) (with_line_feed (remark c.args.how)) _ _ c.from_residual.ensures.0
-    (subst (λ (n : List ℕ). Writes told (g.W.Sink.tells c.begin_line.new.out) (begun ++ n) (Err c.in_err-begin_line.field-0.0)) c.bytes.ensures c.in_err-begin_line.ensures) (line_parts begun name (remark c.args.how))
+    (subst (λ (n : List ℕ). Writes told (g.W.Sink.tells c.begin_line.new.out) (begun ++ n) (Err c.in_err-begin_line.field-0.0)) c.bytes.ensures.bytes c.in_err-begin_line.ensures) (line_parts begun name (remark c.args.how))
 
 pub returns : goal.returns
 returns g c =
@@ -20,5 +20,5 @@ returns g c =
     let name = c.args.name.now in
     let begun = indent c.args.depth in
     at_last told (redo_line c.args.depth (name ++ remark c.args.how)) middle _ (begun ++ name) (with_line_feed (remark c.args.how)) _
-    (subst (λ (n : List ℕ). middle ≡ adds told (begun ++ n) 0) c.bytes.ensures c.in_ok-begin_line.ensures)
+    (subst (λ (n : List ℕ). middle ≡ adds told (begun ++ n) 0) c.bytes.ensures.bytes c.in_ok-begin_line.ensures)
     (subst (λ (r : List ℕ). Writes middle (g.W.Sink.tells c.end_line.new.out) (with_line_feed r) c.end_line.result) c.remark_of.ensures c.end_line.ensures) (line_parts begun name (remark c.args.how))

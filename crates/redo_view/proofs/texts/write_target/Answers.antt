@@ -11,4 +11,4 @@ returns-in_err-write_indent g c = at_first _ (redo_line c.args.depth c.args.name
 pub returns : goal.returns
 returns g c =
     at_last _ (redo_line c.args.depth c.args.name.now) _ _ (indent c.args.depth) (with_line_feed c.args.name.now) _ c.in_ok-write_indent.ensures
-    (subst (λ (name : List ℕ). Writes (g.W.Sink.tells c.write_indent.new.out) (g.W.Sink.tells c.end_line.new.out) (with_line_feed name) c.end_line.result) c.bytes.ensures c.end_line.ensures) refl
+    (subst (λ (name : List ℕ). Writes (g.W.Sink.tells c.write_indent.new.out) (g.W.Sink.tells c.end_line.new.out) (with_line_feed name) c.end_line.result) c.bytes.ensures.bytes c.end_line.ensures) refl

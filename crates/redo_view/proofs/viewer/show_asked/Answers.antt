@@ -16,4 +16,4 @@ pub loop-name-preserved : goal.loop-name-preserved
 loop-name-preserved g c =
     let shown = c.in_ok-show_target.ensures in
     one_more_asked c.args.table.now c.args.options.now c.args.asked.now c.loop-name.name-index c.name-item.result c.name-item.result c.loop-name-test.true (sym c.name-item.is) _ _ _ _ c.loop-name.invariant
-    _ _ _ shown.text shown.named shown.opened
+    _ _ _ shown.text shown.seen.named shown.seen.opened

@@ -1,10 +1,9 @@
-use Rattle.std.proofs.Common.{◌≡◌, true≢false, is_some, sym, ap, ◌∙◌, subst, arith}
-use Rattle.std.specs.Prelude.{OnOk}
+use Rattle.std.proofs.Common.{true≢false, is_some, sym, ap, ◌∙◌, subst, arith}
 use Rattle.redo_view.specs.Text.{redo_line}
 use Rattle.redo_view.specs.Expansion.{Shown, opened_log}
-use Rattle.redo_view.specs.Step.{Written}
-use Rattle.redo_view.specs.View.{from_here}
-use Rattle.redo_view.proofs.Asking.{behind, write_stopped, asked_is}
+use Rattle.redo_view.specs.Private.Stopped.{Written}
+use Rattle.redo_view.specs.Private.Seen.{from_here}
+use Rattle.redo_view.proofs.Asking.{behind, write_stopped, asked_is, saw_asked}
 use Rattle.redo_view.proofs.Growing.{left-all}
 use Rattle.redo_view.proofs.Shifting.{placed-listed}
 use Rattle.redo_view.proofs.viewer.show_target.Goals as goal
@@ -36,14 +35,7 @@ returns-clause-text g c =
     subst (λ (s : Shown). Written told after s.text c.show_log.result) (sym (asked_is c.args.table.now c.args.options.now c.args.name.now c.args.seen.now.named c.args.seen.now.opened (sym c.if-contains.ensures)))
     (behind _ told middle after (redo_line 0 c.args.name.now) inner.text c.show_log.result c.in_ok-write_target.ensures (c.show_log.ensures.text c.args.name.now placed))
 
-pub returns-clause-named : goal.returns-clause-named
-returns-clause-named g c =
-    let placed = sym c.find.ensures ∙ c.in-Some.is in
-    subst (λ (s : Shown). OnOk c.show_log.result (c.show_log.new.seen.named ≡ s.named)) (sym (asked_is c.args.table.now c.args.options.now c.args.name.now c.args.seen.now.named c.args.seen.now.opened (sym c.if-contains.ensures)))
-    (c.show_log.ensures.named c.args.name.now placed)
-
-pub returns-clause-opened : goal.returns-clause-opened
-returns-clause-opened g c =
-    let placed = sym c.find.ensures ∙ c.in-Some.is in
-    subst (λ (s : Shown). OnOk c.show_log.result (c.show_log.new.seen.opened ≡ s.opened)) (sym (asked_is c.args.table.now c.args.options.now c.args.name.now c.args.seen.now.named c.args.seen.now.opened (sym c.if-contains.ensures)))
-    (c.show_log.ensures.opened c.args.name.now placed)
+pub returns-clause-seen : goal.returns-clause-seen
+returns-clause-seen g c =
+    saw_asked c.args.table.now c.args.options.now _ c.args.name.now c.args.seen.now c.show_log.new.seen c.show_log.result (sym c.if-contains.ensures)
+    (c.show_log.ensures.seen c.args.name.now (sym c.find.ensures ∙ c.in-Some.is))

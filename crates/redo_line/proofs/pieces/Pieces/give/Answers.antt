@@ -1,6 +1,7 @@
 use Rattle.std.proofs.Common.{◌≡◌, ◌+◌, ◌-◌, ◌<◌, ◌++◌, ℕ, List, [], Ok, length, get_or, drop, take, map, arith, ap, sym, subst, ◌∙◌}
 use Rattle.std.proofs.lemmas.List.{get_or-map, length-map}
-use Rattle.redo_line.specs.Pieces.{Reads, GivesFirst, from_first_byte, unread}
+use Rattle.redo_line.specs.Pieces.{Reads, GivesFirst, from_first_byte}
+use Rattle.redo_line.specs.Private.Pieces.{unread}
 use Rattle.redo_line.proofs.PieceLemmas.{copies_front}
 use Rattle.redo_line.proofs.pieces.Pieces.give.Goals as goal
 

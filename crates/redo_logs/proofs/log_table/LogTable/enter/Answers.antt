@@ -4,7 +4,7 @@ use Rattle.std.specs.Cmp.Lexicographic.{pointwise}
 use Rattle.std.proofs.lemmas.List.{length-map}
 use Rattle.indexmap.proofs.CallerLemmas.{insert_entry-new}
 use Rattle.redo_logs.specs.Logs.{IsTable, most}
-use Rattle.redo_logs.specs.Stored.{log_of}
+use Rattle.redo_logs.specs.Private.Stored.{log_of}
 use Rattle.redo_logs.proofs.Growing.{none, not_some, is_placed, target_is_new, no_place, one_stored, IsTable-grown}
 use Rattle.redo_logs.proofs.log_table.LogTable.enter.Goals as goal
 

@@ -2,7 +2,7 @@ use Rattle.std.proofs.Common.{length, slice_get, ap, sym, ◌∙◌, refl, arith
 use Rattle.std.proofs.lemmas.List.{length-map}
 use Rattle.std.proofs.lemmas.Option.{slice_get_read}
 use Rattle.redo_logs.specs.Logs.{targets_of}
-use Rattle.redo_logs.specs.Stored.{log_of}
+use Rattle.redo_logs.specs.Private.Stored.{log_of}
 use Rattle.redo_logs.proofs.Storing.{targets_stored}
 use Rattle.redo_logs.proofs.log_table.LogTable.name.Goals as goal
 

@@ -1,0 +1,253 @@
+//! Streams that are gathered on one thread: their logs, or the fault of the least-numbered stream
+//! that has one.
+use crate::gathered::gathered;
+use redo_gather::GatherFault;
+use redo_given::{Answer, Cut, Given, Script, captured, cuts, entered, logs_text, reader};
+use redo_line::{StreamFault, TargetName};
+use redo_logs::LogTable;
+use std::alloc::Global;
+use std::process::Abort;
+use std::sync::atomic::{AtomicU64, Ordering};
+use std::test::Fail;
+
+/// The logs of streams as a test writes them, or their fault.
+type Want<'a> = Result<&'a str, GatherFault>;
+
+fn expect_answer(
+    rt: &(impl Abort + AllocGlobal),
+    answer: Result<LogTable, GatherFault>,
+    want: Want<'_>,
+    message: &str,
+) -> Result<(), Fail> {
+    match answer {
+        Ok(table) => {
+            let text = logs_text(rt.alloc(), &table)?;
+            assert_eq!(rt; Ok(text.as_str()), want, "{message}");
+        }
+        Err(fault) => assert_eq!(rt; Err(fault), want, "{message}"),
+    }
+    Ok(())
+}
+
+/// However the streams are cut into reads, this is gathered.
+fn expect(
+    rt: &(impl Abort + AllocGlobal),
+    given: &[Given<'_>],
+    max_bytes: u64,
+    want: Want<'_>,
+) -> Result<(), Fail> {
+    let alloc = rt.alloc();
+    for cut in &cuts(alloc, given)? {
+        let (targets, readers) = captured(alloc, given, *cut)?;
+        let answer = gathered(alloc, &targets, readers, max_bytes)?;
+        let message = format!(in alloc; "{given:?} {cut:?}")?;
+        expect_answer(rt, answer, want, &message)?;
+    }
+    Ok(())
+}
+
+fn stream(number: u32, fault: StreamFault) -> GatherFault {
+    GatherFault::Stream { number, fault }
+}
+
+const BAD: &str = "@@REDO:do:7\n";
+
+const BAD_NINTH: &str = "ok\nok\nok\nok\nok\nok\nok\nok\n@@REDO:do:7\n";
+
+const CLOSING: &str = "@@REDO:done:7:1.0000@@ 0 a\n";
+
+const CLOSING_AND_MORE: &str = "@@REDO:done:7:1.0000@@ 0 a\nz";
+
+/// A build in which `b.o` failed.
+const BUILD: [Given<'static>; 3] = [
+    (
+        "all",
+        "@@REDO:do:7:1.0000@@ a.o\n@@REDO:do:7:1.0000@@ b.o\n@@REDO:done:7:1.0000@@ 0 a.o\n\
+         @@REDO:done:7:1.0000@@ 1 b.o\nlink\n",
+        false,
+    ),
+    ("a.o", "cc a\n", false),
+    ("b.o", "cc b\n", false),
+];
+
+/// Streams, and their logs.
+const LOGS: [(&[Given<'static>], &str); 6] = [
+    (&[], ""),
+    (&[("all", "", false)], "all: Ended\n"),
+    (&[("all", "x", false)], "all: Ended\ntext|x\n"),
+    (&[("a", CLOSING, false)], "a: Ended\nclosing|0\n"),
+    (
+        &[("b", "b1\nb2", false), ("a", "", false), ("c", "\n", false)],
+        "b: Ended\ntext|b1\ntext|b2\na: Ended\nc: Ended\ntext|\n",
+    ),
+    (
+        &BUILD,
+        "all: Ended\ndo|a.o\ndo|b.o\ndone|0|a.o\ndone|1|b.o\ntext|link\n\
+         a.o: Ended\ntext|cc a\nb.o: Ended\ntext|cc b\n",
+    ),
+];
+
+#[test]
+fn streams_have_these_logs(rt: HostRuntime) -> Result<(), Fail> {
+    for (given, logs) in &LOGS {
+        expect(&rt, given, 1000, Ok(logs))?;
+    }
+    Ok(())
+}
+
+/// Two streams, and the number and the fault of the one that is told.
+const FAULTS: [([Given<'static>; 2], u32, StreamFault); 7] = [
+    (
+        [("all", "ok\n@@REDO:do:7\n", false), ("b", "", false)],
+        0,
+        StreamFault::BadRecord { line: 2 },
+    ),
+    (
+        [("a", CLOSING_AND_MORE, false), ("b", BAD, false)],
+        0,
+        StreamFault::AfterClose { line: 2 },
+    ),
+    (
+        [("a", BAD_NINTH, false), ("b", BAD, false)],
+        0,
+        StreamFault::BadRecord { line: 9 },
+    ),
+    (
+        [("a", "x\n", true), ("b", BAD, false)],
+        0,
+        StreamFault::Read,
+    ),
+    (
+        [("a", BAD, true), ("b", "", false)],
+        0,
+        StreamFault::BadRecord { line: 1 },
+    ),
+    (
+        [("a", "ok\n", false), ("b", BAD, false)],
+        1,
+        StreamFault::BadRecord { line: 1 },
+    ),
+    ([("a", "", false), ("b", "", true)], 1, StreamFault::Read),
+];
+
+#[test]
+fn the_fault_is_that_of_the_least_numbered_stream(rt: HostRuntime) -> Result<(), Fail> {
+    for (given, number, fault) in &FAULTS {
+        expect(&rt, given, 1000, Err(stream(*number, *fault)))?;
+    }
+    Ok(())
+}
+
+/// A target, its stream, a limit, and the log or the fault within it.
+const LIMITED: [(&str, &str, u64, Result<&str, StreamFault>); 6] = [
+    ("all", "abc\n", 4, Ok("all: Ended\ntext|abc\n")),
+    ("all", "abc\nd", 4, Err(StreamFault::TooLong)),
+    ("a", CLOSING, 27, Ok("a: Ended\nclosing|0\n")),
+    (
+        "a",
+        CLOSING_AND_MORE,
+        28,
+        Err(StreamFault::AfterClose { line: 2 }),
+    ),
+    ("a", CLOSING_AND_MORE, 27, Err(StreamFault::TooLong)),
+    ("a", CLOSING_AND_MORE, 26, Err(StreamFault::TooLong)),
+];
+
+#[test]
+fn a_stream_may_have_so_many_bytes(rt: HostRuntime) -> Result<(), Fail> {
+    for (name, bytes, max_bytes, want) in &LIMITED {
+        let want = want.map_err(|fault| stream(0, fault));
+        expect(&rt, &[(*name, *bytes, false)], *max_bytes, want)?;
+    }
+    Ok(())
+}
+
+/// A table of targets with these names, whose logs are empty.
+fn table_of(alloc: Global, names: &[&str]) -> Result<LogTable, Fail> {
+    let mut resolved = Vec::new(alloc);
+    for name in names {
+        resolved.push(TargetName::resolve(alloc, None, name.as_bytes())?)?;
+    }
+    Ok(entered(alloc, resolved)?)
+}
+
+/// The answers of a reader, the last of them again and again, the log or the fault that comes of
+/// them, and after how many reads.
+const READS: [(&[Answer], Answer, u64, Result<&str, StreamFault>); 5] = [
+    (&[], Answer::Byte, 1001, Err(StreamFault::TooLong)),
+    (&[Answer::Failure], Answer::Byte, 1, Err(StreamFault::Read)),
+    (
+        &[Answer::Byte, Answer::Failure],
+        Answer::End,
+        2,
+        Err(StreamFault::Read),
+    ),
+    (&[Answer::End], Answer::Byte, 1, Ok("all: Ended\n")),
+    (
+        &[Answer::Byte, Answer::End],
+        Answer::Failure,
+        2,
+        Ok("all: Ended\ntext|x\n"),
+    ),
+];
+
+/// What comes of a reader that answers so, and after how many reads.
+fn expect_reads(
+    rt: &(impl Abort + AllocGlobal),
+    answers: &[Answer],
+    last: Answer,
+    reads: u64,
+    want: Want<'_>,
+) -> Result<(), Fail> {
+    let alloc = rt.alloc();
+    let count = AtomicU64::new(0);
+    let mut readers = Vec::new(alloc);
+    readers.push(Script::new(answers, last, &count))?;
+    let answer = gathered(alloc, &table_of(alloc, &["all"])?, readers, 1000)?;
+    expect_answer(rt, answer, want, "so many reads")?;
+    assert_eq!(rt; count.load(Ordering::SeqCst), reads);
+    Ok(())
+}
+
+// It is asked once more than there may be bytes, a failed read is not tried again, and nothing is
+// read behind the end.
+#[test]
+fn a_reader_is_asked_so_often(rt: HostRuntime) -> Result<(), Fail> {
+    for (answers, last, reads, want) in &READS {
+        let want = want.map_err(|fault| stream(0, fault));
+        expect_reads(&rt, answers, *last, *reads, want)?;
+    }
+    Ok(())
+}
+
+#[test]
+fn no_reader_is_asked_behind_a_fault(rt: HostRuntime) -> Result<(), Fail> {
+    let alloc = rt.alloc();
+    let (first, second) = (AtomicU64::new(0), AtomicU64::new(0));
+    let mut readers = Vec::new(alloc);
+    for reads in [&first, &second] {
+        readers.push(Script::new(&[], Answer::Failure, reads))?;
+    }
+    let answer = gathered(alloc, &table_of(alloc, &["a", "b"])?, readers, 1000)?;
+    assert_eq!(rt; answer.err(), Some(stream(0, StreamFault::Read)));
+    assert_eq!(rt; first.load(Ordering::SeqCst), 1);
+    assert_eq!(rt; second.load(Ordering::SeqCst), 0);
+    Ok(())
+}
+
+#[test]
+fn there_may_be_many_streams(rt: HostRuntime) -> Result<(), Fail> {
+    let alloc = rt.alloc();
+    let mut names = Vec::new(alloc);
+    let mut readers = Vec::new(alloc);
+    let mut want = String::new(alloc);
+    for i in 1..201 {
+        let name = format!(in alloc; "t{i}")?;
+        let line = format!(in alloc; "line {i}\n")?;
+        names.push(TargetName::resolve(alloc, None, name.as_bytes())?)?;
+        readers.push(reader(alloc, &line, false, Cut::InReadsOf(3))?)?;
+        want.push_str(&format!(in alloc; "{name}: Ended\ntext|{line}")?)?;
+    }
+    let answer = gathered(alloc, &entered(alloc, names)?, readers, 1000)?;
+    expect_answer(&rt, answer, Ok(want.as_str()), "200 streams")
+}

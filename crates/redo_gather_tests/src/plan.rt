@@ -1,0 +1,37 @@
+//! Plans, and the limits of their numbers.
+use redo_gather::{Plan, PlanFault};
+use std::test::Fail;
+
+#[test]
+fn a_plan_has_its_numbers(rt: HostRuntime) -> Result<(), Fail> {
+    for numbers in &[
+        (4, 64, 1),
+        (1, 1, 1),
+        (64, 65_536, 1_099_511_627_776),
+        (2, 3, 1_073_741_824),
+    ] {
+        let plan = Plan::new(numbers.0, numbers.1, numbers.2)?;
+        let found = (plan.senders(), plan.capacity(), plan.max_bytes());
+        assert_eq!(rt; found, *numbers);
+    }
+    Ok(())
+}
+
+#[test]
+fn the_first_number_out_of_its_limits_is_refused(rt: HostRuntime) {
+    for (senders, capacity, max_bytes, fault) in [
+        (0, 0, 0, PlanFault::Senders),
+        (65, 1, 1, PlanFault::Senders),
+        (1, 0, 1, PlanFault::Capacity),
+        (64, 0, 0, PlanFault::Capacity),
+        (1, 65_537, 1, PlanFault::Capacity),
+        (1, 1, 0, PlanFault::MaxBytes),
+        (1, 1, 1_099_511_627_777, PlanFault::MaxBytes),
+    ] {
+        assert_eq!(rt;
+            Plan::new(senders, capacity, max_bytes).err(),
+            Some(fault),
+            "{senders} {capacity} {max_bytes}"
+        );
+    }
+}

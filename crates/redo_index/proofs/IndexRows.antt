@@ -1,0 +1,53 @@
+-- Examples of indexes, computed: the lines, and what they list, or which one is refused.
+use Rattle.std.proofs.Common.{◌≡◌, ℕ, List, [], ◌∷◌, None, refl}
+use Rattle.std.specs.Prelude.{codes}
+use Rattle.redo_line.specs.Names.{from_back, normal}
+use Rattle.redo_index.specs.declared.index_fault.IndexFault.TheVariants.{BadLine, FidTwice, NameTwice}
+use Rattle.redo_line.specs.Decimal.{number}
+use Rattle.redo_index.specs.declared.listed.Listed.{Listed}
+use Rattle.redo_index.specs.Index.{listed_by, IsIndexOf, IsRefused}
+use Rattle.redo_index.proofs.IndexLines.{fine_lines}
+
+abbrev one : ℕ → List ℕ → Listed
+one number target = record { number = number; target = target }
+
+no_line : IsIndexOf [] []
+no_line = record { fine = fine_lines [] tt; lists = refl }
+
+one_line : IsIndexOf (codes "1 all" ∷ []) (one 1 (codes "all") ∷ [])
+unfolding from_back normal number listed_by
+one_line = record { fine = fine_lines (codes "1 all" ∷ []) (refl, tt); lists = refl }
+
+two_lines : IsIndexOf (codes "7 d/./a" ∷ codes "999999999 b" ∷ []) (one 7 (codes "d/a") ∷ one 999999999 (codes "b") ∷ [])
+unfolding from_back normal number listed_by
+two_lines = record { fine = fine_lines (codes "7 d/./a" ∷ codes "999999999 b" ∷ []) (refl, (refl, tt)); lists = refl }
+
+a_name_that_begins_with_a_space : IsIndexOf (codes "1  a" ∷ []) (one 1 (codes " a") ∷ [])
+unfolding from_back normal number listed_by
+a_name_that_begins_with_a_space = record { fine = fine_lines (codes "1  a" ∷ []) (refl, tt); lists = refl }
+
+name_twice : IsRefused (codes "1 a" ∷ codes "2 ./a" ∷ []) (NameTwice 2)
+unfolding from_back normal number listed_by
+name_twice = record { before = codes "1 a" ∷ []; line = codes "2 ./a"; after = []; lines_are = refl; fine_before = fine_lines (codes "1 a" ∷ []) (refl, tt); refused = refl }
+
+number_twice : IsRefused (codes "1 a" ∷ codes "1 b" ∷ []) (FidTwice 2)
+unfolding from_back normal number listed_by
+number_twice = record { before = codes "1 a" ∷ []; line = codes "1 b"; after = []; lines_are = refl; fine_before = fine_lines (codes "1 a" ∷ []) (refl, tt); refused = refl }
+
+both_twice : IsRefused (codes "1 a" ∷ codes "1 a" ∷ []) (FidTwice 2)
+unfolding from_back normal number listed_by
+both_twice = record { before = codes "1 a" ∷ []; line = codes "1 a"; after = []; lines_are = refl; fine_before = fine_lines (codes "1 a" ∷ []) (refl, tt); refused = refl }
+
+the_least_line : IsRefused (codes "1 a" ∷ codes "x" ∷ codes "1 b" ∷ []) (BadLine 2)
+unfolding from_back normal number listed_by
+the_least_line = record { before = codes "1 a" ∷ []; line = codes "x"; after = codes "1 b" ∷ []; lines_are = refl; fine_before = fine_lines (codes "1 a" ∷ []) (refl, tt); refused = refl }
+
+abbrev IsBad : List ℕ → Type 0
+IsBad line = IsRefused (line ∷ []) (BadLine 1)
+
+bad_first : (line : List ℕ) → listed_by line ≡ None → IsBad line
+bad_first line is = record { before = []; line = line; after = []; lines_are = refl; fine_before = fine_lines [] tt; refused = rw is }
+
+bad_lines : IsBad (codes "01 a") × IsBad (codes "0 a") × IsBad (codes "1234567890 a") × IsBad (codes "1") × IsBad (codes "1 ") × IsBad []
+unfolding from_back normal number listed_by
+bad_lines = (bad_first (codes "01 a") refl, bad_first (codes "0 a") refl, bad_first (codes "1234567890 a") refl, bad_first (codes "1") refl, bad_first (codes "1 ") refl, bad_first [] refl)

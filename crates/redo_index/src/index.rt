@@ -1,0 +1,191 @@
+ghost use Rattle.std.specs.Prelude.{◌≡◌, ◌<◌, ◌≤◌, ◌⊎◌, List, [], ◌∷◌, Some, None, nat_eq, length, position, slice_get, IfOk, IfErr, if◌then◌else◌};
+ghost use Rattle.std.specs.Cmp.Lexicographic.{pointwise};
+ghost use Rattle.std.specs.List.{IsDistinct};
+ghost use Rattle.redo_line.specs.Lines.{all_lines};
+ghost use Rattle.redo_index.specs.declared.index_fault.IndexFault.TheVariants.{OutOfMemory};
+ghost use Rattle.redo_index.specs.declared.listed.Listed.{Listed};
+ghost use Rattle.redo_index.specs.Index.{most, numbers_of, names_of, listed_by, number_of, IsIndex, IsIndexOf, IsRefused};
+ghost use Rattle.redo_index.specs.Private.Keys.{Hold, HoldMore, IsFaultBehind};
+
+use crate::index_fault::IndexFault;
+use crate::listed::Listed;
+use indexmap::IndexSet;
+use memchr::memchr;
+use redo_line::{NameFault, TargetName, read_number};
+use std::alloc::{AllocError, Global};
+use std::marker::Model;
+
+// How many targets an index may list.
+const MOST: usize = 1_048_575;
+
+/// The targets of a capture directory: for each its number and its name, in the order in which
+/// they are listed. No number and no name stands in it twice, and it lists at most 1,048,575.
+#[derive(Debug, Drop)]
+pub struct Index {
+    numbers: IndexSet<u32>,
+    names: IndexSet<TargetName>,
+}
+
+impl Model for Index {
+    ghost use Rattle.std.specs.Prelude.{List};
+    ghost use Rattle.redo_index.specs.declared.listed.Listed.{Listed};
+    ghost use Rattle.redo_index.specs.Private.Keys.{AreOfIndex, listed_in};
+
+    ghost Value = { List Listed };
+
+    ghost view = { λ index. listed_in index.numbers.keys index.names.keys };
+
+    ghost invariant = { λ index. AreOfIndex index.numbers.keys index.names.keys };
+}
+
+impl Index {
+    /// The index that lists nothing. It asks for no memory.
+    pub fn new(alloc: Global) -> Index
+        ensures { result ≡ [] }
+    {
+        Index {
+            numbers: IndexSet::new(alloc),
+            names: IndexSet::new(alloc),
+        }
+    }
+
+    /// How many targets are listed. No number and no name stands twice among them, and there are at
+    /// most 1,048,575.
+    pub fn len(&self) -> u32
+        ensures len { result ≡ length self.now }
+        ensures index { IsIndex self.now }
+    {
+        self.numbers.len() as u32
+    }
+
+    /// The number of the target that is listed at the place `i`. Places are counted from 0, and `i`
+    /// has to be one of them.
+    pub fn fid(&self, i: u32) -> u32
+        requires { i < length self.now }
+        ensures { slice_get (numbers_of self.now) i ≡ Some result }
+    {
+        self.numbers.as_slice()[i as usize]
+    }
+
+    /// The name of the target that is listed at the place `i`. Places are counted from 0, and `i`
+    /// has to be one of them.
+    pub fn name(&self, i: u32) -> &TargetName
+        requires { i < length self.now }
+        ensures { slice_get (names_of self.now) i ≡ Some result.now }
+    {
+        &self.names.as_slice()[i as usize]
+    }
+
+    /// The names of all targets, in memory of their own. No name stands twice among them, and there are
+    /// at most 1,048,575.
+    pub fn names(&self, alloc: Global) -> Result<Vec<TargetName>, AllocError>
+        ensures names { IfOk result (λ names. names.items ≡ names_of self.now) }
+        ensures distinct { IfOk result (λ names. IsDistinct (pointwise nat_eq) names.items) }
+        ensures size { IfOk result (λ names. length names.items ≤ most) }
+    {
+        let listed = self.names.as_slice();
+        let mut names = Vec::with_capacity(alloc, listed.len())?;
+        for name in listed {
+            names.push(name.copy(alloc)?)?;
+        }
+        Ok(names)
+    }
+
+    /// The place where a target is listed, if it is. The look-up is by hash.
+    pub fn find(&self, name: &TargetName) -> Option<u32>
+        ensures { result ≡ position (pointwise nat_eq name.now) (names_of self.now) }
+    {
+        match self.names.get_index_of(name) {
+            Some(i) => Some(i as u32),
+            None => None,
+        }
+    }
+}
+
+/// Reads an index: lines of which each is a number, a space and the name of a target. A refusal
+/// names the least line that can't be listed, with its first cause. docs/format.md has the rule.
+pub fn read_index(alloc: Global, bytes: &[u8]) -> Result<Index, IndexFault>
+    ensures listed { IfOk result (λ index. IsIndexOf (all_lines bytes.now) index) }
+    ensures refused { IfErr result (λ fault. (fault ≡ OutOfMemory) ⊎ IsRefused (all_lines bytes.now) fault) }
+{
+    let mut numbers = IndexSet::new(alloc);
+    let mut names = IndexSet::new(alloc);
+    let mut left = bytes;
+    'lines: while !left.is_empty() {
+        let (line, behind) = first_line(left);
+        add(alloc, &mut numbers, &mut names, line)?;
+        left = behind;
+    }
+    Ok(Index { numbers, names })
+}
+
+// The first line, and the bytes behind it.
+fn first_line(bytes: &[u8]) -> (&[u8], &[u8])
+    requires some { 0 < length bytes.now }
+    ensures line { all_lines bytes.now ≡ result.0.now ∷ all_lines result.1.now }
+    ensures less { length result.1.now < length bytes.now }
+{
+    match memchr(b'\n', bytes) {
+        Some(at) => (&bytes[..at], &bytes[at + 1..]),
+        None => (bytes, b""),
+    }
+}
+
+// Lists one more line.
+fn add(
+    alloc: Global,
+    numbers: &mut IndexSet<u32>,
+    names: &mut IndexSet<TargetName>,
+    line: &[u8],
+) -> Result<(), IndexFault>
+    ensures holds { (listed : List Listed) → Hold numbers.old.keys names.old.keys listed →
+        IfOk result (λ _. HoldMore listed line.now numbers.new.keys names.new.keys) }
+    ensures refuses { (listed : List Listed) → Hold numbers.old.keys names.old.keys listed →
+        IfErr result (λ fault. IsFaultBehind listed line.now fault) }
+{
+    let place = numbers.len() as u64 + 1;
+    let Some(Listed { number, target }) = read_listed(alloc, line)? else {
+        return Err(IndexFault::BadLine { line: place });
+    };
+    let (_, differs) = numbers.insert_full(number)?;
+    if !differs {
+        return Err(IndexFault::FidTwice { line: place });
+    }
+    let (_, differs) = names.insert_full(target)?;
+    if !differs {
+        return Err(IndexFault::NameTwice { line: place });
+    }
+    if names.len() > MOST {
+        return Err(IndexFault::TooMany);
+    }
+    Ok(())
+}
+
+// What a line lists, if it is of the form.
+fn read_listed(alloc: Global, line: &[u8]) -> Result<Option<Listed>, AllocError>
+    ensures { IfOk result (λ listed. listed ≡ listed_by line.now) }
+{
+    let Some(at) = memchr(b' ', line) else {
+        return Ok(None);
+    };
+    let Some(number) = read_fid(&line[..at]) else {
+        return Ok(None);
+    };
+    match TargetName::resolve(alloc, None, &line[at + 1..]) {
+        Ok(target) => Ok(Some(Listed { number, target })),
+        Err(NameFault::Empty) => Ok(None),
+        Err(NameFault::OutOfMemory) => Err(AllocError),
+    }
+}
+
+fn read_fid(bytes: &[u8]) -> Option<u32>
+    ensures { result ≡ number_of bytes.now }
+{
+    if bytes.is_empty() || bytes[0] == b'0' {
+        return None;
+    }
+    match read_number(9, bytes) {
+        Some(number) => Some(number as u32),
+        None => None,
+    }
+}

@@ -1,0 +1,10 @@
+//! Laws about the definitions alone: their contracts are theorems, and their bodies are empty.
+ghost use Rattle.std.specs.Prelude.{◌≡◌, ℕ, List};
+ghost use Rattle.redo_index.specs.declared.index_fault.IndexFault.{IndexFault};
+ghost use Rattle.redo_index.specs.Index.{IsFine, IsRefused};
+
+/// Lines are an index or are refused, not both, and are refused with one fault alone.
+pub fn one_answer_of_an_index()
+    ensures either { (lines : List (List ℕ)) (fault : IndexFault) → IsFine lines → IsRefused lines fault → ⊥ }
+    ensures one { (lines : List (List ℕ)) (fault other : IndexFault) → IsRefused lines fault → IsRefused lines other → fault ≡ other }
+{}

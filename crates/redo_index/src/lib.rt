@@ -1,0 +1,13 @@
+//! The index of a capture directory: which targets there are, each with a number.
+//!
+//! [`read_index`] reads it from the bytes of the file `names`, and an [`Index`] tells what it lists.
+#![tactic(auto)]
+
+mod index;
+mod index_fault;
+mod laws;
+mod listed;
+
+pub use index::{Index, read_index};
+pub use index_fault::IndexFault;
+pub use laws::one_answer_of_an_index;

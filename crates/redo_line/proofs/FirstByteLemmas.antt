@@ -1,0 +1,81 @@
+-- A byte that is at fault by where it stands is known from how far the scan came.
+use Rattle.std.proofs.Common.{◌≡◌, inl, ℕ, zero, suc, ◌+◌, ◌-◌, Bool, true, false, List, [], ◌∷◌, ◌++◌, Option, None, Some, take, eqb, refl, sym, ◌∙◌, ap, subst}
+use Rattle.std.proofs.lemmas.Bool.{eqb-true, eqb-false}
+use Rattle.std.proofs.lemmas.List.{append-nil}
+use Rattle.std.proofs.lemmas.Option.{same_Some}
+use Rattle.std.proofs.Math.Seq.{take-nil}
+use Rattle.redo_line.specs.declared.entry.Entry.{Entry}
+use Rattle.redo_line.specs.declared.stream_fault.StreamFault.{StreamFault}
+use Rattle.redo_line.specs.declared.stream_fault.StreamFault.TheVariants.{BadRecord}
+use Rattle.redo_line.specs.Cut.{Cuts}
+use Rattle.redo_line.specs.Entry.{entry_of}
+use Rattle.redo_line.specs.Lines.{line_feed}
+use Rattle.redo_line.specs.Scan.{Scanned, fault_so_far, IsOfPlace, RefusesFirst}
+use Rattle.redo_line.specs.Private.Progress.{Progress, IsAfter, byte_fault, first_byte_fault}
+use Rattle.redo_line.proofs.CutLemmas.{cuts_line, cuts_none}
+use Rattle.redo_line.proofs.ScanLemmas.{bad_refuses, ends_line, ends_none}
+use Rattle.redo_line.proofs.ScanSteps.{refuses_first}
+
+module _ (p : Progress) (u : List ℕ) (after : IsAfter p u) (byte : ℕ) where
+  abbrev one : List ℕ
+  one = byte ∷ []
+
+  -- a line feed or another byte where there is room for it, behind a line that doesn't close the log, has no such fault
+  module _ (room : ℕ) (room_is : p.max_bytes - p.taken ≡ suc room) (closed : p.closed ≡ false) (fault : StreamFault) (of_place : IsOfPlace fault)
+      (is : fault_so_far p.target p.max_bytes (u ++ one) ≡ Some fault) where
+    one_is : one ≡ take (p.max_bytes - p.taken) one
+    one_is = sym (ap (λ n. take n one) room_is ∙ ap (λ b. byte ∷ b) (take-nil room))
+
+    no_line : eqb byte line_feed ≡ false → ⊥
+    no_line other =
+        let fine = (ends_none p u after one one one_is (p.kept ++ one) (cuts_none p.kept one (eqb-false byte line_feed other, tt)) (inl closed) refl).fine in
+        let none : None ≡ Some fault = sym fine ∙ is in
+        absurd (cc)
+
+    a_line : byte ≡ line_feed → ⊥
+    a_line feed = by (entry_of p.target (p.kept ++ []) true) refl
+      where
+        cut : Cuts p.kept one ((p.kept ++ []) ∷ []) []
+        cut = subst (λ (b : ℕ). Cuts p.kept (b ∷ []) ((p.kept ++ []) ∷ []) []) (sym feed) (cuts_line p.kept [] tt)
+
+        by : (entry : Option Entry) → entry_of p.target (p.kept ++ []) true ≡ entry → ⊥
+        by None none =
+            let told = (bad_refuses p u after one one one_is one [] (p.kept ++ []) cut refl closed none).fault_is in
+            subst IsOfPlace (same_Some fault (BadRecord (p.lines + 1)) (sym is ∙ told)) of_place
+        by (Some entry) some =
+            let fine = (ends_line p u after one one one_is one [] (p.kept ++ []) cut refl closed entry some).fine in
+            let none : None ≡ Some fault = sym fine ∙ is in
+            absurd (cc)
+
+    none_here : ⊥
+    none_here = by (eqb byte line_feed) refl
+      where
+        by : (same : Bool) → eqb byte line_feed ≡ same → ⊥
+        by true same = a_line (eqb-true byte line_feed same)
+        by false other = no_line other
+
+  -- what is known beforehand is the fault
+  known_is : (known fault : StreamFault) → first_byte_fault p one ≡ Some known → fault_so_far p.target p.max_bytes (u ++ one) ≡ Some fault → first_byte_fault p one ≡ Some fault
+  known_is known fault told is = told ∙ sym (refuses_first p p refl u after one one (take (p.max_bytes - p.taken) one) 0 refl refl known told).fault_is ∙ is
+
+  one_fault : (fault : StreamFault) → IsOfPlace fault → fault_so_far p.target p.max_bytes (u ++ one) ≡ Some fault → first_byte_fault p one ≡ Some fault
+  one_fault fault of_place is = by (p.max_bytes - p.taken) p.closed refl refl
+    where
+      by : (room : ℕ) (closed : Bool) → p.max_bytes - p.taken ≡ room → p.closed ≡ closed → first_byte_fault p one ≡ Some fault
+      by zero closed room_is closed_is = known_is _ fault (ap (λ n. byte_fault n p.lines p.closed) room_is) is
+      by (suc room) true room_is closed_is = known_is _ fault (ap (λ n. byte_fault n p.lines p.closed) room_is ∙ ap (byte_fault (suc room) p.lines) closed_is) is
+      by (suc room) false room_is closed_is = absurd (none_here room room_is closed_is fault of_place is)
+
+pub first_fault_known : (p : Progress) (u left : List ℕ) (fault : StreamFault) → IsAfter p u → IsOfPlace fault → fault_so_far p.target p.max_bytes (u ++ take 1 left) ≡ Some fault
+    → first_byte_fault p left ≡ Some fault
+first_fault_known p u [] fault after of_place is =
+    let none : None ≡ Some fault = sym after.fine ∙ ap (fault_so_far p.target p.max_bytes) (sym (append-nil u)) ∙ is in
+    absurd (cc)
+first_fault_known p u (byte ∷ left) fault after of_place is = one_fault p u after byte fault of_place is
+
+-- the same of a scan as it is seen, which came so far
+pub known_of : (p : Progress) (u left : List ℕ) (refused : Option StreamFault) (seen : Scanned) (fault : StreamFault)
+    → record { target = p.target; max_bytes = p.max_bytes; bytes = u; refused = refused } ≡ seen → IsAfter p u → RefusesFirst seen left fault → first_byte_fault p left ≡ Some fault
+known_of p u left refused seen fault seen_is after first =
+    let here : RefusesFirst (record { target = p.target; max_bytes = p.max_bytes; bytes = u; refused = refused }) left fault = subst (λ (s : Scanned). RefusesFirst s left fault) (sym seen_is) first in
+    first_fault_known p u left fault after here.of_place here.fault_is

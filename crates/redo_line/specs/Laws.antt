@@ -1,0 +1,95 @@
+-- What the laws say, where it takes more than a line.
+use Rattle.std.specs.Prelude.{◌≡◌, ◌≢◌, ℕ, Bool, true, false, List, ◌∷◌, [], ◌++◌, Option, None, Some, IfSome, map, replicate}
+use Rattle.redo_line.specs.declared.entry.Entry.{Entry}
+use Rattle.redo_line.specs.declared.stream_fault.StreamFault.{StreamFault}
+use Rattle.redo_line.specs.declared.stream_fault.StreamFault.TheVariants.{BadRecord, AfterClose, TooLong, Read, OutOfMemory}
+use Rattle.redo_line.specs.Feed.{Stream}
+use Rattle.redo_line.specs.Lines.{AreLines}
+use Rattle.redo_line.specs.Log.{stream_of, closes, entries_of, fault_of, part_of, log_of}
+use Rattle.redo_line.specs.Names.{slash, dot, dot_dot, from_back, is_absolute, normal}
+use Rattle.redo_line.specs.Scan.{fault_so_far, entries_so_far}
+
+-- whatever has this property is what was found
+abbrev pub IsOnly : {A : Type 0} → (A → Type 0) → Option A → Type 0
+IsOnly {A} P found = (other : A) → P other → found ≡ Some other
+
+-- these bytes are cut into these lines and this rest, and in no other way
+abbrev pub IsOnlyCutting : List ℕ → List (List ℕ) → List ℕ → Type 0
+IsOnlyCutting bytes lines last = (others : List (List ℕ)) (other : List ℕ) → AreLines bytes others other → (others ≡ lines) × (other ≡ last)
+
+-- a segment that names something itself
+abbrev pub IsOrdinary : List ℕ → Type 0
+IsOrdinary segment = (segment ≢ []) × (segment ≢ dot) × (segment ≢ dot_dot)
+
+-- a segment that changes nothing, wherever it stands
+abbrev pub Goes : List ℕ → Type 0
+Goes segment = (front behind : List (List ℕ)) → from_back (front ++ segment ∷ behind) ≡ from_back (front ++ behind)
+
+-- a segment that is gone where `..` stands right behind it
+abbrev pub GoesWithUpward : List ℕ → Type 0
+GoesWithUpward segment = (front behind : List (List ℕ)) → from_back (front ++ segment ∷ dot_dot ∷ behind) ≡ from_back (front ++ behind)
+
+-- so many `..`, and these segments behind them, all stay
+abbrev pub Stay : ℕ → List (List ℕ) → Type 0
+Stay ups kept = from_back (replicate ups dot_dot ++ kept) ≡ record { kept = kept; count = ups }
+
+-- a name that is relative to where it stands
+abbrev pub IsRelative : List ℕ → Type 0
+IsRelative name = (name ≢ []) × (is_absolute name ≡ false)
+
+-- a name in the log of a target in a directory is that of the directory and the name
+abbrev pub StandsIn : List ℕ → List ℕ → List ℕ → Type 0
+StandsIn front last name = normal (Some (front ++ slash ∷ last)) name ≡ normal None (front ++ slash ∷ name)
+
+-- a fault that is met before the stream is at its end
+abbrev pub IsMetEarly : StreamFault → Type 0
+IsMetEarly (BadRecord line) = Unit {0}
+IsMetEarly (AfterClose line) = Unit {0}
+IsMetEarly TooLong = Unit {0}
+IsMetEarly Read = ⊥
+IsMetEarly OutOfMemory = ⊥
+
+-- entries that others begin with
+abbrev pub IsFront : List Entry → List Entry → Type 0
+IsFront front entries = (behind : List Entry) × (entries ≡ front ++ behind)
+
+-- one entry for each line, in order
+abbrev pub HasEachEntry : List ℕ → Stream → List Entry → Type 0
+HasEachEntry target stream entries = map Some entries ≡ entries_of target stream.bytes
+
+-- behind an entry that closes the log stands nothing
+abbrev pub ClosesLast : List Entry → Type 0
+ClosesLast entries = (before : List Entry) (entry : Entry) (after : List Entry) → entries ≡ before ++ entry ∷ after → closes (Some entry) ≡ true → after ≡ []
+
+module _ (target : List ℕ) (max_bytes : ℕ) where
+  -- Where bytes have a fault that is met early, every stream that begins with them has it,
+  abbrev pub EarlyFaultStays : Type 0
+  EarlyFaultStays =
+      (bytes more : List ℕ) (failed fails : Bool) (fault : StreamFault) → IsMetEarly fault → fault_of target max_bytes (stream_of bytes failed) ≡ Some fault
+      → fault_of target max_bytes (stream_of (bytes ++ more) fails) ≡ Some fault
+
+  -- and the same entries stand before it.
+  abbrev pub PartBeforeItStays : Type 0
+  PartBeforeItStays =
+      (bytes more : List ℕ) (failed fails : Bool) (fault : StreamFault) → IsMetEarly fault → fault_of target max_bytes (stream_of bytes failed) ≡ Some fault
+      → part_of target max_bytes (stream_of (bytes ++ more) fails) ≡ part_of target max_bytes (stream_of bytes failed)
+
+  -- Where bytes have no fault and then a read fails, that is the fault,
+  abbrev pub FailedReadIsFault : Type 0
+  FailedReadIsFault = (bytes : List ℕ) → fault_so_far target max_bytes bytes ≡ None → fault_of target max_bytes (stream_of bytes true) ≡ Some Read
+
+  -- and no entry is lost.
+  abbrev pub FailedReadLosesNone : Type 0
+  FailedReadLosesNone = (bytes : List ℕ) → fault_so_far target max_bytes bytes ≡ None → part_of target max_bytes (stream_of bytes true) ≡ entries_so_far target max_bytes bytes
+
+  -- Where bytes have no fault, their entries are a front of the part of every stream that begins with them,
+  abbrev pub EntriesLeadPart : Type 0
+  EntriesLeadPart =
+      (bytes more : List ℕ) (fails : Bool) → fault_so_far target max_bytes bytes ≡ None
+      → IsFront (entries_so_far target max_bytes bytes) (part_of target max_bytes (stream_of (bytes ++ more) fails))
+
+  -- and of its log, if it has one.
+  abbrev pub EntriesLeadLog : Type 0
+  EntriesLeadLog =
+      (bytes more : List ℕ) (fails : Bool) → fault_so_far target max_bytes bytes ≡ None
+      → IfSome (log_of target max_bytes (stream_of (bytes ++ more) fails)) (IsFront (entries_so_far target max_bytes bytes))

@@ -1,0 +1,6 @@
+-- What only clauses of private functions cite: it helps to prove the others, and nobody has to believe it.
+pub mod Line
+pub mod Path
+pub mod Pieces
+pub mod Progress
+pub mod Record

@@ -1,0 +1,123 @@
+//! Lines of a log, and what they say.
+use redo_given::{entry_text, line};
+use redo_line::{LineFault, TargetName, read_line};
+use redo_logs::EntryRef;
+use std::alloc::Global;
+use std::process::Abort;
+use std::test::Fail;
+
+/// A line in the log of `all`, and its entry.
+const ENTRIES: [(&str, &str); 17] = [
+    ("hello", "text|hello"),
+    ("", "text|"),
+    ("x @@REDO:do:7:1@@ a", "text|x @@REDO:do:7:1@@ a"),
+    ("@@REDO", "text|@@REDO"),
+    ("@@REDO:do:7:1.0000@@ a", "do|a"),
+    ("@@REDO:do:007:1@@ ./a b", "do|a b"),
+    ("@@REDO:waiting:7:1@@ d/x", "waiting|d/x"),
+    ("@@REDO:locked:7:1@@ x", "locked|x"),
+    ("@@REDO:unlocked:7:1@@ x", "unlocked|x"),
+    ("@@REDO:unchanged:7:1@@ x", "unchanged|x"),
+    ("@@REDO:done:7:1@@ 2 b", "done|2|b"),
+    ("@@REDO:done:7:1@@ -11 b", "done|-11|b"),
+    ("@@REDO:done:7:1@@ -0 b", "done|0|b"),
+    ("@@REDO:done:7:1@@ 007  b", "done|7| b"),
+    ("@@REDO:done:7:1@@ 0 ./all", "closing|0"),
+    ("@@REDO:x-y_z:4294967295:1.123456789@@ ", "note|x-y_z|"),
+    ("@@REDO:check:7:12345678901234567890@@ b", "note|check|b"),
+];
+
+/// Lines that begin as a record does, and are none.
+const BAD: [&str; 16] = [
+    "@@REDO:",
+    "@@REDO:do:7",
+    "@@REDO::7:1@@ a",
+    "@@REDO:Do:7:1@@ a",
+    "@@REDO:do:4294967296:1@@ a",
+    "@@REDO:do:00000000007:1@@ a",
+    "@@REDO:do:7:@@ a",
+    "@@REDO:do:7:123456789012345678901@@ a",
+    "@@REDO:do:7:1.@@ a",
+    "@@REDO:do:7:1.1234567890@@ a",
+    "@@REDO:do:7:1@@a",
+    "@@REDO:do:7:1@@ ",
+    "@@REDO:done:7:1@@ 0",
+    "@@REDO:done:7:1@@ 0 ",
+    "@@REDO:done:7:1@@ - b",
+    "@@REDO:done:7:1@@ 1234567890 b",
+];
+
+/// The entry of a line in the log of a target as a test writes it, or its fault.
+fn read(
+    alloc: Global,
+    target: &str,
+    bytes: &str,
+    ended: bool,
+) -> Result<Result<String, LineFault>, Fail> {
+    let target = TargetName::resolve(alloc, None, target.as_bytes())?;
+    let line = line(alloc, bytes)?.ok_or("no line")?;
+    match read_line(alloc, &target, line, ended) {
+        Ok(entry) => Ok(Ok(entry_text(alloc, EntryRef::of(&entry))?)),
+        Err(fault) => Ok(Err(fault)),
+    }
+}
+
+fn expect(
+    rt: &(impl Abort + AllocGlobal),
+    target: &str,
+    bytes: &str,
+    ended: bool,
+    want: &str,
+) -> Result<(), Fail> {
+    let entry = read(rt.alloc(), target, bytes, ended)??;
+    assert_eq!(rt; entry.as_str(), want, "{bytes:?}");
+    Ok(())
+}
+
+#[test]
+fn a_line_has_this_entry(rt: HostRuntime) -> Result<(), Fail> {
+    for (bytes, want) in &ENTRIES {
+        expect(&rt, "all", bytes, true, want)?;
+    }
+    Ok(())
+}
+
+#[test]
+fn a_record_that_does_not_fit_is_bad(rt: HostRuntime) -> Result<(), Fail> {
+    for bytes in &BAD {
+        let fault = read(rt.alloc(), "all", bytes, true)?.err();
+        assert_eq!(rt; fault, Some(LineFault::BadRecord), "{bytes:?}");
+    }
+    Ok(())
+}
+
+#[test]
+fn an_unended_line_is_text(rt: HostRuntime) -> Result<(), Fail> {
+    expect(
+        &rt,
+        "all",
+        "@@REDO:do:7:1.0000@@ a",
+        false,
+        "text|@@REDO:do:7:1.0000@@ a",
+    )?;
+    expect(&rt, "all", "@@REDO:do:7", false, "text|@@REDO:do:7")?;
+    expect(&rt, "all", "x", false, "text|x")
+}
+
+/// A line in the log of `d/a`, and its entry.
+const OF_D_A: [(&str, &str); 6] = [
+    ("@@REDO:do:7:1@@ ../e//x", "do|e/x"),
+    ("@@REDO:do:7:1@@ b", "do|d/b"),
+    ("@@REDO:done:7:1@@ 3 a", "closing|3"),
+    ("@@REDO:done:7:1@@ 3 ../d/a", "closing|3"),
+    ("@@REDO:done:7:1@@ 3 d/a", "done|3|d/d/a"),
+    ("@@REDO:note:7:1@@ d/a", "note|note|d/a"),
+];
+
+#[test]
+fn names_are_relative_to_the_directory_of_the_target(rt: HostRuntime) -> Result<(), Fail> {
+    for (bytes, want) in &OF_D_A {
+        expect(&rt, "d/./a", bytes, true, want)?;
+    }
+    Ok(())
+}

@@ -1,0 +1,227 @@
+//! A scan over the pieces of a stream: its entries, or its fault and the entries before it.
+use redo_given::{cut_into_reads, cuts, entry_text};
+use redo_line::{Entry, Scan, Step, StreamFault, TargetName};
+use redo_logs::EntryRef;
+use std::alloc::{AllocError, Global};
+use std::process::Abort;
+use std::test::Fail;
+
+/// The entries that a scan found, each with a line feed, and its fault.
+#[derive(Drop)]
+struct Scanned {
+    entries: String,
+    fault: Option<StreamFault>,
+}
+
+fn add(alloc: Global, entries: &mut String, entry: &Entry) -> Result<(), AllocError> {
+    entries.push_str(&entry_text(alloc, EntryRef::of(entry))?)?;
+    entries.push_str("\n")
+}
+
+/// Takes a piece, up to its end or to a fault. Each entry has to end behind the one before.
+fn take(alloc: Global, scan: &mut Scan, piece: &[u8], scanned: &mut Scanned) -> Result<(), Fail> {
+    let mut from = 0;
+    for _ in 0..piece.len() + 1 {
+        if from > piece.len() {
+            return Err("a place past the piece".into());
+        }
+        match scan.step(piece, from) {
+            Ok(Step::Found { entry, upto }) => {
+                add(alloc, &mut scanned.entries, &entry)?;
+                from = upto;
+            }
+            Ok(Step::More) => return Ok(()),
+            Err(fault) => {
+                scanned.fault = Some(fault);
+                return Ok(());
+            }
+        }
+    }
+    Err("more entries than bytes".into())
+}
+
+/// What a scan of these pieces in the log of a target finds.
+fn scan(alloc: Global, target: &str, max_bytes: u64, pieces: &[Vec<u8>]) -> Result<Scanned, Fail> {
+    if max_bytes < 1 || max_bytes > 1 << 40 {
+        return Err("no such limit".into());
+    }
+    let target = TargetName::resolve(alloc, None, target.as_bytes())?;
+    let mut scan = Scan::new(alloc, target, max_bytes);
+    let mut scanned = Scanned {
+        entries: String::new(alloc),
+        fault: None,
+    };
+    for piece in pieces {
+        take(alloc, &mut scan, piece, &mut scanned)?;
+    }
+    match scan.finish() {
+        Ok(Some(last)) => add(alloc, &mut scanned.entries, &last)?,
+        Ok(None) => {}
+        Err(fault) => scanned.fault = Some(fault),
+    }
+    Ok(scanned)
+}
+
+/// However the stream is cut into pieces, these are its entries, and this is its fault.
+fn expect(
+    rt: &(impl Abort + AllocGlobal),
+    target: &str,
+    max_bytes: u64,
+    stream: &str,
+    entries: &str,
+    fault: Option<StreamFault>,
+) -> Result<(), Fail> {
+    let alloc = rt.alloc();
+    for cut in &cuts(alloc, &[("", stream, false)])? {
+        let pieces = cut_into_reads(alloc, stream.as_bytes(), *cut)?;
+        let scanned = scan(alloc, target, max_bytes, &pieces)?;
+        expect_scanned(rt, &scanned, entries, fault, stream);
+    }
+    Ok(())
+}
+
+fn expect_scanned(
+    rt: &impl Abort,
+    scanned: &Scanned,
+    entries: &str,
+    fault: Option<StreamFault>,
+    stream: &str,
+) {
+    assert_eq!(rt; scanned.fault, fault, "{stream:?}");
+    assert_eq!(rt; scanned.entries.as_str(), entries, "{stream:?}");
+}
+
+/// A target, its stream, and the entries of it.
+const ENTRIES: [(&str, &str, &str); 8] = [
+    ("all", "", ""),
+    ("all", "hello\n", "text|hello\n"),
+    ("all", "x", "text|x\n"),
+    ("all", "@@REDO:do:7", "text|@@REDO:do:7\n"),
+    ("all", "\n\nx", "text|\ntext|\ntext|x\n"),
+    ("a", "@@REDO:done:7:1.0000@@ 0 a\n", "closing|0\n"),
+    (
+        "a",
+        "@@REDO:do:7:1@@ b\nt\n@@REDO:done:7:1@@ 1 a",
+        "do|b\ntext|t\ntext|@@REDO:done:7:1@@ 1 a\n",
+    ),
+    (
+        "d/a",
+        "@@REDO:do:7:1@@ ../e//x\n@@REDO:done:7:1@@ 2 b\n",
+        "do|e/x\ndone|2|d/b\n",
+    ),
+];
+
+#[test]
+fn a_stream_has_these_entries(rt: HostRuntime) -> Result<(), Fail> {
+    for (target, stream, entries) in &ENTRIES {
+        expect(&rt, target, 1000, stream, entries, None)?;
+    }
+    Ok(())
+}
+
+/// A target, its stream, the entries before its fault, and the fault.
+const FAULTS: [(&str, &str, &str, StreamFault); 5] = [
+    (
+        "all",
+        "ok\n@@REDO:do:7\n",
+        "text|ok\n",
+        StreamFault::BadRecord { line: 2 },
+    ),
+    (
+        "all",
+        "@@REDO:do:7\nok\n",
+        "",
+        StreamFault::BadRecord { line: 1 },
+    ),
+    (
+        "a",
+        "@@REDO:done:7:1.0000@@ 0 a\nz",
+        "closing|0\n",
+        StreamFault::AfterClose { line: 2 },
+    ),
+    (
+        "a",
+        "@@REDO:done:7:1.0000@@ 0 a\n@@REDO:\n",
+        "closing|0\n",
+        StreamFault::AfterClose { line: 2 },
+    ),
+    (
+        "a",
+        "\n\n@@REDO:done:7:1@@ 0 ./a\n\n",
+        "text|\ntext|\nclosing|0\n",
+        StreamFault::AfterClose { line: 4 },
+    ),
+];
+
+#[test]
+fn a_stream_has_this_fault_behind_these_entries(rt: HostRuntime) -> Result<(), Fail> {
+    for (target, stream, entries, fault) in &FAULTS {
+        expect(&rt, target, 1000, stream, entries, Some(*fault))?;
+    }
+    Ok(())
+}
+
+const CLOSING: &str = "@@REDO:done:7:1.0000@@ 0 a\n";
+
+const CLOSING_AND_MORE: &str = "@@REDO:done:7:1.0000@@ 0 a\nz";
+
+/// What a target's stream has within a limit: its entries, and its fault.
+type Limited = (
+    &'static str,
+    u64,
+    &'static str,
+    &'static str,
+    Option<StreamFault>,
+);
+
+const LIMITED: [Limited; 10] = [
+    ("all", 4, "abc\n", "text|abc\n", None),
+    ("all", 4, "abc\nd", "text|abc\n", Some(StreamFault::TooLong)),
+    (
+        "a",
+        28,
+        CLOSING_AND_MORE,
+        "closing|0\n",
+        Some(StreamFault::AfterClose { line: 2 }),
+    ),
+    (
+        "a",
+        27,
+        CLOSING_AND_MORE,
+        "closing|0\n",
+        Some(StreamFault::TooLong),
+    ),
+    ("a", 26, CLOSING_AND_MORE, "", Some(StreamFault::TooLong)),
+    ("a", 27, CLOSING, "closing|0\n", None),
+    ("a", 26, CLOSING, "", Some(StreamFault::TooLong)),
+    (
+        "all",
+        8,
+        "@@REDO:\nmore",
+        "",
+        Some(StreamFault::BadRecord { line: 1 }),
+    ),
+    ("all", 7, "@@REDO:\nmore", "", Some(StreamFault::TooLong)),
+    ("all", 1, "\n", "text|\n", None),
+];
+
+#[test]
+fn a_line_counts_as_far_as_its_bytes_are_within_the_limit(rt: HostRuntime) -> Result<(), Fail> {
+    for (target, max_bytes, stream, entries, fault) in &LIMITED {
+        expect(&rt, target, *max_bytes, stream, entries, *fault)?;
+    }
+    Ok(())
+}
+
+#[test]
+fn a_refusal_is_answered_to_every_later_call(rt: HostRuntime) -> Result<(), Fail> {
+    let alloc = rt.alloc();
+    let fault = StreamFault::BadRecord { line: 1 };
+    let mut scan = Scan::new(alloc, TargetName::resolve(alloc, None, b"all")?, 100);
+    assert!(rt; matches!(scan.step(b"@@RE", 0), Ok(Step::More)));
+    for piece in ["DO:do:7\nok\n", "ok\n", ""] {
+        assert_eq!(rt; scan.step(piece.as_bytes(), 0).err(), Some(fault));
+    }
+    assert_eq!(rt; scan.finish().err(), Some(fault));
+    Ok(())
+}

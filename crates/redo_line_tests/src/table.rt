@@ -1,0 +1,162 @@
+//! The table of logs: what its calls answer, and what they leave.
+use redo_given::{entry_text, line, logs_text};
+use redo_line::{StreamFault, TargetName, read_line};
+use redo_logs::{LogState, LogTable, TableFault};
+use std::alloc::Global;
+use std::process::Abort;
+use std::test::Fail;
+
+fn name(alloc: Global, text: &str) -> Result<TargetName, Fail> {
+    Ok(TargetName::resolve(alloc, None, text.as_bytes())?)
+}
+
+/// A table of the logs of `a` and `b`.
+fn table_of_two(alloc: Global) -> Result<LogTable, Fail> {
+    let mut table = LogTable::new(alloc);
+    table.enter(name(alloc, "a")?)?;
+    table.enter(name(alloc, "b")?)?;
+    Ok(table)
+}
+
+/// Adds the entry of a line to a log.
+fn add(alloc: Global, table: &mut LogTable, number: u32, text: &str) -> Result<(), Fail> {
+    if number >= table.len() {
+        return Err("no such log".into());
+    }
+    let line = line(alloc, text)?.ok_or("no line")?;
+    let entry = read_line(alloc, table.name(number), line, true)?;
+    match table.state(number) {
+        LogState::Running => Ok(table.add(number, entry)?),
+        _ => Err("the log doesn't run".into()),
+    }
+}
+
+/// Ends a log, or fails it where there is a fault.
+fn close(table: &mut LogTable, number: u32, fault: Option<StreamFault>) -> Result<(), Fail> {
+    if number >= table.len() {
+        return Err("no such log".into());
+    }
+    match (table.state(number), fault) {
+        (LogState::Running, None) => table.end(number),
+        (LogState::Running, Some(fault)) => table.fail(number, fault),
+        _ => return Err("the log doesn't run".into()),
+    }
+    Ok(())
+}
+
+/// Adds the entries of lines to a log.
+fn add_all(alloc: Global, table: &mut LogTable, number: u32, texts: &[&str]) -> Result<(), Fail> {
+    for text in texts {
+        add(alloc, table, number, text)?;
+    }
+    Ok(())
+}
+
+/// The table has these logs.
+fn expect(rt: &(impl Abort + AllocGlobal), table: &LogTable, text: &str) -> Result<(), Fail> {
+    assert_eq!(rt; logs_text(rt.alloc(), table)?.as_str(), text);
+    Ok(())
+}
+
+/// The first fault, and whether all logs have ended.
+fn expect_ends(
+    rt: &impl Abort,
+    table: &LogTable,
+    first: Option<(u32, StreamFault)>,
+    all_ended: bool,
+) {
+    assert_eq!(rt; table.first_fault(), first);
+    assert_eq!(rt; table.all_ended(), all_ended);
+}
+
+fn expect_found(
+    rt: &(impl Abort + AllocGlobal),
+    table: &LogTable,
+    text: &str,
+    place: Option<u32>,
+) -> Result<(), Fail> {
+    assert_eq!(rt; table.find(&name(rt.alloc(), text)?), place, "{text}");
+    Ok(())
+}
+
+#[test]
+fn logs_are_entered_in_order(rt: HostRuntime) -> Result<(), Fail> {
+    let alloc = rt.alloc();
+    let mut table = LogTable::new(alloc);
+    assert_eq!(rt; table.len(), 0);
+    for (text, want) in [
+        ("a", Ok(0)),
+        ("b", Ok(1)),
+        ("a", Err(TableFault::Twice)),
+        ("x/../b", Err(TableFault::Twice)),
+    ] {
+        assert_eq!(rt; table.enter(name(alloc, text)?), want);
+    }
+    assert_eq!(rt; table.len(), 2);
+    expect_found(&rt, &table, "a", Some(0))?;
+    expect_found(&rt, &table, "b", Some(1))?;
+    expect_found(&rt, &table, "c", None)?;
+    expect(&rt, &table, "a: Running\nb: Running\n")
+}
+
+#[test]
+fn a_log_has_the_entries_that_were_added(rt: HostRuntime) -> Result<(), Fail> {
+    let alloc = rt.alloc();
+    let mut table = table_of_two(alloc)?;
+    add(alloc, &mut table, 0, "x")?;
+    let lines = [
+        "@@REDO:do:7:1@@ c",
+        "@@REDO:done:7:1@@ -2 c",
+        "@@REDO:check:7:1@@ yes",
+        "@@REDO:done:7:1@@ 3 b",
+    ];
+    add_all(alloc, &mut table, 1, &lines)?;
+    expect(
+        &rt,
+        &table,
+        "a: Running\ntext|x\nb: Running\ndo|c\ndone|-2|c\nnote|check|yes\nclosing|3\n",
+    )
+}
+
+#[test]
+fn an_entry_is_shown_by_its_place(rt: HostRuntime) -> Result<(), Fail> {
+    let mut table = table_of_two(rt.alloc())?;
+    add(rt.alloc(), &mut table, 0, "x")?;
+    let first = table.entry(0, 0).ok_or("no entry")?;
+    assert_eq!(rt; entry_text(rt.alloc(), first)?.as_str(), "text|x");
+    assert!(rt; table.entry(0, 1).is_none());
+    assert!(rt; table.entry(2, 0).is_none());
+    Ok(())
+}
+
+#[test]
+fn a_log_ends_or_fails(rt: HostRuntime) -> Result<(), Fail> {
+    let mut table = table_of_two(rt.alloc())?;
+    add(rt.alloc(), &mut table, 0, "x")?;
+    expect_ends(&rt, &table, None, false);
+    close(&mut table, 0, None)?;
+    expect_ends(&rt, &table, None, false);
+    close(&mut table, 1, Some(StreamFault::TooLong))?;
+    expect_ends(&rt, &table, Some((1, StreamFault::TooLong)), false);
+    expect(&rt, &table, "a: Ended\ntext|x\nb: Failed(TooLong)\n")
+}
+
+#[test]
+fn the_first_fault_is_that_of_the_least_number(rt: HostRuntime) -> Result<(), Fail> {
+    let mut table = table_of_two(rt.alloc())?;
+    let fault = StreamFault::BadRecord { line: 9 };
+    close(&mut table, 1, Some(StreamFault::Read))?;
+    close(&mut table, 0, Some(fault))?;
+    expect_ends(&rt, &table, Some((0, fault)), false);
+    Ok(())
+}
+
+#[test]
+fn all_logs_have_ended(rt: HostRuntime) -> Result<(), Fail> {
+    expect_ends(&rt, &LogTable::new(rt.alloc()), None, true);
+    let mut table = table_of_two(rt.alloc())?;
+    close(&mut table, 1, None)?;
+    close(&mut table, 0, None)?;
+    expect_ends(&rt, &table, None, true);
+    Ok(())
+}

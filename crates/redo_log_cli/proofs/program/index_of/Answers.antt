@@ -1,0 +1,7 @@
+use Rattle.redo_log_cli.proofs.Answered.{not_read}
+use Rattle.redo_log_cli.proofs.program.index_of.Goals as goal
+
+pub returns-in_err-bytes-clause-read : goal.returns-in_err-bytes-clause-read
+returns-in_err-bytes-clause-read g c =
+    rw c.in-Ok.is
+    (not_read _ (g.F.Feed.tells c.in-Ok.reader) c.from_residual.result c.in_err-bytes.field-0.0 c.from_residual.ensures.1 c.in_err-bytes.ensures.either c.in_err-bytes.ensures.unreadable)

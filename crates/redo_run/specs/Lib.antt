@@ -1,0 +1,4 @@
+pub mod Private
+pub mod Run
+pub mod RunFault
+pub mod Shown

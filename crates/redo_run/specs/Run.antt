@@ -1,0 +1,73 @@
+-- The answer of a run.
+use Rattle.std.specs.Prelude.{ℕ, List, Option, None, Some, Result, Ok, Err, is_none, map, position, filter_map, if◌then◌else◌}
+use Rattle.std.specs.Option.{option_map}
+use Rattle.std.specs.Global.{Vec}
+use Rattle.redo_line.specs.declared.stream_fault.StreamFault.{StreamFault}
+use Rattle.redo_line.specs.Feed.{Stream}
+use Rattle.redo_line.specs.Names.{normal}
+use Rattle.redo_logs.specs.Logs.{Log}
+use Rattle.redo_gather.specs.Plan.{Numbers}
+use Rattle.redo_gather.specs.Streams.{logs_of, fault_among}
+use Rattle.redo_view.specs.declared.options.Options.{Options}
+use Rattle.redo_view.specs.Expansion.{is_among, expansion}
+use Rattle.redo_run.specs.declared.run_fault.RunFault.{RunFault}
+use Rattle.redo_run.specs.declared.run_fault.RunFault.TheVariants as fault
+use Rattle.redo_index.specs.declared.listed.Listed.{Listed}
+use Rattle.redo_index.specs.Index.{names_of}
+
+-- What a run is asked: the targets that there are, how many bytes a stream may have, and what is to be shown, with the
+-- words that ask for targets.
+pub record Question : Type 0 where
+  pub targets : List (List ℕ)
+  pub max_bytes : ℕ
+  pub options : Options
+  pub words : List (List ℕ)
+
+abbrev pub bytes_of_words : List (Vec ℕ) → List (List ℕ)
+bytes_of_words words = map (λ word. word.items) words
+
+abbrev pub question : List Listed → Numbers → Options → List (Vec ℕ) → Question
+question index plan options words = record { targets = names_of index; max_bytes = plan.max_bytes; options = options; words = bytes_of_words words }
+
+abbrev pub if_among : List (List ℕ) → Option (List ℕ) → Option (List ℕ)
+if_among targets None = None
+if_among targets (Some name) = if is_among name targets then Some name else None
+
+-- the target that a word names, if it is one of these; the empty word names none
+abbrev pub target_of : List (List ℕ) → List ℕ → Option (List ℕ)
+target_of targets word = if_among targets (normal None word)
+
+-- the least place of a word that names none of these targets
+abbrev pub unknown_word : List (List ℕ) → List (List ℕ) → Option ℕ
+unknown_word targets words = position (λ word. is_none (target_of targets word)) words
+
+-- the targets that words name
+abbrev pub targets_named : List (List ℕ) → List (List ℕ) → List (List ℕ)
+targets_named targets words = filter_map (target_of targets) words
+
+-- a text, or the fault that is told in its place
+abbrev pub Answer : Type 0
+Answer = Result (List ℕ) RunFault
+
+abbrev pub fault_of_word : ℕ → RunFault
+fault_of_word place = fault.Unknown place
+
+abbrev pub fault_of_stream : ℕ × StreamFault → RunFault
+fault_of_stream told = fault.Stream told.0 told.1
+
+-- a fault is told in place of all that comes behind it
+abbrev pub unless : Option RunFault → Option Answer → Option Answer
+unless None answer = answer
+unless (Some fault) answer = Some (Err fault)
+
+-- the text of logs at the targets that are asked for
+abbrev pub text_of : Question → List Log → Answer
+text_of question logs = Ok (expansion logs question.options (targets_named question.targets question.words))
+
+-- What a run comes to, with the streams of its targets: the least place of a word that is unknown, or else the least
+-- number of a stream that has a fault, or else the text of the logs of the streams at the targets asked for.
+abbrev pub answer : Question → List Stream → Option Answer
+answer question streams =
+    unless (option_map fault_of_word (unknown_word question.targets question.words))
+    (unless (option_map fault_of_stream (fault_among question.max_bytes question.targets streams))
+    (option_map (text_of question) (logs_of question.max_bytes question.targets streams)))

@@ -1,0 +1,47 @@
+-- A log is shown at its first mention or asking, and not again.
+use Rattle.std.proofs.Common.{◌≡◌, ℕ, ◌+◌, Bool, true, false, List, [], ◌∷◌, ◌++◌, refl, ap, ◌∙◌}
+use Rattle.std.specs.Prelude.{◌&&◌, not}
+use Rattle.std.proofs.lemmas.Bool.{and_from}
+use Rattle.redo_line.specs.declared.entry.How.{How}
+use Rattle.redo_logs.specs.Logs.{Log, targets_of}
+use Rattle.redo_view.specs.declared.options.Options.{Options}
+use Rattle.redo_view.specs.Expansion.{Shown, is_among, mentions, mention, opens, opened_if, mentioned_if, opened_log, unless_opened, expanded}
+use Rattle.redo_view.specs.Laws.{MentionedFirst, MentionedAgain, AskedFirst, AskedAgain}
+use Rattle.redo_view.proofs.Asking.{asked-append}
+
+never : (first : Bool) → (first && false) ≡ false
+never true = refl
+never false = refl
+
+module _ (logs : List Log) (options : Options) where
+  module _ (how : How) (name : List ℕ) (depth : ℕ) (shown : Shown) (counts : mentions options how ≡ true) where
+    -- what is shown where the log is opened, or isn't
+    abbrev then : Bool → Shown
+    then opening = opened_if logs options opening (opened_log logs options) name (depth + 1) (mention options depth how name shown)
+
+    is_mention : mentioned_if logs options (mentions options how) (opened_log logs options) depth how name shown ≡ then (opens logs options name (mention options depth how name shown))
+    is_mention = ap (λ b. mentioned_if logs options b (opened_log logs options) depth how name shown) counts
+
+  pub mentioned_first : (how : How) (name : List ℕ) → MentionedFirst logs options how name
+  mentioned_first how name depth shown counts recursive listed new =
+      let there = is_among name (targets_of logs) in
+      is_mention how name depth shown counts
+      ∙ ap (then how name depth shown counts) (and_from (options.recursive && there) (not (is_among name shown.opened)) (and_from options.recursive there recursive listed) (ap not new))
+
+  pub mentioned_again : (how : How) (name : List ℕ) → MentionedAgain logs options how name
+  mentioned_again how name depth shown counts known =
+      let there = options.recursive && is_among name (targets_of logs) in
+      is_mention how name depth shown counts ∙ ap (then how name depth shown counts) (ap (λ old. there && not old) known ∙ never there)
+
+  -- one target more that is asked for
+  one_more : (asked : List (List ℕ)) (target : List ℕ) (known : Bool) → is_among target (expanded logs options asked).opened ≡ known
+      → expanded logs options (asked ++ target ∷ []) ≡ unless_opened logs options known target (expanded logs options asked)
+  one_more asked target known is =
+      asked-append logs options asked (target ∷ []) (record { named = []; opened = []; text = [] })
+      ∙ ap (λ old. unless_opened logs options old target (expanded logs options asked)) is
+
+  pub asked_first : (asked : List (List ℕ)) → AskedFirst logs options asked
+  asked_first asked target new = one_more asked target false new
+
+  pub asked_again : (asked : List (List ℕ)) → AskedAgain logs options asked
+  asked_again asked target known = one_more asked target true known
