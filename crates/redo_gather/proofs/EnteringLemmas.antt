@@ -27,7 +27,7 @@ none_before (one ∷ first) name others from distinct =
     let flipped : pointwise nat_eq name one ≡ false = nat_list_eq_equiv.symm name one ∙ apart in
     rw (flipped) (none_before first name others (from + 1) (IsDistinct-tail (pointwise nat_eq) one (first ++ name ∷ others) distinct))
 
-targets-entered : (first : List (List ℕ)) → targets_of (map new_log first) ≡ first
+pub targets-entered : (first : List (List ℕ)) → targets_of (map new_log first) ≡ first
 targets-entered [] = refl
 targets-entered (target ∷ first) = ap (λ ts. target ∷ ts) (targets-entered first)
 

@@ -1,20 +1,26 @@
 -- What a loop over streams has gathered.
-use Rattle.std.proofs.Common.{◌≡◌, ℕ, true, List, [], ◌∷◌, ◌++◌, Option, Some, length, map, slice_get, refl, sym, ap, ◌∙◌, arith, Err, ◌≢◌, subst}
+use Rattle.std.proofs.Common.{◌≡◌, ℕ, true, List, [], ◌∷◌, ◌++◌, Option, None, Some, length, map, slice_get, refl, sym, ap, ◌∙◌, arith, Err, ◌≢◌, subst}
 use Rattle.std.specs.List.{list_all}
 use Rattle.std.proofs.lemmas.List.{append_assoc, append-nil, length-append, length-map}
+use Rattle.redo_line.specs.declared.entry.Entry.{Entry}
 use Rattle.redo_line.specs.declared.stream_fault.StreamFault.{StreamFault}
 use Rattle.redo_line.specs.declared.stream_fault.StreamFault.TheVariants.{BadRecord, AfterClose, TooLong, Read, OutOfMemory}
 use Rattle.redo_line.specs.Feed.{Stream, SomeStream}
-use Rattle.redo_line.specs.Log.{fault_of}
+use Rattle.redo_line.specs.Log.{fault_of, log_of}
 use Rattle.redo_logs.specs.declared.log_state.LogState.TheVariants.{Running}
 use Rattle.redo_logs.specs.Logs.{Log, new_log, targets_of, states_of, changed, has_ended}
 use Rattle.redo_logs.proofs.ChangedLemmas.{changed-here}
 use Rattle.redo_gather.specs.declared.gather_fault.GatherFault.{GatherFault}
 use Rattle.redo_gather.specs.GatherFault.{IfStreamFault}
 use Rattle.redo_gather.specs.Private.GatherFault.{fault_of_stream}
-use Rattle.redo_gather.specs.Private.OneStream.{Completes, ended_with}
+use Rattle.redo_gather.specs.Private.Storing.{completed}
 use Rattle.redo_gather.specs.Streams.{AreTold, SomeStreams, whole_log, logs_of, fault_among}
 use Rattle.redo_gather.proofs.StreamLemmas.{whole_logs, one_more, fault_behind, count_told, told-append, any_streams, given_stream}
+
+-- these entries are the log of a stream, and complete that of this number
+pub record Completes (target : List ℕ) (max_bytes number : ℕ) (entries : List Entry) (told : Option Stream) (begun table : List Log) : Type 0 where
+  pub entries_are : SomeStream told (λ stream. log_of target max_bytes stream ≡ Some entries)
+  pub table_is : table ≡ changed number (completed entries None) begun
 
 -- the first logs of a table are whole, one for each reader that was read to its end, and the others are empty
 pub record Gathered (max_bytes : ℕ) (names : List (List ℕ)) (told : List (Option Stream)) (table : List Log) : Type 0 where
@@ -85,11 +91,10 @@ module _ (max_bytes : ℕ) (names : List (List ℕ)) (told : List (Option Stream
         runs [] others = refl
         runs (log ∷ logs) others = runs logs others
 
-    pub one_gathered : (reader : Option Stream) (after : List Log) → SomeStream reader (λ stream. Completes target max_bytes (length told) stream table after) → Gathered max_bytes names (told ++ reader ∷ []) after
-    one_gathered reader after read =
-        let given = given_stream reader (λ stream. Completes target max_bytes (length told) stream table after) read in
-        let completes = given.2 in
-        let log = whole_log target completes.entries in record {
+    pub one_gathered : (reader : Option Stream) (entries : List Entry) (after : List Log) → Completes target max_bytes (length told) entries reader table after → Gathered max_bytes names (told ++ reader ∷ []) after
+    one_gathered reader entries after completes =
+        let given = given_stream reader (λ stream. log_of target max_bytes stream ≡ Some entries) completes.entries_are in
+        let log = whole_log target entries in record {
           first = so_far.first ++ target ∷ [];
           left = next.0;
           streams = so_far.streams ++ given.0 ∷ [];
@@ -98,11 +103,11 @@ module _ (max_bytes : ℕ) (names : List (List ℕ)) (told : List (Option Stream
           told_are = told-append told (reader ∷ []) so_far.streams (given.0 ∷ []) so_far.told_are (given.1, tt);
           count = let same = so_far.count in omega (arith, length-append so_far.first (target ∷ []), length-append so_far.streams (given.0 ∷ []));
           logs_are =
-              one_more max_bytes target given.0 so_far.first so_far.streams so_far.logs log so_far.count so_far.logs_are (ap (λ es. Rattle.std.specs.Option.option_map (whole_log target) es) completes.entries_are);
+              one_more max_bytes target given.0 so_far.first so_far.streams so_far.logs log so_far.count so_far.logs_are (ap (λ es. Rattle.std.specs.Option.option_map (whole_log target) es) given.2);
           table_is =
-              completes.table_is ∙ ap (changed (length told) (ended_with completes.entries)) table_here
-              ∙ ap (λ n. changed n (ended_with completes.entries) (so_far.logs ++ new_log target ∷ map new_log next.0)) (sym (logs_count ∙ number_is))
-              ∙ changed-here so_far.logs (new_log target) (map new_log next.0) (ended_with completes.entries) ∙ sym (append_assoc so_far.logs (log ∷ []) (map new_log next.0));
+              completes.table_is ∙ ap (changed (length told) (completed entries None)) table_here
+              ∙ ap (λ n. changed n (completed entries None) (so_far.logs ++ new_log target ∷ map new_log next.0)) (sym (logs_count ∙ number_is))
+              ∙ changed-here so_far.logs (new_log target) (map new_log next.0) (completed entries None) ∙ sym (append_assoc so_far.logs (log ∷ []) (map new_log next.0));
         }
 
     pub fault_gathered : (reader : Option Stream) (unread : List (Option Stream)) (fault : StreamFault) → SomeStream reader (λ stream. fault_of target max_bytes stream ≡ Some fault)

@@ -1,11 +1,11 @@
 -- How the log of one stream grows in a table.
-use Rattle.std.proofs.Common.{◌≡◌, ℕ, zero, suc, List, [], ◌∷◌, ◌++◌, None, Some, option_to_list, refl, sym, ap, ◌∙◌}
+use Rattle.std.proofs.Common.{◌≡◌, ℕ, zero, suc, ◌+◌, List, [], ◌∷◌, ◌++◌, Option, None, Some, length, refl, sym, ap, ◌∙◌, arith}
 use Rattle.std.proofs.lemmas.List.{append_assoc, append-nil}
 use Rattle.redo_line.specs.declared.entry.Entry.{Entry}
-use Rattle.redo_logs.specs.declared.log_state.LogState.TheVariants.{Ended}
+use Rattle.redo_line.specs.declared.stream_fault.StreamFault.{StreamFault}
 use Rattle.redo_logs.specs.Logs.{Log, changed, with_entry, with_state}
 use Rattle.redo_logs.proofs.ChangedLemmas.{changed-none}
-use Rattle.redo_gather.specs.Private.OneStream.{with_entries, ended_with}
+use Rattle.redo_gather.specs.Private.Storing.{completed, state_after, with_entries}
 
 -- one change after another
 changed-changed : (number : ℕ) (second first both : Log → Log) → ((log : Log) → second (first log) ≡ both log) → (logs : List Log)
@@ -23,14 +23,14 @@ with_one_more number entries entry logs =
     changed-changed number (with_entry entry) (with_entries entries) (with_entries (entries ++ entry ∷ []))
     (λ log. ap (λ es. record { target = log.target; entries = es; state = log.state }) (append_assoc log.entries entries (entry ∷ []))) logs
 
-pub with_end : (number : ℕ) (entries : List Entry) (logs : List Log) → changed number (with_state Ended) (changed number (with_entries entries) logs) ≡ changed number (ended_with entries) logs
-with_end number entries logs = changed-changed number (with_state Ended) (with_entries entries) (ended_with entries) (λ log. refl) logs
+-- these entries, and then the end or the fault
+pub with_last : (number : ℕ) (entries : List Entry) (fault : Option StreamFault) (begun table after : List Log) → table ≡ changed number (with_entries entries) begun
+    → after ≡ changed number (with_state (state_after fault)) table → after ≡ changed number (completed entries fault) begun
+with_last number entries fault begun table after table_is after_is =
+    after_is ∙ ap (changed number (with_state (state_after fault))) table_is
+    ∙ changed-changed number (with_state (state_after fault)) (with_entries entries) (completed entries fault) (λ log. refl) begun
 
--- the unended line's entry, if there is one
-pub with_last : (number : ℕ) (entries : List Entry) (last : Entry) (begun table after : List Log) → table ≡ changed number (with_entries entries) begun → after ≡ changed number (with_entry last) table
-    → after ≡ changed number (with_entries (entries ++ option_to_list (Some last))) begun
-with_last number entries last begun table after table_is after_is = after_is ∙ ap (changed number (with_entry last)) table_is ∙ with_one_more number entries last begun
-
-pub without_last : (number : ℕ) (entries : List Entry) (begun table after : List Log) → table ≡ changed number (with_entries entries) begun → after ≡ table
-    → after ≡ changed number (with_entries (entries ++ option_to_list None)) begun
-without_last number entries begun table after table_is after_is = after_is ∙ table_is ∙ ap (λ es. changed number (with_entries es) begun) (sym (append-nil entries))
+-- where nothing is left, the first ones are all
+pub all_yielded : {A : Type 0} (all first left : List A) → all ≡ first ++ left → length left ≡ 0 → first ≡ all
+all_yielded all first [] is none = sym (is ∙ append-nil first)
+all_yielded all first (x ∷ left) is none = absurd (omega (arith, none))

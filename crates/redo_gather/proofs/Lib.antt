@@ -1,7 +1,11 @@
+mod CollectedLemmas
+mod DealingLemmas
 mod EnteringLemmas
 mod GatheredLemmas
 mod GrowthLemmas
+mod OwedLemmas
 mod ReadingLemmas
+mod SettledLemmas
 mod StreamLemmas
 mod StreamRows
 mod TurnLemmas

@@ -1,38 +1,38 @@
 -- What a loop over the reads of one stream has of it.
-use Rattle.std.proofs.Common.{◌≡◌, ◌≢◌, ◌⊎◌, inl, inr, ℕ, ◌+◌, ◌-◌, ◌<◌, ◌≤◌, Bool, true, false, List, [], ◌++◌, Option, None, Some, Ok, Err, length, take, drop, refl, sym, ap, ◌∙◌, subst, arith}
+use Rattle.std.proofs.Common.{◌≡◌, ◌≢◌, inl, inr, ℕ, ◌+◌, ◌-◌, ◌<◌, ◌≤◌, Bool, true, false, List, [], ◌∷◌, ◌++◌, Option, None, Some, IfSome, Ok, Err, length, take, drop, option_to_list, filter_map, refl, sym, ap, ◌∙◌, subst, arith}
 use Rattle.std.specs.List.{slice_range}
 use Rattle.std.proofs.lemmas.List.{append_assoc, append-nil, take-append-drop}
 use Rattle.std.proofs.Math.Seq.{take-add}
 use Rattle.redo_line.specs.declared.entry.Entry.{Entry}
 use Rattle.redo_line.specs.declared.feed.Broken.{Broken}
 use Rattle.redo_line.specs.declared.stream_fault.StreamFault.{StreamFault}
-use Rattle.redo_line.specs.declared.stream_fault.StreamFault.TheVariants.{Read}
+use Rattle.redo_line.specs.declared.stream_fault.StreamFault.TheVariants.{Read, OutOfMemory}
 use Rattle.redo_line.specs.Feed.{Stream, Pulls, SomeStream}
-use Rattle.redo_line.specs.Log.{stream_of, fault_of}
+use Rattle.redo_line.specs.Laws.{IsFront}
+use Rattle.redo_line.specs.Log.{stream_of, entries_of, fault_of, log_of, part_of, unless_fault}
 use Rattle.redo_line.specs.declared.scan.Step.{Step}
 use Rattle.redo_line.specs.declared.scan.Step.TheVariants.{Found, More}
-use Rattle.redo_line.specs.Scan.{Scanned, Finds, IfMore, IsFine, MayRefuse, TakesAll, entries_in, fault_so_far, so_far, took}
-use Rattle.redo_line.proofs.FaultLemmas.{early_fault, failed_read, no_fault}
-use Rattle.redo_line.proofs.GaveLemmas.{Gave, Gave-none, Gave-more, Gave-failed, weaker}
-use Rattle.redo_logs.specs.Logs.{Log, changed, with_entry}
-use Rattle.redo_gather.specs.Private.OneStream.{Grew, IsFaultBehind, with_entries}
-use Rattle.redo_gather.proofs.GrowthLemmas.{with_none, with_one_more}
+use Rattle.redo_line.specs.Scan.{Scanned, Finds, IfMore, IsFine, MayRefuse, TakesAll, entries_in, entries_so_far, fault_so_far, so_far, took}
+use Rattle.redo_line.proofs.FaultLemmas.{early_fault, early_part, failed_read, failed_part, no_fault}
+use Rattle.redo_line.proofs.GaveLemmas.{Gave, Gave-none, Gave-more, Gave-end, Gave-failed, weaker}
+use Rattle.redo_line.proofs.LogLemmas.{entries_lead_part, entries_lead_log}
+use Rattle.redo_gather.specs.Private.Owed.{IsOwed, IsOwedFor, log_or_part, told_entries}
+use Rattle.redo_gather.specs.Private.Reading.{IsRead, IsStopped, IsCutIn, IsRefused}
 
 -- a scan for the log of a target, within this limit
 pub record IsFor (target : List ℕ) (max_bytes : ℕ) (scan : Scanned) : Type 0 where
   pub target_is : scan.target ≡ target
   pub limit_is : scan.max_bytes ≡ max_bytes
 
--- the bytes that came from a reader were taken, and the log got their entries
-pub record Reading (told now : Option Stream) (number : ℕ) (scan : Scanned) (begun table : List Log) : Type 0 where
+-- the bytes that came from a reader were taken, and these are their entries
+pub record Reading (told now : Option Stream) (scan : Scanned) (entries : List Entry) : Type 0 where
   pub gave : Gave told scan.bytes now
-  pub grew : Grew number scan begun table
+  pub read : IsRead scan entries
 
-pub none_read : (told : Option Stream) (number : ℕ) (scan : Scanned) (begun : List Log) → scan.bytes ≡ [] → IsFine scan → entries_in scan ≡ [] → Reading told told number scan begun begun
-none_read told number scan begun no_byte fine none = record {
-  gave = subst (λ b. Gave told b told) (sym no_byte) (Gave-none told);
-  grew = record { fine = fine; table_is = with_none number begun ∙ ap (λ es. changed number (with_entries es) begun) (sym none) };
-}
+pub none_read : (told : Option Stream) (scan : Scanned) (entries : List Entry) → scan.bytes ≡ [] → IsRead scan entries → Reading told told scan entries
+none_read told scan entries no_byte read = record { gave = subst (λ b. Gave told b told) (sym no_byte) (Gave-none told); read = read }
+
+-- ---- one piece
 
 -- a step that found nothing
 pub if_more : (step : Step) (P : Type 0) → ((entry : Entry) (upto : ℕ) → step ≡ Found entry upto → ⊥) → IfMore step P → P
@@ -43,19 +43,16 @@ fine_then : (old new : Scanned) (bytes : List ℕ) → new ≡ took bytes old �
 fine_then old new bytes is fine = subst IsFine (sym is) (record { refused_none = refl; no_fault = fine })
 
 -- a line more, and bytes that end none
-pub one_line : (number : ℕ) (old new : Scanned) (bytes : List ℕ) (entry : Entry) (begun table after : List Log) → Finds old new bytes entry → Grew number old begun table
-    → after ≡ changed number (with_entry entry) table → Grew number new begun after
-one_line number old new bytes entry begun table after finds grew after_is = record {
+pub one_line : (old new : Scanned) (bytes : List ℕ) (entry : Entry) (entries after : List Entry) → Finds old new bytes entry → IsRead old entries → after ≡ entries ++ entry ∷ [] → IsRead new after
+one_line old new bytes entry entries after finds read after_is = record {
   fine = fine_then old new bytes finds.0 finds.1.fine;
-  table_is =
-      after_is ∙ ap (changed number (with_entry entry)) grew.table_is ∙ with_one_more number (entries_in old) entry begun
-      ∙ ap (λ es. changed number (with_entries es) begun) (sym (ap entries_in finds.0 ∙ finds.1.entries));
+  entries_are = after_is ∙ ap (λ es. es ++ entry ∷ []) read.entries_are ∙ sym (ap entries_in finds.0 ∙ finds.1.entries);
 }
 
-pub no_line : (number : ℕ) (old new : Scanned) (bytes : List ℕ) (begun table : List Log) → TakesAll old new bytes → Grew number old begun table → Grew number new begun table
-no_line number old new bytes begun table takes grew = record {
+pub no_line : (old new : Scanned) (bytes : List ℕ) (entries : List Entry) → TakesAll old new bytes → IsRead old entries → IsRead new entries
+no_line old new bytes entries takes read = record {
   fine = fine_then old new bytes takes.0 takes.1.fine;
-  table_is = grew.table_is ∙ ap (λ es. changed number (with_entries es) begun) (sym (ap entries_in takes.0 ∙ takes.1.entries));
+  entries_are = read.entries_are ∙ sym (ap entries_in takes.0 ∙ takes.1.entries);
 }
 
 -- what was taken of a piece
@@ -83,44 +80,131 @@ module _ (scan : Scanned) (piece : List ℕ) where
         ap (λ (s : Scanned). s.bytes ++ drop from piece) now_is ∙ append_assoc scan.bytes (take from piece) (drop from piece)
         ∙ ap (λ (b : List ℕ). scan.bytes ++ b) (take-append-drop from piece)
 
-    pub refused_behind : (fault : StreamFault) → MayRefuse now (drop from piece) fault → IsFaultBehind scan piece fault
-    refused_behind fault (inl memory) = inl memory
-    refused_behind fault (inr at_fault) =
-        inr (ap (fault_so_far scan.target scan.max_bytes) (sym whole)
-        ∙ ap (λ (s : Scanned). fault_so_far s.target s.max_bytes (now.bytes ++ drop from piece)) (sym now_is) ∙ at_fault.fault_is)
+    module _ (entries : List Entry) (read : IsRead now entries) where
+      pub cut_in : IsCutIn scan piece entries
+      cut_in = record {
+        bytes = now.bytes;
+        behind = drop from piece;
+        bytes_are = sym whole;
+        fine = sym (ap (λ (s : Scanned). fault_so_far s.target s.max_bytes now.bytes) now_is) ∙ read.fine.no_fault;
+        front = ([], sym (ap (λ (s : Scanned). entries_so_far s.target s.max_bytes now.bytes) now_is) ∙ sym read.entries_are ∙ sym (append-nil entries));
+      }
+
+      pub refused_behind : (fault : StreamFault) → MayRefuse now (drop from piece) fault → IsRefused scan piece entries fault
+      refused_behind fault (inl memory) = inr (cut_in, memory)
+      refused_behind fault (inr at_fault) = inl (record {
+        fault_is =
+            ap (fault_so_far scan.target scan.max_bytes) (sym whole)
+            ∙ ap (λ (s : Scanned). fault_so_far s.target s.max_bytes (now.bytes ++ drop from piece)) (sym now_is) ∙ at_fault.fault_is;
+        entries_are =
+            read.entries_are ∙ sym at_fault.entries
+            ∙ ap (λ (s : Scanned). entries_so_far s.target s.max_bytes (now.bytes ++ drop from piece)) now_is
+            ∙ ap (entries_so_far scan.target scan.max_bytes) whole;
+      })
+
+-- ---- the whole stream
 
 same_stream : (stream : Stream) (bytes : List ℕ) (fails : Bool) → stream.bytes ≡ bytes → stream.fails ≡ fails → stream_of bytes fails ≡ stream
 same_stream stream bytes fails bytes_are fails_is = λ i. record { bytes = sym bytes_are i; fails = sym fails_is i }
 
+-- a front of one of two lists, whichever is told
+of_either : (entries part : List Entry) (log : Option (List Entry)) → IfSome log (IsFront entries) → IsFront entries part → IsFront entries (log_or_part log part)
+of_either entries part (Some log) of_log of_part = of_log
+of_either entries part None of_log of_part = of_part
+
+-- a front of a front
+front_of_front : (first second all : List Entry) → IsFront first second → IsFront second all → IsFront first all
+front_of_front first second all one two = (one.0 ++ two.0, two.1 ∙ ap (λ es. es ++ two.0) one.1 ∙ append_assoc first one.0 two.0)
+
 module _ (target : List ℕ) (max_bytes : ℕ) where
+  told_part : (stream : Stream) (fault : StreamFault) → fault_of target max_bytes stream ≡ Some fault → told_entries target max_bytes stream ≡ part_of target max_bytes stream
+  told_part stream fault is = ap (λ f. log_or_part (unless_fault f (filter_map (λ entry. entry) (entries_of target stream.bytes))) (part_of target max_bytes stream)) is
+
+  told_log : (stream : Stream) (log : List Entry) → log_of target max_bytes stream ≡ Some log → told_entries target max_bytes stream ≡ log
+  told_log stream log is = ap (λ l. log_or_part l (part_of target max_bytes stream)) is
+
   -- bytes at fault, whatever comes behind them
-  pub fault_early : (told after : Option Stream) (bytes : List ℕ) (fault : StreamFault) → Gave told bytes after → fault ≢ Read → fault_of target max_bytes (so_far bytes) ≡ Some fault
-      → SomeStream told (λ stream. fault_of target max_bytes stream ≡ Some fault)
-  fault_early None after bytes fault gave other is = (so_far bytes, is)
-  fault_early (Some stream) after bytes fault gave other is =
-      subst (λ (s : Stream). fault_of target max_bytes s ≡ Some fault) (same_stream stream (bytes ++ gave.0.bytes) stream.fails gave.2 refl)
-      (early_fault target max_bytes bytes gave.0.bytes false stream.fails fault other is)
+  stopped : (told after : Option Stream) (bytes : List ℕ) (fault : StreamFault) (entries : List Entry) → Gave told bytes after → fault ≢ Read → fault_so_far target max_bytes bytes ≡ Some fault
+      → entries ≡ entries_so_far target max_bytes bytes → IsOwedFor max_bytes (target, told) entries (Some fault)
+  stopped None after bytes fault entries gave other is are = (so_far bytes, inl (are ∙ sym (told_part (so_far bytes) fault is), sym is))
+  stopped (Some stream) after bytes fault entries gave other is are =
+      let all = same_stream stream (bytes ++ gave.0.bytes) stream.fails gave.2 refl in
+      let fault_is = early_fault target max_bytes bytes gave.0.bytes false stream.fails fault other is in
+      subst (λ (s : Stream). IsOwed target max_bytes s entries (Some fault)) all
+      (inl (are ∙ sym (early_part target max_bytes bytes gave.0.bytes false stream.fails fault other is) ∙ sym (told_part _ fault fault_is), sym fault_is))
 
-  module _ (told now after : Option Stream) (number : ℕ) (scan : Scanned) (begun table : List Log) (reading : Reading told now number scan begun table) (own : IsFor target max_bytes scan) where
-    by_own : (bytes : List ℕ) (fault : Option StreamFault) → fault_so_far scan.target scan.max_bytes bytes ≡ fault → fault_of target max_bytes (so_far bytes) ≡ fault
-    by_own bytes fault is = ap (λ n. fault_so_far target n bytes) (sym own.limit_is) ∙ ap (λ t. fault_so_far t scan.max_bytes bytes) (sym own.target_is) ∙ is
+  -- bytes that are fine, with some of their first entries
+  cut : (told after : Option Stream) (bytes behind : List ℕ) (entries : List Entry) → Gave told (bytes ++ behind) after → fault_so_far target max_bytes bytes ≡ None
+      → IsFront entries (entries_so_far target max_bytes bytes) → IsOwedFor max_bytes (target, told) entries (Some OutOfMemory)
+  cut told after bytes behind entries gave fine front = by told gave
+    where
+      of_stream : (more : List ℕ) (fails : Bool) → IsFront entries (told_entries target max_bytes (stream_of (bytes ++ more) fails))
+      of_stream more fails =
+          front_of_front entries (entries_so_far target max_bytes bytes) _ front
+          (of_either (entries_so_far target max_bytes bytes) _ _ (entries_lead_log target max_bytes bytes more fails fine) (entries_lead_part target max_bytes bytes more fails fine))
+      by : (told : Option Stream) → Gave told (bytes ++ behind) after → IsOwedFor max_bytes (target, told) entries (Some OutOfMemory)
+      by None gave = (stream_of (bytes ++ behind) false, inr (of_stream behind false, refl))
+      by (Some stream) gave =
+          subst (λ (s : Stream). IsOwed target max_bytes s entries (Some OutOfMemory))
+          (same_stream stream (bytes ++ (behind ++ gave.0.bytes)) stream.fails (gave.2 ∙ append_assoc bytes behind gave.0.bytes) refl)
+          (inr (of_stream (behind ++ gave.0.bytes) stream.fails, refl))
 
-    fine : fault_of target max_bytes (so_far scan.bytes) ≡ None
-    fine = by_own scan.bytes None reading.grew.fine.no_fault
+  module _ (told now after : Option Stream) (scan : Scanned) (entries : List Entry) (reading : Reading told now scan entries) (own : IsFor target max_bytes scan) where
+    own_fault : (bytes : List ℕ) → fault_so_far scan.target scan.max_bytes bytes ≡ fault_so_far target max_bytes bytes
+    own_fault bytes = ap (λ t. fault_so_far t scan.max_bytes bytes) own.target_is ∙ ap (λ n. fault_so_far target n bytes) own.limit_is
+
+    own_entries : (bytes : List ℕ) → entries_so_far scan.target scan.max_bytes bytes ≡ entries_so_far target max_bytes bytes
+    own_entries bytes = ap (λ t. entries_so_far t scan.max_bytes bytes) own.target_is ∙ ap (λ n. entries_so_far target n bytes) own.limit_is
+
+    fine : fault_so_far target max_bytes scan.bytes ≡ None
+    fine = sym (own_fault scan.bytes) ∙ reading.read.fine.no_fault
+
+    are_so_far : entries ≡ entries_so_far target max_bytes scan.bytes
+    are_so_far = reading.read.entries_are ∙ own_entries scan.bytes
 
     -- all bytes so far are within the limit
     pub within : length scan.bytes ≤ max_bytes
     within = (no_fault target max_bytes (so_far scan.bytes) fine).1
 
-    pub at_failure : (broken : Broken) (buffer : List ℕ) → Pulls now after (Err broken) buffer → SomeStream told (λ stream. fault_of target max_bytes stream ≡ Some Read)
+    pub at_failure : (broken : Broken) (buffer : List ℕ) → Pulls now after (Err broken) buffer → IsOwedFor max_bytes (target, told) entries (Some Read)
     at_failure broken buffer pulls =
-        weaker told (λ stream. (stream.bytes ≡ scan.bytes) × (stream.fails ≡ true)) (λ stream. fault_of target max_bytes stream ≡ Some Read)
-        (λ stream is. subst (λ (s : Stream). fault_of target max_bytes s ≡ Some Read) (same_stream stream scan.bytes true is.0 is.1) (failed_read target max_bytes scan.bytes fine))
+        weaker told (λ stream. (stream.bytes ≡ scan.bytes) × (stream.fails ≡ true)) (λ stream. IsOwed target max_bytes stream entries (Some Read))
+        (λ stream is.
+          let fault_is = failed_read target max_bytes scan.bytes fine in
+          subst (λ (s : Stream). IsOwed target max_bytes s entries (Some Read)) (same_stream stream scan.bytes true is.0 is.1)
+          (inl (are_so_far ∙ sym (failed_part target max_bytes scan.bytes fine) ∙ sym (told_part (stream_of scan.bytes true) Read fault_is), sym fault_is)))
         (Gave-failed told now after scan.bytes broken buffer reading.gave pulls)
 
+    -- at the end of input
+    module _ (buffer : List ℕ) (pulls : Pulls now after (Ok 0) buffer) where
+      pub at_end : (last : Option Entry) (all : List Entry) → log_of scan.target scan.max_bytes (so_far scan.bytes) ≡ Some (entries_in scan ++ option_to_list last) → all ≡ entries ++ option_to_list last
+          → IsOwedFor max_bytes (target, told) all None
+      at_end last all log_is all_are =
+          weaker told (λ stream. (stream.bytes ≡ scan.bytes) × (stream.fails ≡ false)) (λ stream. IsOwed target max_bytes stream all None)
+          (λ stream is.
+            subst (λ (s : Stream). IsOwed target max_bytes s all None) (same_stream stream scan.bytes false is.0 is.1)
+            (inl (all_are ∙ ap (λ es. es ++ option_to_list last) reading.read.entries_are ∙ sym (told_log (so_far scan.bytes) _ (own_log ∙ log_is)), sym fine)))
+          (Gave-end told now after scan.bytes buffer reading.gave pulls)
+        where
+          own_log : log_of target max_bytes (so_far scan.bytes) ≡ log_of scan.target scan.max_bytes (so_far scan.bytes)
+          own_log = sym (ap (λ t. log_of t scan.max_bytes (so_far scan.bytes)) own.target_is ∙ ap (λ n. log_of target n (so_far scan.bytes)) own.limit_is)
+
+    pub no_memory_left : IsOwedFor max_bytes (target, told) entries (Some OutOfMemory)
+    no_memory_left =
+        cut told now scan.bytes [] entries (subst (λ b. Gave told b now) (sym (append-nil scan.bytes)) reading.gave) fine ([], sym are_so_far ∙ sym (append-nil entries))
+
+    -- a piece more
     module _ (n : ℕ) (buffer : List ℕ) (some : 0 < n) (pulls : Pulls now after (Ok n) buffer) where
       more : Gave told (scan.bytes ++ take n buffer) after
       more = Gave-more told now after scan.bytes n buffer some reading.gave pulls
 
-      pub at_fault : (fault : StreamFault) → fault ≢ Read → fault_so_far scan.target scan.max_bytes (scan.bytes ++ take n buffer) ≡ Some fault → SomeStream told (λ stream. fault_of target max_bytes stream ≡ Some fault)
-      at_fault fault other is = fault_early told after (scan.bytes ++ take n buffer) fault more other (by_own (scan.bytes ++ take n buffer) (Some fault) is)
+      pub at_refusal : (left : List Entry) (fault : StreamFault) → fault ≢ Read → IsRefused scan (take n buffer) left fault → IsOwedFor max_bytes (target, told) left (Some fault)
+      at_refusal left fault other (inl stop) =
+          stopped told after (scan.bytes ++ take n buffer) fault left more other (sym (own_fault _) ∙ stop.fault_is) (stop.entries_are ∙ own_entries _)
+      at_refusal left fault other (inr (cut_there, memory)) =
+          subst (λ (f : StreamFault). IsOwedFor max_bytes (target, told) left (Some f)) (sym memory)
+          (cut told after cut_there.bytes cut_there.behind left (subst (λ b. Gave told b after) cut_there.bytes_are more) (sym (own_fault cut_there.bytes) ∙ cut_there.fine)
+            (subst (IsFront left) (own_entries cut_there.bytes) cut_there.front))
+
+      pub one_piece : (new : Scanned) (all : List Entry) → new ≡ took (take n buffer) scan → IsRead new all → Reading told after new all
+      one_piece new all new_is read = record { gave = subst (λ (s : Scanned). Gave told s.bytes after) (sym new_is) more; read = read }

@@ -2,14 +2,14 @@
 use Rattle.std.proofs.Common.{◌≡◌, ℕ, ◌+◌, ◌<◌, true, List, [], ◌∷◌, ◌++◌, Option, Some, length, map, slice_get, sym, ap, ◌∙◌, subst, arith}
 use Rattle.std.specs.List.{list_all}
 use Rattle.std.proofs.lemmas.List.{append_assoc, append-nil, length-append, length-map, map_push, map-append}
+use Rattle.redo_line.specs.declared.entry.Entry.{Entry}
 use Rattle.redo_line.specs.declared.stream_fault.StreamFault.{StreamFault}
 use Rattle.redo_line.specs.Feed.{Stream, SomeStream}
 use Rattle.redo_line.specs.Log.{fault_of}
 use Rattle.redo_logs.specs.declared.log_state.LogState.TheVariants.{Running}
 use Rattle.redo_logs.specs.Logs.{Log, targets_of, states_of, has_ended}
-use Rattle.redo_gather.specs.Private.OneStream.{Completes}
 use Rattle.redo_gather.specs.Streams.{SomeStreams, logs_of, fault_among}
-use Rattle.redo_gather.proofs.GatheredLemmas.{Gathered, count_logs, next_runs, one_gathered, fault_gathered, all_gathered, all_targets, all_have_ended}
+use Rattle.redo_gather.proofs.GatheredLemmas.{Completes, Gathered, count_logs, next_runs, one_gathered, fault_gathered, all_gathered, all_targets, all_have_ended}
 
 module _ {A : Type 0} (tells : A → Option Stream) (max_bytes : ℕ) (names : List (List ℕ)) (readers : List A) where
   -- the first readers, as many as this number, were read to their ends
@@ -42,13 +42,14 @@ module _ {A : Type 0} (tells : A → Option Stream) (max_bytes : ℕ) (names : L
         log_runs =
             ap (λ (n : ℕ). slice_get (states_of table) n) count ∙ next_runs max_bytes names (map tells read) table so_far.gathered target there
 
-        pub one_more_read : (after : List Log) → SomeStream (tells reader) (λ stream. Completes target max_bytes number stream table after) → Underway (read ++ reader ∷ []) others (number + 1) after
-        one_more_read after completes = record {
+        pub one_more_read : (entries : List Entry) (after : List Log) → Completes target max_bytes number entries (tells reader) table after → Underway (read ++ reader ∷ []) others (number + 1) after
+        one_more_read entries after completes = record {
           readers_are = readers_here ∙ sym (append_assoc read (reader ∷ []) others);
           number_is = let n = so_far.number_is in omega (arith, length-append read (reader ∷ []));
           gathered =
               subst (λ told. Gathered max_bytes names told after) (sym (map_push tells read reader))
-              (one_gathered max_bytes names (map tells read) table so_far.gathered target there (tells reader) after (subst (λ (n : ℕ). SomeStream (tells reader) (λ stream. Completes target max_bytes n stream table after)) count completes));
+              (one_gathered max_bytes names (map tells read) table so_far.gathered target there (tells reader) entries after
+                (subst (λ (n : ℕ). Completes target max_bytes n entries (tells reader) table after) count completes));
         }
 
         pub fault_read : (fault : StreamFault) → SomeStream (tells reader) (λ stream. fault_of target max_bytes stream ≡ Some fault)

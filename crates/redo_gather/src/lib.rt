@@ -5,13 +5,17 @@
 #![tactic(auto)]
 
 mod gate;
+mod gathering;
 mod gather_fault;
 mod laws;
 mod one_stream;
 mod plain;
 mod plan;
+mod sender;
+mod storing;
 
 pub use gate::{Free, Gate};
+pub use gathering::gather;
 pub use gather_fault::GatherFault;
 pub use laws::{logs_unless_fault, streams_told};
 pub use plain::gather_plain;

@@ -2,15 +2,16 @@ ghost use Rattle.std.specs.Prelude.{◌≡◌, ◌≢◌, ◌<◌, ◌≤◌, �
 ghost use Rattle.std.specs.List.{IsDistinct, list_all};
 ghost use Rattle.std.specs.Cmp.Lexicographic.{pointwise};
 ghost use Rattle.redo_line.specs.declared.stream_fault.StreamFault.TheVariants.{OutOfMemory};
-ghost use Rattle.redo_logs.specs.Logs.{new_log, most, targets_of, has_ended};
+ghost use Rattle.redo_logs.specs.Logs.{most, targets_of, has_ended};
 ghost use Rattle.redo_gather.specs.GatherFault.{IfStreamFault};
 ghost use Rattle.redo_gather.specs.Streams.{AreLogs, IsFault};
 
 use crate::gather_fault::GatherFault;
-use crate::one_stream::gather_stream;
+use crate::one_stream::read_stream;
+use crate::storing::{enter_all, store};
 use redo_line::{Feed, TargetName};
-use redo_logs::{LogTable, TableFault};
-use std::alloc::{AllocError, Global};
+use redo_logs::LogTable;
+use std::alloc::Global;
 
 // How much is read at once.
 const READ_BYTES: usize = 64 * 1024;
@@ -50,36 +51,13 @@ pub fn gather_plain<R: Feed>(
     let mut number = 0;
     for mut reader in readers {
         let target = table.name(number).copy(alloc)?;
-        if let Err(fault) = gather_stream(
-            alloc,
-            target,
-            number,
-            max_bytes,
-            &mut reader,
-            buf,
-            &mut table,
-        ) {
+        let log = read_stream(alloc, target, max_bytes, &mut reader, buf, &|_| {});
+        let fault = log.fault;
+        if let Some(fault) = fault {
             return Err(GatherFault::of(number, fault));
         }
+        store(&mut table, number, log, &|_| {})?;
         number += 1;
-    }
-    Ok(table)
-}
-
-// A table of these targets, whose logs are empty.
-fn enter_all(alloc: Global, names: Vec<TargetName>) -> Result<LogTable, AllocError>
-    requires distinct { IsDistinct (pointwise nat_eq) names.items }
-    requires size { length names.items ≤ most }
-    ensures { IfOk result (λ table. table ≡ map new_log names.items) }
-{
-    let mut table = LogTable::new(alloc);
-    for name in names {
-        match table.enter(name) {
-            Ok(_) => {}
-            Err(TableFault::Twice) => unreachable!(),
-            Err(TableFault::Full) => unreachable!(),
-            Err(TableFault::OutOfMemory) => return Err(AllocError),
-        }
     }
     Ok(table)
 }

@@ -1,6 +1,6 @@
 pub mod ChangedLemmas
 mod FirstFault
 mod Growing
-mod LeastFault
+pub mod LeastFault
 mod Storing
 mod TableRows

@@ -1,0 +1,117 @@
+-- How streams are dealt, and what is owed for them.
+use Rattle.std.proofs.Common.{◌≡◌, ◌≢◌, ◌⊎◌, inl, inr, ℕ, zero, suc, ◌+◌, ◌%◌, ◌<◌, nat_eq, Bool, true, false, cond, List, [], ◌∷◌, ◌++◌, Option, Some, length, map, replicate, zip, slice_get, slice_set, get_or, refl, sym, ap, ◌∙◌, arith}
+use Rattle.std.proofs.lemmas.Bool.{eq-eqb}
+use Rattle.std.proofs.lemmas.Bool.Decides.{eqb_tells}
+use Rattle.std.proofs.lemmas.List.{append-nil, length-replicate, length-set, map_push}
+use Rattle.redo_line.specs.Feed.{Stream}
+use Rattle.redo_gather.specs.declared.one_stream.StreamLog.{StreamLog}
+use Rattle.redo_gather.specs.Private.Dealing.{AreAllOwed, AreDealt, AreEmpty, AreOwed, Numbered, numbered, share_from}
+use Rattle.redo_gather.specs.Private.Owed.{Given, IsOwedFor}
+
+module _ (max_bytes : ℕ) where
+  -- one stream more
+  pub one_owed : (share : List Numbered) (logs : List StreamLog) (one : Numbered) (log : StreamLog) → AreOwed max_bytes share logs → IsOwedFor max_bytes one.1 log.entries.items log.fault
+      → AreOwed max_bytes (share ++ one ∷ []) (logs ++ log ∷ [])
+  one_owed [] [] one log are is = (is, tt)
+  one_owed [] (other ∷ logs) one log are is = absurd are
+  one_owed (first ∷ share) [] one log are is = absurd are
+  one_owed (first ∷ share) (other ∷ logs) one log are is = (are.0, one_owed share logs one log are.1 is)
+
+  -- one share more
+  pub one_share : (shares : List (List Numbered)) (logs : List (List StreamLog)) (share : List Numbered) (own : List StreamLog) → AreAllOwed max_bytes shares logs → AreOwed max_bytes share own
+      → AreAllOwed max_bytes (shares ++ share ∷ []) (logs ++ own ∷ [])
+  one_share [] [] share own are is = (is, tt)
+  one_share [] (other ∷ logs) share own are is = absurd are
+  one_share (first ∷ shares) [] share own are is = absurd are
+  one_share (first ∷ shares) (other ∷ logs) share own are is = (are.0, one_share shares logs share own are.1 is)
+
+-- a stream more, which goes to one of the senders
+pub one_more : (senders sender number : ℕ) (given : List Given) (one : Given)
+    → share_from senders sender number (given ++ one ∷ []) ≡ share_from senders sender number given ++ cond (nat_eq ((number + length given) % senders) sender) ((number + length given, one) ∷ []) []
+one_more senders sender number [] one = ap (λ n. cond (nat_eq (n % senders) sender) ((n, one) ∷ []) []) (omega arith)
+one_more senders sender number (first ∷ given) one =
+    let place : suc number + length given ≡ number + suc (length given) = omega arith in
+    by (nat_eq (number % senders) sender) _ _ _ (one_more senders sender (suc number) given one)
+    ∙ ap (λ n. cond (nat_eq (number % senders) sender) ((number, first) ∷ share_from senders sender (suc number) given) (share_from senders sender (suc number) given)
+      ++ cond (nat_eq (n % senders) sender) ((n, one) ∷ []) []) place
+  where
+    by : (here : Bool) (all front last : List Numbered) → all ≡ front ++ last → cond here ((number, first) ∷ all) all ≡ cond here ((number, first) ∷ front) front ++ last
+    by true all front last is = ap (λ share. (number, first) ∷ share) is
+    by false all front last is = is
+
+-- the first number is 0
+first_more : (senders sender : ℕ) (given : List Given) (one : Given)
+    → share_from senders sender 0 (given ++ one ∷ []) ≡ share_from senders sender 0 given ++ cond (nat_eq (length given % senders) sender) ((length given, one) ∷ []) []
+first_more senders sender given one =
+    let from_0 : 0 + length given ≡ length given = omega arith in
+    one_more senders sender 0 given one ∙ ap (λ n. share_from senders sender 0 given ++ cond (nat_eq (n % senders) sender) ((n, one) ∷ []) []) from_0
+
+-- ---- dealing
+
+pub zip-none : {A : Type 0} (B : Type 0) (keys : List A) (none : List B) → none ≡ [] → zip keys none ≡ []
+zip-none B [] none is = refl
+zip-none B (key ∷ keys) [] is = refl
+zip-none B (key ∷ keys) (value ∷ none) is = absurd (cc)
+
+-- a value for the next key
+pub zip-push : {A B : Type 0} (keys : List A) (values : List B) (key : A) (value : B) → slice_get keys (length values) ≡ Some key
+    → (zip keys (values ++ value ∷ []) ≡ zip keys values ++ (key, value) ∷ []) × (length (zip keys values) ≡ length values)
+zip-push [] values key value here = absurd (cc)
+zip-push (first ∷ keys) [] key value here = (let same : first ≡ key = cc in λ i. (same i, value) ∷ zip-none _ keys [] refl i, refl)
+zip-push (first ∷ keys) (other ∷ values) key value here =
+    let behind = zip-push keys values key value here in
+    (ap (λ pairs. (first, other) ∷ pairs) behind.0, ap suc behind.1)
+
+-- what stands at a place of a list in which one was replaced
+pub replaced : {X : Type 0} (xs : List X) (at k : ℕ) (new there : X) → slice_get (slice_set xs at new) k ≡ Some there → ((k ≢ at) × (slice_get xs k ≡ Some there)) ⊎ ((k ≡ at) × (there ≡ new))
+replaced [] at k new there is = absurd (cc)
+replaced (x ∷ xs) zero zero new there is = inr (refl, (let same : Some new ≡ Some there = is in cc))
+replaced (x ∷ xs) zero (suc k) new there is = inl ((λ e. absurd (cc)), is)
+replaced (x ∷ xs) (suc at) zero new there is = inl ((λ e. absurd (cc)), is)
+replaced (x ∷ xs) (suc at) (suc k) new there is = elim (replaced xs at k new there is) [
+  | inl elsewhere ↦ inl ((λ e. elsewhere.0 (omega (arith, e))), elsewhere.1)
+  | inr here ↦ inr (ap suc here.0, here.1)
+]
+
+one_of_none : {X : Type 0} (n k : ℕ) (none there : X) → slice_get (replicate n none) k ≡ Some there → there ≡ none
+one_of_none zero k none there is = absurd (cc)
+one_of_none (suc n) zero none there is = let same : Some none ≡ Some there = is in cc
+one_of_none (suc n) (suc k) none there is = one_of_none n k none there is
+
+-- what stands at a place that there is
+pub at_place : {X : Type 0} (xs : List X) (k : ℕ) (there : X) → k < length xs → there ≡ get_or xs k there → slice_get xs k ≡ Some there
+at_place [] k there within is = absurd (omega (arith, within))
+at_place (x ∷ xs) zero there within is = ap Some (sym is)
+at_place (x ∷ xs) (suc k) there within is = at_place xs k there (omega (arith, within)) is
+
+module _ {A : Type 0} (tells : A → Option Stream) (senders : ℕ) where
+  pub none_dealt : (shares : List (List (ℕ × List ℕ × A))) → AreEmpty senders shares → AreDealt tells senders [] shares
+  none_dealt shares empty = (
+    ap length empty ∙ length-replicate senders [],
+    λ sender share here. ap (map (numbered tells)) (one_of_none senders sender [] share (ap (λ s. slice_get s sender) (sym empty) ∙ here)),
+  )
+
+  pub one_dealt : (given : List Given) (shares : List (List (ℕ × List ℕ × A))) (one : Given) (item : ℕ × List ℕ × A) (old new : List (ℕ × List ℕ × A))
+      → numbered tells item ≡ (length given, one) → slice_get shares (length given % senders) ≡ Some old → new ≡ old ++ item ∷ [] → AreDealt tells senders given shares
+      → AreDealt tells senders (given ++ one ∷ []) (slice_set shares (length given % senders) new)
+  one_dealt given shares one item old new is there new_is dealt = (
+    length-set shares (length given % senders) new ∙ dealt.0,
+    λ sender share here. elim (replaced shares (length given % senders) sender new share here) [
+      | inl elsewhere ↦
+          dealt.1 sender share elsewhere.1 ∙ sym (append-nil (share_from senders sender 0 given))
+          ∙ ap (λ b. share_from senders sender 0 given ++ cond b ((length given, one) ∷ []) []) (sym (apart sender elsewhere.0))
+          ∙ sym (first_more senders sender given one)
+      | inr here ↦
+          ap (map (numbered tells)) (here.1 ∙ new_is) ∙ map_push (numbered tells) old item
+          ∙ ap (λ s. s ++ numbered tells item ∷ []) (dealt.1 sender old (ap (slice_get shares) here.0 ∙ there))
+          ∙ ap (λ n. share_from senders sender 0 given ++ n ∷ []) is
+          ∙ ap (λ b. share_from senders sender 0 given ++ cond b ((length given, one) ∷ []) []) (sym (eq-eqb (length given % senders) sender (sym here.0)))
+          ∙ sym (first_more senders sender given one)
+    ],
+  )
+    where
+      apart : (sender : ℕ) → sender ≢ length given % senders → nat_eq (length given % senders) sender ≡ false
+      apart sender differ = elim (eqb_tells (length given % senders) sender) [
+        | inl same ↦ absurd (differ (sym same.1))
+        | inr other ↦ other.0
+      ]

@@ -1,0 +1,11 @@
+use Rattle.std.proofs.Common.{◌≡◌, ◌++◌, length, map, zip}
+use Rattle.redo_logs.specs.Logs.{targets_of}
+use Rattle.redo_gather.specs.Private.Dealing.{AreDealt}
+use Rattle.redo_gather.proofs.gathering.deal.Given as goal
+
+-- the first streams are dealt
+abbrev pub invariant-loop-reader : goal.invariant-loop-reader
+invariant-loop-reader g l =
+    (l.number ≡ length l.yielded)
+    × (l.fn.readers.items ≡ l.yielded ++ l.reader-iterator.rest.items)
+    × AreDealt g.R.Feed.tells l.senders (zip (targets_of l.table) (map g.R.Feed.tells l.yielded)) (map (λ share. share.items) l.shares.items)

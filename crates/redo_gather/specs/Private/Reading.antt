@@ -1,0 +1,30 @@
+-- How the entries of a stream are read, a piece after another.
+use Rattle.std.specs.Prelude.{◌≡◌, ℕ, ◌⊎◌, List, ◌++◌, None, Some}
+use Rattle.redo_line.specs.declared.entry.Entry.{Entry}
+use Rattle.redo_line.specs.declared.stream_fault.StreamFault.{StreamFault}
+use Rattle.redo_line.specs.declared.stream_fault.StreamFault.TheVariants.{OutOfMemory}
+use Rattle.redo_line.specs.Laws.{IsFront}
+use Rattle.redo_line.specs.Scan.{Scanned, IsFine, entries_in, entries_so_far, fault_so_far}
+
+-- a scan is fine, and these are the entries of the lines that it took
+pub record IsRead (scan : Scanned) (entries : List Entry) : Type 0 where
+  pub fine : IsFine scan
+  pub entries_are : entries ≡ entries_in scan
+
+module _ (scan : Scanned) (piece : List ℕ) (entries : List Entry) where
+  -- the bytes up to the end of a piece have this fault, and these entries before it
+  pub record IsStopped (fault : StreamFault) : Type 0 where
+    pub fault_is : fault_so_far scan.target scan.max_bytes (scan.bytes ++ piece) ≡ Some fault
+    pub entries_are : entries ≡ entries_so_far scan.target scan.max_bytes (scan.bytes ++ piece)
+
+  -- these are the first entries of some bytes up to there
+  pub record IsCutIn : Type 0 where
+    pub bytes : List ℕ
+    pub behind : List ℕ
+    pub bytes_are : scan.bytes ++ piece ≡ bytes ++ behind
+    pub fine : fault_so_far scan.target scan.max_bytes bytes ≡ None
+    pub front : IsFront entries (entries_so_far scan.target scan.max_bytes bytes)
+
+  -- a piece is refused: for its fault, or for want of memory
+  abbrev pub IsRefused : StreamFault → Type 0
+  IsRefused fault = IsStopped fault ⊎ (IsCutIn × (fault ≡ OutOfMemory))
