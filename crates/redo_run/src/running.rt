@@ -7,7 +7,7 @@ ghost use Rattle.redo_run.specs.RunFault.{IfStreamFault, IfTold, IfUnknown};
 ghost use Rattle.redo_run.specs.Shown.{FailsInText, HasFault, WritesAll, WritesFront};
 
 use crate::run_fault::RunFault;
-use redo_gather::{Gate, Plan, gather_plain, logs_unless_fault};
+use redo_gather::{Gate, Plan, gather, logs_unless_fault};
 use redo_index::Index;
 use redo_line::{Feed, NameFault, Sink, TargetName};
 use redo_view::{Options, ViewFault, view};
@@ -24,22 +24,21 @@ use std::thread::Threads;
 ///
 /// The clause `ok` says so. What it means for a log, laws of `redo_line` say: one entry for each line, in
 /// order (`an_entry_for_each_line`), and nothing behind the closing record (`closing_stands_last`); and for
-/// the text, laws of `redo_view` (`opening_a_log`, `at_first_mention`, `each_log_once`). Today the thread that
-/// calls reads all streams, one after another: the plan's numbers of senders and items are not used, the
-/// gate is told nothing, and no thread is started.
+/// the text, laws of `redo_view` (`opening_a_log`, `at_first_mention`, `each_log_once`). The streams are read by
+/// the plan's senders, in threads of their own, as [`redo_gather::gather`] has it; its capacity isn't used yet.
 ///
 /// Each reader gives the stream of the target at its place in the index, so there has to be one for each.
 /// A word is the name of a target, relative to the base. The words are looked up before a byte is read,
 /// and nothing is written before all streams were read. `out` isn't flushed.
 pub fn run<T: Threads + Wait + Sync, R: Feed + Send, W: Sink, G: Gate>(
-    _rt: &T,
+    rt: &T,
     alloc: Global,
     index: &Index,
     readers: Vec<R>,
     plan: &Plan,
     options: &Options,
     asked: &[Vec<u8>],
-    _gate: &G,
+    gate: &G,
     out: &mut W,
 ) -> Result<(), RunFault>
     requires { length readers.items ≡ length index.now }
@@ -67,7 +66,7 @@ pub fn run<T: Threads + Wait + Sync, R: Feed + Send, W: Sink, G: Gate>(
     let targets = find_targets(alloc, index, asked)?;
     let names = index.names(alloc)?;
     logs_unless_fault();
-    let table = gather_plain(alloc, names, readers, plan.max_bytes())?;
+    let table = gather(rt, alloc, names, readers, plan, gate)?;
     match view(alloc, &table, options, &targets, out) {
         Ok(()) => Ok(()),
         Err(ViewFault::Unknown { .. }) => unreachable!(),
