@@ -1,14 +1,10 @@
 -- What a loop over all streams has collected of what their senders read.
-use Rattle.std.proofs.Common.{◌≡◌, ◌≢◌, inl, inr, ℕ, zero, suc, ◌+◌, ◌%◌, ◌<◌, nat_eq, Bool, true, false, cond, List, [], ◌∷◌, ◌++◌, Option, None, Some, length, map, drop, zip, slice_get, slice_set, option_to_list, refl, sym, ap, ◌∙◌, subst, arith}
-use Rattle.std.specs.Option.{option_map}
+use Rattle.std.proofs.Common.{◌≡◌, ◌≢◌, inl, inr, ℕ, zero, suc, ◌+◌, ◌%◌, ◌<◌, nat_eq, false, cond, List, [], ◌∷◌, ◌++◌, Option, Some, length, map, drop, zip, slice_get, slice_set, refl, sym, ap, ◌∙◌, subst, arith}
 use Rattle.std.proofs.lemmas.Bool.{eq-eqb}
 use Rattle.std.proofs.lemmas.Bool.Decides.{eqb_tells}
 use Rattle.std.proofs.lemmas.List.{append_assoc, append-nil, length-append, length-map, length-set}
-use Rattle.std.proofs.lemmas.Option.{slice_get-map}
-use Rattle.redo_line.specs.declared.entry.Entry.{Entry}
-use Rattle.redo_line.specs.declared.stream_fault.StreamFault.{StreamFault}
 use Rattle.redo_line.specs.declared.stream_fault.StreamFault.TheVariants.{OutOfMemory}
-use Rattle.redo_line.specs.Feed.{Stream, SomeStream}
+use Rattle.redo_line.specs.Feed.{Stream}
 use Rattle.redo_line.proofs.GaveLemmas.{weaker}
 use Rattle.redo_logs.specs.declared.log_state.LogState.TheVariants.{Running}
 use Rattle.redo_logs.specs.Logs.{Log, changed, new_log, states_of}
@@ -74,9 +70,9 @@ none_collected {A} tells max_bytes senders names told shares lists same dealt ar
   table_is = sym (new_logs names told same);
   count = as_many max_bytes (map (map (numbered tells)) shares) lists are ∙ length-map shares (map (numbered tells)) ∙ dealt.0;
   owed = λ sender list here.
-    let each = each_owed max_bytes (map (map (numbered tells)) shares) lists sender list are here in
-    let share = from_map (map (numbered tells)) shares sender each.0 each.1 in
-    subst (λ s. AreOwed max_bytes s list) (share.2 ∙ dealt.1 sender share.0 share.1) each.2;
+      let each = each_owed max_bytes (map (map (numbered tells)) shares) lists sender list are here in
+      let share = from_map (map (numbered tells)) shares sender each.0 each.1 in
+      subst (λ s. AreOwed max_bytes s list) (share.2 ∙ dealt.1 sender share.0 share.1) each.2;
 }
 
 pub count_given : (names : List (List ℕ)) (told : List (Option Stream)) → length names ≡ length told → length (zip names told) ≡ length names
@@ -122,7 +118,7 @@ module _ (max_bytes senders : ℕ) (given : List Given) (number : ℕ) (table : 
       owed_next =
           subst (λ share. AreOwed max_bytes share list)
           (ap (share_from senders (number % senders) number) next.2
-            ∙ ap (λ b. cond b ((number, next.0) ∷ share_from senders (number % senders) (suc number) next.1) (share_from senders (number % senders) (suc number) next.1)) (eq-eqb (number % senders) (number % senders) refl))
+          ∙ ap (λ b. cond b ((number, next.0) ∷ share_from senders (number % senders) (suc number) next.1) (share_from senders (number % senders) (suc number) next.1)) (eq-eqb (number % senders) (number % senders) refl))
           (so_far.owed (number % senders) list here)
 
       pub not_empty : (rest : List StreamLog) → list ≡ rest → rest ≡ drop 1 list → ⊥
@@ -161,7 +157,7 @@ module _ (max_bytes senders : ℕ) (given : List Given) (number : ℕ) (table : 
             | inl elsewhere ↦
                 subst (λ share. AreOwed max_bytes share list)
                 (ap (share_from senders sender number) next.2
-                  ∙ ap (λ b. cond b ((number, next.0) ∷ share_from senders sender (suc number) next.1) (share_from senders sender (suc number) next.1)) (apart sender elsewhere.0) ∙ behind sender)
+                ∙ ap (λ b. cond b ((number, next.0) ∷ share_from senders sender (suc number) next.1) (share_from senders sender (suc number) next.1)) (apart sender elsewhere.0) ∙ behind sender)
                 (so_far.owed sender list elsewhere.1)
             | inr place ↦
                 subst (λ l. AreOwed max_bytes (share_from senders sender (number + 1) next.1) l) (sym place.1)
@@ -174,6 +170,7 @@ module _ (max_bytes senders : ℕ) (given : List Given) (number : ℕ) (table : 
               | inl same ↦ absurd (differ (sym same.1))
               | inr other ↦ other.0
             ]
+
             behind : (sender : ℕ) → share_from senders sender (suc number) next.1 ≡ share_from senders sender (number + 1) next.1
             behind sender = let same : suc number ≡ number + 1 = omega arith in ap (λ n. share_from senders sender n next.1) same
 

@@ -33,7 +33,7 @@ one_more senders sender number (first ∷ given) one =
     let place : suc number + length given ≡ number + suc (length given) = omega arith in
     by (nat_eq (number % senders) sender) _ _ _ (one_more senders sender (suc number) given one)
     ∙ ap (λ n. cond (nat_eq (number % senders) sender) ((number, first) ∷ share_from senders sender (suc number) given) (share_from senders sender (suc number) given)
-      ++ cond (nat_eq (n % senders) sender) ((n, one) ∷ []) []) place
+    ++ cond (nat_eq (n % senders) sender) ((n, one) ∷ []) []) place
   where
     by : (here : Bool) (all front last : List Numbered) → all ≡ front ++ last → cond here ((number, first) ∷ all) all ≡ cond here ((number, first) ∷ front) front ++ last
     by true all front last is = ap (λ share. (number, first) ∷ share) is

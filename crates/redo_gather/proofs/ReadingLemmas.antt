@@ -7,7 +7,7 @@ use Rattle.redo_line.specs.declared.entry.Entry.{Entry}
 use Rattle.redo_line.specs.declared.feed.Broken.{Broken}
 use Rattle.redo_line.specs.declared.stream_fault.StreamFault.{StreamFault}
 use Rattle.redo_line.specs.declared.stream_fault.StreamFault.TheVariants.{Read, OutOfMemory}
-use Rattle.redo_line.specs.Feed.{Stream, Pulls, SomeStream}
+use Rattle.redo_line.specs.Feed.{Stream, Pulls}
 use Rattle.redo_line.specs.Laws.{IsFront}
 use Rattle.redo_line.specs.Log.{stream_of, entries_of, fault_of, log_of, part_of, unless_fault}
 use Rattle.redo_line.specs.declared.scan.Step.{Step}
@@ -17,7 +17,7 @@ use Rattle.redo_line.proofs.FaultLemmas.{early_fault, early_part, failed_read, f
 use Rattle.redo_line.proofs.GaveLemmas.{Gave, Gave-none, Gave-more, Gave-end, Gave-failed, weaker}
 use Rattle.redo_line.proofs.LogLemmas.{entries_lead_part, entries_lead_log}
 use Rattle.redo_gather.specs.Private.Owed.{IsOwed, IsOwedFor, log_or_part, told_entries}
-use Rattle.redo_gather.specs.Private.Reading.{IsRead, IsStopped, IsCutIn, IsRefused}
+use Rattle.redo_gather.specs.Private.Reading.{IsRead, IsCutIn, IsRefused}
 
 -- a scan for the log of a target, within this limit
 pub record IsFor (target : List ℕ) (max_bytes : ℕ) (scan : Scanned) : Type 0 where
@@ -142,6 +142,7 @@ module _ (target : List ℕ) (max_bytes : ℕ) where
       of_stream more fails =
           front_of_front entries (entries_so_far target max_bytes bytes) _ front
           (of_either (entries_so_far target max_bytes bytes) _ _ (entries_lead_log target max_bytes bytes more fails fine) (entries_lead_part target max_bytes bytes more fails fine))
+
       by : (told : Option Stream) → Gave told (bytes ++ behind) after → IsOwedFor max_bytes (target, told) entries (Some OutOfMemory)
       by None gave = (stream_of (bytes ++ behind) false, inr (of_stream behind false, refl))
       by (Some stream) gave =
@@ -170,9 +171,9 @@ module _ (target : List ℕ) (max_bytes : ℕ) where
     at_failure broken buffer pulls =
         weaker told (λ stream. (stream.bytes ≡ scan.bytes) × (stream.fails ≡ true)) (λ stream. IsOwed target max_bytes stream entries (Some Read))
         (λ stream is.
-          let fault_is = failed_read target max_bytes scan.bytes fine in
-          subst (λ (s : Stream). IsOwed target max_bytes s entries (Some Read)) (same_stream stream scan.bytes true is.0 is.1)
-          (inl (are_so_far ∙ sym (failed_part target max_bytes scan.bytes fine) ∙ sym (told_part (stream_of scan.bytes true) Read fault_is), sym fault_is)))
+        let fault_is = failed_read target max_bytes scan.bytes fine in
+        subst (λ (s : Stream). IsOwed target max_bytes s entries (Some Read)) (same_stream stream scan.bytes true is.0 is.1)
+        (inl (are_so_far ∙ sym (failed_part target max_bytes scan.bytes fine) ∙ sym (told_part (stream_of scan.bytes true) Read fault_is), sym fault_is)))
         (Gave-failed told now after scan.bytes broken buffer reading.gave pulls)
 
     -- at the end of input
@@ -182,8 +183,8 @@ module _ (target : List ℕ) (max_bytes : ℕ) where
       at_end last all log_is all_are =
           weaker told (λ stream. (stream.bytes ≡ scan.bytes) × (stream.fails ≡ false)) (λ stream. IsOwed target max_bytes stream all None)
           (λ stream is.
-            subst (λ (s : Stream). IsOwed target max_bytes s all None) (same_stream stream scan.bytes false is.0 is.1)
-            (inl (all_are ∙ ap (λ es. es ++ option_to_list last) reading.read.entries_are ∙ sym (told_log (so_far scan.bytes) _ (own_log ∙ log_is)), sym fine)))
+          subst (λ (s : Stream). IsOwed target max_bytes s all None) (same_stream stream scan.bytes false is.0 is.1)
+          (inl (all_are ∙ ap (λ es. es ++ option_to_list last) reading.read.entries_are ∙ sym (told_log (so_far scan.bytes) _ (own_log ∙ log_is)), sym fine)))
           (Gave-end told now after scan.bytes buffer reading.gave pulls)
         where
           own_log : log_of target max_bytes (so_far scan.bytes) ≡ log_of scan.target scan.max_bytes (so_far scan.bytes)
@@ -204,7 +205,7 @@ module _ (target : List ℕ) (max_bytes : ℕ) where
       at_refusal left fault other (inr (cut_there, memory)) =
           subst (λ (f : StreamFault). IsOwedFor max_bytes (target, told) left (Some f)) (sym memory)
           (cut told after cut_there.bytes cut_there.behind left (subst (λ b. Gave told b after) cut_there.bytes_are more) (sym (own_fault cut_there.bytes) ∙ cut_there.fine)
-            (subst (IsFront left) (own_entries cut_there.bytes) cut_there.front))
+          (subst (IsFront left) (own_entries cut_there.bytes) cut_there.front))
 
       pub one_piece : (new : Scanned) (all : List Entry) → new ≡ took (take n buffer) scan → IsRead new all → Reading told after new all
       one_piece new all new_is read = record { gave = subst (λ (s : Scanned). Gave told s.bytes after) (sym new_is) more; read = read }

@@ -85,9 +85,9 @@ module _ (max_bytes : ℕ) where
         told_are = (given.1, others.told_are);
         faults_are = λ i. fault_is i ∷ others.faults_are i;
         logs_are = λ none.
-          in_front_of (fault_of target max_bytes given.0) target _ _ (map fault_in (states_of table)) (logs_of max_bytes names others.streams) table others.logs_are
-          (ap (λ f. first_fault (f ∷ map fault_in (states_of table))) (sym fault_is) ∙ none)
-          ∙ ap (λ (l : Log). Some (l ∷ table)) (sym given.2);
+            in_front_of (fault_of target max_bytes given.0) target _ _ (map fault_in (states_of table)) (logs_of max_bytes names others.streams) table others.logs_are
+            (ap (λ f. first_fault (f ∷ map fault_in (states_of table))) (sym fault_is) ∙ none)
+            ∙ ap (λ (l : Log). Some (l ∷ table)) (sym given.2);
       }
 
   -- a whole table of such logs

@@ -49,7 +49,7 @@ module _ {A : Type 0} (tells : A → Option Stream) (max_bytes : ℕ) (names : L
           gathered =
               subst (λ told. Gathered max_bytes names told after) (sym (map_push tells read reader))
               (one_gathered max_bytes names (map tells read) table so_far.gathered target there (tells reader) entries after
-                (subst (λ (n : ℕ). Completes target max_bytes n entries (tells reader) table after) count completes));
+              (subst (λ (n : ℕ). Completes target max_bytes n entries (tells reader) table after) count completes));
         }
 
         pub fault_read : (fault : StreamFault) → SomeStream (tells reader) (λ stream. fault_of target max_bytes stream ≡ Some fault)

@@ -59,7 +59,12 @@ pub fn gather<T: Threads + Wait + Sync, R: Feed + Send, G: Gate>(
         let Some(log) = logs[(number % senders) as usize].pop_front() else {
             unreachable!()
         };
-        store(&mut table, number, log, &|lines| gate.taken(rt, number, lines))?;
+        store(
+            &mut table,
+            number,
+            log,
+            &|lines| gate.taken(rt, number, lines),
+        )?;
         gate.over(rt, number);
     }
     match table.first_fault() {

@@ -5,8 +5,8 @@
 #![tactic(auto)]
 
 mod gate;
-mod gathering;
 mod gather_fault;
+mod gathering;
 mod laws;
 mod one_stream;
 mod plain;
@@ -15,8 +15,8 @@ mod sender;
 mod storing;
 
 pub use gate::{Free, Gate};
-pub use gathering::gather;
 pub use gather_fault::GatherFault;
+pub use gathering::gather;
 pub use laws::{logs_unless_fault, streams_told};
 pub use plain::gather_plain;
 pub use plan::{Plan, PlanFault};

@@ -1,4 +1,4 @@
-use Rattle.std.proofs.Common.{◌≡◌, ◌∷◌, [], ◌++◌, map, sym, ap, ◌∙◌, subst}
+use Rattle.std.proofs.Common.{◌∷◌, [], ◌++◌, map, sym, ap, ◌∙◌, subst}
 use Rattle.std.proofs.lemmas.List.{map_push}
 use Rattle.redo_gather.specs.Private.Dealing.{AreAllOwed, AreOwed, numbered}
 use Rattle.redo_gather.proofs.DealingLemmas.{one_share}
@@ -19,4 +19,4 @@ returns g t c =
     let logs_are = ap (map (λ list. list.items)) c.in_ok-push.ensures.items ∙ map_push (λ list. list.items) c.in_ok-all.all.items logs in
     subst (λ shares. AreAllOwed max_bytes shares (map (λ list. list.items) c.push.new.self.items)) (sym shares_are)
     (subst (AreAllOwed max_bytes (front ++ map (numbered tells) c.in-Some.share.items ∷ [])) (sym logs_are)
-      (one_share max_bytes front behind (map (numbered tells) c.in-Some.share.items) logs.items c.in_ok-all.ensures owed))
+    (one_share max_bytes front behind (map (numbered tells) c.in-Some.share.items) logs.items c.in_ok-all.ensures owed))

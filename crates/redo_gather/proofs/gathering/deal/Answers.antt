@@ -1,4 +1,4 @@
-use Rattle.std.proofs.Common.{rules, ◌≡◌, ◌<◌, ◌≤◌, ◌+◌, ◌%◌, ℕ, List, Vec, ◌∷◌, [], ◌++◌, Some, length, map, zip, slice_get, slice_set, refl, sym, ap, ◌∙◌, subst, arith, Fits, w32}
+use Rattle.std.proofs.Common.{rules, ◌≡◌, ◌<◌, ◌≤◌, ◌+◌, ◌%◌, ℕ, List, ◌∷◌, [], ◌++◌, Some, length, map, zip, slice_get, slice_set, refl, sym, ap, ◌∙◌, subst, arith}
 use Rattle.std.specs.Option.{option_map}
 use Rattle.std.proofs.lemmas.List.{append_assoc, length-append, length-map, map_push, map-set}
 use Rattle.std.proofs.lemmas.Option.{slice_get-map}
@@ -12,7 +12,7 @@ loop-reader-init g c = (
   refl,
   sym c.into_iter-reader-iterator.ensures.into_iter_gives.0,
   subst (λ given. AreDealt g.R.Feed.tells c.args.senders given (map (λ share. share.items) c.in_ok-shares.shares.items)) (sym (zip-none _ (targets_of c.args.table.now) [] refl))
-  (none_dealt g.R.Feed.tells c.args.senders (map (λ share. share.items) c.in_ok-shares.shares.items) c.in_ok-shares.ensures),
+      (none_dealt g.R.Feed.tells c.args.senders (map (λ share. share.items) c.in_ok-shares.shares.items) c.in_ok-shares.ensures),
 )
 
 pub overflow_add-number : goal.overflow_add-number
@@ -45,7 +45,7 @@ loop-reader-preserved g c =
       omega (arith, kept.0, length-append yielded (reader ∷ [])),
       kept.1 ∙ ap (λ left. yielded ++ left) c.in-Some.ensures.steps.0 ∙ sym (append_assoc yielded (reader ∷ []) c.next.new.self.rest.items),
       subst (AreDealt tells c.args.senders (zip targets (map tells (yielded ++ reader ∷ []))))
-      (ap (λ n. slice_set (map (λ share. share.items) shares) (n % c.args.senders) c.push.new.self.items) place ∙ sym (map-set (λ share. share.items) shares (number % c.args.senders) c.push.new.self))
-      (subst (λ given. AreDealt tells c.args.senders given (slice_set (map (λ share. share.items) shares) (length (zip targets (map tells yielded)) % c.args.senders) c.push.new.self.items))
-        (sym (ap (zip targets) (map_push tells yielded reader) ∙ pushed.0)) dealt),
+          (ap (λ n. slice_set (map (λ share. share.items) shares) (n % c.args.senders) c.push.new.self.items) place ∙ sym (map-set (λ share. share.items) shares (number % c.args.senders) c.push.new.self))
+          (subst (λ given. AreDealt tells c.args.senders given (slice_set (map (λ share. share.items) shares) (length (zip targets (map tells yielded)) % c.args.senders) c.push.new.self.items))
+          (sym (ap (zip targets) (map_push tells yielded reader) ∙ pushed.0)) dealt),
     )

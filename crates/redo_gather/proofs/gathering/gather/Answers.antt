@@ -1,12 +1,10 @@
-use Rattle.std.proofs.Common.{◌≡◌, ◌≢◌, ◌<◌, ◌≤◌, ◌+◌, ◌%◌, ℕ, List, ◌∷◌, [], Option, None, Some, length, map, zip, slice_get, slice_set, refl, sym, ap, ◌∙◌, subst, arith}
+use Rattle.std.proofs.Common.{◌≡◌, ◌<◌, ◌+◌, ◌%◌, List, Some, length, map, zip, slice_get, sym, ap, ◌∙◌, subst, arith}
 use Rattle.std.specs.Option.{option_map}
 use Rattle.std.proofs.lemmas.List.{length-map, map-set}
 use Rattle.std.proofs.lemmas.Option.{slice_get-map}
-use Rattle.redo_line.specs.Feed.{Stream}
-use Rattle.redo_logs.specs.Logs.{Log, changed, first_failed, new_log, targets_of}
+use Rattle.redo_logs.specs.Logs.{Log, new_log, targets_of}
 use Rattle.redo_logs.proofs.ChangedLemmas.{length-changed}
 use Rattle.redo_gather.specs.Private.Dealing.{AreAllOwed, AreDealt, numbered}
-use Rattle.redo_gather.specs.Private.GatherFault.{fault_of_stream}
 use Rattle.redo_gather.specs.Private.Storing.{completed}
 use Rattle.redo_gather.specs.Streams.{IsFault}
 use Rattle.redo_gather.proofs.CollectedLemmas.{Collected, all_settled, count_given, log_runs, map_twice, none_collected, not_empty, one_collected, there_is}
@@ -29,7 +27,7 @@ loop-number-init g c =
     let owed = subst (λ ss. AreAllOwed c.args.plan.now.max_bytes ss lists) (sym (map_twice (map (numbered tells)) (λ share. share.items) c.in_ok-shares.shares.items)) c.in_ok-logs.ensures.1 in (
       ap length c.in_ok-table.ensures ∙ length-map names new_log,
       subst (λ table. Collected c.args.plan.now.max_bytes c.min-senders.result (zip names told) 0 table lists) (sym c.in_ok-table.ensures)
-      (none_collected tells c.args.plan.now.max_bytes c.min-senders.result names told shares lists same dealt owed),
+          (none_collected tells c.args.plan.now.max_bytes c.min-senders.result names told shares lists same dealt owed),
     )
 
 pub unreachable-requires : goal.unreachable-requires
@@ -81,7 +79,7 @@ loop-number-preserved g c =
     let rest = c.pop_front.new.self in (
       ap length c.in_ok-store.ensures.stored ∙ length-changed c.loop-number.number-counter (completed c.in-Some.log.entries.items c.in-Some.log.fault) c.loop-number.table ∙ kept.0,
       subst (Collected c.args.plan.now.max_bytes c.min-senders.result (zip c.args.names.items told) (c.loop-number.number-counter + 1) c.store.new.table) (sym (map-set (λ list. list.items) lists place rest))
-      (one_collected _ _ _ _ _ _ kept.1 below c.index_mut.result.now.items here c.in-Some.log rest.items c.in-Some.ensures.items c.store.new.table c.in_ok-store.ensures.had_memory c.in_ok-store.ensures.stored),
+          (one_collected _ _ _ _ _ _ kept.1 below c.index_mut.result.now.items here c.in-Some.log rest.items c.in-Some.ensures.items c.store.new.table c.in_ok-store.ensures.had_memory c.in_ok-store.ensures.stored),
     )
 
 pub returns-in-None-clause-logs : goal.returns-in-None-clause-logs

@@ -1,4 +1,4 @@
-use Rattle.std.proofs.Common.{◌<◌, None, Some, refl, sym, ap, ◌∙◌, arith, subst, option_to_list}
+use Rattle.std.proofs.Common.{◌<◌, None, Some, refl, sym, arith, subst}
 use Rattle.std.proofs.lemmas.List.{append-nil}
 use Rattle.std.proofs.lemmas.Result.{err_from_is_err_and}
 use Rattle.redo_line.specs.declared.stream_fault.StreamFault.TheVariants.{OutOfMemory}
@@ -28,7 +28,7 @@ returns-in_err-read_piece-in-Ok-clause-owed g c =
     let refused = c.in_err-read_piece-in-Ok.ensures in
     rw (given.1, given.2)
     (at_refusal c.args.scan.target c.args.scan.max_bytes _ _ _ c.reads.scan c.reads.entries.items kept.3 kept.2 c.in-Ok.n c.pull.new.buf some c.in-Ok.ensures.gives c.read_piece.new.entries.items
-      c.in_err-read_piece-in-Ok.field-0.0 refused.reads_nothing refused.refused)
+    c.in_err-read_piece-in-Ok.field-0.0 refused.reads_nothing refused.refused)
 
 pub returns-in_err-push-clause-owed : goal.returns-in_err-push-clause-owed
 returns-in_err-push-clause-owed g c =
@@ -36,7 +36,7 @@ returns-in_err-push-clause-owed g c =
     let given = err_from_is_err_and c.from_residual-in_err-push.result c.from_residual-in_err-push.ensures.1 in
     rw (given.1, given.2)
     (subst (λ es. IsOwedFor c.args.scan.max_bytes (c.args.scan.target, g.R.Feed.tells c.args.reader.now) es (Some OutOfMemory)) (sym c.in_err-push.ensures.items)
-      (no_memory_left c.args.scan.target c.args.scan.max_bytes _ _ (g.R.Feed.tells c.reads.reader) c.reads.scan c.reads.entries.items kept.3 kept.2))
+    (no_memory_left c.args.scan.target c.args.scan.max_bytes _ _ (g.R.Feed.tells c.reads.reader) c.reads.scan c.reads.entries.items kept.3 kept.2))
 
 pub returns-in_ok-push-clause-owed : goal.returns-in_ok-push-clause-owed
 returns-in_ok-push-clause-owed g c =

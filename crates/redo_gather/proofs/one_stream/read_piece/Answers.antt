@@ -32,7 +32,7 @@ returns-in_err-push-clause-refused c =
     let given = err_from_is_err_and c.from_residual-in_err-push.result c.from_residual-in_err-push.ensures.1 in
     rw (given.1, given.2)
     (subst (λ es. IsRefused c.args.scan.now c.args.piece.now es OutOfMemory) (sym c.in_err-push.ensures.items)
-      (inr (cut_in c.args.scan.now c.args.piece.now c.lines.scan c.lines.from kept.1 c.lines.entries.items kept.2, refl)))
+    (inr (cut_in c.args.scan.now c.args.piece.now c.lines.scan c.lines.from kept.1 c.lines.entries.items kept.2, refl)))
 
 pub returns-clause-took : goal.returns-clause-took
 returns-clause-took c =

@@ -2,7 +2,6 @@ use Rattle.std.proofs.Common.{◌≡◌, ◌<◌, ℕ, length, map, Some, List, 
 use Rattle.redo_line.specs.Feed.{SomeStream}
 use Rattle.redo_line.specs.Log.{fault_of, log_of}
 use Rattle.redo_logs.specs.Logs.{Log, changed}
-use Rattle.redo_gather.specs.Private.GatherFault.{fault_of_stream}
 use Rattle.redo_gather.specs.Private.Storing.{completed}
 use Rattle.redo_gather.specs.Streams.{SomeStreams, fault_among}
 use Rattle.redo_gather.proofs.GatheredLemmas.{Gathered, none_gathered, of_stream}
@@ -32,9 +31,9 @@ returns-in-Some-fault-clause-fault g c =
     of_stream (List Log) c.loop-reader.number fault
     (λ number fault. SomeStreams (map g.R.Feed.tells c.args.readers.items) (λ streams. fault_among max_bytes c.args.names.items streams ≡ Some (number, fault)))
     (λ other.
-      fault_read g.R.Feed.tells _ _ _ _ _ _ _ c.loop-reader.invariant.1 c.requires.readers _ _ c.in-Some.ensures.steps.0 _ c.name.ensures fault
-      (subst (λ (target : List ℕ). SomeStream told (λ stream. fault_of target max_bytes stream ≡ Some fault)) c.in_ok-target.ensures
-        (is_fault max_bytes (c.in_ok-target.target, told) log.entries.items log.fault c.read_stream-log.ensures.owed fault c.in-Some-fault.is other)))
+    fault_read g.R.Feed.tells _ _ _ _ _ _ _ c.loop-reader.invariant.1 c.requires.readers _ _ c.in-Some.ensures.steps.0 _ c.name.ensures fault
+    (subst (λ (target : List ℕ). SomeStream told (λ stream. fault_of target max_bytes stream ≡ Some fault)) c.in_ok-target.ensures
+    (is_fault max_bytes (c.in_ok-target.target, told) log.entries.items log.fault c.read_stream-log.ensures.owed fault c.in-Some-fault.is other)))
     c.of.result c.of.ensures
 
 pub returns-in-Some-fault-clause-number : goal.returns-in-Some-fault-clause-number

@@ -1,8 +1,8 @@
-use Rattle.std.proofs.Common.{◌≡◌, ◌∷◌, [], ◌++◌, None, Some, length, refl, sym, ap, ◌∙◌, arith}
+use Rattle.std.proofs.Common.{◌∷◌, [], ◌++◌, None, Some, refl, sym, ap, ◌∙◌, arith}
 use Rattle.std.proofs.lemmas.List.{append_assoc, length-append}
 use Rattle.redo_logs.specs.Logs.{changed, states_of, with_entry}
 use Rattle.redo_logs.proofs.ChangedLemmas.{states-with_entry}
-use Rattle.redo_gather.specs.Private.Storing.{completed, with_entries}
+use Rattle.redo_gather.specs.Private.Storing.{completed}
 use Rattle.redo_gather.proofs.GrowthLemmas.{all_yielded, with_last, with_none, with_one_more}
 use Rattle.redo_gather.proofs.storing.store.Goals as goal
 

@@ -1,4 +1,4 @@
-use Rattle.std.proofs.Common.{◌≡◌, ℕ, List, ◌∷◌, [], ◌++◌, length, map, refl, sym, ap, ◌∙◌, subst, arith}
+use Rattle.std.proofs.Common.{ℕ, List, ◌∷◌, [], ◌++◌, length, map, sym, ap, ◌∙◌, subst, arith}
 use Rattle.std.proofs.lemmas.List.{append_assoc, length-append, map_push}
 use Rattle.redo_gather.specs.Private.Dealing.{AreOwed, numbered}
 use Rattle.redo_gather.proofs.DealingLemmas.{one_owed}
@@ -16,6 +16,6 @@ loop-number-preserved g c =
       omega (arith, kept.2, ap length logs, length-append yielded (item ∷ []), length-append c.loop-number.logs.items (c.read_stream-log.result ∷ [])),
       omega (arith, kept.3, c.push_back_reserved.ensures.capacity),
       subst (λ share. AreOwed c.args.self.max_bytes share c.push_back_reserved.new.self.items) (sym (map_push (numbered tells) yielded item))
-      (subst (AreOwed c.args.self.max_bytes (map (numbered tells) yielded ++ numbered tells item ∷ [])) (sym logs)
-        (one_owed c.args.self.max_bytes (map (numbered tells) yielded) c.loop-number.logs.items (numbered tells item) c.read_stream-log.result kept.4 c.read_stream-log.ensures.owed)),
+          (subst (AreOwed c.args.self.max_bytes (map (numbered tells) yielded ++ numbered tells item ∷ [])) (sym logs)
+          (one_owed c.args.self.max_bytes (map (numbered tells) yielded) c.loop-number.logs.items (numbered tells item) c.read_stream-log.result kept.4 c.read_stream-log.ensures.owed)),
     )

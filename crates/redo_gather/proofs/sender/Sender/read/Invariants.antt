@@ -1,4 +1,4 @@
-use Rattle.std.proofs.Common.{◌≡◌, ◌<◌, ◌≤◌, ◌+◌, ◌++◌, length, map}
+use Rattle.std.proofs.Common.{◌≡◌, ◌<◌, ◌≤◌, ◌++◌, length, map}
 use Rattle.std.specs.VecDeque.{deque_capacity}
 use Rattle.redo_gather.specs.Private.Dealing.{AreOwed, numbered}
 use Rattle.redo_gather.proofs.sender.Sender.read.Given as goal
