@@ -1,14 +1,17 @@
-//! Streams that are gathered on one thread: their logs, or the fault of the least-numbered stream
-//! that has one.
-use crate::gathered::gathered;
-use redo_gather::GatherFault;
+//! Streams that are gathered on one thread or by senders: their logs, or the fault of the
+//! least-numbered stream that has one.
+use crate::gate::{Event, Hold, Holding};
+use crate::gathered::{WAYS, Way, gathered_by};
+use redo_gather::{Free, GatherFault};
 use redo_given::{Answer, Cut, Given, Script, captured, cuts, entered, logs_text, reader};
-use redo_line::{StreamFault, TargetName};
+use redo_line::{Pieces, StreamFault, TargetName};
 use redo_logs::LogTable;
 use std::alloc::Global;
 use std::process::Abort;
+use std::sync::Wait;
 use std::sync::atomic::{AtomicU64, Ordering};
 use std::test::Fail;
+use std::thread::Threads;
 
 /// The logs of streams as a test writes them, or their fault.
 type Want<'a> = Result<&'a str, GatherFault>;
@@ -29,19 +32,21 @@ fn expect_answer(
     Ok(())
 }
 
-/// However the streams are cut into reads, this is gathered.
+/// However the streams are cut into reads, and whoever reads them, this is gathered.
 fn expect(
-    rt: &(impl Abort + AllocGlobal),
+    rt: &(impl Abort + AllocGlobal + Threads + Wait + Sync),
     given: &[Given<'_>],
     max_bytes: u64,
     want: Want<'_>,
 ) -> Result<(), Fail> {
     let alloc = rt.alloc();
     for cut in &cuts(alloc, given)? {
-        let (targets, readers) = captured(alloc, given, *cut)?;
-        let answer = gathered(alloc, &targets, readers, max_bytes)?;
-        let message = format!(in alloc; "{given:?} {cut:?}")?;
-        expect_answer(rt, answer, want, &message)?;
+        for way in WAYS {
+            let (targets, readers) = captured(alloc, given, *cut)?;
+            let answer = gathered_by(rt, &targets, readers, max_bytes, way, &Free)?;
+            let message = format!(in alloc; "{given:?} {cut:?} {way:?}")?;
+            expect_answer(rt, answer, want, &message)?;
+        }
     }
     Ok(())
 }
@@ -193,17 +198,19 @@ const READS: [(&[Answer], Answer, u64, Result<&str, StreamFault>); 5] = [
 
 /// What comes of a reader that answers so, and after how many reads.
 fn expect_reads(
-    rt: &(impl Abort + AllocGlobal),
+    rt: &(impl Abort + AllocGlobal + Threads + Wait + Sync),
     answers: &[Answer],
     last: Answer,
     reads: u64,
+    way: Way,
     want: Want<'_>,
 ) -> Result<(), Fail> {
     let alloc = rt.alloc();
     let count = AtomicU64::new(0);
     let mut readers = Vec::new(alloc);
     readers.push(Script::new(answers, last, &count))?;
-    let answer = gathered(alloc, &table_of(alloc, &["all"])?, readers, 1000)?;
+    let targets = table_of(alloc, &["all"])?;
+    let answer = gathered_by(rt, &targets, readers, 1000, way, &Free)?;
     expect_answer(rt, answer, want, "so many reads")?;
     assert_eq!(rt; count.load(Ordering::SeqCst), reads);
     Ok(())
@@ -215,29 +222,46 @@ fn expect_reads(
 fn a_reader_is_asked_so_often(rt: HostRuntime) -> Result<(), Fail> {
     for (answers, last, reads, want) in &READS {
         let want = want.map_err(|fault| stream(0, fault));
-        expect_reads(&rt, answers, *last, *reads, want)?;
+        for way in WAYS {
+            expect_reads(&rt, answers, *last, *reads, way, want)?;
+        }
     }
     Ok(())
 }
 
-#[test]
-fn no_reader_is_asked_behind_a_fault(rt: HostRuntime) -> Result<(), Fail> {
+/// How often the second of two readers is asked, where the first fails.
+fn expect_second_reads(
+    rt: &(impl Abort + AllocGlobal + Threads + Wait + Sync),
+    way: Way,
+    want: u64,
+) -> Result<(), Fail> {
     let alloc = rt.alloc();
     let (first, second) = (AtomicU64::new(0), AtomicU64::new(0));
     let mut readers = Vec::new(alloc);
     for reads in [&first, &second] {
         readers.push(Script::new(&[], Answer::Failure, reads))?;
     }
-    let answer = gathered(alloc, &table_of(alloc, &["a", "b"])?, readers, 1000)?;
+    let targets = table_of(alloc, &["a", "b"])?;
+    let answer = gathered_by(rt, &targets, readers, 1000, way, &Free)?;
     assert_eq!(rt; answer.err(), Some(stream(0, StreamFault::Read)));
     assert_eq!(rt; first.load(Ordering::SeqCst), 1);
-    assert_eq!(rt; second.load(Ordering::SeqCst), 0);
+    assert_eq!(rt; second.load(Ordering::SeqCst), want);
     Ok(())
 }
 
 #[test]
-fn there_may_be_many_streams(rt: HostRuntime) -> Result<(), Fail> {
-    let alloc = rt.alloc();
+fn one_thread_reads_nothing_behind_a_fault(rt: HostRuntime) -> Result<(), Fail> {
+    expect_second_reads(&rt, Way::Plain, 0)
+}
+
+#[test]
+fn a_sender_goes_on_behind_a_fault(rt: HostRuntime) -> Result<(), Fail> {
+    expect_second_reads(&rt, Way::Senders(1, 64), 1)?;
+    expect_second_reads(&rt, Way::Senders(2, 64), 1)
+}
+
+/// 200 targets, with a reader for each, and their logs.
+fn many(alloc: Global) -> Result<(LogTable, Vec<Pieces>, String), Fail> {
     let mut names = Vec::new(alloc);
     let mut readers = Vec::new(alloc);
     let mut want = String::new(alloc);
@@ -248,6 +272,54 @@ fn there_may_be_many_streams(rt: HostRuntime) -> Result<(), Fail> {
         readers.push(reader(alloc, &line, false, Cut::InReadsOf(3))?)?;
         want.push_str(&format!(in alloc; "{name}: Ended\ntext|{line}")?)?;
     }
-    let answer = gathered(alloc, &entered(alloc, names)?, readers, 1000)?;
-    expect_answer(&rt, answer, Ok(want.as_str()), "200 streams")
+    Ok((entered(alloc, names)?, readers, want))
+}
+
+#[test]
+fn there_may_be_many_streams(rt: HostRuntime) -> Result<(), Fail> {
+    for way in WAYS {
+        let (targets, readers, want) = many(rt.alloc())?;
+        let answer = gathered_by(&rt, &targets, readers, 1000, way, &Free)?;
+        expect_answer(&rt, answer, Ok(want.as_str()), "200 streams")?;
+    }
+    Ok(())
+}
+
+/// Two streams of two lines.
+const PAIR: [Given<'static>; 2] = [("p", "p1\np2\n", false), ("q", "q1\nq2\n", false)];
+
+const PAIR_LOGS: &str = "p: Ended\ntext|p1\ntext|p2\nq: Ended\ntext|q1\ntext|q2\n";
+
+/// Two senders read these streams, a line at once, and no hold of the gate gives up.
+fn expect_held(
+    rt: &(impl Abort + AllocGlobal + Threads + Wait + Sync),
+    holds: [Hold; 2],
+) -> Result<(), Fail> {
+    let gate = Holding::new(holds);
+    let (targets, readers) = captured(rt.alloc(), &PAIR, Cut::InReadsOf(3))?;
+    let answer = gathered_by(rt, &targets, readers, 1000, Way::Senders(2, 1), &gate)?;
+    expect_answer(rt, answer, Ok(PAIR_LOGS), "with holds")?;
+    assert_eq!(rt; gate.gave_up(), 0);
+    Ok(())
+}
+
+#[test]
+fn senders_read_side_by_side(rt: HostRuntime) -> Result<(), Fail> {
+    let first = Event::BeforeRead { stream: 0, turn: 1 };
+    let second = Event::BeforeRead { stream: 1, turn: 1 };
+    expect_held(&rt, [Hold::new(first, second), Hold::new(second, first)])
+}
+
+#[test]
+fn the_gate_is_told_of_the_logs_in_order(rt: HostRuntime) -> Result<(), Fail> {
+    let over = Event::Over { stream: 0 };
+    let last = Event::Taken {
+        stream: 0,
+        lines: 2,
+    };
+    let next = Event::Taken {
+        stream: 1,
+        lines: 1,
+    };
+    expect_held(&rt, [Hold::new(over, last), Hold::new(next, over)])
 }

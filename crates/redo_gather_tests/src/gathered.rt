@@ -3,12 +3,33 @@ ghost use Rattle.std.specs.Prelude.{◌≡◌, true, IfOk};
 ghost use Rattle.std.specs.List.{list_all};
 ghost use Rattle.redo_logs.specs.Logs.{has_ended};
 
-use redo_gather::{GatherFault, gather_plain};
+use redo_gather::{Gate, GatherFault, Plan, gather, gather_plain};
 use redo_given::names_of;
 use redo_line::Feed;
 use redo_logs::LogTable;
 use std::alloc::Global;
+use std::sync::Wait;
 use std::test::Fail;
+use std::thread::Threads;
+
+/// Who reads the streams.
+#[derive(Clone, Copy, Debug)]
+pub enum Way {
+    /// The thread that calls.
+    Plain,
+    /// So many senders, with a mailbox of this capacity.
+    Senders(u32, u32),
+}
+
+/// One, few and as many senders as there may be.
+pub const WAYS: [Way; 6] = [
+    Way::Plain,
+    Way::Senders(1, 1),
+    Way::Senders(2, 1),
+    Way::Senders(2, 64),
+    Way::Senders(3, 64),
+    Way::Senders(64, 1),
+];
 
 /// The logs of the targets of a table, which have a reader each, or the fault.
 pub fn gathered<R: Feed>(
@@ -27,4 +48,25 @@ pub fn gathered<R: Feed>(
         return Err("no such limit".into());
     }
     Ok(gather_plain(alloc, names, readers, max_bytes))
+}
+
+/// The same, read in this way.
+pub fn gathered_by<T: AllocGlobal + Threads + Wait + Sync, R: Feed + Send, G: Gate>(
+    rt: &T,
+    targets: &LogTable,
+    readers: Vec<R>,
+    max_bytes: u64,
+    way: Way,
+    gate: &G,
+) -> Result<Result<LogTable, GatherFault>, Fail> {
+    let alloc = rt.alloc();
+    let Way::Senders(senders, capacity) = way else {
+        return gathered(alloc, targets, readers, max_bytes);
+    };
+    let names = names_of(alloc, targets)?;
+    if readers.len() != names.len() {
+        return Err("not a reader for each name".into());
+    }
+    let plan = Plan::new(senders, capacity, max_bytes)?;
+    Ok(gather(rt, alloc, names, readers, &plan, gate))
 }

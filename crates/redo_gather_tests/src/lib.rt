@@ -1,10 +1,9 @@
-//! Tests of gatherings and views, and the cases of texts, which the tests of runs go over too. They
-//! stand here so that no crate below is proved a second time.
+//! Tests of gatherings and views, with the cases of texts and the gate that the tests of runs use too.
+//! They stand here so that no crate below is proved a second time.
 #![tactic(auto)]
 
 pub mod cases;
-#[cfg(test)]
-mod gate;
+pub mod gate;
 #[cfg(test)]
 mod gather;
 #[cfg(test)]

@@ -2,6 +2,7 @@
 use crate::captures::captured;
 use redo_gather::{Free, Plan};
 use redo_gather_tests::cases::{ASKED, CHOSEN, Case, LOGS, MAX_BYTES, MENTIONS, PLAIN, STATUSES};
+use redo_gather_tests::gate::{Event, Hold, Holding};
 use redo_given::{Answer, Cut, Given, Script, cuts, whole};
 use redo_line::{StreamFault, Taker};
 use redo_log_cli::{Failure, RunFault, fault_line, read_index, run, status};
@@ -60,7 +61,11 @@ fn ran(
 /// The text of a run, or its fault, the line of it and the status.
 type Want<'a> = Result<&'a str, (RunFault, &'a str, u8)>;
 
-/// However the streams are cut into reads, this is answered, and the text or nothing written.
+/// Numbers of senders, and capacities.
+const PLANS: [(u32, u32); 5] = [(1, 1), (1, 64), (2, 1), (2, 64), (64, 1)];
+
+/// However the streams are cut into reads, and whoever reads them, this is answered, and the text or
+/// nothing written.
 fn expect_run(
     rt: &(impl Abort + AllocGlobal + Threads + Wait + Sync),
     given: &[Given<'_>],
@@ -70,12 +75,14 @@ fn expect_run(
     want: Want<'_>,
 ) -> Result<(), Fail> {
     let alloc = rt.alloc();
-    let plan = Plan::new(4, 64, max_bytes)?;
     let (outcome, text) = outcome_of(alloc, want)?;
     for cut in &cuts(alloc, given)? {
-        let mut out = Taker::new(alloc, 1000, 1000)?;
-        let ran = ran(rt, given, *cut, &plan, options, asked, &mut out)?;
-        expect_outcome(rt, &ran, &outcome, out.bytes(), text.as_bytes());
+        for (senders, capacity) in PLANS {
+            let plan = Plan::new(senders, capacity, max_bytes)?;
+            let mut out = Taker::new(alloc, 1000, 1000)?;
+            let ran = ran(rt, given, *cut, &plan, options, asked, &mut out)?;
+            expect_outcome(rt, &ran, &outcome, out.bytes(), text.as_bytes());
+        }
     }
     Ok(())
 }
@@ -328,4 +335,24 @@ fn a_writer_that_fails_ends_a_run(rt: HostRuntime) -> Result<(), Fail> {
     }
     expect_hello(&rt, bytes.len(), 3, Ok(text), bytes)?;
     expect_hello(&rt, bytes.len(), 0, CANNOT_WRITE, b"")
+}
+
+#[test]
+fn a_run_reads_its_streams_side_by_side(rt: HostRuntime) -> Result<(), Fail> {
+    let alloc = rt.alloc();
+    let first = Event::BeforeRead { stream: 0, turn: 1 };
+    let second = Event::BeforeRead { stream: 1, turn: 1 };
+    let gate = Holding::new([Hold::new(first, second), Hold::new(second, first)]);
+    let given = [("p", "p1\np2\n", false), ("q", "q1\nq2\n", false)];
+    let (index, readers) = captured(alloc, &given, Cut::InReadsOf(3))?;
+    let words = [b"p".to_vec(alloc)?, b"q".to_vec(alloc)?];
+    let plan = Plan::new(2, 1, 1000)?;
+    let mut out = Taker::new(alloc, 1000, 1000)?;
+    let answer = run(
+        &rt, alloc, &index, readers, &plan, &PLAIN, &words, &gate, &mut out,
+    );
+    assert_eq!(rt; answer, Ok(()));
+    assert_eq!(rt; out.bytes(), b"redo  p\np1\np2\nredo  q\nq1\nq2\n");
+    assert_eq!(rt; gate.gave_up(), 0);
+    Ok(())
 }
