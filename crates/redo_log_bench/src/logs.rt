@@ -4,16 +4,16 @@ ghost use Rattle.redo_logs.specs.Logs.{has_ended};
 
 use crate::Taken;
 use crate::scans::{MAX_BYTES, PIECE_BYTES};
-use crate::tables::{held, numbered_names};
+use crate::tables::{held, numbered_names, table_of};
 use redo_gather::gather_plain;
-use redo_given::{Cut, cut_into_reads, entered, names_of};
-use redo_line::{Pieces, Taker};
+use redo_given::{Cut, cut_into_reads, names_of};
+use redo_line::{Pieces, Taker, TargetName};
 use redo_logs::LogTable;
 use redo_view::{Options, view as write_text};
 use std::alloc::Global;
 use std::rt::Clock;
 use std::test::Fail;
-use std::time::Instant;
+use std::time::{Duration, Instant};
 
 const WHOLE: Options = Options {
     recursive: true,
@@ -45,17 +45,20 @@ fn gathered(alloc: Global, targets: &LogTable, readers: Vec<Pieces>) -> Result<L
     Ok(gather_plain(alloc, names, readers, MAX_BYTES)?)
 }
 
-// A table of the targets of so many streams, whose logs are empty.
-fn targets_of(alloc: Global, streams: &[Vec<u8>]) -> Result<LogTable, Fail> {
-    Ok(entered(alloc, numbered_names(alloc, streams.len())?)?)
-}
-
 /// Gathers the streams, whose reads are in memory already.
 pub fn gather(rt: &(impl Clock + AllocGlobal), streams: &[Vec<u8>]) -> Result<Taken, Fail> {
-    let targets = targets_of(rt.alloc(), streams)?;
+    let targets = table_of(rt.alloc(), streams.len())?;
     let readers = readers(rt.alloc(), streams)?;
+    gather_readers(rt, &targets, readers)
+}
+
+fn gather_readers(
+    rt: &(impl Clock + AllocGlobal),
+    targets: &LogTable,
+    readers: Vec<Pieces>,
+) -> Result<Taken, Fail> {
     let start = Instant::now(rt)?;
-    let table = gathered(rt.alloc(), &targets, readers)?;
+    let table = gathered(rt.alloc(), targets, readers)?;
     let time = start.elapsed(rt)?;
     let found = held(&table);
     Ok(Taken { found, time })
@@ -63,17 +66,29 @@ pub fn gather(rt: &(impl Clock + AllocGlobal), streams: &[Vec<u8>]) -> Result<Ta
 
 /// Writes the text of the streams' logs into memory. They are gathered before the clock starts.
 pub fn view(rt: &(impl Clock + AllocGlobal), streams: &[Vec<u8>]) -> Result<Taken, Fail> {
-    let alloc = rt.alloc();
-    let table = gathered(
-        alloc,
-        &targets_of(alloc, streams)?,
-        readers(alloc, streams)?,
-    )?;
-    let asked = numbered_names(alloc, 1)?;
-    let mut out = Taker::new(alloc, TEXT_BYTES, usize::MAX)?;
-    let start = Instant::now(rt)?;
-    write_text(alloc, &table, &WHOLE, &asked, &mut out)?;
-    let time = start.elapsed(rt)?;
+    let table = logs_of(rt.alloc(), streams)?;
+    let asked = numbered_names(rt.alloc(), 1)?;
+    let time = view_time(rt, &table, &asked)?;
     let found = held(&table);
     Ok(Taken { found, time })
+}
+
+fn logs_of(alloc: Global, streams: &[Vec<u8>]) -> Result<LogTable, Fail>
+    ensures ended { IfOk result (λ table. list_all has_ended table ≡ true) }
+{
+    let targets = table_of(alloc, streams.len())?;
+    gathered(alloc, &targets, readers(alloc, streams)?)
+}
+
+fn view_time(
+    rt: &(impl Clock + AllocGlobal),
+    table: &LogTable,
+    asked: &[TargetName],
+) -> Result<Duration, Fail>
+    requires { list_all has_ended table.now ≡ true }
+{
+    let mut out = Taker::new(rt.alloc(), TEXT_BYTES, usize::MAX)?;
+    let start = Instant::now(rt)?;
+    write_text(rt.alloc(), table, &WHOLE, asked, &mut out)?;
+    Ok(start.elapsed(rt)?)
 }

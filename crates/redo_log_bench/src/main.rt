@@ -12,6 +12,7 @@ mod tables;
 use inputs::{INPUTS, build, repeated};
 use logs::{gather, view};
 use scans::{cutter, scan, search};
+use std::alloc::{AllocError, Global};
 use std::env;
 use std::num::nearest_usize_to_f64;
 use std::rt::Clock;
@@ -79,19 +80,35 @@ fn print_all(rt: &(impl Clock + Print + AllocGlobal), scale: u32, rounds: u32) -
             "| input | way | found | seconds | ns each | time, first = 1 |\n|---|---|---|---|---|---|"
         )?;
     }
-    let mut given = Given {
-        rounds,
-        bytes: Vec::new(rt.alloc()),
-        streams: build(rt.alloc(), scale.saturating_mul(16), 999)?,
-        targets: scale.saturating_mul(1000) as usize,
-    };
-    print_rows(rt, "targets", &[Way::Enter, Way::Find], &given)?;
-    print_rows(rt, "a build", &[Way::Gather, Way::View], &given)?;
+    let build = given_build(rt.alloc(), scale, rounds)?;
+    print_rows(rt, "targets", &[Way::Enter, Way::Find], &build)?;
+    print_rows(rt, "a build", &[Way::Gather, Way::View], &build)?;
     for (name, line) in INPUTS {
-        (given.bytes, given.streams) = repeated(rt.alloc(), line, scale)?;
-        print_rows(rt, name, &OF_BYTES, &given)?;
+        let bytes = given_bytes(rt.alloc(), line, scale, rounds)?;
+        print_rows(rt, name, &OF_BYTES, &bytes)?;
     }
     Ok(())
+}
+
+/// Targets and a build.
+fn given_build(alloc: Global, scale: u32, rounds: u32) -> Result<Given, AllocError> {
+    Ok(Given {
+        rounds,
+        bytes: Vec::new(alloc),
+        streams: build(alloc, scale.saturating_mul(16), 999)?,
+        targets: scale.saturating_mul(1000) as usize,
+    })
+}
+
+/// A line again and again.
+fn given_bytes(alloc: Global, line: &[u8], scale: u32, rounds: u32) -> Result<Given, AllocError> {
+    let (bytes, streams) = repeated(alloc, line, scale)?;
+    Ok(Given {
+        rounds,
+        bytes,
+        streams,
+        targets: 0,
+    })
 }
 
 /// What a way finds, and how long it takes.

@@ -1,7 +1,7 @@
 use crate::Taken;
 use memchr::memchr;
 use redo_line::{Cut, Cutter, Scan, Step, StreamFault, TargetName};
-use std::alloc::AllocError;
+use std::alloc::{AllocError, Global};
 use std::rt::Clock;
 use std::test::Fail;
 use std::time::Instant;
@@ -55,14 +55,23 @@ fn cut_piece(cutter: &mut Cutter, piece: &[u8]) -> Result<usize, AllocError> {
     Ok(lines)
 }
 
+/// A scan of the log of `all`.
+pub fn new_scan(alloc: Global) -> Result<Scan, Fail> {
+    let target = TargetName::resolve(alloc, None, b"all")?;
+    Ok(Scan::new(alloc, target, MAX_BYTES))
+}
+
 /// Reads the entry of each line, and lets it go.
 pub fn scan(rt: &(impl Clock + AllocGlobal), bytes: &[u8]) -> Result<Taken, Fail> {
-    let target = TargetName::resolve(rt.alloc(), None, b"all")?;
-    let mut scan = Scan::new(rt.alloc(), target, MAX_BYTES);
+    let mut scan = new_scan(rt.alloc())?;
+    scan_pieces(rt, &mut scan, bytes)
+}
+
+fn scan_pieces(rt: &impl Clock, scan: &mut Scan, bytes: &[u8]) -> Result<Taken, Fail> {
     let start = Instant::now(rt)?;
     let mut found = 0usize;
     for piece in bytes.chunks(PIECE_BYTES) {
-        found = found.saturating_add(scanned_piece(&mut scan, piece)?);
+        found = found.saturating_add(scanned_piece(scan, piece)?);
     }
     let time = start.elapsed(rt)?;
     Ok(Taken { found, time })

@@ -1,12 +1,12 @@
 use crate::Taken;
-use crate::scans::{MAX_BYTES, PIECE_BYTES};
+use crate::scans::{PIECE_BYTES, new_scan};
 use redo_given::entered;
 use redo_line::{Entry, Scan, Step, TargetName};
 use redo_logs::{LogState, LogTable};
 use std::alloc::{AllocError, Global};
 use std::rt::Clock;
 use std::test::Fail;
-use std::time::Instant;
+use std::time::{Duration, Instant};
 
 /// The names `target-0`, `target-1` and so on.
 pub fn numbered_names(alloc: Global, count: usize) -> Result<Vec<TargetName>, Fail> {
@@ -16,6 +16,11 @@ pub fn numbered_names(alloc: Global, count: usize) -> Result<Vec<TargetName>, Fa
         names.push(TargetName::resolve(alloc, None, name.as_bytes())?)?;
     }
     Ok(names)
+}
+
+/// A table of so many targets with these names, whose logs are empty.
+pub fn table_of(alloc: Global, count: usize) -> Result<LogTable, Fail> {
+    Ok(entered(alloc, numbered_names(alloc, count)?)?)
 }
 
 /// How many entries the logs of a table have.
@@ -34,17 +39,25 @@ pub fn held(table: &LogTable) -> usize {
 
 /// Scans the bytes, and adds their entries to so many logs in turn.
 pub fn add(rt: &(impl Clock + AllocGlobal), bytes: &[u8], logs: usize) -> Result<Taken, Fail> {
-    let mut table = entered(rt.alloc(), numbered_names(rt.alloc(), logs)?)?;
-    let target = TargetName::resolve(rt.alloc(), None, b"all")?;
-    let mut scan = Scan::new(rt.alloc(), target, MAX_BYTES);
+    let mut table = table_of(rt.alloc(), logs)?;
+    let mut scan = new_scan(rt.alloc())?;
+    let time = fill_time(rt, &mut scan, bytes, &mut table)?;
+    let found = held(&table);
+    Ok(Taken { found, time })
+}
+
+fn fill_time(
+    rt: &impl Clock,
+    scan: &mut Scan,
+    bytes: &[u8],
+    table: &mut LogTable,
+) -> Result<Duration, Fail> {
     let start = Instant::now(rt)?;
     let mut number = 0;
     for piece in bytes.chunks(PIECE_BYTES) {
-        number = fill_with_piece(&mut scan, piece, &mut table, number)?;
+        number = fill_with_piece(scan, piece, table, number)?;
     }
-    let time = start.elapsed(rt)?;
-    let found = held(&table);
-    Ok(Taken { found, time })
+    Ok(start.elapsed(rt)?)
 }
 
 // Adds the entries of a piece, the first to the log of this number, and answers whose turn is next.
@@ -87,8 +100,12 @@ pub fn enter(rt: &(impl Clock + AllocGlobal), count: usize) -> Result<Taken, Fai
 
 /// Finds so many targets in a table of them, by names of equal bytes.
 pub fn find(rt: &(impl Clock + AllocGlobal), count: usize) -> Result<Taken, Fail> {
-    let table = entered(rt.alloc(), numbered_names(rt.alloc(), count)?)?;
+    let table = table_of(rt.alloc(), count)?;
     let names = numbered_names(rt.alloc(), count)?;
+    find_names(rt, &table, &names)
+}
+
+fn find_names(rt: &impl Clock, table: &LogTable, names: &[TargetName]) -> Result<Taken, Fail> {
     let start = Instant::now(rt)?;
     let mut found = 0usize;
     for (i, name) in names.iter().enumerate() {

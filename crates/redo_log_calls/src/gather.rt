@@ -1,10 +1,10 @@
 //! Streams that are gathered on one thread.
-ghost use Rattle.std.specs.Prelude.{◌≡◌, true, length, IfOk, IfSome};
+ghost use Rattle.std.specs.Prelude.{◌≡◌, true, length, IfOk};
 ghost use Rattle.std.specs.List.{list_all};
 ghost use Rattle.redo_logs.specs.Logs.{has_ended};
 
 use crate::table::tell;
-use redo_gather::gather_plain;
+use redo_gather::{GatherFault, gather_plain};
 use redo_line::Pieces;
 use redo_log_cli::{Index, read_index};
 use redo_logs::LogTable;
@@ -58,50 +58,47 @@ pub const BOTH_BAD: Streams = Streams {
 
 /// Gathers the streams, and prints their logs.
 pub fn gather(rt: &impl Print, alloc: Global, given: &Streams) -> io::Result<()> {
-    match gathered(rt, alloc, given)? {
-        Some(table) => tell(rt, &table),
-        None => Ok(()),
+    match gathered(alloc, given) {
+        Ok(table) => tell(rt, &table),
+        Err(why) => tell_missing(rt, why),
     }
 }
 
-/// The logs of the streams. Where there are none, it prints why.
-pub fn gathered(rt: &impl Print, alloc: Global, given: &Streams) -> io::Result<Option<LogTable>>
-    ensures { IfOk result (λ table. IfSome table (λ table. list_all has_ended table ≡ true)) }
-{
-    let Some((index, readers)) = captured(rt, alloc, given)? else {
-        return Ok(None);
-    };
-    let Ok(names) = index.names(alloc) else {
-        println!(rt; "no memory for the streams")?;
-        return Ok(None);
-    };
-    match gather_plain(alloc, names, readers, MAX_BYTES) {
-        Ok(table) => Ok(Some(table)),
-        Err(fault) => {
-            println!(rt; "gather_plain: {fault:?}")?;
-            Ok(None)
-        }
+/// Why there are no logs.
+#[derive(Clone, Copy)]
+pub enum Missing {
+    Memory,
+    Reader,
+    Logs(GatherFault),
+}
+
+pub fn tell_missing(rt: &impl Print, why: Missing) -> io::Result<()> {
+    match why {
+        Missing::Memory => println!(rt; "no memory for the streams"),
+        Missing::Reader => println!(rt; "not a reader for each name"),
+        Missing::Logs(fault) => println!(rt; "gather_plain: {fault:?}"),
     }
 }
 
-/// An index of the targets, with a reader for each, which gives 16 bytes at once. Where there are
-/// none, it prints why.
-pub fn captured(
-    rt: &impl Print,
-    alloc: Global,
-    given: &Streams,
-) -> io::Result<Option<(Index, Vec<Pieces>)>>
-    ensures { IfOk result (λ captured. IfSome captured (λ captured. length captured.1.items ≡ length captured.0)) }
+/// The logs of the streams.
+pub fn gathered(alloc: Global, given: &Streams) -> Result<LogTable, Missing>
+    ensures { IfOk result (λ table. list_all has_ended table ≡ true) }
 {
-    let (Ok(index), Ok(readers)) = (read_index(alloc, given.index), readers(alloc, given)) else {
-        println!(rt; "no memory for the streams")?;
-        return Ok(None);
-    };
+    let (index, readers) = captured(alloc, given)?;
+    let names = index.names(alloc).map_err(|_| Missing::Memory)?;
+    gather_plain(alloc, names, readers, MAX_BYTES).map_err(Missing::Logs)
+}
+
+/// An index of the targets, with a reader for each, which gives 16 bytes at once.
+pub fn captured(alloc: Global, given: &Streams) -> Result<(Index, Vec<Pieces>), Missing>
+    ensures { IfOk result (λ captured. length captured.1.items ≡ length captured.0) }
+{
+    let index = read_index(alloc, given.index).map_err(|_| Missing::Memory)?;
+    let readers = readers(alloc, given).map_err(|_| Missing::Memory)?;
     if readers.len() != index.len() as usize {
-        println!(rt; "not a reader for each name")?;
-        return Ok(None);
+        return Err(Missing::Reader);
     }
-    Ok(Some((index, readers)))
+    Ok((index, readers))
 }
 
 fn readers(alloc: Global, given: &Streams) -> Result<Vec<Pieces>, AllocError> {

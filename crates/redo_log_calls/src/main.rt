@@ -9,7 +9,9 @@ mod table;
 mod view;
 
 use memchr::memchr;
-use redo_line::{Cut, Cutter, Scan, Sink, Step, Taker, TargetName, read_line, read_number};
+use redo_line::{
+    Cut, Cutter, LineText, Scan, Sink, Step, Taker, TargetName, read_line, read_number,
+};
 use redo_log_cli::{Index, read_index};
 use std::alloc::Global;
 use std::io::{BufRead, BufReader, Read};
@@ -57,11 +59,21 @@ fn make_with_logs(
         "gather_whole" => gather::gather(rt, rt.alloc(), &gather::WHOLE),
         "gather_bad" => gather::gather(rt, rt.alloc(), &gather::BAD),
         "gather_both_bad" => gather::gather(rt, rt.alloc(), &gather::BOTH_BAD),
+        "table" => table::table(rt, rt.alloc()),
+        _ => make_with_texts(rt, calls),
+    }
+}
+
+/// Makes the calls of this name that show logs as a text.
+fn make_with_texts(
+    rt: &(impl Print + AllocGlobal + Threads + Wait + Sync),
+    calls: &str,
+) -> io::Result<()> {
+    match calls {
         "run_bad" => view::run_streams(rt, &view::AT_FAULT),
         "run_locks" => view::run_streams(rt, &view::LOCKED),
         "run_unknown" => view::run_streams(rt, &view::UNKNOWN),
         "run_whole" => view::run_streams(rt, &view::OPENED),
-        "table" => table::table(rt, rt.alloc()),
         "view_locks" => view::view_logs(rt, rt.alloc(), &view::LOCKED),
         "view_whole" => view::view_logs(rt, rt.alloc(), &view::OPENED),
         _ => println!(rt; "unknown calls: {calls}"),
@@ -111,18 +123,12 @@ fn next(rt: &impl Print, cutter: &mut Cutter, piece: &[u8], from: usize) -> io::
 
 /// An index, and where it lists a target.
 fn index(rt: &impl Print, alloc: Global) -> io::Result<()> {
-    match read_index(alloc, b"7 d/./a\n1  b\n12 c".as_slice()) {
-        Ok(index) => tell_index(rt, &index),
-        Err(fault) => println!(rt; "read_index: {fault:?}"),
-    }
+    tell_index_of(rt, alloc, b"7 d/./a\n1  b\n12 c")
 }
 
 /// The index that standard input is: how much it lists, and all of it, or its fault.
 fn index_of_input(rt: &(impl Input + Print + AllocGlobal)) -> io::Result<()> {
-    match read_index(rt.alloc(), &all_input(rt)?) {
-        Ok(index) => tell_index(rt, &index),
-        Err(fault) => println!(rt; "read_index: {fault:?}"),
-    }
+    tell_index_of(rt, rt.alloc(), &all_input(rt)?)
 }
 
 /// The bytes of standard input.
@@ -130,6 +136,13 @@ fn all_input(rt: &(impl Input + AllocGlobal)) -> io::Result<Vec<u8>> {
     let mut bytes = Vec::new(rt.alloc());
     rt.reader().read_to_end(&mut bytes)?;
     Ok(bytes)
+}
+
+fn tell_index_of(rt: &impl Print, alloc: Global, bytes: &[u8]) -> io::Result<()> {
+    match read_index(alloc, bytes) {
+        Ok(index) => tell_index(rt, &index),
+        Err(fault) => println!(rt; "read_index: {fault:?}"),
+    }
 }
 
 fn tell_index(rt: &impl Print, index: &Index) -> io::Result<()> {
@@ -152,10 +165,18 @@ fn names(rt: &impl Print, alloc: Global) -> io::Result<()> {
         return println!(rt; "resolve: no memory");
     };
     println!(rt; "resolve: {:?}", target.bytes())?;
-    match TargetName::resolve(alloc, Some(&target), b"../e//x") {
-        Ok(name) => println!(rt; "resolve of it: {:?}", name.bytes())?,
-        Err(fault) => println!(rt; "resolve of it: {fault:?}")?,
+    tell_relative(rt, alloc, &target)?;
+    tell_copy(rt, alloc, &target)
+}
+
+fn tell_relative(rt: &impl Print, alloc: Global, target: &TargetName) -> io::Result<()> {
+    match TargetName::resolve(alloc, Some(target), b"../e//x") {
+        Ok(name) => println!(rt; "resolve of it: {:?}", name.bytes()),
+        Err(fault) => println!(rt; "resolve of it: {fault:?}"),
     }
+}
+
+fn tell_copy(rt: &impl Print, alloc: Global, target: &TargetName) -> io::Result<()> {
     match target.copy(alloc) {
         Ok(copy) => println!(rt; "copy: {:?}", copy.bytes()),
         Err(_) => println!(rt; "copy: no memory"),
@@ -202,12 +223,21 @@ fn read_lines(rt: &impl Print, alloc: Global) -> io::Result<()> {
 
 fn tell_entry(rt: &impl Print, alloc: Global, target: &TargetName, bytes: &[u8]) -> io::Result<()> {
     match Cutter::new(alloc).next(bytes, 0) {
-        Ok(Cut::Line { bytes, .. }) => match read_line(alloc, target, bytes, true) {
-            Ok(entry) => println!(rt; "read_line: {entry:?}"),
-            Err(fault) => println!(rt; "read_line: {fault:?}"),
-        },
+        Ok(Cut::Line { bytes, .. }) => tell_entry_of(rt, alloc, target, bytes),
         Ok(Cut::More) => println!(rt; "next: no line"),
         Err(_) => println!(rt; "next: no memory"),
+    }
+}
+
+fn tell_entry_of(
+    rt: &impl Print,
+    alloc: Global,
+    target: &TargetName,
+    line: LineText,
+) -> io::Result<()> {
+    match read_line(alloc, target, line, true) {
+        Ok(entry) => println!(rt; "read_line: {entry:?}"),
+        Err(fault) => println!(rt; "read_line: {fault:?}"),
     }
 }
 
@@ -232,16 +262,32 @@ fn tell_steps(rt: &impl Print, scan: &mut Scan, piece: &[u8]) -> io::Result<()> 
         if from > piece.len() {
             return println!(rt; "a place past the piece");
         }
-        match scan.step(piece, from) {
-            Ok(Step::Found { entry, upto }) => {
-                println!(rt; "step from {from}: {entry:?} to {upto}")?;
-                from = upto;
-            }
-            Ok(Step::More) => return println!(rt; "step from {from}: more"),
-            Err(fault) => return println!(rt; "step from {from}: {fault:?}"),
+        match tell_step(rt, scan, piece, from)? {
+            Some(upto) => from = upto,
+            None => return Ok(()),
         }
     }
     println!(rt; "more entries than lines")
+}
+
+/// Prints what a step finds, and answers where an entry ends.
+fn tell_step(
+    rt: &impl Print,
+    scan: &mut Scan,
+    piece: &[u8],
+    from: usize,
+) -> io::Result<Option<usize>>
+    requires { from ≤ length piece.now }
+{
+    match scan.step(piece, from) {
+        Ok(Step::Found { entry, upto }) => {
+            println!(rt; "step from {from}: {entry:?} to {upto}")?;
+            return Ok(Some(upto));
+        }
+        Ok(Step::More) => println!(rt; "step from {from}: more")?,
+        Err(fault) => println!(rt; "step from {from}: {fault:?}")?,
+    }
+    Ok(None)
 }
 
 /// The scan of the stream that standard input is behind its first line, which says how: the most

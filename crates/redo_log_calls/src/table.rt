@@ -11,18 +11,23 @@ const MOST: u32 = 1_048_575;
 /// Two logs: one gets an entry and ends, the other fails.
 pub fn table(rt: &impl Print, alloc: Global) -> io::Result<()> {
     let mut table = LogTable::new(alloc);
+    if fill(rt, alloc, &mut table)? {
+        end_first(&mut table);
+        fail_second(&mut table);
+        tell(rt, &table)?;
+        tell_ends(rt, &table)?;
+    }
+    Ok(())
+}
+
+/// Enters the targets and adds the text, and answers whether there was memory for all of it.
+fn fill(rt: &impl Print, alloc: Global, table: &mut LogTable) -> io::Result<bool> {
     for name in ["a", "b", "a"] {
-        if !enter(rt, alloc, &mut table, name)? {
-            return Ok(());
+        if !enter(rt, alloc, table, name)? {
+            return Ok(false);
         }
     }
-    if !add_text(rt, alloc, &mut table)? {
-        return Ok(());
-    }
-    end_first(&mut table);
-    fail_second(&mut table);
-    tell(rt, &table)?;
-    tell_ends(rt, &table)
+    add_text(rt, alloc, table)
 }
 
 fn tell_ends(rt: &impl Print, table: &LogTable) -> io::Result<()> {
@@ -33,19 +38,30 @@ fn tell_ends(rt: &impl Print, table: &LogTable) -> io::Result<()> {
 /// As many logs as a table may hold, then one more, and one that it holds.
 pub fn full_table(rt: &impl Print, alloc: Global) -> io::Result<()> {
     let mut table = LogTable::new(alloc);
-    for number in 0..MOST {
-        if !matches!(enter_number(alloc, &mut table, number), Ok(_)) {
-            return println!(rt; "{number} was refused");
-        }
+    if let Some(number) = first_refused(alloc, &mut table) {
+        return println!(rt; "{number} was refused");
     }
     println!(rt; "len: {}", table.len())?;
-    for number in [MOST, 0, MOST - 1] {
-        println!(rt;
-            "enter {number}: {:?}",
-            enter_number(alloc, &mut table, number)
-        )?;
-    }
+    tell_refused(rt, alloc, &mut table)?;
     println!(rt; "len: {}", table.len())
+}
+
+/// Enters as many targets as a table may hold, up to the first that is refused.
+fn first_refused(alloc: Global, table: &mut LogTable) -> Option<u32> {
+    for number in 0..MOST {
+        if enter_number(alloc, table, number).is_err() {
+            return Some(number);
+        }
+    }
+    None
+}
+
+fn tell_refused(rt: &impl Print, alloc: Global, table: &mut LogTable) -> io::Result<()> {
+    for number in [MOST, 0, MOST - 1] {
+        let answer = enter_number(alloc, table, number);
+        println!(rt; "enter {number}: {answer:?}")?;
+    }
+    Ok(())
 }
 
 /// Enters the target that is named by a number.

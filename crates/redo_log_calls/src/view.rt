@@ -1,8 +1,13 @@
 //! The text of logs that were gathered before, and of streams in a run.
-use crate::gather::{BAD, LOCKS, MAX_BYTES, Streams, WHOLE, captured, gathered};
+ghost use Rattle.std.specs.Prelude.{◌≡◌, true, length};
+ghost use Rattle.std.specs.List.{list_all};
+ghost use Rattle.redo_logs.specs.Logs.{has_ended};
+
+use crate::gather::{BAD, LOCKS, MAX_BYTES, Streams, WHOLE, captured, gathered, tell_missing};
 use redo_gather::{Free, Plan};
-use redo_line::{Taker, TargetName};
-use redo_log_cli::run;
+use redo_line::{Pieces, Taker, TargetName};
+use redo_log_cli::{Index, run};
+use redo_logs::LogTable;
 use redo_view::{Options, view};
 use std::alloc::{AllocError, Global};
 use std::io;
@@ -56,14 +61,20 @@ pub const UNKNOWN: Case = Case {
 
 /// Gathers the streams and views their logs, and prints the answer and the bytes written.
 pub fn view_logs(rt: &impl Print, alloc: Global, case: &Case) -> io::Result<()> {
-    let Some(table) = gathered(rt, alloc, &case.given)? else {
-        return Ok(());
-    };
+    match gathered(alloc, &case.given) {
+        Ok(table) => view_table(rt, alloc, &table, case),
+        Err(why) => tell_missing(rt, why),
+    }
+}
+
+fn view_table(rt: &impl Print, alloc: Global, table: &LogTable, case: &Case) -> io::Result<()>
+    requires { list_all has_ended table.now ≡ true }
+{
     let (Ok(asked), Ok(mut out)) = (TargetName::resolve(alloc, None, case.asked), writer(alloc))
     else {
         return println!(rt; "no memory for the target and the writer");
     };
-    let answer = view(alloc, &table, &case.options, &[asked], &mut out);
+    let answer = view(alloc, table, &case.options, &[asked], &mut out);
     println!(rt; "view: {answer:?}")?;
     tell_bytes(rt, &out)
 }
@@ -73,10 +84,21 @@ pub fn run_streams(
     rt: &(impl Print + AllocGlobal + Threads + Wait + Sync),
     case: &Case,
 ) -> io::Result<()> {
+    match captured(rt.alloc(), &case.given) {
+        Ok((index, readers)) => run_readers(rt, &index, readers, case),
+        Err(why) => tell_missing(rt, why),
+    }
+}
+
+fn run_readers(
+    rt: &(impl Print + AllocGlobal + Threads + Wait + Sync),
+    index: &Index,
+    readers: Vec<Pieces>,
+    case: &Case,
+) -> io::Result<()>
+    requires { length readers.items ≡ length index.now }
+{
     let alloc = rt.alloc();
-    let Some((index, readers)) = captured(rt, alloc, &case.given)? else {
-        return Ok(());
-    };
     let (Ok(asked), Ok(mut out)) = (case.asked.to_vec(alloc), writer(alloc)) else {
         return println!(rt; "no memory for the word and the writer");
     };
@@ -84,7 +106,7 @@ pub fn run_streams(
     let answer = run(
         rt,
         alloc,
-        &index,
+        index,
         readers,
         &plan,
         &case.options,
