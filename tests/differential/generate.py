@@ -375,8 +375,8 @@ def some_options(rng):
         options.append([b"--no-details"])
     if rng.random() < 0.35:
         options.append([b"--debug-locks"])
-    if rng.random() < 0.4:
-        options.append([b"--senders", rng.choice([b"1", b"1", b"2", b"3", b"4", b"7", b"10", b"63", b"64"])])
+    if rng.random() < 0.8:
+        options.append([b"--senders", rng.choice([b"1", b"1", b"2", b"2", b"3", b"3", b"4", b"7", b"63", b"64", b"64"])])
     if rng.random() < 0.4:
         options.append([b"--capacity", rng.choice([b"1", b"1", b"2", b"3", b"64", b"65", b"1000", b"65535", b"65536"])])
     return options

@@ -1,5 +1,5 @@
 /* Preloaded into a program: answers null to the request for memory whose number REFUSE_REQUEST
-   gives, counted from 1, and to no other. It then writes one byte to the file descriptor 9. */
+   gives, counted from 1 over all threads, and to no other. It then writes one byte to the file descriptor 9. */
 #include <stddef.h>
 #include <stdlib.h>
 #include <unistd.h>
@@ -11,7 +11,7 @@ static long requests;
 
 static int is_refused(void) {
     const char *number = getenv("REFUSE_REQUEST");
-    if (number == NULL || ++requests != atol(number)) {
+    if (number == NULL || __atomic_add_fetch(&requests, 1, __ATOMIC_SEQ_CST) != atol(number)) {
         return 0;
     }
     (void)!write(9, "r", 1);

@@ -5,7 +5,7 @@ ghost use Rattle.redo_line.specs.declared.stream_fault.StreamFault.TheVariants.{
 ghost use Rattle.redo_logs.specs.Logs.{new_log, most, targets_of, has_ended};
 ghost use Rattle.redo_gather.specs.GatherFault.{IfStreamFault};
 ghost use Rattle.redo_gather.specs.Streams.{AreLogs, IsFault};
-ghost use Rattle.redo_gather.specs.Private.Dealing.{AreAllOwed, AreDealt, AreEmpty, numbered};
+ghost use Rattle.redo_gather.specs.Private.Dealing.{AreDealt, AreEmpty, AreRead};
 
 use crate::gate::Gate;
 use crate::gather_fault::GatherFault;
@@ -22,7 +22,16 @@ use std::sync::Wait;
 use std::thread;
 use std::thread::{PromisedHandle, Scope, Threads};
 
-/// Reads streams side by side, and answers the logs of their targets, in the order of the names.
+/// Reads streams side by side, by the plan's senders, and answers the logs of their targets, in the order
+/// of the names. Each reader gives the stream of the name at the same place. There have to be as many
+/// readers as names, at most 1,048,575, and no name twice; there may be none.
+///
+/// Sender i reads the streams i, i + n, i + 2n and so on, in a thread of its own; where there are fewer
+/// streams than senders, no more are started than there are streams. Each stream is read as
+/// [`crate::gather_plain`] reads it, also behind one that is at fault. Where a stream can't be had, the
+/// least-numbered of these is told; but want of memory, also of a thread, is told before any of them.
+/// The gate is told of each read by the sender, and of entries and ends by the thread that calls, once all
+/// senders have ended, in the order of the names. The plan's capacity isn't used yet.
 pub fn gather<T: Threads + Wait + Sync, R: Feed + Send, G: Gate>(
     rt: &T,
     alloc: Global,
@@ -52,7 +61,7 @@ pub fn gather<T: Threads + Wait + Sync, R: Feed + Send, G: Gate>(
         thread::scope_env(),
         rt,
         |scope| -> Result<Vec<VecDeque<StreamLog>>, AllocError>
-            ensures { IfOk result (λ logs. AreAllOwed plan.entry.now.max_bytes (map (λ share. map (numbered R.tells) share.items) shares.items) (map (λ logs. logs.items) logs.items)) }
+            ensures { IfOk result (λ logs. AreRead R.tells plan.entry.now.max_bytes shares.items logs.items) }
         { read_shares(scope, rt, alloc, shares, plan, gate) },
     )?;
     for number in 0..table.len() {
@@ -84,7 +93,8 @@ fn deal<R: Feed>(
     requires readers { length readers.items ≡ length table.now }
     requires size { length readers.items ≤ most }
     requires senders { 0 < length readers.items → 0 < senders }
-    ensures { IfOk result (λ shares. AreDealt R.tells senders (zip (targets_of table.now) (map R.tells readers.items)) (map (λ share. share.items) shares.items)) }
+    ensures { IfOk result (λ shares.
+        AreDealt R.tells senders (zip (targets_of table.now) (map R.tells readers.items)) (map (λ share. share.items) shares.items)) }
 {
     let mut shares = no_shares(alloc, senders)?;
     let mut number = 0;
@@ -118,7 +128,7 @@ fn read_shares<'s, T: Threads + Wait + Sync, R: Feed + Send + 's, G: Gate, E>(
     plan: &Plan,
     gate: &'s G,
 ) -> Result<Vec<VecDeque<StreamLog>>, AllocError>
-    ensures { IfOk result (λ logs. AreAllOwed plan.now.max_bytes (map (λ share. map (numbered R.tells) share.items) shares.items) (map (λ logs. logs.items) logs.items)) }
+    ensures { IfOk result (λ logs. AreRead R.tells plan.now.max_bytes shares.items logs.items) }
 {
     let mut shares = shares;
     let Some(share) = shares.pop() else {

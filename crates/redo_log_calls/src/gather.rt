@@ -1,15 +1,17 @@
-//! Streams that are gathered on one thread.
+//! Streams that are gathered, by senders or on one thread.
 ghost use Rattle.std.specs.Prelude.{◌≡◌, true, length, IfOk};
 ghost use Rattle.std.specs.List.{list_all};
 ghost use Rattle.redo_logs.specs.Logs.{has_ended};
 
 use crate::table::tell;
-use redo_gather::{GatherFault, gather_plain};
+use redo_gather::{Free, GatherFault, Plan, gather_plain};
 use redo_line::Pieces;
 use redo_log_cli::{Index, read_index};
 use redo_logs::LogTable;
 use std::alloc::{AllocError, Global};
 use std::io;
+use std::sync::Wait;
+use std::thread::Threads;
 
 /// How many bytes a stream may have.
 pub const MAX_BYTES: u64 = 1000;
@@ -56,9 +58,18 @@ pub const BOTH_BAD: Streams = Streams {
     ],
 };
 
-/// Gathers the streams, and prints their logs.
-pub fn gather(rt: &impl Print, alloc: Global, given: &Streams) -> io::Result<()> {
-    match gathered(alloc, given) {
+/// Gathers the streams by the plan's senders, or on one thread where there is no plan, and prints
+/// their logs.
+pub fn gather(
+    rt: &(impl Print + AllocGlobal + Threads + Wait + Sync),
+    given: &Streams,
+    plan: Option<Plan>,
+) -> io::Result<()> {
+    let answer = match plan {
+        Some(plan) => gathered_by(rt, given, &plan),
+        None => gathered(rt.alloc(), given),
+    };
+    match answer {
         Ok(table) => tell(rt, &table),
         Err(why) => tell_missing(rt, why),
     }
@@ -76,7 +87,7 @@ pub fn tell_missing(rt: &impl Print, why: Missing) -> io::Result<()> {
     match why {
         Missing::Memory => println!(rt; "no memory for the streams"),
         Missing::Reader => println!(rt; "not a reader for each name"),
-        Missing::Logs(fault) => println!(rt; "gather_plain: {fault:?}"),
+        Missing::Logs(fault) => println!(rt; "gathering: {fault:?}"),
     }
 }
 
@@ -87,6 +98,19 @@ pub fn gathered(alloc: Global, given: &Streams) -> Result<LogTable, Missing>
     let (index, readers) = captured(alloc, given)?;
     let names = index.names(alloc).map_err(|_| Missing::Memory)?;
     gather_plain(alloc, names, readers, MAX_BYTES).map_err(Missing::Logs)
+}
+
+fn gathered_by<T: AllocGlobal + Threads + Wait + Sync>(
+    rt: &T,
+    given: &Streams,
+    plan: &Plan,
+) -> Result<LogTable, Missing> {
+    let alloc = rt.alloc();
+    let (index, readers) = captured(alloc, given)?;
+    let Ok(names) = index.names(alloc) else {
+        return Err(Missing::Memory);
+    };
+    redo_gather::gather(rt, alloc, names, readers, plan, &Free).map_err(Missing::Logs)
 }
 
 /// An index of the targets, with a reader for each, which gives 16 bytes at once.

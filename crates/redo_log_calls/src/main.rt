@@ -1,4 +1,5 @@
-//! Makes single calls, and prints what each answered and left. Its one argument names the calls.
+//! Makes single calls, and prints what each answered and left. Its one argument names the calls; where
+//! they gather streams, a number of senders may stand behind the name.
 //! The scripts of `tests` run it: one refuses it each request for memory in turn.
 #![tactic(auto)]
 
@@ -8,7 +9,9 @@ mod gather;
 mod table;
 mod view;
 
+use crate::gather::MAX_BYTES;
 use memchr::memchr;
+use redo_gather::Plan;
 use redo_line::{
     Cut, Cutter, LineText, Scan, Sink, Step, Taker, TargetName, read_line, read_number,
 };
@@ -49,18 +52,32 @@ fn make(
     }
 }
 
+/// A name of calls, and the plan of as many senders as the number behind it tells.
+fn with_plan(calls: &str) -> (&str, Option<Plan>) {
+    match calls.split_once(' ') {
+        Some((name, senders)) => (name, plan_of(senders)),
+        None => (calls, None),
+    }
+}
+
+fn plan_of(senders: &str) -> Option<Plan> {
+    let senders = read_number(2, senders.as_bytes())?;
+    Plan::new(senders as u32, 1, MAX_BYTES).ok()
+}
+
 /// Makes the calls of this name that need a table of logs.
 fn make_with_logs(
     rt: &(impl Print + AllocGlobal + Threads + Wait + Sync),
     calls: &str,
 ) -> io::Result<()> {
-    match calls {
+    let (name, plan) = with_plan(calls);
+    match name {
         "full_table" => table::full_table(rt, rt.alloc()),
-        "gather_whole" => gather::gather(rt, rt.alloc(), &gather::WHOLE),
-        "gather_bad" => gather::gather(rt, rt.alloc(), &gather::BAD),
-        "gather_both_bad" => gather::gather(rt, rt.alloc(), &gather::BOTH_BAD),
+        "gather_whole" => gather::gather(rt, &gather::WHOLE, plan),
+        "gather_bad" => gather::gather(rt, &gather::BAD, plan),
+        "gather_both_bad" => gather::gather(rt, &gather::BOTH_BAD, plan),
         "table" => table::table(rt, rt.alloc()),
-        _ => make_with_texts(rt, calls),
+        _ => make_with_texts(rt, name, plan),
     }
 }
 
@@ -68,12 +85,13 @@ fn make_with_logs(
 fn make_with_texts(
     rt: &(impl Print + AllocGlobal + Threads + Wait + Sync),
     calls: &str,
+    plan: Option<Plan>,
 ) -> io::Result<()> {
     match calls {
-        "run_bad" => view::run_streams(rt, &view::AT_FAULT),
-        "run_locks" => view::run_streams(rt, &view::LOCKED),
-        "run_unknown" => view::run_streams(rt, &view::UNKNOWN),
-        "run_whole" => view::run_streams(rt, &view::OPENED),
+        "run_bad" => view::run_streams(rt, &view::AT_FAULT, plan),
+        "run_locks" => view::run_streams(rt, &view::LOCKED, plan),
+        "run_unknown" => view::run_streams(rt, &view::UNKNOWN, plan),
+        "run_whole" => view::run_streams(rt, &view::OPENED, plan),
         "view_locks" => view::view_logs(rt, rt.alloc(), &view::LOCKED),
         "view_whole" => view::view_logs(rt, rt.alloc(), &view::OPENED),
         _ => println!(rt; "unknown calls: {calls}"),

@@ -79,13 +79,15 @@ fn view_table(rt: &impl Print, alloc: Global, table: &LogTable, case: &Case) -> 
     tell_bytes(rt, &out)
 }
 
-/// Runs the streams, and prints the answer and the bytes written.
+/// Runs the streams by the plan's senders, or by four, and prints the answer and the bytes written.
 pub fn run_streams(
     rt: &(impl Print + AllocGlobal + Threads + Wait + Sync),
     case: &Case,
+    plan: Option<Plan>,
 ) -> io::Result<()> {
+    let plan = plan.unwrap_or(Plan::new(4, 64, MAX_BYTES).unwrap());
     match captured(rt.alloc(), &case.given) {
-        Ok((index, readers)) => run_readers(rt, &index, readers, case),
+        Ok((index, readers)) => run_readers(rt, &index, readers, case, &plan),
         Err(why) => tell_missing(rt, why),
     }
 }
@@ -95,6 +97,7 @@ fn run_readers(
     index: &Index,
     readers: Vec<Pieces>,
     case: &Case,
+    plan: &Plan,
 ) -> io::Result<()>
     requires { length readers.items ≡ length index.now }
 {
@@ -102,13 +105,12 @@ fn run_readers(
     let (Ok(asked), Ok(mut out)) = (case.asked.to_vec(alloc), writer(alloc)) else {
         return println!(rt; "no memory for the word and the writer");
     };
-    let plan = Plan::new(4, 64, MAX_BYTES).unwrap();
     let answer = run(
         rt,
         alloc,
         index,
         readers,
-        &plan,
+        plan,
         &case.options,
         &[asked],
         &Free,

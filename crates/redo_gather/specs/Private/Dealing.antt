@@ -1,5 +1,7 @@
 -- How streams are dealt to senders, and what these owe for their shares.
 use Rattle.std.specs.Prelude.{◌≡◌, ℕ, suc, ◌%◌, nat_eq, List, [], ◌∷◌, Option, Some, cond, length, map, replicate, slice_get}
+use Rattle.std.specs.Global.{Global, Vec}
+use Rattle.std.specs.declared.collections.VecDeque.{VecDeque}
 use Rattle.redo_line.specs.Feed.{Stream}
 use Rattle.redo_gather.specs.declared.one_stream.StreamLog.{StreamLog}
 use Rattle.redo_gather.specs.Private.Owed.{Given, IsOwedFor}
@@ -42,3 +44,7 @@ AreAllOwed max_bytes [] [] = Unit {0}
 AreAllOwed max_bytes [] (logs ∷ others) = ⊥
 AreAllOwed max_bytes (share ∷ shares) [] = ⊥
 AreAllOwed max_bytes (share ∷ shares) (logs ∷ others) = AreOwed max_bytes share logs × AreAllOwed max_bytes shares others
+
+-- what was read of these shares is owed for them
+abbrev pub AreRead : {A : Type 0} → (A → Option Stream) → ℕ → List (Vec (ℕ × List ℕ × A)) → List (VecDeque StreamLog Global) → Type 0
+AreRead tells max_bytes shares logs = AreAllOwed max_bytes (map (λ share. map (numbered tells) share.items) shares) (map (λ list. list.items) logs)
