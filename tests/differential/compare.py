@@ -68,7 +68,7 @@ def main(program, first, last):
             number += 1
             statuses[expected[0]] += 1
             if b"--senders" in words[:-1] and expected[0] in (0, 4, 5):
-                senders[words[words.index(b"--senders") + 1]] += 1
+                senders[int(words[words.index(b"--senders") + 1])] += 1
             if same(expected, got):
                 continue
             differ += 1
@@ -79,7 +79,7 @@ def main(program, first, last):
     missing = [status for status in NEEDED_STATUSES if number >= 1000 and statuses[status] == 0]
     for status in missing:
         print(f"no case had the status {status}")
-    print("by senders: " + ", ".join(f"{count} with {how_many.decode()}" for how_many, count in sorted(senders.items())))
+    print("by senders: " + ", ".join(f"{count} with {how_many}" for how_many, count in sorted(senders.items())))
     print(f"differential: {number} directories, {differ} differ")
     print("status " + "".join(f"{status:>8}" for status in sorted(statuses)))
     print("cases  " + "".join(f"{statuses[status]:>8}" for status in sorted(statuses)))
