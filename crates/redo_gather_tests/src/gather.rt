@@ -3,9 +3,9 @@
 use crate::gathered::gathered;
 use redo_gather::GatherFault;
 use redo_given::{Answer, Cut, Given, Script, captured, cuts, entered, logs_text, reader};
-use redo_line::{StreamFault, TargetName};
+use redo_line::{Pieces, StreamFault, TargetName};
 use redo_logs::LogTable;
-use std::alloc::Global;
+use std::alloc::{AllocError, Global};
 use std::process::Abort;
 use std::sync::atomic::{AtomicU64, Ordering};
 use std::test::Fail;
@@ -15,16 +15,16 @@ type Want<'a> = Result<&'a str, GatherFault>;
 
 fn expect_answer(
     rt: &(impl Abort + AllocGlobal),
-    answer: Result<LogTable, GatherFault>,
+    answer: &Result<LogTable, GatherFault>,
     want: Want<'_>,
     message: &str,
 ) -> Result<(), Fail> {
     match answer {
         Ok(table) => {
-            let text = logs_text(rt.alloc(), &table)?;
+            let text = logs_text(rt.alloc(), table)?;
             assert_eq!(rt; Ok(text.as_str()), want, "{message}");
         }
-        Err(fault) => assert_eq!(rt; Err(fault), want, "{message}"),
+        Err(fault) => assert_eq!(rt; Err(*fault), want, "{message}"),
     }
     Ok(())
 }
@@ -36,14 +36,23 @@ fn expect(
     max_bytes: u64,
     want: Want<'_>,
 ) -> Result<(), Fail> {
-    let alloc = rt.alloc();
-    for cut in &cuts(alloc, given)? {
-        let (targets, readers) = captured(alloc, given, *cut)?;
-        let answer = gathered(alloc, &targets, readers, max_bytes)?;
-        let message = format!(in alloc; "{given:?} {cut:?}")?;
-        expect_answer(rt, answer, want, &message)?;
+    for cut in &cuts(rt.alloc(), given)? {
+        let answer = gathered_so(rt.alloc(), given, *cut, max_bytes)?;
+        let message = format!(in rt.alloc(); "{given:?} {cut:?}")?;
+        expect_answer(rt, &answer, want, &message)?;
     }
     Ok(())
+}
+
+/// What is gathered of the streams in such reads.
+fn gathered_so(
+    alloc: Global,
+    given: &[Given<'_>],
+    cut: Cut,
+    max_bytes: u64,
+) -> Result<Result<LogTable, GatherFault>, Fail> {
+    let (targets, readers) = captured(alloc, given, cut)?;
+    gathered(alloc, &targets, readers, max_bytes)
 }
 
 fn stream(number: u32, fault: StreamFault) -> GatherFault {
@@ -199,14 +208,23 @@ fn expect_reads(
     reads: u64,
     want: Want<'_>,
 ) -> Result<(), Fail> {
-    let alloc = rt.alloc();
     let count = AtomicU64::new(0);
-    let mut readers = Vec::new(alloc);
-    readers.push(Script::new(answers, last, &count))?;
-    let answer = gathered(alloc, &table_of(alloc, &["all"])?, readers, 1000)?;
-    expect_answer(rt, answer, want, "so many reads")?;
+    let answer = gathered_of_answers(rt.alloc(), answers, last, &count)?;
+    expect_answer(rt, &answer, want, "so many reads")?;
     assert_eq!(rt; count.load(Ordering::SeqCst), reads);
     Ok(())
+}
+
+/// What is gathered of the stream of `all`, of which the reads are counted here.
+fn gathered_of_answers(
+    alloc: Global,
+    answers: &[Answer],
+    last: Answer,
+    count: &AtomicU64,
+) -> Result<Result<LogTable, GatherFault>, Fail> {
+    let mut readers = Vec::new(alloc);
+    readers.push(Script::new(answers, last, count))?;
+    gathered(alloc, &table_of(alloc, &["all"])?, readers, 1000)
 }
 
 // It is asked once more than there may be bytes, a failed read is not tried again, and nothing is
@@ -222,32 +240,57 @@ fn a_reader_is_asked_so_often(rt: HostRuntime) -> Result<(), Fail> {
 
 #[test]
 fn no_reader_is_asked_behind_a_fault(rt: HostRuntime) -> Result<(), Fail> {
-    let alloc = rt.alloc();
     let (first, second) = (AtomicU64::new(0), AtomicU64::new(0));
-    let mut readers = Vec::new(alloc);
-    for reads in [&first, &second] {
-        readers.push(Script::new(&[], Answer::Failure, reads))?;
-    }
-    let answer = gathered(alloc, &table_of(alloc, &["a", "b"])?, readers, 1000)?;
-    assert_eq!(rt; answer.err(), Some(stream(0, StreamFault::Read)));
+    let fault = fault_of_failures(rt.alloc(), &first, &second)?;
+    assert_eq!(rt; fault, Some(stream(0, StreamFault::Read)));
     assert_eq!(rt; first.load(Ordering::SeqCst), 1);
     assert_eq!(rt; second.load(Ordering::SeqCst), 0);
     Ok(())
 }
 
+/// The fault of two streams, of which every read fails, counted here.
+fn fault_of_failures(
+    alloc: Global,
+    first: &AtomicU64,
+    second: &AtomicU64,
+) -> Result<Option<GatherFault>, Fail> {
+    let mut readers = Vec::new(alloc);
+    for reads in [first, second] {
+        readers.push(Script::new(&[], Answer::Failure, reads))?;
+    }
+    let targets = table_of(alloc, &["a", "b"])?;
+    Ok(gathered(alloc, &targets, readers, 1000)?.err())
+}
+
 #[test]
 fn there_may_be_many_streams(rt: HostRuntime) -> Result<(), Fail> {
     let alloc = rt.alloc();
+    let answer = gathered(alloc, &many_targets(alloc)?, many_readers(alloc)?, 1000)?;
+    expect_answer(&rt, &answer, Ok(many_logs(alloc)?.as_str()), "200 streams")
+}
+
+fn many_targets(alloc: Global) -> Result<LogTable, Fail> {
     let mut names = Vec::new(alloc);
-    let mut readers = Vec::new(alloc);
-    let mut want = String::new(alloc);
     for i in 1..201 {
         let name = format!(in alloc; "t{i}")?;
-        let line = format!(in alloc; "line {i}\n")?;
         names.push(TargetName::resolve(alloc, None, name.as_bytes())?)?;
-        readers.push(reader(alloc, &line, false, Cut::InReadsOf(3))?)?;
-        want.push_str(&format!(in alloc; "{name}: Ended\ntext|{line}")?)?;
     }
-    let answer = gathered(alloc, &entered(alloc, names)?, readers, 1000)?;
-    expect_answer(&rt, answer, Ok(want.as_str()), "200 streams")
+    Ok(entered(alloc, names)?)
+}
+
+fn many_readers(alloc: Global) -> Result<Vec<Pieces>, AllocError> {
+    let mut readers = Vec::new(alloc);
+    for i in 1..201 {
+        let line = format!(in alloc; "line {i}\n")?;
+        readers.push(reader(alloc, &line, false, Cut::InReadsOf(3))?)?;
+    }
+    Ok(readers)
+}
+
+fn many_logs(alloc: Global) -> Result<String, AllocError> {
+    let mut logs = String::new(alloc);
+    for i in 1..201 {
+        logs.push_str(&format!(in alloc; "t{i}: Ended\ntext|line {i}\n")?)?;
+    }
+    Ok(logs)
 }
