@@ -2,11 +2,11 @@
 //! least-numbered stream that has one.
 use crate::gate::{Event, Hold, Holding};
 use crate::gathered::{WAYS, Way, gathered_by};
-use redo_gather::{Free, GatherFault};
+use redo_gather::{Free, Gate, GatherFault};
 use redo_given::{Answer, Cut, Given, Script, captured, cuts, entered, logs_text, reader};
 use redo_line::{Pieces, StreamFault, TargetName};
 use redo_logs::LogTable;
-use std::alloc::Global;
+use std::alloc::{AllocError, Global};
 use std::process::Abort;
 use std::sync::Wait;
 use std::sync::atomic::{AtomicU64, Ordering};
@@ -18,16 +18,16 @@ type Want<'a> = Result<&'a str, GatherFault>;
 
 fn expect_answer(
     rt: &(impl Abort + AllocGlobal),
-    answer: Result<LogTable, GatherFault>,
+    answer: &Result<LogTable, GatherFault>,
     want: Want<'_>,
     message: &str,
 ) -> Result<(), Fail> {
     match answer {
         Ok(table) => {
-            let text = logs_text(rt.alloc(), &table)?;
+            let text = logs_text(rt.alloc(), table)?;
             assert_eq!(rt; Ok(text.as_str()), want, "{message}");
         }
-        Err(fault) => assert_eq!(rt; Err(fault), want, "{message}"),
+        Err(fault) => assert_eq!(rt; Err(*fault), want, "{message}"),
     }
     Ok(())
 }
@@ -39,16 +39,27 @@ fn expect(
     max_bytes: u64,
     want: Want<'_>,
 ) -> Result<(), Fail> {
-    let alloc = rt.alloc();
-    for cut in &cuts(alloc, given)? {
+    for cut in &cuts(rt.alloc(), given)? {
         for way in WAYS {
-            let (targets, readers) = captured(alloc, given, *cut)?;
-            let answer = gathered_by(rt, &targets, readers, max_bytes, way, &Free)?;
-            let message = format!(in alloc; "{given:?} {cut:?} {way:?}")?;
-            expect_answer(rt, answer, want, &message)?;
+            let answer = gathered_so(rt, given, *cut, max_bytes, way, &Free)?;
+            let message = format!(in rt.alloc(); "{given:?} {cut:?} {way:?}")?;
+            expect_answer(rt, &answer, want, &message)?;
         }
     }
     Ok(())
+}
+
+/// What is gathered of the streams in such reads.
+fn gathered_so<G: Gate>(
+    rt: &(impl AllocGlobal + Threads + Wait + Sync),
+    given: &[Given<'_>],
+    cut: Cut,
+    max_bytes: u64,
+    way: Way,
+    gate: &G,
+) -> Result<Result<LogTable, GatherFault>, Fail> {
+    let (targets, readers) = captured(rt.alloc(), given, cut)?;
+    gathered_by(rt, &targets, readers, max_bytes, way, gate)
 }
 
 fn stream(number: u32, fault: StreamFault) -> GatherFault {
@@ -205,15 +216,31 @@ fn expect_reads(
     way: Way,
     want: Want<'_>,
 ) -> Result<(), Fail> {
-    let alloc = rt.alloc();
     let count = AtomicU64::new(0);
-    let mut readers = Vec::new(alloc);
-    readers.push(Script::new(answers, last, &count))?;
-    let targets = table_of(alloc, &["all"])?;
-    let answer = gathered_by(rt, &targets, readers, 1000, way, &Free)?;
-    expect_answer(rt, answer, want, "so many reads")?;
+    let answer = gathered_of_answers(rt, answers, last, &count, way)?;
+    expect_answer(rt, &answer, want, "so many reads")?;
     assert_eq!(rt; count.load(Ordering::SeqCst), reads);
     Ok(())
+}
+
+/// What is gathered of the stream of `all`, of which the reads are counted here.
+fn gathered_of_answers(
+    rt: &(impl AllocGlobal + Threads + Wait + Sync),
+    answers: &[Answer],
+    last: Answer,
+    count: &AtomicU64,
+    way: Way,
+) -> Result<Result<LogTable, GatherFault>, Fail> {
+    let mut readers = Vec::new(rt.alloc());
+    readers.push(Script::new(answers, last, count))?;
+    gathered_by(
+        rt,
+        &table_of(rt.alloc(), &["all"])?,
+        readers,
+        1000,
+        way,
+        &Free,
+    )
 }
 
 // It is asked once more than there may be bytes, a failed read is not tried again, and nothing is
@@ -235,18 +262,27 @@ fn expect_second_reads(
     way: Way,
     want: u64,
 ) -> Result<(), Fail> {
-    let alloc = rt.alloc();
     let (first, second) = (AtomicU64::new(0), AtomicU64::new(0));
-    let mut readers = Vec::new(alloc);
-    for reads in [&first, &second] {
-        readers.push(Script::new(&[], Answer::Failure, reads))?;
-    }
-    let targets = table_of(alloc, &["a", "b"])?;
-    let answer = gathered_by(rt, &targets, readers, 1000, way, &Free)?;
-    assert_eq!(rt; answer.err(), Some(stream(0, StreamFault::Read)));
+    let fault = fault_of_failures(rt, &first, &second, way)?;
+    assert_eq!(rt; fault, Some(stream(0, StreamFault::Read)));
     assert_eq!(rt; first.load(Ordering::SeqCst), 1);
     assert_eq!(rt; second.load(Ordering::SeqCst), want);
     Ok(())
+}
+
+/// The fault of two streams, of which every read fails, counted here.
+fn fault_of_failures(
+    rt: &(impl AllocGlobal + Threads + Wait + Sync),
+    first: &AtomicU64,
+    second: &AtomicU64,
+    way: Way,
+) -> Result<Option<GatherFault>, Fail> {
+    let mut readers = Vec::new(rt.alloc());
+    for reads in [first, second] {
+        readers.push(Script::new(&[], Answer::Failure, reads))?;
+    }
+    let targets = table_of(rt.alloc(), &["a", "b"])?;
+    Ok(gathered_by(rt, &targets, readers, 1000, way, &Free)?.err())
 }
 
 #[test]
@@ -260,29 +296,52 @@ fn a_sender_goes_on_behind_a_fault(rt: HostRuntime) -> Result<(), Fail> {
     expect_second_reads(&rt, Way::Senders(2, 64), 1)
 }
 
-/// 200 targets, with a reader for each, and their logs.
-fn many(alloc: Global) -> Result<(LogTable, Vec<Pieces>, String), Fail> {
-    let mut names = Vec::new(alloc);
-    let mut readers = Vec::new(alloc);
-    let mut want = String::new(alloc);
-    for i in 1..201 {
-        let name = format!(in alloc; "t{i}")?;
-        let line = format!(in alloc; "line {i}\n")?;
-        names.push(TargetName::resolve(alloc, None, name.as_bytes())?)?;
-        readers.push(reader(alloc, &line, false, Cut::InReadsOf(3))?)?;
-        want.push_str(&format!(in alloc; "{name}: Ended\ntext|{line}")?)?;
-    }
-    Ok((entered(alloc, names)?, readers, want))
-}
-
 #[test]
 fn there_may_be_many_streams(rt: HostRuntime) -> Result<(), Fail> {
     for way in WAYS {
-        let (targets, readers, want) = many(rt.alloc())?;
-        let answer = gathered_by(&rt, &targets, readers, 1000, way, &Free)?;
-        expect_answer(&rt, answer, Ok(want.as_str()), "200 streams")?;
+        let answer = many_gathered(&rt, way)?;
+        expect_answer(
+            &rt,
+            &answer,
+            Ok(many_logs(rt.alloc())?.as_str()),
+            "200 streams",
+        )?;
     }
     Ok(())
+}
+
+fn many_gathered(
+    rt: &(impl AllocGlobal + Threads + Wait + Sync),
+    way: Way,
+) -> Result<Result<LogTable, GatherFault>, Fail> {
+    let targets = many_targets(rt.alloc())?;
+    gathered_by(rt, &targets, many_readers(rt.alloc())?, 1000, way, &Free)
+}
+
+fn many_targets(alloc: Global) -> Result<LogTable, Fail> {
+    let mut names = Vec::new(alloc);
+    for i in 1..201 {
+        let name = format!(in alloc; "t{i}")?;
+        names.push(TargetName::resolve(alloc, None, name.as_bytes())?)?;
+    }
+    Ok(entered(alloc, names)?)
+}
+
+fn many_readers(alloc: Global) -> Result<Vec<Pieces>, AllocError> {
+    let mut readers = Vec::new(alloc);
+    for i in 1..201 {
+        let line = format!(in alloc; "line {i}\n")?;
+        readers.push(reader(alloc, &line, false, Cut::InReadsOf(3))?)?;
+    }
+    Ok(readers)
+}
+
+fn many_logs(alloc: Global) -> Result<String, AllocError> {
+    let mut logs = String::new(alloc);
+    for i in 1..201 {
+        logs.push_str(&format!(in alloc; "t{i}: Ended\ntext|line {i}\n")?)?;
+    }
+    Ok(logs)
 }
 
 /// Two streams of two lines.
@@ -296,9 +355,9 @@ fn expect_held(
     holds: [Hold; 2],
 ) -> Result<(), Fail> {
     let gate = Holding::new(holds);
-    let (targets, readers) = captured(rt.alloc(), &PAIR, Cut::InReadsOf(3))?;
-    let answer = gathered_by(rt, &targets, readers, 1000, Way::Senders(2, 1), &gate)?;
-    expect_answer(rt, answer, Ok(PAIR_LOGS), "with holds")?;
+    let way = Way::Senders(2, 1);
+    let answer = gathered_so(rt, &PAIR, Cut::InReadsOf(3), 1000, way, &gate)?;
+    expect_answer(rt, &answer, Ok(PAIR_LOGS), "with holds")?;
     assert_eq!(rt; gate.gave_up(), 0);
     Ok(())
 }

@@ -1,10 +1,15 @@
 //! The text of logs at the targets asked for.
+ghost use Rattle.std.specs.Prelude.{◌≡◌, true, IfOk};
+ghost use Rattle.std.specs.List.{list_all};
+ghost use Rattle.redo_logs.specs.Logs.{has_ended};
+
 use crate::cases::{
     ASKED, BUILD, BUILD_TEXT, CHOSEN, Case, DEEP, Given, LOGS, MAX_BYTES, MENTIONS, PLAIN, STATUSES,
 };
 use crate::gathered::gathered;
 use redo_given::{Cut, captured, whole};
 use redo_line::{Taker, TargetName};
+use redo_logs::LogTable;
 use redo_view::{Options, ViewFault, view};
 use std::alloc::Global;
 use std::process::Abort;
@@ -19,12 +24,18 @@ fn viewed(
     room: usize,
     per_call: usize,
 ) -> Result<(Result<(), ViewFault>, Vec<u8>), Fail> {
-    let (targets, readers) = captured(alloc, &whole(alloc, given)?, Cut::InReadsOf(1))?;
-    let table = gathered(alloc, &targets, readers, MAX_BYTES)??;
+    let table = logs_of(alloc, given)?;
     let asked = resolved(alloc, asked)?;
     let mut out = Taker::new(alloc, room, per_call)?;
     let answer = view(alloc, &table, options, &asked, &mut out);
     Ok((answer, out.bytes().to_vec(alloc)?))
+}
+
+fn logs_of(alloc: Global, given: &[Given]) -> Result<LogTable, Fail>
+    ensures { IfOk result (λ table. list_all has_ended table ≡ true) }
+{
+    let (targets, readers) = captured(alloc, &whole(alloc, given)?, Cut::InReadsOf(1))?;
+    Ok(gathered(alloc, &targets, readers, MAX_BYTES)??)
 }
 
 fn resolved(alloc: Global, names: &[&str]) -> Result<Vec<TargetName>, Fail> {

@@ -1,11 +1,14 @@
 //! Runs: the streams of all targets of an index, the words that ask, and the text or the fault.
+ghost use Rattle.std.specs.Prelude.{◌≡◌, ◌<◌, length};
+ghost use Rattle.redo_run.specs.RunFault.{IfStreamFault, IfUnknown};
+
 use crate::captures::captured;
 use redo_gather::{Free, Plan};
 use redo_gather_tests::cases::{ASKED, CHOSEN, Case, LOGS, MAX_BYTES, MENTIONS, PLAIN, STATUSES};
 use redo_gather_tests::gate::{Event, Hold, Holding};
 use redo_given::{Answer, Cut, Given, Script, cuts, whole};
 use redo_line::{StreamFault, Taker};
-use redo_log_cli::{Failure, RunFault, fault_line, read_index, run, status};
+use redo_log_cli::{Failure, Index, RunFault, fault_line, read_index, run, status};
 use redo_view::Options;
 use std::alloc::{AllocError, Global};
 use std::process::Abort;
@@ -34,21 +37,28 @@ fn ran(
 ) -> Result<Outcome, Fail> {
     let alloc = rt.alloc();
     let (index, readers) = captured(alloc, given, cut)?;
-    let mut words = Vec::new(alloc);
-    for word in asked {
-        words.push(word.as_bytes().to_vec(alloc)?)?;
-    }
+    let words = words(alloc, asked)?;
     let answer = run(
         rt, alloc, &index, readers, plan, options, &words, &Free, out,
     );
+    Ok(told(alloc, answer, &index, &words)?)
+}
+
+/// The answer of a run of these words, with what is told of it.
+fn told(
+    alloc: Global,
+    answer: Result<(), RunFault>,
+    index: &Index,
+    words: &[Vec<u8>],
+) -> Result<Outcome, AllocError>
+    requires number { IfStreamFault answer (λ number _. number < length index.now) }
+    requires place { IfUnknown answer (λ place. place < length words.now) }
+{
     let (line, status) = match answer {
         Ok(()) => (Vec::new(alloc), 0),
         Err(fault) => {
             let failure = Failure::Run(fault);
-            (
-                fault_line(alloc, &failure, &index, &words)?,
-                status(&failure),
-            )
+            (fault_line(alloc, &failure, index, words)?, status(&failure))
         }
     };
     Ok(Outcome {
@@ -56,6 +66,14 @@ fn ran(
         line,
         status,
     })
+}
+
+fn words(alloc: Global, asked: &[&str]) -> Result<Vec<Vec<u8>>, AllocError> {
+    let mut words = Vec::new(alloc);
+    for word in asked {
+        words.push(word.as_bytes().to_vec(alloc)?)?;
+    }
+    Ok(words)
 }
 
 /// The text of a run, or its fault, the line of it and the status.
@@ -74,16 +92,31 @@ fn expect_run(
     asked: &[&str],
     want: Want<'_>,
 ) -> Result<(), Fail> {
+    let plan = Plan::new(4, 64, max_bytes)?;
+    for cut in &cuts(rt.alloc(), given)? {
+        expect_planned(rt, given, *cut, &plan, options, asked, want)?;
+    }
+    for (senders, capacity) in PLANS {
+        let plan = Plan::new(senders, capacity, max_bytes)?;
+        expect_planned(rt, given, Cut::InReadsOf(3), &plan, options, asked, want)?;
+    }
+    Ok(())
+}
+
+fn expect_planned(
+    rt: &(impl Abort + AllocGlobal + Threads + Wait + Sync),
+    given: &[Given<'_>],
+    cut: Cut,
+    plan: &Plan,
+    options: &Options,
+    asked: &[&str],
+    want: Want<'_>,
+) -> Result<(), Fail> {
     let alloc = rt.alloc();
     let (outcome, text) = outcome_of(alloc, want)?;
-    for cut in &cuts(alloc, given)? {
-        for (senders, capacity) in PLANS {
-            let plan = Plan::new(senders, capacity, max_bytes)?;
-            let mut out = Taker::new(alloc, 1000, 1000)?;
-            let ran = ran(rt, given, *cut, &plan, options, asked, &mut out)?;
-            expect_outcome(rt, &ran, &outcome, out.bytes(), text.as_bytes());
-        }
-    }
+    let mut out = Taker::new(alloc, 1000, 1000)?;
+    let ran = ran(rt, given, cut, plan, options, asked, &mut out)?;
+    expect_outcome(rt, &ran, &outcome, out.bytes(), text.as_bytes());
     Ok(())
 }
 
@@ -270,24 +303,41 @@ fn an_unknown_word_is_told_before_a_fault(rt: HostRuntime) -> Result<(), Fail> {
 
 #[test]
 fn no_reader_is_asked_where_a_word_is_unknown(rt: HostRuntime) -> Result<(), Fail> {
-    let alloc = rt.alloc();
     let reads = AtomicU64::new(0);
-    let index = read_index(alloc, b"1 all\n".as_slice())?;
-    let mut readers = Vec::new(alloc);
-    readers.push(Script::new(&[], Answer::End, &reads))?;
-    if readers.len() != index.len() as usize {
-        return Err("not a reader for each name".into());
-    }
-    let mut words = Vec::new(alloc);
-    words.push(b"nope".as_slice().to_vec(alloc)?)?;
-    let plan = Plan::new(4, 64, 1000)?;
-    let mut out = Taker::new(alloc, 1000, 1000)?;
-    let answer = run(
-        &rt, alloc, &index, readers, &plan, &PLAIN, &words, &Free, &mut out,
-    );
+    let answer = answer_of_counted(&rt, &reads)?;
     assert_eq!(rt; answer, Err(RunFault::Unknown { place: 0 }));
     assert_eq!(rt; reads.load(Ordering::SeqCst), 0);
     Ok(())
+}
+
+/// What a run answers to `nope`, where the reads of the one stream are counted.
+fn answer_of_counted(
+    rt: &(impl AllocGlobal + Threads + Wait + Sync),
+    reads: &AtomicU64,
+) -> Result<Result<(), RunFault>, Fail> {
+    let index = read_index(rt.alloc(), b"1 all\n".as_slice())?;
+    let mut readers = Vec::new(rt.alloc());
+    readers.push(Script::new(&[], Answer::End, reads))?;
+    if readers.len() != index.len() as usize {
+        return Err("not a reader for each name".into());
+    }
+    answer_to_nope(rt, &index, readers)
+}
+
+fn answer_to_nope(
+    rt: &(impl AllocGlobal + Threads + Wait + Sync),
+    index: &Index,
+    readers: Vec<Script<'_>>,
+) -> Result<Result<(), RunFault>, Fail>
+    requires { length readers.items ≡ length index.now }
+{
+    let alloc = rt.alloc();
+    let words = words(alloc, &["nope"])?;
+    let plan = Plan::new(4, 64, 1000)?;
+    let mut out = Taker::new(alloc, 1000, 1000)?;
+    Ok(run(
+        rt, alloc, index, readers, &plan, &PLAIN, &words, &Free, &mut out,
+    ))
 }
 
 #[test]
@@ -352,7 +402,10 @@ fn a_run_reads_its_streams_side_by_side(rt: HostRuntime) -> Result<(), Fail> {
         &rt, alloc, &index, readers, &plan, &PLAIN, &words, &gate, &mut out,
     );
     assert_eq!(rt; answer, Ok(()));
-    assert_eq!(rt; out.bytes(), b"redo  p\np1\np2\nredo  q\nq1\nq2\n");
+    assert_eq!(rt;
+        out.bytes(),
+        b"redo  p\np1\np2\nredo  q\nq1\nq2\n".as_slice()
+    );
     assert_eq!(rt; gate.gave_up(), 0);
     Ok(())
 }
