@@ -1,7 +1,8 @@
 //! From streams to logs: each is read to its end, or to its fault, and its entries go into a table.
 //!
-//! What the layers above use: [`gather_plain`] answers the logs of whole streams, or the fault of the
-//! least-numbered stream that has one.
+//! What the layers above use: [`gather`] and [`gather_plain`] answer the logs of whole streams, or the
+//! fault of the least-numbered stream that has one. The first reads them side by side, by senders in
+//! threads of their own, the other on the thread that calls.
 #![tactic(auto)]
 
 mod gate;

@@ -80,7 +80,7 @@ fn words(alloc: Global, asked: &[&str]) -> Result<Vec<Vec<u8>>, AllocError> {
 type Want<'a> = Result<&'a str, (RunFault, &'a str, u8)>;
 
 /// Numbers of senders, and capacities.
-const PLANS: [(u32, u32); 5] = [(1, 1), (1, 64), (2, 1), (2, 64), (64, 1)];
+const PLANS: [(u32, u32); 6] = [(1, 1), (1, 64), (2, 1), (2, 64), (64, 1), (64, 64)];
 
 /// However the streams are cut into reads, and whoever reads them, this is answered, and the text or
 /// nothing written.
