@@ -1,0 +1,62 @@
+-- What ends posted, counted.
+use Rattle.std.proofs.Common.{◌≡◌, ◌≢◌, ℕ, suc, ◌+◌, ◌≤◌, nat_eq, Bool, true, false, List, [], ◌∷◌, if◌then◌else◌, length, refl, sym, ap, ◌∙◌, inl, inr, arith}
+use Rattle.std.specs.List.{AllByRecursion}
+use Rattle.std.proofs.lemmas.Bool.Decides.{eqb_tells}
+use Rattle.redo_wire.specs.declared.item.Item.{Item}
+use Rattle.redo_wire.specs.Machine.{of}
+use Rattle.redo_wire.specs.Private.Rule.{AreApart, Met, posted_by}
+
+-- how many of these ends are that of an item
+abbrev hit : Bool → ℕ
+hit true = 1
+hit false = 0
+
+abbrev hits : Item → List Met → ℕ
+hits item [] = 0
+hits item (met ∷ others) = hit (nat_eq item.sender met.0) + hits item others
+
+-- how many items are of these ends
+abbrev total : List Item → List Met → ℕ
+total items [] = 0
+total items (met ∷ others) = length (of met.0 items) + total items others
+
+no_hit : (item : Item) (number : ℕ) (others : List Met) → item.sender ≡ number → AllByRecursion (λ other. other.0 ≢ number) others → hits item others ≡ 0
+no_hit item number [] is apart = refl
+no_hit item number (other ∷ others) is apart = elim (eqb_tells item.sender other.0) [
+  | inl same ↦ absurd (apart.0 (sym same.1 ∙ is))
+  | inr differ ↦ let behind : 0 + hits item others ≡ 0 = omega (arith, no_hit item number others is apart.1) in ap (λ b. hit b + hits item others) differ.0 ∙ behind
+]
+
+one_hit : (item : Item) (met : List Met) → AreApart met → hits item met ≤ 1
+one_hit item [] apart = omega arith
+one_hit item (met ∷ others) apart = elim (eqb_tells item.sender met.0) [
+  | inl same ↦ let none = no_hit item met.0 others same.1 apart.0 in let here = ap hit same.0 in omega (arith, none, here)
+  | inr differ ↦ let here = ap hit differ.0 in omega (arith, here, one_hit item others apart.1)
+]
+
+one_more : (item : Item) (items : List Item) (met : List Met) → total (item ∷ items) met ≡ hits item met + total items met
+one_more item items [] = refl
+one_more item items (met ∷ others) =
+    let behind = one_more item items others in
+    let here = by (nat_eq item.sender met.0) in
+    omega (arith, behind, here)
+  where
+    by : (own : Bool) → length (if own then item ∷ of met.0 items else of met.0 items) ≡ hit own + length (of met.0 items)
+    by true = let one : suc (length (of met.0 items)) ≡ 1 + length (of met.0 items) = omega arith in one
+    by false = let none : length (of met.0 items) ≡ 0 + length (of met.0 items) = omega arith in none
+
+within : (items : List Item) (met : List Met) → AreApart met → total items met ≤ length items
+within [] met apart = by met
+  where
+    by : (met : List Met) → total [] met ≤ 0
+    by [] = omega arith
+    by (met ∷ others) = let behind = by others in omega (arith, behind)
+within (item ∷ items) met apart = omega (arith, one_more item items met, one_hit item met apart, within items met apart)
+
+same_total : (items : List Item) (met : List Met) → AllByRecursion (λ (m : Met). m.1 ≡ of m.0 items) met → posted_by met ≡ total items met
+same_total items [] are = refl
+same_total items (met ∷ others) are = let behind = same_total items others are.1 in omega (arith, behind, ap length are.0)
+
+-- ends that are apart posted no more than there is
+pub posted_within : (items : List Item) (met : List Met) → AreApart met → AllByRecursion (λ (m : Met). m.1 ≡ of m.0 items) met → posted_by met ≤ length items
+posted_within items met apart are = omega (arith, same_total items met are, within items met apart)

@@ -1,0 +1,73 @@
+-- Each step of the mailbox keeps it lawful.
+use Rattle.std.proofs.Common.{◌≡◌, ◌≢◌, ℕ, ◌<◌, nat_eq, Bool, true, false, List, [], ◌∷◌, ◌++◌, if◌then◌else◌, length, refl, sym, ap, ◌∙◌, subst, inl, inr, arith}
+use Rattle.std.specs.List.{AllByRecursion}
+use Rattle.std.proofs.lemmas.Bool.{eq-eqb}
+use Rattle.std.proofs.lemmas.Bool.Decides.{eqb_tells}
+use Rattle.std.proofs.lemmas.List.{append_assoc, append-nil, length-append}
+use Rattle.redo_wire.specs.declared.item.Item.{Item}
+use Rattle.redo_wire.specs.Machine.{IsLawful, Opens, Posts, State, Takes, of}
+
+pub of-append : (sender : ℕ) (front behind : List Item) → of sender (front ++ behind) ≡ of sender front ++ of sender behind
+of-append sender [] behind = refl
+of-append sender (item ∷ front) behind = by (nat_eq item.sender sender) (of-append sender front behind)
+  where
+    by : (own : Bool) → of sender (front ++ behind) ≡ of sender front ++ of sender behind
+        → (if own then item ∷ of sender (front ++ behind) else of sender (front ++ behind)) ≡ (if own then item ∷ of sender front else of sender front) ++ of sender behind
+    by true is = ap (λ items. item ∷ items) is
+    by false is = is
+
+pub of-own : (sender : ℕ) (item : Item) → item.sender ≡ sender → of sender (item ∷ []) ≡ item ∷ []
+of-own sender item is = let own : nat_eq item.sender sender ≡ true = eq-eqb item.sender sender is in rw (own)
+
+pub of-other : (sender : ℕ) (item : Item) → item.sender ≢ sender → of sender (item ∷ []) ≡ []
+of-other sender item other = elim (eqb_tells item.sender sender) [
+  | inl same ↦ absurd (other same.1)
+  | inr apart ↦ let own : nat_eq item.sender sender ≡ false = apart.0 in rw (own)
+]
+
+pub all-append : (P : Item → Type 0) (front behind : List Item) → AllByRecursion P front → AllByRecursion P behind → AllByRecursion P (front ++ behind)
+all-append P [] behind one two = two
+all-append P (item ∷ front) behind one two = (one.0, all-append P front behind one.1 two)
+
+module _ (capacity senders : ℕ) where
+  pub lawful_opens : (state : State) → Opens state → IsLawful capacity senders state
+  lawful_opens state opens = record {
+    all_of_each = λ sender. opens.2 sender ∙ sym (ap (of sender) none);
+    of_senders = subst (AllByRecursion (λ (item : Item). item.sender < senders)) (sym none) tt;
+    fits = omega (arith, ap length opens.1);
+  }
+    where
+      none : state.taken ++ state.queued ≡ []
+      none = λ i. opens.0 i ++ opens.1 i
+
+  pub lawful_posts : (sender : ℕ) (item : Item) (before after : State) → sender < senders → Posts capacity sender item before after → IsLawful capacity senders before → IsLawful capacity senders after
+  lawful_posts sender item before after below posts lawful = record {
+    all_of_each = λ other. elim (eqb_tells sender other) [
+      | inl same ↦
+          ap after.posted (sym same.1) ∙ posts.posted ∙ ap (λ items. items ++ item ∷ []) (ap before.posted same.1 ∙ lawful.all_of_each other)
+          ∙ ap (λ items. of other (before.taken ++ before.queued) ++ items) (sym (of-own other item (posts.own ∙ same.1))) ∙ behind other
+      | inr apart ↦
+          posts.others other (λ is. apart.1 (sym is)) ∙ lawful.all_of_each other ∙ sym (append-nil (of other (before.taken ++ before.queued)))
+          ∙ ap (λ items. of other (before.taken ++ before.queued) ++ items) (sym (of-other other item (λ is. apart.1 (sym posts.own ∙ is)))) ∙ behind other
+    ];
+    of_senders =
+        subst (AllByRecursion (λ (item : Item). item.sender < senders)) (sym whole)
+        (all-append (λ (item : Item). item.sender < senders) (before.taken ++ before.queued) (item ∷ []) lawful.of_senders (subst (λ n. n < senders) (sym posts.own) below, tt));
+    fits = let room = posts.room in omega (arith, room, ap length posts.queued, length-append before.queued (item ∷ []));
+  }
+    where
+      whole : after.taken ++ after.queued ≡ (before.taken ++ before.queued) ++ item ∷ []
+      whole = (λ i. posts.taken i ++ posts.queued i) ∙ sym (append_assoc before.taken before.queued (item ∷ []))
+
+      behind : (other : ℕ) → of other (before.taken ++ before.queued) ++ of other (item ∷ []) ≡ of other (after.taken ++ after.queued)
+      behind other = sym (of-append other (before.taken ++ before.queued) (item ∷ [])) ∙ ap (of other) (sym whole)
+
+  pub lawful_takes : (item : Item) (before after : State) → Takes item before after → IsLawful capacity senders before → IsLawful capacity senders after
+  lawful_takes item before after takes lawful = record {
+    all_of_each = λ sender. takes.posted sender ∙ lawful.all_of_each sender ∙ ap (of sender) (sym whole);
+    of_senders = subst (AllByRecursion (λ (item : Item). item.sender < senders)) (sym whole) lawful.of_senders;
+    fits = let fits = lawful.fits in omega (arith, fits, ap length takes.queued);
+  }
+    where
+      whole : after.taken ++ after.queued ≡ before.taken ++ before.queued
+      whole = ap (λ taken. taken ++ after.queued) takes.taken ∙ append_assoc before.taken (item ∷ []) after.queued ∙ ap (λ queued. before.taken ++ queued) (sym takes.queued)

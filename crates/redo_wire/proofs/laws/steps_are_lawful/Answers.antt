@@ -1,0 +1,11 @@
+use Rattle.redo_wire.proofs.Steps.{lawful_opens, lawful_posts, lawful_takes}
+use Rattle.redo_wire.proofs.laws.steps_are_lawful.Goals as goal
+
+pub returns-clause-opens : goal.returns-clause-opens
+returns-clause-opens c = lawful_opens
+
+pub returns-clause-posts : goal.returns-clause-posts
+returns-clause-posts c = lawful_posts
+
+pub returns-clause-takes : goal.returns-clause-takes
+returns-clause-takes c = lawful_takes

@@ -1,0 +1,127 @@
+-- The rule of the mailbox: there is a lawful state whose queue is what the channel holds, and every pass knows its part of
+-- it.
+use Rattle.std.specs.Prelude.{◌≡◌, ◌≢◌, ℕ, ◌+◌, ◌<◌, ◌≤◌, List, [], ◌∷◌, ◌++◌, Option, None, Some, length}
+use Rattle.std.specs.List.{AllByRecursion}
+use mathlib.Core.Option.{some}
+use lib.ListN.{get_elem?}
+use Rattle.redo_wire.specs.declared.item.Item.{Item}
+use Rattle.redo_wire.specs.declared.rule.View.{View}
+use Rattle.redo_wire.specs.declared.rule.View.TheVariants.{Idle, Starting, Posting, Taking}
+use Rattle.redo_wire.specs.Machine.{State, IsFront, IsLawful, of}
+
+-- an end that was met: its number, and what it posted
+abbrev pub Met : Type 0
+Met = ℕ × List Item
+
+-- no end was met twice
+abbrev pub AreApart : List Met → Type 0
+AreApart [] = Unit {0}
+AreApart (met ∷ others) = AllByRecursion (λ other. other.0 ≢ met.0) others × AreApart others
+
+-- ---- what a step makes of what is known
+
+abbrev pub with_one_made : View → View
+with_one_made Idle = Idle
+with_one_made Starting = Starting
+with_one_made (Posting capacity senders number put) = Posting capacity senders number put
+with_one_made (Taking capacity senders made got met) = Taking capacity senders (made + 1) got met
+
+abbrev pub next_end : View → View
+next_end Idle = Idle
+next_end Starting = Idle
+next_end (Posting capacity senders number put) = Idle
+next_end (Taking capacity senders made got met) = Posting capacity senders made []
+
+abbrev pub with_met_end : ℕ → ℕ → ℕ → List Item → List Met → View → View
+with_met_end capacity senders made got met Idle = Taking capacity senders made got met
+with_met_end capacity senders made got met Starting = Taking capacity senders made got met
+with_met_end capacity senders made got met (Posting limit ends number put) = Taking capacity senders made got ((number, put) ∷ met)
+with_met_end capacity senders made got met (Taking limit ends others got' met') = Taking capacity senders made got met
+
+abbrev pub with_met : View → View → View
+with_met Idle end = Idle
+with_met Starting end = Starting
+with_met (Posting capacity senders number put) end = Posting capacity senders number put
+with_met (Taking capacity senders made got met) end = with_met_end capacity senders made got met end
+
+abbrev pub with_put : Item → View → View
+with_put item Idle = Idle
+with_put item Starting = Starting
+with_put item (Posting capacity senders number put) = Posting capacity senders number (put ++ item ∷ [])
+with_put item (Taking capacity senders made got met) = Taking capacity senders made got met
+
+abbrev pub with_got : Item → View → View
+with_got item Idle = Idle
+with_got item Starting = Starting
+with_got item (Posting capacity senders number put) = Posting capacity senders number put
+with_got item (Taking capacity senders made got met) = Taking capacity senders made (got ++ item ∷ []) met
+
+-- ---- what a pass knows, of a state in which this pass takes and these passes post
+
+module _ (capacity senders reader : ℕ) (seat : ℕ → Option ℕ) (state : State) where
+  -- an end that was met posts no more
+  abbrev pub IsMet : ℕ → Met → Type 0
+  IsMet made met = (met.0 < made) × (seat met.0 ≡ None) × (met.1 ≡ state.posted met.0)
+
+  pub record FitsPosting (pass limit ends number : ℕ) (put : List Item) : Type 0 where
+    pub limit_is : limit ≡ capacity
+    pub ends_are : ends ≡ senders
+    pub below : number < senders
+    pub seated : seat number ≡ Some pass
+    pub put_is : put ≡ state.posted number
+
+  pub record FitsTaking (pass limit ends made : ℕ) (got : List Item) (met : List Met) : Type 0 where
+    pub limit_is : limit ≡ capacity
+    pub ends_are : ends ≡ senders
+    pub reads : pass ≡ reader
+    pub made_fit : made ≤ senders
+    pub got_is : got ≡ state.taken
+    pub unmade : (number : ℕ) → made ≤ number → (seat number ≡ None) × (state.posted number ≡ [])
+    pub met_are : AllByRecursion (IsMet made) met
+    pub apart : AreApart met
+
+  pub record FitsStarting (pass : ℕ) : Type 0 where
+    pub reads : pass ≡ reader
+    pub nobody : (number : ℕ) → seat number ≡ None
+    pub none_taken : state.taken ≡ []
+    pub none_queued : state.queued ≡ []
+
+  abbrev pub Fits : ℕ → View → Type 0
+  Fits pass Idle = Unit {0}
+  Fits pass Starting = FitsStarting pass
+  Fits pass (Posting limit ends number put) = FitsPosting pass limit ends number put
+  Fits pass (Taking limit ends made got met) = FitsTaking pass limit ends made got met
+
+pub record Rules (items : List Item) (views : List View) : Type 0 where
+  pub capacity : ℕ
+  pub senders : ℕ
+  pub reader : ℕ
+  pub seat : ℕ → Option ℕ
+  pub state : State
+  pub queued_is : state.queued ≡ items
+  pub lawful : IsLawful capacity senders state
+  pub fit : (pass : ℕ) (view : View) → get_elem? views pass ≡ some view → Fits capacity senders reader seat state pass view
+
+-- ---- what is told
+
+-- how many items these ends posted
+abbrev pub posted_by : List Met → ℕ
+posted_by [] = 0
+posted_by (met ∷ others) = length met.1 + posted_by others
+
+-- of each end that was met, what was taken is a front of what it posted; and what they posted and wasn't taken is less than
+-- fits
+abbrev pub KnowsMet : View → Type 0
+KnowsMet Idle = Unit {0}
+KnowsMet Starting = Unit {0}
+KnowsMet (Posting capacity senders number put) = Unit {0}
+KnowsMet (Taking capacity senders made got met) =
+    AllByRecursion (λ (m : Met). IsFront (of m.0 got) m.1) met × (posted_by met + 1 ≤ length got + capacity)
+
+-- what the mailbox holds completes what was taken
+abbrev pub KnowsOf : View → List Item → Type 0
+KnowsOf Idle items = Unit {0}
+KnowsOf Starting items = Unit {0}
+KnowsOf (Posting capacity senders number put) items = Unit {0}
+KnowsOf (Taking capacity senders made got met) items =
+    AllByRecursion (λ (m : Met). m.1 ≡ of m.0 (got ++ items)) met × AllByRecursion (λ (item : Item). item.sender < senders) (got ++ items) × AreApart met
