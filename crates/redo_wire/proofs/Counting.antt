@@ -4,7 +4,8 @@ use Rattle.std.specs.List.{AllByRecursion}
 use Rattle.std.proofs.lemmas.Bool.Decides.{eqb_tells}
 use Rattle.redo_wire.specs.declared.item.Item.{Item}
 use Rattle.redo_wire.specs.Machine.{of}
-use Rattle.redo_wire.specs.Private.Rule.{AreApart, Met, posted_by}
+use Rattle.redo_wire.specs.Mailbox.{Met, posted_by}
+use Rattle.redo_wire.specs.Private.Rule.{AreApart}
 
 -- how many of these ends are that of an item
 abbrev hit : Bool → ℕ

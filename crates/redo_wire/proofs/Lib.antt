@@ -1,3 +1,6 @@
 mod Counting
+mod Flags
+mod Knowing
 mod Moves
+mod Opening
 mod Steps

@@ -14,7 +14,8 @@ use Rattle.redo_wire.specs.declared.item.Item.{Item}
 use Rattle.redo_wire.specs.declared.rule.View.{View}
 use Rattle.redo_wire.specs.declared.rule.View.TheVariants.{Idle, Starting, Posting, Taking}
 use Rattle.redo_wire.specs.Machine.{IsFront, State, of}
-use Rattle.redo_wire.specs.Private.Rule.{Fits, FitsPosting, FitsStarting, FitsTaking, IsMet, KnowsMet, KnowsOf, Met, Rules, posted_by, with_got, with_put}
+use Rattle.redo_wire.specs.Mailbox.{Met, posted_by}
+use Rattle.redo_wire.specs.Private.Rule.{Fits, FitsPosting, FitsStarting, FitsTaking, IsMet, KnowsMet, KnowsOf, Rules, with_got, with_put}
 use Rattle.redo_wire.proofs.Counting.{posted_within}
 use Rattle.redo_wire.proofs.Steps.{lawful_opens, lawful_posts, lawful_takes, of-append, of-other, of-own}
 

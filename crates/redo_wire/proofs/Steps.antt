@@ -5,7 +5,7 @@ use Rattle.std.proofs.lemmas.Bool.{eq-eqb}
 use Rattle.std.proofs.lemmas.Bool.Decides.{eqb_tells}
 use Rattle.std.proofs.lemmas.List.{append_assoc, append-nil, length-append}
 use Rattle.redo_wire.specs.declared.item.Item.{Item}
-use Rattle.redo_wire.specs.Machine.{IsLawful, Opens, Posts, State, Takes, of}
+use Rattle.redo_wire.specs.Machine.{IsLawful, IsSchedule, IsStep, Opens, Posts, State, Takes, of}
 
 pub of-append : (sender : ℕ) (front behind : List Item) → of sender (front ++ behind) ≡ of sender front ++ of sender behind
 of-append sender [] behind = refl
@@ -71,3 +71,13 @@ module _ (capacity senders : ℕ) where
     where
       whole : after.taken ++ after.queued ≡ before.taken ++ before.queued
       whole = ap (λ taken. taken ++ after.queued) takes.taken ∙ append_assoc before.taken (item ∷ []) after.queued ∙ ap (λ queued. before.taken ++ queued) (sym takes.queued)
+
+  pub lawful_step : (before after : State) → IsStep capacity senders before after → IsLawful capacity senders before → IsLawful capacity senders after
+  lawful_step before after (inl posts) lawful = lawful_posts posts.0 posts.1 before after posts.2 posts.3 lawful
+  lawful_step before after (inr (inl takes)) lawful = lawful_takes takes.0 before after takes.1 lawful
+  lawful_step before after (inr (inr stays)) lawful = subst (IsLawful capacity senders) (sym stays) lawful
+
+  pub lawful_schedule : (first : State) (states : List State) → IsLawful capacity senders first → IsSchedule capacity senders first states → AllByRecursion (IsLawful capacity senders) states
+  lawful_schedule first [] lawful schedule = tt
+  lawful_schedule first (after ∷ states) lawful schedule =
+      let now = lawful_step first after schedule.0 lawful in (now, lawful_schedule after states now schedule.1)

@@ -1,5 +1,5 @@
 -- The mailbox as a machine: what it is at a moment, and the five kinds of step that it takes.
-use Rattle.std.specs.Prelude.{◌≡◌, ℕ, ◌<◌, ◌≤◌, nat_eq, List, [], ◌∷◌, ◌++◌, length, filter}
+use Rattle.std.specs.Prelude.{◌≡◌, ◌⊎◌, ⊤, ℕ, ◌<◌, ◌≤◌, nat_eq, List, [], ◌∷◌, ◌++◌, length, filter}
 use Rattle.std.specs.List.{AllByRecursion}
 use Rattle.redo_wire.specs.declared.item.Item.{Item}
 
@@ -48,3 +48,13 @@ pub record Takes (item : Item) (before after : State) : Type 0 where
 -- nothing is found, an end is split off or an end is met: nothing changes
 abbrev pub Stays : State → State → Type 0
 Stays before after = after ≡ before
+
+-- one step of a mailbox with so many senders
+abbrev pub IsStep : ℕ → ℕ → State → State → Type 0
+IsStep capacity senders before after =
+    ((sender : ℕ) × (item : Item) × (sender < senders) × Posts capacity sender item before after) ⊎ ((item : Item) × Takes item before after) ⊎ Stays before after
+
+-- the states after each step of a schedule, from a state on
+abbrev pub IsSchedule : ℕ → ℕ → State → List State → Type 0
+IsSchedule capacity senders before [] = ⊤
+IsSchedule capacity senders before (after ∷ states) = IsStep capacity senders before after × IsSchedule capacity senders after states

@@ -54,9 +54,9 @@ impl Size for Brand {
 }
 
 // The mailbox gets its numbers, before an end is made.
-pub struct Sized<S>(PhantomData<S>);
+pub struct Sizes<S>(PhantomData<S>);
 
-impl<S: Size> Split<View> for Sized<S> {
+impl<S: Size> Split<View> for Sizes<S> {
     ghost use Rattle.std.specs.Prelude.{[]};
     ghost use Rattle.redo_wire.specs.declared.rule.View.TheVariants.{Idle, Taking};
 

@@ -8,10 +8,7 @@ use Rattle.redo_wire.specs.declared.item.Item.{Item}
 use Rattle.redo_wire.specs.declared.rule.View.{View}
 use Rattle.redo_wire.specs.declared.rule.View.TheVariants.{Idle, Starting, Posting, Taking}
 use Rattle.redo_wire.specs.Machine.{State, IsFront, IsLawful, of}
-
--- an end that was met: its number, and what it posted
-abbrev pub Met : Type 0
-Met = ℕ × List Item
+use Rattle.redo_wire.specs.Mailbox.{Met, posted_by}
 
 -- no end was met twice
 abbrev pub AreApart : List Met → Type 0
@@ -103,11 +100,6 @@ pub record Rules (items : List Item) (views : List View) : Type 0 where
   pub fit : (pass : ℕ) (view : View) → get_elem? views pass ≡ some view → Fits capacity senders reader seat state pass view
 
 -- ---- what is told
-
--- how many items these ends posted
-abbrev pub posted_by : List Met → ℕ
-posted_by [] = 0
-posted_by (met ∷ others) = length met.1 + posted_by others
 
 -- of each end that was met, what was taken is a front of what it posted; and what they posted and wasn't taken is less than
 -- fits
