@@ -1,4 +1,5 @@
 mod Counting
+pub mod EndLemmas
 mod Flags
 mod Knowing
 mod Moves

@@ -113,6 +113,7 @@ impl PostEnd {
     /// item may be handed back, where nobody is left to take it, and then nothing has changed.
     pub fn post<T: Wait>(&mut self, rt: &T, item: Item) -> Result<(), Item>
         requires { item.sender ≡ self.old.number }
+        ensures stays { (self.new.mailbox ≡ self.old.mailbox) × (self.new.number ≡ self.old.number) }
         ensures posted { OnOk result (self.new ≡ posts item self.old) }
         ensures back { IfErr result (λ back. (back ≡ item) × (self.new ≡ self.old)) }
     {
@@ -127,6 +128,7 @@ impl TakeEnd {
     /// Takes the front of the mailbox, and waits while that is empty. There is none only if the mailbox was
     /// empty at some moment of the call, and then nothing has changed.
     pub fn take<T: Wait>(&mut self, rt: &T) -> Option<Item>
+        ensures stays { (self.new.mailbox ≡ self.old.mailbox) × (self.new.met ≡ self.old.met) }
         ensures taken { IfSome result (λ item. self.new ≡ takes item self.old) }
         ensures room { IfSome result (λ item. LeavesRoom self.new) }
         ensures nothing { IfNone result (self.new ≡ self.old) }
@@ -142,6 +144,7 @@ impl TakeEnd {
     /// Takes in an end of this mailbox, which posts no more.
     pub fn meet<T: Wait>(&mut self, _rt: &T, end: PostEnd)
         requires { end.mailbox ≡ self.old.mailbox }
+        ensures stays { (self.new.mailbox ≡ self.old.mailbox) × (self.new.taken ≡ self.old.taken) }
         ensures met { self.new ≡ meets end self.old }
         ensures first { ¬ IsAmong end.number self.old.met }
         ensures fronts { AreFronts self.new }
@@ -167,6 +170,7 @@ impl TakeEnd {
     /// was taken.
     pub fn rest<T: Wait>(&mut self, rt: &T) -> Option<Item>
         requires { AreAllMet self.old }
+        ensures stays { (self.new.mailbox ≡ self.old.mailbox) × (self.new.met ≡ self.old.met) }
         ensures taken { IfSome result (λ item. self.new ≡ takes item self.old) }
         ensures room { IfSome result (λ item. LeavesRoom self.new) }
         ensures nothing { IfNone result (self.new ≡ self.old) }

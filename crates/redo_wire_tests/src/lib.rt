@@ -1,0 +1,6 @@
+//! Tests of the mailbox, and the senders and the collector that measurements drive it with.
+#![tactic(auto)]
+
+#[cfg(test)]
+mod mailbox;
+pub mod traffic;
