@@ -2,7 +2,7 @@ ghost use Rattle.std.specs.Prelude.{◌<◌};
 
 use std::alloc::{AllocError, Global};
 
-const TEXT: &[u8] = b"cc -O2 -Wall -Wextra -c -o build/lexer.o source/front/lex.c\n";
+pub const TEXT: &[u8] = b"cc -O2 -Wall -Wextra -c -o build/lexer.o source/front/lex.c\n";
 
 /// What is read: one line again and again.
 pub const INPUTS: [(&str, &[u8]); 3] = [

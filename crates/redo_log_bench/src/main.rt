@@ -6,11 +6,13 @@
 
 mod inputs;
 mod logs;
+mod mailbox;
 mod scans;
 mod tables;
 
 use inputs::{INPUTS, build, repeated};
 use logs::{gather, view};
+use mailbox::{print_found, print_rates};
 use scans::{cutter, scan, search};
 use std::alloc::{AllocError, Global};
 use std::env;
@@ -62,8 +64,15 @@ struct Given {
 
 fn main(rt: HostRuntime) -> Result<(), Fail> {
     match argument(&rt).as_deref() {
-        Some("measure") => print_all(&rt, 64, 5),
-        _ => print_all(&rt, 1, 0),
+        Some("measure") => {
+            print_all(&rt, 64, 5)?;
+            print_rates(&rt, 3)
+        }
+        Some("mailbox") => print_rates(&rt, 3),
+        _ => {
+            print_all(&rt, 1, 0)?;
+            print_found(&rt)
+        }
     }
 }
 
