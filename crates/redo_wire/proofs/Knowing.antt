@@ -146,3 +146,6 @@ module _ {Q M L A B : Type 0} (sender : Sending (Rows (Badge (Key Item)) (Doing 
           (one_set (senders_in (view pass)) flags (met_in (view pass)) (number, items_in (view end)) collector.count
           (subst (λ n. number < n) (ap (λ m. m.senders) one) poster.below) collector.flags_are);
     }
+
+-- what a call that takes needs
+pub ruleset taking = (fronts_met, fronts_at_none, whole_at_none, own_at_none)

@@ -127,6 +127,7 @@ impl PostEnd {
 impl TakeEnd {
     /// Takes the front of the mailbox, and waits while that is empty. There is none only if the mailbox was
     /// empty at some moment of the call, and then nothing has changed.
+    #[tactic(auto, using(crate::proofs::Knowing::taking))]
     pub fn take<T: Wait>(&mut self, rt: &T) -> Option<Item>
         ensures stays { (self.new.mailbox ≡ self.old.mailbox) × (self.new.met ≡ self.old.met) }
         ensures taken { IfSome result (λ item. self.new ≡ takes item self.old) }
@@ -168,6 +169,7 @@ impl TakeEnd {
 
     /// Takes the front of the mailbox, once all ends were met. There is none only where all that they posted
     /// was taken.
+    #[tactic(auto, using(crate::proofs::Knowing::taking))]
     pub fn rest<T: Wait>(&mut self, rt: &T) -> Option<Item>
         requires { AreAllMet self.old }
         ensures stays { (self.new.mailbox ≡ self.old.mailbox) × (self.new.met ≡ self.old.met) }
@@ -178,10 +180,10 @@ impl TakeEnd {
         ensures whole { IfNone result (AreWhole self.new) }
         ensures own { IfNone result (AreOfSenders self.new) }
     {
-        let Ok(item) = self.receiver.try_recv_as::<Gets, T>(rt, &mut self.pass) else {
+        let Ok(left) = self.receiver.try_recv_as::<Gets, T>(rt, &mut self.pass) else {
             return None;
         };
-        Some(item)
+        Some(left)
     }
 }
 

@@ -3,4 +3,4 @@ use Rattle.redo_wire.proofs.Knowing.{puts_at}
 use Rattle.redo_wire.proofs.mailbox.PostEnd.post.Goals as goal
 
 pub send_as-requires-clause-rule : goal.send_as-requires-clause-rule
-send_as-requires-clause-rule g c = puts_at _ _ _ _ _ c.args.item _ c.self.invariant.view_is (c.requires ∙ sym (ap (λ end. end.number) c.self.view_is))
+send_as-requires-clause-rule g c = puts_at _ _ _ _ _ _ _ c.self.invariant.view_is (c.requires ∙ sym (ap (λ end. end.number) c.self.view_is))
