@@ -6,6 +6,7 @@
 ghost use Rattle.std.specs.Prelude.{◌≤◌, ◌<◌, ◌^◌, length, IfSome};
 
 mod gather;
+mod mailbox;
 mod table;
 mod view;
 
@@ -76,6 +77,7 @@ fn make_with_logs(
         "gather_whole" => gather::gather(rt, &gather::WHOLE, plan),
         "gather_bad" => gather::gather(rt, &gather::BAD, plan),
         "gather_both_bad" => gather::gather(rt, &gather::BOTH_BAD, plan),
+        "mailbox" => mailbox::mailbox(rt),
         "table" => table::table(rt, rt.alloc()),
         _ => make_with_texts(rt, name, plan),
     }

@@ -3,4 +3,5 @@
 
 #[cfg(test)]
 mod mailbox;
+pub mod pair;
 pub mod traffic;

@@ -1,10 +1,11 @@
 //! What is taken of a mailbox is what was posted, of each sender in order.
-ghost use Rattle.std.specs.Prelude.{◌≡◌, ◌≤◌, ◌^◌, IfOk};
+ghost use Rattle.std.specs.Prelude.{◌≡◌, IfOk};
 
+use crate::pair::{Two, two_ended};
 use crate::traffic::{Posts, exchange, rest};
 use redo_given::line;
 use redo_line::{Entry, StreamFault};
-use redo_wire::{Item, PostEnd, TakeEnd, What, open};
+use redo_wire::{Item, PostEnd, What};
 use std::alloc::{AllocError, Global};
 use std::process::Abort;
 use std::str;
@@ -72,30 +73,6 @@ fn expect(
     Ok(())
 }
 
-/// A mailbox with two ends.
-#[derive(Drop)]
-struct Two {
-    mailbox: TakeEnd,
-    first: PostEnd,
-    second: PostEnd,
-    ghost of_first: { first.mailbox ≡ mailbox.mailbox },
-    ghost of_second: { second.mailbox ≡ mailbox.mailbox },
-}
-
-fn opened(alloc: Global, capacity: u32) -> Result<Two, Fail>
-    requires { (1 ≤ capacity) × (capacity ≤ 2 ^ 16) }
-{
-    let (mailbox, mut ends) = open(alloc, capacity, 2)?;
-    let (Some(second), Some(first)) = (ends.pop(), ends.pop()) else {
-        return Err(Fail::new("not two ends"));
-    };
-    Ok(Two {
-        mailbox,
-        first,
-        second,
-    })
-}
-
 fn post<R: AllocGlobal + Wait>(rt: &R, end: &mut PostEnd, text: &str) -> Result<Option<Item>, Fail>
     ensures { end.new.mailbox ≡ end.old.mailbox }
 {
@@ -109,7 +86,7 @@ fn two_ends_post_and_are_met(rt: HostRuntime) -> Result<(), Fail> {
         mut mailbox,
         mut first,
         mut second,
-    } = opened(rt.alloc(), 2)?;
+    } = two_ended(rt.alloc(), 2)?;
     expect(&rt, post(&rt, &mut first, "A")?, None)?;
     expect(&rt, post(&rt, &mut second, "B")?, None)?;
     expect(&rt, mailbox.take(&rt), Some("7 of 0: A"))?;
@@ -130,7 +107,7 @@ fn what_nobody_can_take_is_handed_back(rt: HostRuntime) -> Result<(), Fail> {
         mailbox,
         mut first,
         second: _,
-    } = opened(rt.alloc(), 1)?;
+    } = two_ended(rt.alloc(), 1)?;
     drop(mailbox);
     expect(&rt, post(&rt, &mut first, "A")?, Some("7 of 0: A"))?;
     expect(&rt, post(&rt, &mut first, "B")?, Some("7 of 0: B"))
@@ -142,7 +119,7 @@ fn there_is_none_once_all_ends_are_gone(rt: HostRuntime) -> Result<(), Fail> {
         mut mailbox,
         mut first,
         second,
-    } = opened(rt.alloc(), 3)?;
+    } = two_ended(rt.alloc(), 3)?;
     expect(&rt, post(&rt, &mut first, "A")?, None)?;
     drop(first);
     drop(second);

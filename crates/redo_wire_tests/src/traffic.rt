@@ -179,11 +179,11 @@ impl Emptied {
 }
 
 /// What is left in a mailbox whose ends were all met.
-pub fn rest<T: Wait>(rt: &T, mailbox: &mut TakeEnd) -> Result<Option<Item>, Fail>
+pub fn rest<T: Wait>(rt: &T, mailbox: &mut TakeEnd) -> Result<Option<Item>, &'static str>
     ensures { mailbox.new.mailbox ≡ mailbox.old.mailbox }
 {
     if !mailbox.all_met() {
-        return Err(Fail::new("an end was not met"));
+        return Err("an end was not met");
     }
     Ok(mailbox.rest(rt))
 }
