@@ -1,184 +1,242 @@
--- What a loop over all streams has collected of what their senders read.
-use Rattle.std.proofs.Common.{◌≡◌, ◌≢◌, inl, inr, ℕ, zero, suc, ◌+◌, ◌%◌, ◌<◌, nat_eq, false, cond, List, [], ◌∷◌, ◌++◌, Option, Some, length, map, drop, zip, slice_get, slice_set, refl, sym, ap, ◌∙◌, subst, arith}
-use Rattle.std.proofs.lemmas.Bool.{eq-eqb}
-use Rattle.std.proofs.lemmas.Bool.Decides.{eqb_tells}
-use Rattle.std.proofs.lemmas.List.{append_assoc, append-nil, length-append, length-map, length-set}
+-- What a table comes to, into which all was stored that senders owe.
+use Rattle.std.proofs.Common.{◌≡◌, ◌≢◌, inl, inr, ℕ, zero, suc, ◌<◌, nat_eq, Bool, true, false, cond, List, [], ◌∷◌, ◌++◌, Option, Some, length, map, zip, slice_get, refl, sym, ap, ◌∙◌, subst, arith}
+use Rattle.std.specs.Option.{option_map}
+use Rattle.std.specs.List.{AllByRecursion}
+use Rattle.std.proofs.lemmas.List.{append_assoc, append-nil, length-map}
+use Rattle.std.proofs.lemmas.Option.{none-some, slice_get-map}
+use Rattle.redo_line.specs.declared.entry.Entry.{Entry}
 use Rattle.redo_line.specs.declared.stream_fault.StreamFault.TheVariants.{OutOfMemory}
 use Rattle.redo_line.specs.Feed.{Stream}
 use Rattle.redo_line.proofs.GaveLemmas.{weaker}
-use Rattle.redo_logs.specs.declared.log_state.LogState.TheVariants.{Running}
-use Rattle.redo_logs.specs.Logs.{Log, changed, new_log, states_of}
-use Rattle.redo_logs.proofs.ChangedLemmas.{changed-here}
-use Rattle.redo_gather.specs.declared.one_stream.StreamLog.{StreamLog}
-use Rattle.redo_gather.specs.Private.Dealing.{AreAllOwed, AreDealt, AreOwed, Numbered, numbered, share_from}
-use Rattle.redo_gather.specs.Private.Owed.{Given, IsOwedFor, IsWhole}
-use Rattle.redo_gather.specs.Private.Storing.{completed, state_after}
-use Rattle.redo_gather.proofs.DealingLemmas.{replaced}
+use Rattle.redo_logs.specs.declared.log_state.LogState.{LogState}
+use Rattle.redo_logs.specs.declared.log_state.LogState.TheVariants.{Ended, Failed, Running}
+use Rattle.redo_logs.specs.Logs.{Log, changed, new_log}
+use Rattle.redo_wire.specs.declared.item.Item.{Item}
+use Rattle.redo_wire.specs.declared.item.What.{What}
+use Rattle.redo_wire.specs.declared.item.What.TheVariants.{End, Fail, Line, Lines}
+use Rattle.redo_wire.specs.Machine.{of}
+use Rattle.redo_wire.specs.Mailbox.{IsAmong, Met}
+use Rattle.redo_gather.specs.declared.collecting.Collector.{Collector}
+use Rattle.redo_gather.specs.Owed.{Given, IsWhole}
+use Rattle.redo_gather.specs.Private.Collecting.{AllTaken, Holds, IsNoWant, NoneWants, Owes, changed_by, step, stored}
+use Rattle.redo_gather.specs.Private.Dealing.{share_from}
+use Rattle.redo_gather.specs.Private.Storing.{state_after, with_entries}
+use Rattle.redo_gather.specs.Sending.{AreOwed, item_of, line_of, singles, singles_in}
+use Rattle.redo_gather.proofs.InterleavingLemmas.{interleaved, length-stored, none-on, none_in_told, on, ran_told, run, stored-append}
 use Rattle.redo_gather.proofs.OwedLemmas.{is_whole}
-use Rattle.redo_gather.proofs.SettledLemmas.{AreSettled, IsSettled, log_after, one_settled, settled-count}
+use Rattle.redo_gather.proofs.PostedLemmas.{singles-append}
+use Rattle.redo_gather.proofs.SettledLemmas.{AreSettled, IsSettled, log_after}
+use Rattle.redo_gather.proofs.SharesLemmas.{told_of_each}
 
--- the log of a stream of which nothing is stored
-abbrev pub begun : Given → Log
-begun given = new_log given.0
+-- ---- an item more
 
--- the streams below a number are stored, and for the others it is at hand what is owed
-pub record Collected (max_bytes senders : ℕ) (given : List Given) (number : ℕ) (table : List Log) (lists : List (List StreamLog)) : Type 0 where
-  pub done : List Given
-  pub left : List Given
-  pub logs : List Log
-  pub given_is : given ≡ done ++ left
-  pub number_is : number ≡ length done
-  pub settled : AreSettled max_bytes done logs
-  pub table_is : table ≡ logs ++ map begun left
-  pub count : length lists ≡ senders
-  pub owed : (sender : ℕ) (list : List StreamLog) → slice_get lists sender ≡ Some list → AreOwed max_bytes (share_from senders sender number left) list
+abbrev with_lines : LogState → List Entry → Log → Log
+with_lines Running entries log = with_entries entries log
+with_lines Ended entries log = log
+with_lines (Failed fault) entries log = log
 
--- ---- at first
+changed-same : (number : ℕ) (change other : Log → Log) → ((log : Log) → change log ≡ other log) → (table : List Log) → changed number change table ≡ changed number other table
+changed-same number change other same [] = refl
+changed-same zero change other same (log ∷ table) = ap (λ l. l ∷ table) (same log)
+changed-same (suc number) change other same (log ∷ table) = ap (λ logs. log ∷ logs) (changed-same number change other same table)
 
-each_owed : (max_bytes : ℕ) (shares : List (List Numbered)) (lists : List (List StreamLog)) (sender : ℕ) (list : List StreamLog) → AreAllOwed max_bytes shares lists → slice_get lists sender ≡ Some list
-    → (share : List Numbered) × (slice_get shares sender ≡ Some share) × AreOwed max_bytes share list
-each_owed max_bytes shares [] sender list are is = absurd (cc)
-each_owed max_bytes [] (first ∷ lists) sender list are is = absurd are
-each_owed max_bytes (share ∷ shares) (first ∷ lists) zero list are is = let same : first ≡ list = cc in (share, refl, subst (AreOwed max_bytes share) same are.0)
-each_owed max_bytes (share ∷ shares) (first ∷ lists) (suc sender) list are is = each_owed max_bytes shares lists sender list are.1 is
+changed-twice : (number : ℕ) (first second : Log → Log) (table : List Log) → changed number second (changed number first table) ≡ changed number (λ log. second (first log)) table
+changed-twice number first second [] = refl
+changed-twice zero first second (log ∷ table) = refl
+changed-twice (suc number) first second (log ∷ table) = ap (λ logs. log ∷ logs) (changed-twice number first second table)
 
-as_many : (max_bytes : ℕ) (shares : List (List Numbered)) (lists : List (List StreamLog)) → AreAllOwed max_bytes shares lists → length lists ≡ length shares
-as_many max_bytes [] [] are = refl
-as_many max_bytes [] (list ∷ lists) are = absurd are
-as_many max_bytes (share ∷ shares) [] are = absurd are
-as_many max_bytes (share ∷ shares) (list ∷ lists) are = ap suc (as_many max_bytes shares lists are.1)
+unchanged : (number : ℕ) (table : List Log) → changed number (λ log. log) table ≡ table
+unchanged number [] = refl
+unchanged zero (log ∷ table) = refl
+unchanged (suc number) (log ∷ table) = ap (λ logs. log ∷ logs) (unchanged number table)
 
-new_logs : (names : List (List ℕ)) (told : List (Option Stream)) → length names ≡ length told → map begun (zip names told) ≡ map new_log names
-new_logs [] told same = refl
-new_logs (name ∷ names) [] same = absurd (omega (arith, same))
-new_logs (name ∷ names) (one ∷ told) same = ap (λ logs. new_log name ∷ logs) (new_logs names told (omega (arith, same)))
+no_line : (target : List ℕ) (entries : List Entry) (state : LogState) → with_lines state [] (record { target = target; entries = entries; state = state }) ≡ record { target = target; entries = entries; state = state }
+no_line target entries Running = ap (λ (es : List Entry). record { target = target; entries = es; state = Running }) (append-nil entries)
+no_line target entries Ended = refl
+no_line target entries (Failed fault) = refl
 
-from_map : {A B : Type 0} (f : A → B) (xs : List A) (k : ℕ) (there : B) → slice_get (map f xs) k ≡ Some there → (x : A) × (slice_get xs k ≡ Some x) × (there ≡ f x)
-from_map f [] k there is = absurd (cc)
-from_map f (x ∷ xs) zero there is = (x, refl, (let same : f x ≡ there = cc in sym same))
-from_map f (x ∷ xs) (suc k) there is = from_map f xs k there is
+one_line : (target : List ℕ) (entries : List Entry) (entry : Entry) (others : List Entry) (state : LogState)
+    → (let log : Log = changed_by state (Line entry) (record { target = target; entries = entries; state = state }) in with_lines log.state others log)
+    ≡ with_lines state (entry ∷ others) (record { target = target; entries = entries; state = state })
+one_line target entries entry others Running = ap (λ (es : List Entry). record { target = target; entries = es; state = Running }) (append_assoc entries (entry ∷ []) others)
+one_line target entries entry others Ended = refl
+one_line target entries entry others (Failed fault) = refl
 
-pub none_collected : {A : Type 0} (tells : A → Option Stream) (max_bytes senders : ℕ) (names : List (List ℕ)) (told : List (Option Stream)) (shares : List (List (ℕ × List ℕ × A))) (lists : List (List StreamLog))
-    → length names ≡ length told → AreDealt tells senders (zip names told) shares → AreAllOwed max_bytes (map (map (numbered tells)) shares) lists → Collected max_bytes senders (zip names told) 0 (map new_log names) lists
-none_collected {A} tells max_bytes senders names told shares lists same dealt are = record {
-  done = [];
-  left = zip names told;
-  logs = [];
-  given_is = refl;
-  number_is = refl;
-  settled = tt;
-  table_is = sym (new_logs names told same);
-  count = as_many max_bytes (map (map (numbered tells)) shares) lists are ∙ length-map shares (map (numbered tells)) ∙ dealt.0;
-  owed = λ sender list here.
-      let each = each_owed max_bytes (map (map (numbered tells)) shares) lists sender list are here in
-      let share = from_map (map (numbered tells)) shares sender each.0 each.1 in
-      subst (λ s. AreOwed max_bytes s list) (share.2 ∙ dealt.1 sender share.0 share.1) each.2;
-}
+stored_lines : (sender stream : ℕ) (entries : List Entry) (table : List Log) → stored (map (line_of sender stream) entries) table ≡ changed stream (λ log. with_lines log.state entries log) table
+stored_lines sender stream [] table = sym (changed-same stream (λ log. with_lines log.state [] log) (λ log. log) (λ log. no_line log.target log.entries log.state) table ∙ unchanged stream table)
+stored_lines sender stream (entry ∷ entries) table =
+    stored_lines sender stream entries (changed stream (step (Line entry)) table)
+    ∙ changed-twice stream (step (Line entry)) (λ log. with_lines log.state entries log) table
+    ∙ changed-same stream _ (λ log. with_lines log.state (entry ∷ entries) log) (λ log. one_line log.target log.entries entry entries log.state) table
 
-pub count_given : (names : List (List ℕ)) (told : List (Option Stream)) → length names ≡ length told → length (zip names told) ≡ length names
-count_given [] told same = refl
-count_given (name ∷ names) [] same = absurd (omega (arith, same))
-count_given (name ∷ names) (one ∷ told) same = ap suc (count_given names told (omega (arith, same)))
+stored_one : (sender stream : ℕ) (what : What) (table : List Log) → stored (singles_in sender stream what) table ≡ changed stream (step what) table
+stored_one sender stream (Line entry) table = refl
+stored_one sender stream (Lines entries) table =
+    stored_lines sender stream entries.items table ∙ changed-same stream _ (step (Lines entries)) (λ log. by log.target log.entries log.state) table
+  where
+    by : (target : List ℕ) (so_far : List Entry) (state : LogState)
+        → with_lines state entries.items (record { target = target; entries = so_far; state = state }) ≡ changed_by state (Lines entries) (record { target = target; entries = so_far; state = state })
+    by target so_far Running = refl
+    by target so_far Ended = refl
+    by target so_far (Failed fault) = refl
+stored_one sender stream End table = refl
+stored_one sender stream (Fail fault) table = refl
 
-pub map_twice : {A B C : Type 0} (g : B → C) (f : A → B) (xs : List A) → map g (map f xs) ≡ map (λ x. g (f x)) xs
-map_twice g f [] = refl
-map_twice g f (x ∷ xs) = ap (λ ys. g (f x) ∷ ys) (map_twice g f xs)
+none_lines : (sender stream : ℕ) (entries : List Entry) → NoneWants (map (line_of sender stream) entries)
+none_lines sender stream [] = tt
+none_lines sender stream (entry ∷ entries) = ((λ is. absurd (cc)), none_lines sender stream entries)
 
--- ---- one stream more
+none_one : (sender stream : ℕ) (what : What) → what ≢ Fail OutOfMemory → NoneWants (singles_in sender stream what)
+none_one sender stream (Line entry) had = ((λ is. absurd (cc)), tt)
+none_one sender stream (Lines entries) had = none_lines sender stream entries.items
+none_one sender stream End had = ((λ is. absurd (cc)), tt)
+none_one sender stream (Fail fault) had = (had, tt)
 
-module _ (max_bytes senders : ℕ) (given : List Given) (number : ℕ) (table : List Log) (lists : List (List StreamLog)) (so_far : Collected max_bytes senders given number table lists) where
-  logs_count : number ≡ length so_far.logs
-  logs_count = so_far.number_is ∙ sym (settled-count max_bytes so_far.done so_far.logs so_far.settled)
+none-append : (front behind : List Item) → NoneWants front → NoneWants behind → NoneWants (front ++ behind)
+none-append [] behind one two = two
+none-append (item ∷ front) behind one two = (one.0, none-append front behind one.1 two)
 
-  some_left : (left : List Given) → 0 < length left → (first : Given) × (others : List Given) × (left ≡ first ∷ others)
-  some_left [] some = absurd (omega (arith, some))
-  some_left (first ∷ others) some = (first, others, refl)
+singles_more : (before : List Item) (item : Item) → singles (before ++ item ∷ []) ≡ singles before ++ singles_in item.sender item.stream item.what
+singles_more before item = singles-append before (item ∷ []) ∙ ap (λ items. singles before ++ items) (append-nil (singles_in item.sender item.stream item.what))
 
-  module _ (below : number < length given) where
-    next : (first : Given) × (others : List Given) × (so_far.left ≡ first ∷ others)
-    next = some_left so_far.left (omega (arith, below, so_far.number_is, ap length so_far.given_is, length-append so_far.done so_far.left))
+pub holds_more : (names : List (List ℕ)) (before : List Item) (item : Item) (table after : List Log) (refused : Bool) → refused ≡ false → Holds names before table refused
+    → after ≡ changed item.stream (step item.what) table → item.what ≢ Fail OutOfMemory → Holds names (before ++ item ∷ []) after refused
+holds_more names before item table after refused fine holds after_is had _ =
+    let was = holds fine in (
+      after_is ∙ ap (changed item.stream (step item.what)) was.0 ∙ sym (stored_one item.sender item.stream item.what (stored (singles before) (map new_log names)))
+          ∙ sym (stored-append (singles before) (singles_in item.sender item.stream item.what) (map new_log names))
+          ∙ ap (λ items. stored items (map new_log names)) (sym (singles_more before item)),
+      subst NoneWants (sym (singles_more before item)) (none-append (singles before) (singles_in item.sender item.stream item.what) was.1 (none_one item.sender item.stream item.what had)),
+    )
 
-    -- its sender
-    pub there_is : 0 < senders → number % senders < length lists
-    there_is some = omega (arith, so_far.count, some)
+-- ---- single items of each sender
 
-    table_here : table ≡ so_far.logs ++ begun next.0 ∷ map begun next.1
-    table_here = so_far.table_is ∙ ap (λ left. so_far.logs ++ map begun left) next.2
+of-lines : (own : Bool) (sender number stream : ℕ) (entries : List Entry) → nat_eq number sender ≡ own → of sender (map (line_of number stream) entries) ≡ cond own (map (line_of number stream) entries) []
+of-lines true sender number stream [] is = refl
+of-lines false sender number stream [] is = refl
+of-lines true sender number stream (entry ∷ entries) is =
+    ap (λ b. cond b (line_of number stream entry ∷ of sender (map (line_of number stream) entries)) (of sender (map (line_of number stream) entries))) is
+    ∙ ap (λ items. line_of number stream entry ∷ items) (of-lines true sender number stream entries is)
+of-lines false sender number stream (entry ∷ entries) is =
+    ap (λ b. cond b (line_of number stream entry ∷ of sender (map (line_of number stream) entries)) (of sender (map (line_of number stream) entries))) is
+    ∙ of-lines false sender number stream entries is
 
-    pub log_runs : slice_get (states_of table) number ≡ Some Running
-    log_runs = ap (λ t. slice_get (states_of t) number) table_here ∙ ap (λ n. slice_get (states_of (so_far.logs ++ begun next.0 ∷ map begun next.1)) n) logs_count ∙ runs so_far.logs (map begun next.1)
-      where
-        runs : (logs others : List Log) → slice_get (states_of (logs ++ begun next.0 ∷ others)) (length logs) ≡ Some Running
-        runs [] others = refl
-        runs (log ∷ logs) others = runs logs others
+of-single : (own : Bool) (sender number stream : ℕ) (what : What) → nat_eq number sender ≡ own → of sender (singles_in number stream what) ≡ cond own (singles_in number stream what) []
+of-single true sender number stream (Line entry) is = of-lines true sender number stream (entry ∷ []) is
+of-single false sender number stream (Line entry) is = of-lines false sender number stream (entry ∷ []) is
+of-single own sender number stream (Lines entries) is = of-lines own sender number stream entries.items is
+of-single true sender number stream End is = ap (λ b. cond b (item_of number stream End ∷ []) []) is
+of-single false sender number stream End is = ap (λ b. cond b (item_of number stream End ∷ []) []) is
+of-single true sender number stream (Fail fault) is = ap (λ b. cond b (item_of number stream (Fail fault) ∷ []) []) is
+of-single false sender number stream (Fail fault) is = ap (λ b. cond b (item_of number stream (Fail fault) ∷ []) []) is
 
-    -- what is owed of the sender whose stream comes next
-    module _ (list : List StreamLog) (here : slice_get lists (number % senders) ≡ Some list) where
-      owed_next : AreOwed max_bytes ((number, next.0) ∷ share_from senders (number % senders) (suc number) next.1) list
-      owed_next =
-          subst (λ share. AreOwed max_bytes share list)
-          (ap (share_from senders (number % senders) number) next.2
-          ∙ ap (λ b. cond b ((number, next.0) ∷ share_from senders (number % senders) (suc number) next.1) (share_from senders (number % senders) (suc number) next.1)) (eq-eqb (number % senders) (number % senders) refl))
-          (so_far.owed (number % senders) list here)
+of-append : (sender : ℕ) (front behind : List Item) → of sender (front ++ behind) ≡ of sender front ++ of sender behind
+of-append sender [] behind = refl
+of-append sender (item ∷ front) behind = by (nat_eq item.sender sender) (of-append sender front behind)
+  where
+    by : (own : Bool) → of sender (front ++ behind) ≡ of sender front ++ of sender behind
+        → cond own (item ∷ of sender (front ++ behind)) (of sender (front ++ behind)) ≡ cond own (item ∷ of sender front) (of sender front) ++ of sender behind
+    by true is = ap (λ items. item ∷ items) is
+    by false is = is
 
-      pub not_empty : (rest : List StreamLog) → list ≡ rest → rest ≡ drop 1 list → ⊥
-      not_empty rest is behind = by list owed_next (is ∙ behind)
-        where
-          by : (list : List StreamLog) → AreOwed max_bytes ((number, next.0) ∷ share_from senders (number % senders) (suc number) next.1) list → list ≡ drop 1 list → ⊥
-          by [] are same = absurd are
-          by (log ∷ logs) are same = absurd (omega (arith, ap length same))
+of-singles : (sender : ℕ) (items : List Item) → of sender (singles items) ≡ singles (of sender items)
+of-singles sender [] = refl
+of-singles sender (item ∷ items) =
+    of-append sender (singles_in item.sender item.stream item.what) (singles items)
+    ∙ ap (λ list. list ++ of sender (singles items)) (of-single (nat_eq item.sender sender) sender item.sender item.stream item.what refl)
+    ∙ by (nat_eq item.sender sender) (of-singles sender items)
+  where
+    by : (own : Bool) → of sender (singles items) ≡ singles (of sender items)
+        → cond own (singles_in item.sender item.stream item.what) [] ++ of sender (singles items) ≡ singles (cond own (item ∷ of sender items) (of sender items))
+    by true is = ap (λ list. singles_in item.sender item.stream item.what ++ list) is
+    by false is = is
 
-      module _ (log : StreamLog) (rest : List StreamLog) (list_is : list ≡ log ∷ rest) where
-        owed_here : IsOwedFor max_bytes next.0 log.entries.items log.fault × AreOwed max_bytes (share_from senders (number % senders) (suc number) next.1) rest
-        owed_here = subst (AreOwed max_bytes ((number, next.0) ∷ share_from senders (number % senders) (suc number) next.1)) list_is owed_next
+below_lines : (senders sender stream : ℕ) (entries : List Entry) → sender < senders → AllByRecursion (λ (item : Item). item.sender < senders) (map (line_of sender stream) entries)
+below_lines senders sender stream [] below = tt
+below_lines senders sender stream (entry ∷ entries) below = (below, below_lines senders sender stream entries below)
 
-        settles : log.fault ≢ Some OutOfMemory → IsSettled max_bytes next.0 (completed log.entries.items log.fault (begun next.0))
-        settles had_memory =
-            weaker next.0.1 (λ stream. IsWhole next.0.0 max_bytes stream log.entries.items log.fault) (λ stream. completed log.entries.items log.fault (begun next.0) ≡ log_after max_bytes next.0.0 stream)
-            (λ stream whole. λ i. record { target = next.0.0; entries = whole.0 i; state = state_after (whole.1 i) })
-            (is_whole max_bytes next.0 log.entries.items log.fault owed_here.0 had_memory)
+below_single : (senders sender stream : ℕ) (what : What) → sender < senders → AllByRecursion (λ (item : Item). item.sender < senders) (singles_in sender stream what)
+below_single senders sender stream (Line entry) below = (below, tt)
+below_single senders sender stream (Lines entries) below = below_lines senders sender stream entries.items below
+below_single senders sender stream End below = (below, tt)
+below_single senders sender stream (Fail fault) below = (below, tt)
 
-        pub one_collected : (after : List Log) → log.fault ≢ Some OutOfMemory → after ≡ changed number (completed log.entries.items log.fault) table
-            → Collected max_bytes senders given (number + 1) after (slice_set lists (number % senders) rest)
-        one_collected after had_memory after_is = record {
-          done = so_far.done ++ next.0 ∷ [];
-          left = next.1;
-          logs = so_far.logs ++ completed log.entries.items log.fault (begun next.0) ∷ [];
-          given_is = so_far.given_is ∙ ap (λ left. so_far.done ++ left) next.2 ∙ sym (append_assoc so_far.done (next.0 ∷ []) next.1);
-          number_is = omega (arith, so_far.number_is, length-append so_far.done (next.0 ∷ []));
-          settled = one_settled max_bytes so_far.done next.0 so_far.logs (completed log.entries.items log.fault (begun next.0)) so_far.settled (settles had_memory);
-          table_is =
-              after_is ∙ ap (changed number (completed log.entries.items log.fault)) table_here
-              ∙ ap (λ n. changed n (completed log.entries.items log.fault) (so_far.logs ++ begun next.0 ∷ map begun next.1)) logs_count
-              ∙ changed-here so_far.logs (begun next.0) (map begun next.1) (completed log.entries.items log.fault)
-              ∙ sym (append_assoc so_far.logs (completed log.entries.items log.fault (begun next.0) ∷ []) (map begun next.1));
-          count = length-set lists (number % senders) rest ∙ so_far.count;
-          owed = λ sender list there. elim (replaced lists (number % senders) sender rest list there) [
-            | inl elsewhere ↦
-                subst (λ share. AreOwed max_bytes share list)
-                (ap (share_from senders sender number) next.2
-                ∙ ap (λ b. cond b ((number, next.0) ∷ share_from senders sender (suc number) next.1) (share_from senders sender (suc number) next.1)) (apart sender elsewhere.0) ∙ behind sender)
-                (so_far.owed sender list elsewhere.1)
-            | inr place ↦
-                subst (λ l. AreOwed max_bytes (share_from senders sender (number + 1) next.1) l) (sym place.1)
-                (subst (λ share. AreOwed max_bytes share rest) (ap (λ s. share_from senders s (suc number) next.1) (sym place.0) ∙ behind sender) owed_here.1)
-          ];
-        }
-          where
-            apart : (sender : ℕ) → sender ≢ number % senders → nat_eq (number % senders) sender ≡ false
-            apart sender differ = elim (eqb_tells (number % senders) sender) [
-              | inl same ↦ absurd (differ (sym same.1))
-              | inr other ↦ other.0
-            ]
+below-append : (senders : ℕ) (front behind : List Item) → AllByRecursion (λ (item : Item). item.sender < senders) front → AllByRecursion (λ (item : Item). item.sender < senders) behind
+    → AllByRecursion (λ (item : Item). item.sender < senders) (front ++ behind)
+below-append senders [] behind one two = two
+below-append senders (item ∷ front) behind one two = (one.0, below-append senders front behind one.1 two)
 
-            behind : (sender : ℕ) → share_from senders sender (suc number) next.1 ≡ share_from senders sender (number + 1) next.1
-            behind sender = let same : suc number ≡ number + 1 = omega arith in ap (λ n. share_from senders sender n next.1) same
+below_singles : (senders : ℕ) (items : List Item) → AllByRecursion (λ (item : Item). item.sender < senders) items → AllByRecursion (λ (item : Item). item.sender < senders) (singles items)
+below_singles senders [] below = tt
+below_singles senders (item ∷ items) below =
+    below-append senders (singles_in item.sender item.stream item.what) (singles items) (below_single senders item.sender item.stream item.what below.0) (below_singles senders items below.1)
 
-  -- all streams are stored
-  pub all_settled : length given ≡ number → AreSettled max_bytes given table
-  all_settled all = by so_far.left (omega (arith, all, so_far.number_is, ap length so_far.given_is, length-append so_far.done so_far.left)) so_far.given_is so_far.table_is
-    where
-      by : (left : List Given) → length left ≡ 0 → given ≡ so_far.done ++ left → table ≡ so_far.logs ++ map begun left → AreSettled max_bytes given table
-      by [] none given_is table_is =
-          subst (λ g. AreSettled max_bytes g table) (sym (given_is ∙ append-nil so_far.done)) (subst (AreSettled max_bytes so_far.done) (sym (table_is ∙ append-nil so_far.logs)) so_far.settled)
-      by (first ∷ left) none given_is table_is = absurd (omega (arith, none))
+-- ---- the whole table
+
+by_place : (max_bytes : ℕ) (given : List Given) (table : List Log) → length table ≡ length given
+    → ((place : ℕ) (one : Given) → slice_get given place ≡ Some one → (log : Log) × (slice_get table place ≡ Some log) × IsSettled max_bytes one log) → AreSettled max_bytes given table
+by_place max_bytes [] [] count each = tt
+by_place max_bytes [] (log ∷ table) count each = absurd (omega (arith, count))
+by_place max_bytes (one ∷ given) [] count each = absurd (omega (arith, count))
+by_place max_bytes (one ∷ given) (log ∷ table) count each =
+    let first = each zero one refl in
+    (subst (IsSettled max_bytes one) (same first.0 first.1) first.2, by_place max_bytes given table (omega (arith, count)) (λ place other there. each (suc place) other there))
+  where
+    same : (other : Log) → Some log ≡ Some other → other ≡ log
+    same other is = cc
+
+name_there : (names : List (List ℕ)) (told : List (Option Stream)) (place : ℕ) (one : Given) → slice_get (zip names told) place ≡ Some one → slice_get names place ≡ Some one.0
+name_there [] told place one there = absurd (none-some one there)
+name_there (name ∷ names) [] place one there = absurd (none-some one there)
+name_there (name ∷ names) (stream ∷ told) zero one there = same there
+  where
+    same : Some (name, stream) ≡ Some one → Some name ≡ Some one.0
+    same is = ap (option_map (λ (given : Given). given.0)) is
+name_there (name ∷ names) (stream ∷ told) (suc place) one there = name_there names told place one there
+
+posted_by_number : (max_bytes senders number : ℕ) (given : List Given) (taken : List Item) (met : List Met) → IsAmong number met → AllByRecursion (λ (m : Met). m.1 ≡ of m.0 taken) met
+    → AllByRecursion (Owes max_bytes senders given) met → AreOwed max_bytes number (share_from senders number 0 given) (singles (of number taken))
+posted_by_number max_bytes senders number given taken [] among whole owes = absurd among
+posted_by_number max_bytes senders number given taken (met ∷ others) (inl same) whole owes =
+    subst (λ n. AreOwed max_bytes n (share_from senders n 0 given) (singles (of n taken))) same
+    (subst (λ items. AreOwed max_bytes met.0 (share_from senders met.0 0 given) (singles items)) whole.0 owes.0)
+posted_by_number max_bytes senders number given taken (met ∷ others) (inr among) whole owes = posted_by_number max_bytes senders number given taken others among whole.1 owes.1
+
+module _ (max_bytes senders : ℕ) (names : List (List ℕ)) (told : List (Option Stream)) (taken : List Item) (met : List Met) (table : List Log)
+    (count : length names ≡ length told) (some : 0 < senders) (all_met : (number : ℕ) → number < senders → IsAmong number met)
+    (whole : AllByRecursion (λ (m : Met). m.1 ≡ of m.0 taken) met) (own : AllByRecursion (λ (item : Item). item.sender < senders) taken)
+    (owes : AllByRecursion (Owes max_bytes senders (zip names told)) met)
+    (holds : (table ≡ stored (singles taken) (map new_log names)) × NoneWants (singles taken)) where
+  each : (place : ℕ) (one : Given) → slice_get (zip names told) place ≡ Some one → (log : Log) × (slice_get table place ≡ Some log) × IsSettled max_bytes one log
+  each place one there =
+      let told_there =
+      told_of_each max_bytes senders (zip names told) (singles taken) some (below_singles senders taken own)
+      (λ sender below. subst (AreOwed max_bytes sender (share_from senders sender 0 (zip names told))) (sym (of-singles sender taken))
+      (posted_by_number max_bytes senders sender (zip names told) taken met (all_met sender below) whole owes))
+      place one there in
+      let entries = told_there.0 in let fault = told_there.1 in
+      let had = none_in_told entries fault (subst (AllByRecursion IsNoWant) told_there.2 (none-on place (singles taken) holds.1)) in (
+        record { target = one.0; entries = entries; state = state_after fault },
+        ap (λ t. slice_get t place) holds.0 ∙ interleaved (singles taken) (map new_log names) place
+            ∙ ap (option_map (run (on place (singles taken)))) (slice_get-map new_log names place ∙ ap (option_map new_log) (name_there names told place one there))
+            ∙ ap (λ whats. Some (run whats (new_log one.0))) told_there.2 ∙ ap Some (ran_told entries fault one.0),
+        weaker one.1 (λ stream. IsWhole one.0 max_bytes stream entries fault) (λ stream. record { target = one.0; entries = entries; state = state_after fault } ≡ log_after max_bytes one.0 stream)
+            (λ stream is. λ i. record { target = one.0; entries = is.0 i; state = state_after (is.1 i) }) (is_whole max_bytes one entries fault told_there.3 had),
+      )
+
+  count_zip : (names : List (List ℕ)) (told : List (Option Stream)) → length names ≡ length told → length names ≡ length (zip names told)
+  count_zip [] told same = refl
+  count_zip (name ∷ names) [] same = absurd (omega (arith, same))
+  count_zip (name ∷ names) (one ∷ told) same = ap suc (count_zip names told (omega (arith, same)))
+
+  pub all_settled : AreSettled max_bytes (zip names told) table
+  all_settled =
+      by_place max_bytes (zip names told) table
+      (ap length holds.0 ∙ length-stored (singles taken) (map new_log names) ∙ length-map names new_log ∙ count_zip names told count) each
+
+-- the table of a collector that took all
+pub settled_table : (max_bytes : ℕ) (names : List (List ℕ)) (told : List (Option Stream)) (collector : Collector) → AllTaken max_bytes names told collector → collector.refused ≡ false
+    → AreSettled max_bytes (zip names told) collector.table
+settled_table max_bytes names told collector taken fine =
+    all_settled max_bytes collector.mailbox.mailbox.senders names told collector.mailbox.taken collector.mailbox.met collector.table taken.owed.count taken.owed.some taken.met taken.whole taken.own
+    taken.owed.owed (taken.owed.holds fine)

@@ -1,29 +1,12 @@
--- How streams are dealt, and what is owed for them.
+-- How streams are dealt.
 use Rattle.std.proofs.Common.{◌≡◌, ◌≢◌, ◌⊎◌, inl, inr, ℕ, zero, suc, ◌+◌, ◌%◌, ◌<◌, nat_eq, Bool, true, false, cond, List, [], ◌∷◌, ◌++◌, Option, Some, length, map, replicate, zip, slice_get, slice_set, get_or, refl, sym, ap, ◌∙◌, arith}
 use Rattle.std.proofs.lemmas.Bool.{eq-eqb}
 use Rattle.std.proofs.lemmas.Bool.Decides.{eqb_tells}
 use Rattle.std.proofs.lemmas.List.{append-nil, length-replicate, length-set, map_push}
 use Rattle.redo_line.specs.Feed.{Stream}
-use Rattle.redo_gather.specs.declared.one_stream.StreamLog.{StreamLog}
-use Rattle.redo_gather.specs.Private.Dealing.{AreAllOwed, AreDealt, AreEmpty, AreOwed, Numbered, numbered, share_from}
-use Rattle.redo_gather.specs.Private.Owed.{Given, IsOwedFor}
-
-module _ (max_bytes : ℕ) where
-  -- one stream more
-  pub one_owed : (share : List Numbered) (logs : List StreamLog) (one : Numbered) (log : StreamLog) → AreOwed max_bytes share logs → IsOwedFor max_bytes one.1 log.entries.items log.fault
-      → AreOwed max_bytes (share ++ one ∷ []) (logs ++ log ∷ [])
-  one_owed [] [] one log are is = (is, tt)
-  one_owed [] (other ∷ logs) one log are is = absurd are
-  one_owed (first ∷ share) [] one log are is = absurd are
-  one_owed (first ∷ share) (other ∷ logs) one log are is = (are.0, one_owed share logs one log are.1 is)
-
-  -- one share more
-  pub one_share : (shares : List (List Numbered)) (logs : List (List StreamLog)) (share : List Numbered) (own : List StreamLog) → AreAllOwed max_bytes shares logs → AreOwed max_bytes share own
-      → AreAllOwed max_bytes (shares ++ share ∷ []) (logs ++ own ∷ [])
-  one_share [] [] share own are is = (is, tt)
-  one_share [] (other ∷ logs) share own are is = absurd are
-  one_share (first ∷ shares) [] share own are is = absurd are
-  one_share (first ∷ shares) (other ∷ logs) share own are is = (are.0, one_share shares logs share own are.1 is)
+use Rattle.redo_gather.specs.Owed.{Given}
+use Rattle.redo_gather.specs.Private.Dealing.{AreDealt, AreEmpty, share_from}
+use Rattle.redo_gather.specs.Sending.{Numbered, numbered}
 
 -- a stream more, which goes to one of the senders
 pub one_more : (senders sender number : ℕ) (given : List Given) (one : Given)

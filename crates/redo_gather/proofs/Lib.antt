@@ -3,9 +3,14 @@ mod DealingLemmas
 mod EnteringLemmas
 mod GatheredLemmas
 mod GrowthLemmas
+mod InterleavingLemmas
 mod OwedLemmas
+mod PostedLemmas
 mod ReadingLemmas
+mod ReadyLemmas
+mod RunningLemmas
 mod SettledLemmas
+mod SharesLemmas
 mod StreamLemmas
 mod StreamRows
 mod TurnLemmas

@@ -6,7 +6,7 @@ use Rattle.redo_line.specs.declared.stream_fault.StreamFault.TheVariants.{OutOfM
 use Rattle.redo_line.specs.Feed.{Stream, SomeStream}
 use Rattle.redo_line.specs.Log.{entries_of, fault_of, log_of, part_of, unless_fault}
 use Rattle.redo_line.proofs.GaveLemmas.{weaker}
-use Rattle.redo_gather.specs.Private.Owed.{Given, IsOwed, IsOwedFor, IsWhole, log_or_part, told_entries}
+use Rattle.redo_gather.specs.Owed.{Given, IsOwed, IsOwedFor, IsWhole, log_or_part, told_entries}
 
 -- a stream without a fault is told as its log
 pub log_told : (target : List ℕ) (max_bytes : ℕ) (stream : Stream) → fault_of target max_bytes stream ≡ None → log_of target max_bytes stream ≡ Some (told_entries target max_bytes stream)

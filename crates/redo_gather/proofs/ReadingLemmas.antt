@@ -16,7 +16,7 @@ use Rattle.redo_line.specs.Scan.{Scanned, Finds, IfMore, IsFine, MayRefuse, Take
 use Rattle.redo_line.proofs.FaultLemmas.{early_fault, early_part, failed_read, failed_part, no_fault}
 use Rattle.redo_line.proofs.GaveLemmas.{Gave, Gave-none, Gave-more, Gave-end, Gave-failed, weaker}
 use Rattle.redo_line.proofs.LogLemmas.{entries_lead_part, entries_lead_log}
-use Rattle.redo_gather.specs.Private.Owed.{IsOwed, IsOwedFor, log_or_part, told_entries}
+use Rattle.redo_gather.specs.Owed.{IsOwed, IsOwedFor, log_or_part, told_entries}
 use Rattle.redo_gather.specs.Private.Reading.{IsRead, IsCutIn, IsRefused}
 
 -- a scan for the log of a target, within this limit

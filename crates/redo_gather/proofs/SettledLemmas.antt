@@ -10,7 +10,7 @@ use Rattle.redo_line.specs.Feed.{Stream, SomeStream}
 use Rattle.redo_line.specs.Log.{fault_of, unless_fault}
 use Rattle.redo_logs.specs.Logs.{Log, behind_one, fault_in, first_failed, first_fault, has_ended, states_of, targets_of}
 use Rattle.redo_logs.proofs.LeastFault.{found_there}
-use Rattle.redo_gather.specs.Private.Owed.{Given, log_or_part, told_entries}
+use Rattle.redo_gather.specs.Owed.{Given, log_or_part, told_entries}
 use Rattle.redo_gather.specs.Private.Storing.{state_after}
 use Rattle.redo_gather.specs.Streams.{AreLogs, AreTold, IsFault, fault_with, in_front, logs_of, whole_log}
 use Rattle.redo_gather.proofs.StreamLemmas.{count_told, given_stream, whole_logs}

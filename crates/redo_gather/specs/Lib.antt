@@ -1,4 +1,6 @@
 pub mod GatherFault
+pub mod Owed
 pub mod Plan
 pub mod Private
+pub mod Sending
 pub mod Streams

@@ -1,22 +1,24 @@
 ghost use Rattle.std.specs.Prelude.{◌≡◌, ◌≢◌, ◌<◌, ◌≤◌, ◌^◌, true, IfOk, nat_eq, length, map, zip};
-ghost use Rattle.std.specs.List.{IsDistinct, list_all};
+ghost use Rattle.std.specs.List.{AllByRecursion, IsDistinct, list_all};
 ghost use Rattle.std.specs.Cmp.Lexicographic.{pointwise};
 ghost use Rattle.redo_line.specs.declared.stream_fault.StreamFault.TheVariants.{OutOfMemory};
-ghost use Rattle.redo_logs.specs.Logs.{new_log, most, targets_of, has_ended};
+ghost use Rattle.redo_logs.specs.Logs.{has_ended, most, new_log, targets_of};
 ghost use Rattle.redo_gather.specs.GatherFault.{IfStreamFault};
 ghost use Rattle.redo_gather.specs.Streams.{AreLogs, IsFault};
-ghost use Rattle.redo_gather.specs.Private.Dealing.{AreDealt, AreEmpty, AreRead};
+ghost use Rattle.redo_gather.specs.Private.Collecting.{Collects, IsGathered};
+ghost use Rattle.redo_gather.specs.Private.Dealing.{AreDealt, AreEmpty};
 
+use crate::collecting::Collector;
 use crate::gate::Gate;
 use crate::gather_fault::GatherFault;
-use crate::one_stream::StreamLog;
 use crate::plan::Plan;
-use crate::sender::{Owes, Sender, Share};
-use crate::storing::{enter_all, store};
+use crate::sender::{Owing, Sender};
+use crate::sending::Share;
+use crate::storing::enter_all;
 use redo_line::{Feed, TargetName};
 use redo_logs::LogTable;
+use redo_wire::{PostEnd, open};
 use std::alloc::{AllocError, Global};
-use std::collections::VecDeque;
 use std::snapshot::Snapshot;
 use std::sync::Wait;
 use std::thread;
@@ -26,12 +28,14 @@ use std::thread::{PromisedHandle, Scope, Threads};
 /// of the names. Each reader gives the stream of the name at the same place. There have to be as many
 /// readers as names, at most 1,048,575, and no name twice; there may be none.
 ///
-/// Sender i reads the streams i, i + n, i + 2n and so on, in a thread of its own; where there are fewer
-/// streams than senders, no more are started than there are streams. Each stream is read as
-/// [`crate::gather_plain`] reads it, also behind one that is at fault. Where a stream can't be had, the
-/// least-numbered of these is told; but want of memory, also of a thread, is told before any of them.
-/// The gate is told of each read by the sender, and of entries and ends by the thread that calls, once all
-/// senders have ended, in the order of the names. The plan's capacity isn't used yet.
+/// Sender i reads the streams i, i + n, i + 2n and so on, in a thread of its own ([`crate::send`]); where there
+/// are fewer streams than senders, no more are started than there are streams. They post what they read into a
+/// mailbox of the plan's capacity, and the thread that calls takes it and keeps it in a table. Each stream
+/// is read also behind one that is at fault. Where a stream can't be had, the least-numbered of these is told; but
+/// want of memory, also of a thread, is told before any of them.
+///
+/// The gate is told of each read by the sender, before it, and of each entry and each end by the thread that
+/// calls, once it took it.
 pub fn gather<T: Threads + Wait + Sync, R: Feed + Send, G: Gate>(
     rt: &T,
     alloc: Global,
@@ -54,32 +58,49 @@ pub fn gather<T: Threads + Wait + Sync, R: Feed + Send, G: Gate>(
     ensures number { IfStreamFault result (λ number fault. number < length names.items) }
     ensures no_memory { IfStreamFault result (λ number fault. fault ≢ OutOfMemory) }
 {
-    let mut table = enter_all(alloc, names)?;
+    let table = enter_all(alloc, names)?;
     let senders = plan.senders().min(table.len());
+    if senders == 0 {
+        return Ok(table);
+    }
+    gather_by(rt, alloc, table, readers, senders, plan, gate)
+}
+
+// The same by so many senders, for a table of the targets.
+fn gather_by<T: Threads + Wait + Sync, R: Feed + Send, G: Gate>(
+    rt: &T,
+    alloc: Global,
+    table: LogTable,
+    readers: Vec<R>,
+    senders: u32,
+    plan: &Plan,
+    gate: &G,
+) -> Result<LogTable, GatherFault>
+    requires begins { table ≡ map new_log (targets_of table) }
+    requires readers { length readers.items ≡ length table }
+    requires size { length table ≤ most }
+    requires senders { (1 ≤ senders) × (senders ≤ 64) }
+    ensures gathered { IsGathered plan.now.max_bytes (targets_of table) (map R.tells readers.items) result }
+    ensures no_memory { IfStreamFault result (λ number fault. fault ≢ OutOfMemory) }
+{
     let shares = deal(alloc, &table, readers, senders)?;
-    let mut logs = thread::scope(
+    let (mailbox, ends) = open(alloc, plan.capacity(), senders)?;
+    let collector = Collector::new(alloc, mailbox, table)?;
+    let max_bytes = plan.max_bytes();
+    let collector = thread::scope(
         thread::scope_env(),
         rt,
-        |scope| -> Result<Vec<VecDeque<StreamLog>>, AllocError>
-            ensures { IfOk result (λ logs. AreRead R.tells plan.entry.now.max_bytes shares.items logs.items) }
-        { read_shares(scope, rt, alloc, shares, plan, gate) },
-    )?;
-    for number in 0..table.len() {
-        let Some(log) = logs[(number % senders) as usize].pop_front() else {
-            unreachable!()
-        };
-        store(
-            &mut table,
-            number,
-            log,
-            &|lines| gate.taken(rt, number, lines),
-        )?;
-        gate.over(rt, number);
-    }
-    match table.first_fault() {
-        None => Ok(table),
-        Some((number, fault)) => Err(GatherFault::of(number, fault)),
-    }
+        |scope| -> Collector
+            requires one { AllByRecursion (λ end. end.mailbox ≡ collector.mailbox.mailbox) ends.items }
+            requires limit { (1 ≤ max_bytes) × (max_bytes ≤ 2 ^ 40) }
+            ensures { Collects R.tells max_bytes ends.items (map (λ share. share.items) shares.items) collector result }
+        {
+            collect(
+                scope, rt, alloc, ends, shares, max_bytes, gate, 0, collector,
+            )
+        },
+    );
+    collector.finish(rt, gate)
 }
 
 // Deals the streams of a table's targets to so many senders: number 0 to the first, and so on, round
@@ -118,29 +139,50 @@ fn no_shares<R: Drop>(alloc: Global, senders: u32) -> Result<Vec<Share<R>>, Allo
     Ok(shares)
 }
 
-// Reads shares of streams, each in a thread of its own, and answers what was read, in the same order.
-// Each thread that was started is joined, also where a later one can't be.
-fn read_shares<'s, T: Threads + Wait + Sync, R: Feed + Send + 's, G: Gate, E>(
+// Starts a sender for each end and its share, in a thread of its own, takes meanwhile what they post, joins
+// them and meets their ends. So many streams are read already; where one more sender can't be started, what is
+// posted of these is taken before its end is let go.
+fn collect<'s, T: Threads + Wait + Sync, R: Feed + Send + 's, G: Gate, E>(
     scope: &Scope<'s, E>,
     rt: &'s T,
     alloc: Global,
-    shares: Vec<Share<R>>,
-    plan: &Plan,
+    mut ends: Vec<PostEnd>,
+    mut shares: Vec<Share<R>>,
+    max_bytes: u64,
     gate: &'s G,
-) -> Result<Vec<VecDeque<StreamLog>>, AllocError>
-    ensures { IfOk result (λ logs. AreRead R.tells plan.now.max_bytes shares.items logs.items) }
+    streams: usize,
+    collector: Collector,
+) -> Collector
+    requires one { AllByRecursion (λ end. end.mailbox ≡ collector.mailbox.mailbox) ends.items }
+    requires limit { (1 ≤ max_bytes) × (max_bytes ≤ 2 ^ 40) }
+    ensures { Collects R.tells max_bytes ends.items (map (λ share. share.items) shares.items) collector result }
 {
-    let mut shares = shares;
-    let Some(share) = shares.pop() else {
-        return Ok(Vec::new(alloc));
+    let (Some(end), Some(share)) = (ends.pop(), shares.pop()) else {
+        return collector.take(rt, gate, streams);
     };
-    let sender = Sender::new(alloc, share, plan.max_bytes())?;
-    let thread = start(scope, rt, alloc, sender, gate)?;
-    let others = read_shares(scope, rt, alloc, shares, plan, gate);
-    let logs = thread.join(rt);
-    let mut all = others?;
-    all.push(logs)?;
-    Ok(all)
+    let streams_then = streams.wrapping_add(share.len());
+    let sender = Sender {
+        end,
+        share,
+        max_bytes,
+    };
+    let Ok(thread) = start(scope, rt, alloc, sender, gate) else {
+        return collector.take(rt, gate, streams);
+    };
+    let mut collector = collect(
+        scope,
+        rt,
+        alloc,
+        ends,
+        shares,
+        max_bytes,
+        gate,
+        streams_then,
+        collector,
+    );
+    let end = thread.join(rt);
+    collector.meet(rt, end);
+    collector
 }
 
 // Starts a sender in a thread of its own.
@@ -150,9 +192,9 @@ fn start<'s, T: Threads + Wait + Sync, R: Feed + Send + 's, G: Gate, E>(
     alloc: Global,
     sender: Sender<R>,
     gate: &'s G,
-) -> Result<PromisedHandle<VecDeque<StreamLog>, Owes<R>>, AllocError>
+) -> Result<PromisedHandle<PostEnd, Owing<R>>, AllocError>
     ensures { IfOk result (λ handle. handle.promise.0.value ≡ sender) }
 {
-    let owes = Owes(Snapshot::of(&sender));
-    Ok(scope.spawn_with(owes, move || sender.read(rt, alloc, gate))?)
+    let owing = Owing(Snapshot::of(&sender));
+    Ok(scope.spawn_with(owing, move || sender.send(rt, alloc, gate))?)
 }

@@ -5,6 +5,7 @@
 //! threads of their own, the other on the thread that calls.
 #![tactic(auto)]
 
+mod collecting;
 mod gate;
 mod gather_fault;
 mod gathering;
@@ -13,6 +14,7 @@ mod one_stream;
 mod plain;
 mod plan;
 mod sender;
+mod sending;
 mod storing;
 
 pub use gate::{Free, Gate};
@@ -21,3 +23,4 @@ pub use gathering::gather;
 pub use laws::{logs_unless_fault, streams_told};
 pub use plain::gather_plain;
 pub use plan::{Plan, PlanFault};
+pub use sending::{Share, send};

@@ -2,8 +2,8 @@ ghost use Rattle.std.specs.Prelude.{◌≡◌, ◌≢◌, ◌<◌, ◌≤◌, �
 ghost use Rattle.redo_line.specs.declared.stream_fault.StreamFault.TheVariants.{OutOfMemory, Read};
 ghost use Rattle.redo_line.specs.Log.{log_of};
 ghost use Rattle.redo_line.specs.Scan.{so_far, took};
-ghost use Rattle.redo_gather.specs.Private.Owed.{IsOwedFor, fault_in};
-ghost use Rattle.redo_gather.specs.Private.Reading.{IsRead, IsRefused};
+ghost use Rattle.redo_gather.specs.Owed.{IsOwedFor};
+ghost use Rattle.redo_gather.specs.Private.Reading.{IsRead, IsRefused, fault_in};
 
 use redo_line::{Broken, Entry, Feed, Scan, Step, StreamFault, TargetName};
 use std::alloc::Global;

@@ -56,7 +56,7 @@ pub fn gather_plain<R: Feed>(
         if let Some(fault) = fault {
             return Err(GatherFault::of(number, fault));
         }
-        store(&mut table, number, log, &|_| {})?;
+        store(&mut table, number, log)?;
         number += 1;
     }
     Ok(table)

@@ -1,15 +1,18 @@
-ghost use Rattle.std.specs.Prelude.{◌≡◌, ◌≢◌, ◌≤◌, false, Some, IfOk, OnOk, length, map, slice_get};
+ghost use Rattle.std.specs.Prelude.{◌≡◌, ◌≢◌, ◌≤◌, ◌↔◌, true, false, Some, IfOk, OnOk, length, map, slice_get};
 ghost use Rattle.std.specs.List.{IsDistinct};
 ghost use Rattle.std.specs.Cmp.Lexicographic.{pointwise};
 ghost use Rattle.std.specs.Prelude.{nat_eq};
 ghost use Rattle.redo_line.specs.declared.stream_fault.StreamFault.TheVariants.{OutOfMemory};
 ghost use Rattle.redo_logs.specs.declared.log_state.LogState.TheVariants.{Running};
 ghost use Rattle.redo_logs.specs.Logs.{changed, most, new_log, states_of};
-ghost use Rattle.redo_gather.specs.Private.Storing.{completed};
+ghost use Rattle.redo_wire.specs.declared.item.What.TheVariants.{Fail};
+ghost use Rattle.redo_gather.specs.Private.Collecting.{step};
+ghost use Rattle.redo_gather.specs.Private.Storing.{completed, with_entries};
 
 use crate::one_stream::StreamLog;
-use redo_line::{StreamFault, TargetName};
-use redo_logs::{LogTable, TableFault};
+use redo_line::{Entry, StreamFault, TargetName};
+use redo_logs::{LogState, LogTable, TableFault};
+use redo_wire::{Item, What};
 use std::alloc::{AllocError, Global};
 
 /// A table of these targets, whose logs are empty.
@@ -30,16 +33,9 @@ pub fn enter_all(alloc: Global, names: Vec<TargetName>) -> Result<LogTable, Allo
     Ok(table)
 }
 
-/// Adds what was read of a stream to its log, and ends it, or lets it fail. What was cut short is
-/// refused. `taken` is told of each entry, from 1.
-pub fn store<K: Fn(u64)>(
-    table: &mut LogTable,
-    number: u32,
-    log: StreamLog,
-    taken: &K,
-) -> Result<(), AllocError>
-    requires running { slice_get (states_of table.old) number ≡ Some Running }
-    requires callable { K.IsAlwaysCallable taken.now }
+/// Adds what was read of a stream to its log, and ends it, or lets it fail. What was cut short is refused.
+pub fn store(table: &mut LogTable, number: u32, log: StreamLog) -> Result<(), AllocError>
+    requires { slice_get (states_of table.old) number ≡ Some Running }
     ensures stored { OnOk result (table.new ≡ changed number (completed log.entries.items log.fault) table.old) }
     ensures had_memory { OnOk result (log.fault ≢ Some OutOfMemory) }
 {
@@ -47,12 +43,7 @@ pub fn store<K: Fn(u64)>(
         return Err(AllocError);
     }
     let StreamLog { entries, fault } = log;
-    let mut lines = 0;
-    for entry in entries {
-        table.add(number, entry)?;
-        lines += 1;
-        taken(lines);
-    }
+    add_all(table, number, entries)?;
     match fault {
         None => table.end(number),
         Some(fault) => table.fail(number, fault),
@@ -68,4 +59,57 @@ fn is_cut_short(log: &StreamLog) -> bool
         Some(StreamFault::OutOfMemory) => true,
         _ => false,
     }
+}
+
+/// Stores an item: adds its entries to the log of its stream, or ends it, or lets it fail. A log that has ended
+/// already takes nothing more. An item that tells want of memory is refused.
+pub fn store_item(table: &mut LogTable, item: Item) -> Result<(), AllocError>
+    ensures stored { OnOk result (table.new ≡ changed item.stream (step item.what) table.old) }
+    ensures had_memory { OnOk result (item.what ≢ Fail OutOfMemory) }
+{
+    if tells_no_memory(&item.what) {
+        return Err(AllocError);
+    }
+    if is_running(table, item.stream) {
+        store_in(table, item.stream, item.what)?;
+    }
+    Ok(())
+}
+
+// The same in a log that is running.
+fn store_in(table: &mut LogTable, stream: u32, what: What) -> Result<(), AllocError>
+    requires { slice_get (states_of table.old) stream ≡ Some Running }
+    ensures { OnOk result (table.new ≡ changed stream (step what) table.old) }
+{
+    match what {
+        What::Line(entry) => table.add(stream, entry)?,
+        What::Lines(entries) => add_all(table, stream, entries)?,
+        What::End => table.end(stream),
+        What::Fail(fault) => table.fail(stream, fault),
+    }
+    Ok(())
+}
+
+// Adds entries to a log.
+fn add_all(table: &mut LogTable, stream: u32, entries: Vec<Entry>) -> Result<(), AllocError>
+    requires { slice_get (states_of table.old) stream ≡ Some Running }
+    ensures states { OnOk result (states_of table.new ≡ states_of table.old) }
+    ensures added { OnOk result (table.new ≡ changed stream (with_entries entries.items) table.old) }
+{
+    for entry in entries {
+        table.add(stream, entry)?;
+    }
+    Ok(())
+}
+
+fn is_running(table: &LogTable, stream: u32) -> bool
+    ensures { (result ≡ true) ↔ (slice_get (states_of table.now) stream ≡ Some Running) }
+{
+    stream < table.len() && matches!(table.state(stream), LogState::Running)
+}
+
+fn tells_no_memory(what: &What) -> bool
+    ensures { result ≡ false → what.now ≢ Fail OutOfMemory }
+{
+    matches!(what, What::Fail(StreamFault::OutOfMemory))
 }

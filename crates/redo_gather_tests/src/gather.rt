@@ -369,16 +369,45 @@ fn senders_read_side_by_side(rt: HostRuntime) -> Result<(), Fail> {
     expect_held(&rt, [Hold::new(first, second), Hold::new(second, first)])
 }
 
+// Each reads its second line only once the other's first one was taken, so both post a line before
+// they read on, and what they post is taken meanwhile.
 #[test]
-fn the_gate_is_told_of_the_logs_in_order(rt: HostRuntime) -> Result<(), Fail> {
+fn what_is_read_is_taken_before_more_is_read(rt: HostRuntime) -> Result<(), Fail> {
+    let read = |stream| Event::BeforeRead { stream, turn: 2 };
+    let taken = |stream| Event::Taken { stream, lines: 1 };
+    expect_held(
+        &rt,
+        [Hold::new(read(0), taken(1)), Hold::new(read(1), taken(0))],
+    )
+}
+
+#[test]
+fn the_gate_is_told_of_entries_in_order_and_then_of_the_end(rt: HostRuntime) -> Result<(), Fail> {
     let over = Event::Over { stream: 0 };
-    let last = Event::Taken {
-        stream: 0,
-        lines: 2,
-    };
-    let next = Event::Taken {
-        stream: 1,
-        lines: 1,
-    };
-    expect_held(&rt, [Hold::new(over, last), Hold::new(next, over)])
+    let taken = |lines| Event::Taken { stream: 0, lines };
+    expect_held(
+        &rt,
+        [Hold::new(over, taken(2)), Hold::new(taken(2), taken(1))],
+    )
+}
+
+// The second stream is over before the first one is read.
+#[test]
+fn the_fault_of_the_least_number_is_told_though_it_comes_last(rt: HostRuntime) -> Result<(), Fail> {
+    let read = Event::BeforeRead { stream: 0, turn: 1 };
+    let over = Event::Over { stream: 1 };
+    let gate = Holding::new([Hold::new(read, over), Hold::new(read, over)]);
+    let given = [("a", BAD_NINTH, false), ("b", BAD, false)];
+    let answer = gathered_so(
+        &rt,
+        &given,
+        Cut::InReadsOf(3),
+        1000,
+        Way::Senders(2, 1),
+        &gate,
+    )?;
+    let want = Err(stream(0, StreamFault::BadRecord { line: 9 }));
+    expect_answer(&rt, &answer, want, "with holds")?;
+    assert_eq!(rt; gate.gave_up(), 0);
+    Ok(())
 }

@@ -387,12 +387,13 @@ fn a_writer_that_fails_ends_a_run(rt: HostRuntime) -> Result<(), Fail> {
     expect_hello(&rt, bytes.len(), 0, CANNOT_WRITE, b"")
 }
 
+// Each stream's second line is read only once the other's first one was taken.
 #[test]
-fn a_run_reads_its_streams_side_by_side(rt: HostRuntime) -> Result<(), Fail> {
+fn a_run_reads_and_takes_its_streams_side_by_side(rt: HostRuntime) -> Result<(), Fail> {
     let alloc = rt.alloc();
-    let first = Event::BeforeRead { stream: 0, turn: 1 };
-    let second = Event::BeforeRead { stream: 1, turn: 1 };
-    let gate = Holding::new([Hold::new(first, second), Hold::new(second, first)]);
+    let read = |stream| Event::BeforeRead { stream, turn: 2 };
+    let taken = |stream| Event::Taken { stream, lines: 1 };
+    let gate = Holding::new([Hold::new(read(0), taken(1)), Hold::new(read(1), taken(0))]);
     let given = [("p", "p1\np2\n", false), ("q", "q1\nq2\n", false)];
     let (index, readers) = captured(alloc, &given, Cut::InReadsOf(3))?;
     let words = [b"p".to_vec(alloc)?, b"q".to_vec(alloc)?];

@@ -25,7 +25,7 @@ use std::thread::Threads;
 /// The clause `ok` says so. What it means for a log, laws of `redo_line` say: one entry for each line, in
 /// order (`an_entry_for_each_line`), and nothing behind the closing record (`closing_stands_last`); and for
 /// the text, laws of `redo_view` (`opening_a_log`, `at_first_mention`, `each_log_once`). The streams are read by
-/// the plan's senders, in threads of their own, as [`redo_gather::gather`] has it; its capacity isn't used yet.
+/// the plan's senders, in threads of their own and through a mailbox, as [`redo_gather::gather`] has it.
 ///
 /// Each reader gives the stream of the target at its place in the index, so there has to be one for each.
 /// A word is the name of a target, relative to the base. The words are looked up before a byte is read,

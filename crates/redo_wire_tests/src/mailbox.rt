@@ -1,44 +1,17 @@
 //! What is taken of a mailbox is what was posted, of each sender in order.
 ghost use Rattle.std.specs.Prelude.{◌≡◌, IfOk};
 
+use crate::items::item_text;
 use crate::pair::{Two, two_ended};
 use crate::traffic::{Posts, exchange, rest};
 use redo_given::line;
-use redo_line::{Entry, StreamFault};
+use redo_line::Entry;
 use redo_wire::{Item, PostEnd, What};
 use std::alloc::{AllocError, Global};
 use std::process::Abort;
-use std::str;
 use std::sync::Wait;
 use std::test::Fail;
 use std::thread::Threads;
-
-/// The item as a test writes it.
-fn item_text(alloc: Global, item: &Item) -> Result<String, AllocError> {
-    let head = format!(in alloc; "{} of {}:", item.stream, item.sender)?;
-    match &item.what {
-        What::Line(entry) => format!(in alloc; "{head} {}", text_of(entry)),
-        What::Lines(entries) => lines_text(alloc, &head, entries),
-        What::End => format!(in alloc; "{head} end"),
-        What::Fail(fault) => format!(in alloc; "{head} {fault:?}"),
-    }
-}
-
-fn lines_text(alloc: Global, head: &str, entries: &[Entry]) -> Result<String, AllocError> {
-    let mut text = format!(in alloc; "{head}")?;
-    for entry in entries {
-        text.push_str(" ")?;
-        text.push_str(text_of(entry))?;
-    }
-    Ok(text)
-}
-
-fn text_of(entry: &Entry) -> &str {
-    match entry {
-        Entry::Text(line) => str::from_utf8(line.bytes()).unwrap_or("no text"),
-        _ => "no text",
-    }
-}
 
 /// A line with this text.
 fn entry(alloc: Global, text: &str) -> Result<Entry, Fail> {

@@ -1,15 +1,19 @@
 -- How the entries of a stream are read, a piece after another.
-use Rattle.std.specs.Prelude.{◌≡◌, ℕ, ◌⊎◌, List, ◌++◌, None, Some}
+use Rattle.std.specs.Prelude.{◌≡◌, ℕ, ◌⊎◌, List, ◌++◌, Option, None, Some, Result, Ok, Err, take}
 use Rattle.redo_line.specs.declared.entry.Entry.{Entry}
 use Rattle.redo_line.specs.declared.stream_fault.StreamFault.{StreamFault}
 use Rattle.redo_line.specs.declared.stream_fault.StreamFault.TheVariants.{OutOfMemory}
 use Rattle.redo_line.specs.Laws.{IsFront}
-use Rattle.redo_line.specs.Scan.{Scanned, IsFine, entries_in, entries_so_far, fault_so_far}
+use Rattle.redo_line.specs.Scan.{Scanned, IsFine, entries_in, entries_so_far, fault_so_far, took}
 
 -- a scan is fine, and these are the entries of the lines that it took
 pub record IsRead (scan : Scanned) (entries : List Entry) : Type 0 where
   pub fine : IsFine scan
   pub entries_are : entries ≡ entries_in scan
+
+-- behind a scan's bytes a piece was taken up to a place, and these are the entries of all
+abbrev pub IsReadTo : Scanned → List ℕ → ℕ → Scanned → List Entry → Type 0
+IsReadTo begun piece place scan entries = (scan ≡ took (take place piece) begun) × IsRead scan entries
 
 module _ (scan : Scanned) (piece : List ℕ) (entries : List Entry) where
   -- the bytes up to the end of a piece have this fault, and these entries before it
@@ -28,3 +32,8 @@ module _ (scan : Scanned) (piece : List ℕ) (entries : List Entry) where
   -- a piece is refused: for its fault, or for want of memory
   abbrev pub IsRefused : StreamFault → Type 0
   IsRefused fault = IsStopped fault ⊎ (IsCutIn × (fault ≡ OutOfMemory))
+
+-- the fault with which something ended, if it did
+abbrev pub fault_in : {A : Type 0} → Result A StreamFault → Option StreamFault
+fault_in (Ok done) = None
+fault_in (Err fault) = Some fault

@@ -2,7 +2,7 @@ use Rattle.std.proofs.Common.{◌<◌, None, Some, refl, sym, arith, subst}
 use Rattle.std.proofs.lemmas.List.{append-nil}
 use Rattle.std.proofs.lemmas.Result.{err_from_is_err_and}
 use Rattle.redo_line.specs.declared.stream_fault.StreamFault.TheVariants.{OutOfMemory}
-use Rattle.redo_gather.specs.Private.Owed.{IsOwedFor}
+use Rattle.redo_gather.specs.Owed.{IsOwedFor}
 use Rattle.redo_gather.proofs.ReadingLemmas.{at_end, at_failure, at_refusal, no_memory_left, none_read}
 use Rattle.redo_gather.proofs.one_stream.read_entries.Goals as goal
 

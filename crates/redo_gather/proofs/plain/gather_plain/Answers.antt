@@ -44,8 +44,8 @@ returns-in-Some-fault-clause-number g c =
 pub returns-in-Some-fault-clause-no_memory : goal.returns-in-Some-fault-clause-no_memory
 returns-in-Some-fault-clause-no_memory g c = of_stream (List Log) c.loop-reader.number c.in-Some-fault.fault _ (λ other. other) c.of.result c.of.ensures
 
-pub store-requires-clause-running : goal.store-requires-clause-running
-store-requires-clause-running g c =
+pub store-requires : goal.store-requires
+store-requires g c =
     log_runs g.R.Feed.tells _ _ _ _ _ _ _ c.loop-reader.invariant.1 c.requires.readers _ _ c.in-Some.ensures.steps.0 _ c.name.ensures
 
 pub loop-reader-preserved : goal.loop-reader-preserved

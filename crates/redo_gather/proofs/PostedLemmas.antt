@@ -1,0 +1,86 @@
+-- How the list of an end grows.
+use Rattle.std.proofs.Common.{◌≡◌, ℕ, List, [], ◌∷◌, ◌++◌, Option, None, Some, map, refl, sym, ap, ◌∙◌, subst}
+use Rattle.std.proofs.lemmas.List.{append_assoc, append-nil, map-append}
+use Rattle.redo_line.specs.declared.entry.Entry.{Entry}
+use Rattle.redo_line.specs.declared.stream_fault.StreamFault.{StreamFault}
+use Rattle.redo_wire.specs.declared.item.Item.{Item}
+use Rattle.redo_wire.specs.Mailbox.{Poster, posts}
+use Rattle.redo_gather.specs.Owed.{Given, IsOwedFor}
+use Rattle.redo_gather.specs.Private.Posting.{IsStreamPosted}
+use Rattle.redo_gather.specs.Sending.{AreOwed, HasPosted, HasSent, Numbered, item_of, last_of, line_of, singles, singles_in, told_of}
+
+pub singles-append : (front behind : List Item) → singles (front ++ behind) ≡ singles front ++ singles behind
+singles-append [] behind = refl
+singles-append (item ∷ front) behind =
+    ap (λ items. singles_in item.sender item.stream item.what ++ items) (singles-append front behind)
+    ∙ sym (append_assoc (singles_in item.sender item.stream item.what) (singles front) (singles behind))
+
+pub nothing_posted : (end : Poster) → HasPosted end end []
+nothing_posted end = record { mailbox = refl; number = refl; items = []; posted = sym (append-nil end.posted); lines_are = refl }
+
+pub then_posted : (before between after : Poster) (first second : List Item) → HasPosted before between first → HasPosted between after second → HasPosted before after (first ++ second)
+then_posted before between after first second one two = record {
+  mailbox = two.mailbox ∙ one.mailbox;
+  number = two.number ∙ one.number;
+  items = one.items ++ two.items;
+  posted = two.posted ∙ ap (λ items. items ++ two.items) one.posted ∙ append_assoc before.posted one.items two.items;
+  lines_are = singles-append one.items two.items ∙ (λ i. one.lines_are i ++ two.lines_are i);
+}
+
+pub one_posted : (before after : Poster) (item : Item) → after ≡ posts item before → HasPosted before after (singles_in item.sender item.stream item.what)
+one_posted before after item is = record {
+  mailbox = ap (λ end. end.mailbox) is;
+  number = ap (λ end. end.number) is;
+  items = item ∷ [];
+  posted = ap (λ end. end.posted) is;
+  lines_are = append-nil (singles_in item.sender item.stream item.what);
+}
+
+-- entries more of one stream
+pub lines_posted : (stream : ℕ) (before between after : Poster) (first second : List Entry) → HasPosted before between (map (line_of before.number stream) first)
+    → HasPosted between after (map (line_of between.number stream) second) → HasPosted before after (map (line_of before.number stream) (first ++ second))
+lines_posted stream before between after first second one two =
+    subst (HasPosted before after)
+    (ap (λ n. map (line_of before.number stream) first ++ map (line_of n stream) second) one.number ∙ sym (map-append (line_of before.number stream) first second))
+    (then_posted before between after _ _ one two)
+
+last_single : (sender stream : ℕ) (fault : Option StreamFault) → singles_in sender stream (last_of fault) ≡ item_of sender stream (last_of fault) ∷ []
+last_single sender stream None = refl
+last_single sender stream (Some fault) = refl
+
+-- the end of a stream, or its fault
+pub last_posted : (stream : ℕ) (before between after : Poster) (entries : List Entry) (fault : Option StreamFault) → HasPosted before between (map (line_of before.number stream) entries)
+    → HasPosted between after (singles_in between.number stream (last_of fault)) → HasPosted before after (told_of before.number stream entries fault)
+last_posted stream before between after entries fault one two =
+    subst (HasPosted before after)
+    (ap (λ n. map (line_of before.number stream) entries ++ singles_in n stream (last_of fault)) one.number
+    ∙ ap (λ items. map (line_of before.number stream) entries ++ items) (last_single before.number stream fault))
+    (then_posted before between after _ _ one two)
+
+-- ---- a stream more
+
+module _ (max_bytes sender : ℕ) where
+  owed-more : (share : List Numbered) (items : List Item) (stream : Numbered) (entries : List Entry) (fault : Option StreamFault) → AreOwed max_bytes sender share items
+      → IsOwedFor max_bytes stream.1 entries fault → AreOwed max_bytes sender (share ++ stream ∷ []) (items ++ told_of sender stream.0 entries fault)
+  owed-more [] items stream entries fault are is =
+      (entries, fault, [], ap (λ list. list ++ told_of sender stream.0 entries fault) are ∙ sym (append-nil (told_of sender stream.0 entries fault)), is, refl)
+  owed-more (first ∷ share) items stream entries fault (own, how, behind, items_are, owed, rest) is = (
+    own,
+    how,
+    behind ++ told_of sender stream.0 entries fault,
+    ap (λ list. list ++ told_of sender stream.0 entries fault) items_are ∙ append_assoc (told_of sender first.0 own how) behind (told_of sender stream.0 entries fault),
+    owed,
+    owed-more share behind stream entries fault rest is,
+  )
+
+pub none_sent : (max_bytes : ℕ) (end : Poster) → HasSent max_bytes [] end end
+none_sent max_bytes end = ([], nothing_posted end, refl)
+
+pub one_sent : (max_bytes : ℕ) (share : List Numbered) (stream : ℕ) (given : Given) (before between after : Poster) → HasSent max_bytes share before between
+    → IsStreamPosted max_bytes stream given between after → HasSent max_bytes (share ++ (stream, given) ∷ []) before after
+one_sent max_bytes share stream given before between after (lines, posted, owed) one = (
+  lines ++ told_of before.number stream one.entries one.fault,
+  then_posted before between after lines (told_of before.number stream one.entries one.fault) posted
+      (subst (λ n. HasPosted between after (told_of n stream one.entries one.fault)) posted.number one.posted),
+  owed-more max_bytes before.number share lines (stream, given) one.entries one.fault owed one.owed,
+)

@@ -1,0 +1,79 @@
+-- Ends and shares at the same places.
+use Rattle.std.proofs.Common.{◌≡◌, ℕ, zero, suc, ◌≤◌, false, List, [], ◌∷◌, ◌++◌, Option, Some, length, map, zip, slice_get, refl, sym, ap, ◌∙◌, subst, arith}
+use Rattle.std.specs.List.{AllByRecursion}
+use Rattle.std.proofs.lemmas.List.{length-append}
+use Rattle.std.proofs.lemmas.Option.{none-some}
+use Rattle.redo_line.specs.Feed.{Stream}
+use Rattle.redo_logs.specs.Logs.{new_log}
+use Rattle.redo_wire.specs.Mailbox.{AreEndsOf, IsOpened, Mailbox, Poster}
+use Rattle.redo_gather.specs.declared.collecting.Collector.{Collector as Collecting}
+use Rattle.redo_gather.specs.Owed.{Given}
+use Rattle.redo_gather.specs.Private.Collecting.{AllOwed, Collects, NoneWants, Owes, stored}
+use Rattle.redo_gather.specs.Private.Dealing.{AreDealt, AreReady, share_from}
+use Rattle.redo_gather.specs.Sending.{AreOwed, HasSent, numbered, singles}
+
+in_front : {X : Type 0} (front behind : List X) (k : ℕ) (there : X) → slice_get front k ≡ Some there → slice_get (front ++ behind) k ≡ Some there
+in_front [] behind k there is = absurd (none-some there is)
+in_front (x ∷ front) behind zero there is = is
+in_front (x ∷ front) behind (suc k) there is = in_front front behind k there is
+
+at_end : {X : Type 0} (front : List X) (last : X) → slice_get (front ++ last ∷ []) (length front) ≡ Some last
+at_end [] last = refl
+at_end (x ∷ front) last = at_end front last
+
+pub all_but_last : (mailbox : Mailbox) (ends : List Poster) (last : Poster) → AllByRecursion (λ (end : Poster). end.mailbox ≡ mailbox) (ends ++ last ∷ [])
+    → AllByRecursion (λ (end : Poster). end.mailbox ≡ mailbox) ends × (last.mailbox ≡ mailbox)
+all_but_last mailbox [] last all = (tt, all.0)
+all_but_last mailbox (end ∷ ends) last all = let others = all_but_last mailbox ends last all.1 in ((all.0, others.0), others.1)
+
+module _ {A : Type 0} (tells : A → Option Stream) (senders : ℕ) (given : List Given) where
+  pub all_ready : (mailbox : Mailbox) (ends : List Poster) (shares : List (List (ℕ × List ℕ × A))) → mailbox.senders ≡ senders → AreEndsOf mailbox ends → AreDealt tells senders given shares
+      → AreReady tells senders given ends shares
+  all_ready mailbox ends shares count are dealt = record {
+    count = are.count ∙ count ∙ sym dealt.0;
+    fresh = λ place end there. (ap (λ (e : Poster). e.number) (are.each place end there), ap (λ (e : Poster). e.posted) (are.each place end there));
+    dealt = dealt.1;
+  }
+
+  module _ (ends : List Poster) (end : Poster) (shares : List (List (ℕ × List ℕ × A))) (share : List (ℕ × List ℕ × A)) (ready : AreReady tells senders given (ends ++ end ∷ []) (shares ++ share ∷ [])) where
+    same : length ends ≡ length shares
+    same = let count = ready.count in omega (arith, count, length-append ends (end ∷ []), length-append shares (share ∷ []))
+
+    pub others_ready : AreReady tells senders given ends shares
+    others_ready = record {
+      count = same;
+      fresh = λ place other there. ready.fresh place other (in_front ends (end ∷ []) place other there);
+      dealt = λ sender other there. ready.dealt sender other (in_front shares (share ∷ []) sender other there);
+    }
+
+    -- what the last end posted once it sent its share
+    pub last_owes : (max_bytes : ℕ) (after : Poster) → HasSent max_bytes (map (numbered tells) share) end after → Owes max_bytes senders given (after.number, after.posted)
+    last_owes max_bytes after (lines, posted, owed) =
+        subst (AreOwed max_bytes after.number (share_from senders after.number 0 given)) (sym lines_are)
+        (subst (λ n. AreOwed max_bytes n (share_from senders n 0 given) lines) (sym posted.number)
+        (subst (λ s. AreOwed max_bytes end.number s lines) (ready.dealt (length shares) share (at_end shares share) ∙ ap (λ n. share_from senders n 0 given) (sym number_is)) owed))
+      where
+        fresh : (end.number ≡ length ends) × (end.posted ≡ [])
+        fresh = ready.fresh (length ends) end (at_end ends end)
+
+        number_is : end.number ≡ length shares
+        number_is = fresh.0 ∙ same
+
+        lines_are : singles after.posted ≡ lines
+        lines_are = ap singles (posted.posted ∙ ap (λ items. items ++ posted.items) fresh.1) ∙ posted.lines_are
+
+-- a new mailbox and an empty table, and what was collected from there
+pub all_owed : {A : Type 0} (tells : A → Option Stream) (max_bytes capacity senders : ℕ) (names : List (List ℕ)) (told : List (Option Stream)) (ends : List Poster) (shares : List (List (ℕ × List ℕ × A)))
+    (before after : Collecting) → Collects tells max_bytes ends shares before after → IsOpened capacity senders before.mailbox → before.table ≡ map new_log names → before.refused ≡ false
+    → length names ≡ length told → 1 ≤ senders → AreEndsOf before.mailbox.mailbox ends → AreDealt tells senders (zip names told) shares → AllOwed max_bytes names told after
+all_owed tells max_bytes capacity senders names told ends shares before after collects opened table_is fine count some are dealt = record {
+  count = count;
+  some = omega (arith, some, ap (λ (m : Mailbox). m.senders) collects.mailbox, opened.1);
+  owed =
+      subst (λ n. AllByRecursion (Owes max_bytes n (zip names told)) after.mailbox.met) (sym (ap (λ (m : Mailbox). m.senders) collects.mailbox))
+      (collects.owed (zip names told) (subst (λ n. AreReady tells n (zip names told) ends shares) (sym opened.1) (all_ready tells senders (zip names told) before.mailbox.mailbox ends shares opened.1 are dealt))
+      (subst (AllByRecursion (Owes max_bytes before.mailbox.mailbox.senders (zip names told))) (sym opened.3) tt));
+  holds =
+      collects.holds names
+      (λ _. (table_is ∙ ap (λ items. stored (singles items) (map new_log names)) (sym opened.2), subst (λ items. NoneWants (singles items)) (sym opened.2) tt));
+}

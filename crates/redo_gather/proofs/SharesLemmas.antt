@@ -1,0 +1,157 @@
+-- What was taken of each stream, once all that was owed for the shares was taken.
+use Rattle.std.proofs.Common.{◌≡◌, inl, inr, ℕ, zero, suc, ◌+◌, ◌%◌, ◌<◌, nat_eq, Bool, true, false, cond, List, [], ◌∷◌, ◌++◌, Option, Some, map, slice_get, refl, sym, ap, ◌∙◌, subst, arith}
+use Rattle.std.specs.List.{AllByRecursion}
+use Rattle.std.proofs.lemmas.Bool.{eq-eqb}
+use Rattle.std.proofs.lemmas.Bool.Decides.{eqb_tells}
+use Rattle.std.proofs.lemmas.List.{append-nil}
+use Rattle.std.proofs.lemmas.Option.{none-some}
+use Rattle.redo_line.specs.declared.entry.Entry.{Entry}
+use Rattle.redo_line.specs.declared.stream_fault.StreamFault.{StreamFault}
+use Rattle.redo_wire.specs.declared.item.Item.{Item}
+use Rattle.redo_wire.specs.declared.item.What.{What}
+use Rattle.redo_wire.specs.declared.item.What.TheVariants.{Line}
+use Rattle.redo_wire.specs.Machine.{of}
+use Rattle.redo_gather.specs.Owed.{Given, IsOwedFor}
+use Rattle.redo_gather.specs.Private.Dealing.{share_from}
+use Rattle.redo_gather.specs.Sending.{AreOwed, item_of, last_of, line_of, told_of}
+use Rattle.redo_gather.proofs.InterleavingLemmas.{on, on-append, on-other, told_else, told_here}
+
+-- these are the entries and the end or fault that are owed for a stream
+abbrev pub IsTold : ℕ → Given → List What → Type 0
+IsTold max_bytes given whats = (entries : List Entry) × (fault : Option StreamFault) × (whats ≡ map Line entries ++ last_of fault ∷ []) × IsOwedFor max_bytes given entries fault
+
+all-append : {X : Type 0} (P : X → Type 0) (front behind : List X) → AllByRecursion P front → AllByRecursion P behind → AllByRecursion P (front ++ behind)
+all-append P [] behind one two = two
+all-append P (item ∷ front) behind one two = (one.0, all-append P front behind one.1 two)
+
+module _ (max_bytes senders : ℕ) where
+  -- a share from a stream on has nothing of the streams before
+  none_before : (sender from stream : ℕ) (given : List Given) (items : List Item) → stream < from → AreOwed max_bytes sender (share_from senders sender from given) items → on stream items ≡ []
+  none_before sender from stream [] items before are = ap (on stream) are
+  none_before sender from stream (one ∷ given) items before are =
+      by (λ items are. none_before sender (suc from) stream given items (omega (arith, before)) are) (nat_eq (from % senders) sender) are
+    where
+      by : ((items : List Item) → AreOwed max_bytes sender (share_from senders sender (suc from) given) items → on stream items ≡ [])
+          → (own : Bool) → AreOwed max_bytes sender (cond own ((from, one) ∷ share_from senders sender (suc from) given) (share_from senders sender (suc from) given)) items → on stream items ≡ []
+      by others true (entries, fault, behind, is, owed, rest) =
+          ap (on stream) is ∙ on-append stream (told_of sender from entries fault) behind
+          ∙ (λ i. told_else sender from stream entries fault (λ same. omega (arith, same, before)) i ++ others behind rest i)
+      by others false are = others items are
+
+  -- the stream at a place of a list, which has this number
+  pub told_at : (sender from place : ℕ) (given : List Given) (one : Given) (items : List Item) → slice_get given place ≡ Some one → (from + place) % senders ≡ sender
+      → AreOwed max_bytes sender (share_from senders sender from given) items → IsTold max_bytes one (on (from + place) items)
+  told_at sender from place [] one items there own are = absurd (none-some one there)
+  told_at sender from zero (first ∷ given) one items there own are = by (nat_eq (from % senders) sender) refl are
+    where
+      here : from + 0 ≡ from
+      here = omega arith
+
+      same : Some first ≡ Some one → first ≡ one
+      same is = cc
+
+      mine : nat_eq (from % senders) sender ≡ true
+      mine = eq-eqb (from % senders) sender (ap (λ n. n % senders) (sym here) ∙ own)
+
+      by : (test : Bool) → nat_eq (from % senders) sender ≡ test
+          → AreOwed max_bytes sender (cond test ((from, first) ∷ share_from senders sender (suc from) given) (share_from senders sender (suc from) given)) items → IsTold max_bytes one (on (from + 0) items)
+      by true is (entries, fault, behind, items_are, owed, rest) = (
+        entries,
+        fault,
+        ap (λ n. on n items) here ∙ ap (on from) items_are ∙ on-append from (told_of sender from entries fault) behind
+            ∙ (λ i. told_here sender from entries fault i ++ none_before sender (suc from) from given behind (omega arith) rest i) ∙ append-nil (map Line entries ++ last_of fault ∷ []),
+        subst (λ g. IsOwedFor max_bytes g entries fault) (same there) owed,
+      )
+      by false is are = absurd (let no : true ≡ false = sym mine ∙ is in cc)
+  told_at sender from (suc place) (first ∷ given) one items there own are =
+      by (λ items are. told_at sender (suc from) place given one items there (ap (λ n. n % senders) (sym further) ∙ own) are) (nat_eq (from % senders) sender) are
+    where
+      further : from + suc place ≡ suc from + place
+      further = omega arith
+
+      by : ((items : List Item) → AreOwed max_bytes sender (share_from senders sender (suc from) given) items → IsTold max_bytes one (on (suc from + place) items))
+          → (test : Bool) → AreOwed max_bytes sender (cond test ((from, first) ∷ share_from senders sender (suc from) given) (share_from senders sender (suc from) given)) items
+          → IsTold max_bytes one (on (from + suc place) items)
+      by others true (entries, fault, behind, items_are, owed, rest) =
+          subst (IsTold max_bytes one)
+          (sym (ap (λ n. on n items) further ∙ ap (on (suc from + place)) items_are ∙ on-append (suc from + place) (told_of sender from entries fault) behind
+          ∙ (λ i. told_else sender from (suc from + place) entries fault (λ same. omega (arith, same)) i ++ on (suc from + place) behind)))
+          (others behind rest)
+      by others false are = subst (λ n. IsTold max_bytes one (on n items)) (sym further) (others items are)
+
+  -- ---- whose items these are
+
+  abbrev IsOwn : ℕ → Item → Type 0
+  IsOwn sender item = item.stream % senders ≡ sender
+
+  lines_own : (sender stream : ℕ) (entries : List Entry) → stream % senders ≡ sender → AllByRecursion (IsOwn sender) (map (line_of sender stream) entries)
+  lines_own sender stream [] own = tt
+  lines_own sender stream (entry ∷ entries) own = (own, lines_own sender stream entries own)
+
+  are_own : (sender from : ℕ) (given : List Given) (items : List Item) → AreOwed max_bytes sender (share_from senders sender from given) items → AllByRecursion (IsOwn sender) items
+  are_own sender from [] items are = subst (AllByRecursion (IsOwn sender)) (sym are) tt
+  are_own sender from (one ∷ given) items are = by (are_own sender (suc from) given) (nat_eq (from % senders) sender) refl are
+    where
+      own_if : nat_eq (from % senders) sender ≡ true → from % senders ≡ sender
+      own_if is = elim (eqb_tells (from % senders) sender) [
+        | inl same ↦ same.1
+        | inr apart ↦ absurd (let no : true ≡ false = sym is ∙ apart.0 in cc)
+      ]
+
+      by : ((items : List Item) → AreOwed max_bytes sender (share_from senders sender (suc from) given) items → AllByRecursion (IsOwn sender) items)
+          → (test : Bool) → nat_eq (from % senders) sender ≡ test
+          → AreOwed max_bytes sender (cond test ((from, one) ∷ share_from senders sender (suc from) given) (share_from senders sender (suc from) given)) items → AllByRecursion (IsOwn sender) items
+      by others true is (entries, fault, behind, items_are, owed, rest) =
+          subst (AllByRecursion (IsOwn sender)) (sym items_are)
+          (all-append (IsOwn sender) (told_of sender from entries fault) behind
+          (all-append (IsOwn sender) (map (line_of sender from) entries) (item_of sender from (last_of fault) ∷ []) (lines_own sender from entries (own_if is)) (own_if is, tt)) (others behind rest))
+      by others false is are = others items are
+
+  abbrev IsDealt : Item → Type 0
+  IsDealt item = item.stream % senders ≡ item.sender
+
+  -- items of senders each of which posted its own are all dealt to theirs
+  all_dealt : (items : List Item) → AllByRecursion (λ (item : Item). item.sender < senders) items → ((sender : ℕ) → sender < senders → AllByRecursion (IsOwn sender) (of sender items)) → AllByRecursion IsDealt items
+  all_dealt [] below each = tt
+  all_dealt (item ∷ items) below each = (first, all_dealt items below.1 (λ sender is. behind (nat_eq item.sender sender) sender (each sender is)))
+    where
+      first : IsDealt item
+      first = by (nat_eq item.sender item.sender) (eq-eqb item.sender item.sender refl) (each item.sender below.0)
+        where
+          by : (own : Bool) → own ≡ true → AllByRecursion (IsOwn item.sender) (cond own (item ∷ of item.sender items) (of item.sender items)) → IsDealt item
+          by true is all = all.0
+          by false is all = absurd (cc)
+
+      behind : (own : Bool) (sender : ℕ) → AllByRecursion (IsOwn sender) (cond own (item ∷ of sender items) (of sender items)) → AllByRecursion (IsOwn sender) (of sender items)
+      behind true sender all = all.1
+      behind false sender all = all
+
+  -- a stream's items are all of its sender
+  on_sender : (items : List Item) (stream : ℕ) → AllByRecursion IsDealt items → on stream items ≡ on stream (of (stream % senders) items)
+  on_sender [] stream dealt = refl
+  on_sender (item ∷ items) stream dealt = elim (eqb_tells item.sender (stream % senders)) [
+    | inl same ↦ by (on_sender items stream dealt.1) (nat_eq item.stream stream) ∙ ap (on stream) (sym (ap (λ b. cond b (item ∷ of (stream % senders) items) (of (stream % senders) items)) (eq-eqb item.sender (stream % senders) same.1)))
+    | inr apart ↦
+        on-other stream item items (λ is. apart.1 (sym dealt.0 ∙ ap (λ n. n % senders) is)) ∙ on_sender items stream dealt.1
+        ∙ ap (on stream) (sym (ap (λ b. cond b (item ∷ of (stream % senders) items) (of (stream % senders) items)) apart.0))
+  ]
+    where
+      by : on stream items ≡ on stream (of (stream % senders) items)
+          → (own : Bool) → cond own (item.what ∷ on stream items) (on stream items) ≡ cond own (item.what ∷ on stream (of (stream % senders) items)) (on stream (of (stream % senders) items))
+      by behind true = ap (λ whats. item.what ∷ whats) behind
+      by behind false = behind
+
+  -- ---- all of them
+
+  pub told_of_each : (given : List Given) (items : List Item) → 0 < senders → AllByRecursion (λ (item : Item). item.sender < senders) items
+      → ((sender : ℕ) → sender < senders → AreOwed max_bytes sender (share_from senders sender 0 given) (of sender items))
+      → (place : ℕ) (one : Given) → slice_get given place ≡ Some one → IsTold max_bytes one (on place items)
+  told_of_each given items some below each place one there =
+      let own = told_at (place % senders) 0 place given one (of (place % senders) items) there (ap (λ n. n % senders) here) (each (place % senders) (omega (arith, some))) in
+      subst (IsTold max_bytes one)
+      (ap (λ n. on n (of (place % senders) items)) here
+      ∙ sym (on_sender items place (all_dealt items below (λ sender is. are_own sender 0 given (of sender items) (each sender is)))))
+      own
+    where
+      here : 0 + place ≡ place
+      here = omega arith

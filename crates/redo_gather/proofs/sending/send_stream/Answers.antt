@@ -1,0 +1,21 @@
+use Rattle.std.proofs.Common.{subst}
+use Rattle.redo_line.specs.Scan.{Scanned}
+use Rattle.redo_gather.specs.Owed.{IsOwedFor}
+use Rattle.redo_gather.specs.Private.Reading.{fault_in}
+use Rattle.redo_gather.specs.Sending.{HasPosted, singles_in}
+use Rattle.redo_gather.proofs.PostedLemmas.{last_posted}
+use Rattle.redo_gather.proofs.sending.send_stream.Goals as goal
+
+pub returns : goal.returns
+returns g c =
+    let sent = c.send_entries-answer.ensures in
+    let between = c.send_entries-answer.new.end in record {
+      entries = sent.entries;
+      fault = fault_in c.send_entries-answer.result;
+      posted =
+          last_posted c.args.stream c.args.end.now between c.post.new.end sent.entries (fault_in c.send_entries-answer.result) sent.posted
+          (subst (λ what. HasPosted between c.post.new.end (singles_in between.number c.args.stream what)) c.last_item.ensures c.post.ensures);
+      owed =
+          subst (λ (scan : Scanned). IsOwedFor scan.max_bytes (scan.target, g.R.Feed.tells c.args.reader.now) sent.entries (fault_in c.send_entries-answer.result)) c.new-scan.ensures.scan
+          sent.owed;
+    }
