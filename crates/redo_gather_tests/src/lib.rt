@@ -11,4 +11,7 @@ mod gathered;
 #[cfg(test)]
 mod plan;
 #[cfg(test)]
+mod send;
+pub mod sent;
+#[cfg(test)]
 mod view;

@@ -1,0 +1,95 @@
+//! Two senders that send side by side, and what is taken of them.
+ghost use Rattle.std.specs.Prelude.{◌≡◌};
+
+use redo_gather::{Gate, Share, send};
+use redo_line::Pieces;
+use redo_wire::{Item, PostEnd, TakeEnd, What};
+use redo_wire_tests::pair::{Two, two_ended};
+use redo_wire_tests::traffic::rest;
+use std::sync::Wait;
+use std::test::Fail;
+use std::thread::{Threads, join};
+
+/// How many bytes a stream may have.
+const MAX_BYTES: u64 = 1_000_000;
+
+/// Sends two shares side by side, so many streams and one, through a mailbox of capacity 1, takes what they
+/// post meanwhile, and tells the gate. Answers what was taken.
+pub fn sent<T: AllocGlobal + Threads + Wait + Sync, G: Gate>(
+    rt: &T,
+    first_share: Share<Pieces>,
+    second_share: Share<Pieces>,
+    streams: usize,
+    gate: &G,
+) -> Result<Vec<Item>, Fail> {
+    let Two {
+        mailbox,
+        first,
+        second,
+    } = two_ended(rt.alloc(), 1)?;
+    let taken = Vec::with_capacity(rt.alloc(), 1000)?;
+    let ((first, second), (mut mailbox, mut taken)) = join(
+        rt,
+        || {
+            join(
+                rt,
+                || send_share(rt, first, first_share, gate),
+                || send_share(rt, second, second_share, gate),
+            )
+        },
+        || take_all(rt, mailbox, taken, streams, gate),
+    );
+    mailbox.meet(rt, first);
+    mailbox.meet(rt, second);
+    for _ in rt.forever() {
+        let Some(item) = rest(rt, &mut mailbox)? else {
+            break;
+        };
+        taken.push(item)?;
+    }
+    Ok(taken)
+}
+
+fn send_share<T: AllocGlobal + Wait, G: Gate>(
+    rt: &T,
+    end: PostEnd,
+    share: Share<Pieces>,
+    gate: &G,
+) -> PostEnd
+    ensures { result.mailbox ≡ end.mailbox }
+{
+    send(rt, rt.alloc(), end, share, MAX_BYTES, gate)
+}
+
+/// Takes until so many streams and one more are over, or nothing more comes.
+fn take_all<T: Wait, G: Gate>(
+    rt: &T,
+    mut mailbox: TakeEnd,
+    mut taken: Vec<Item>,
+    streams: usize,
+    gate: &G,
+) -> (TakeEnd, Vec<Item>)
+    ensures { result.0.mailbox ≡ mailbox.mailbox }
+{
+    let mut over = 0usize;
+    for _ in rt.forever() {
+        if over > streams {
+            break;
+        }
+        let Some(item) = mailbox.take(rt) else {
+            break;
+        };
+        match item.what {
+            What::Line(_) => gate.taken(rt, item.stream, 1),
+            What::Lines(_) => {}
+            What::End | What::Fail(_) => {
+                gate.over(rt, item.stream);
+                over = over.wrapping_add(1);
+            }
+        }
+        if taken.push(item).is_err() {
+            break;
+        }
+    }
+    (mailbox, taken)
+}
