@@ -51,6 +51,17 @@ def compared(task):
         shutil.rmtree(directory)
 
 
+def number_behind(words, option):
+    """The number that the option is given, or None where it isn't."""
+    for place, word in enumerate(words[:-1]):
+        if word == option:
+            return int(words[place + 1])
+    for word in words:
+        if word.startswith(option + b"="):
+            return int(word[len(option) + 1 :])
+    return None
+
+
 def show(title, answer):
     status, out, err = answer
     print(f"  {title} status {status}\n    stdout {'(the help text)' if out is None else out}\n    stderr {err}")
@@ -60,15 +71,15 @@ def main(program, first, last):
     if os.path.exists(program):
         program = os.path.abspath(program)
     statuses = collections.Counter()
-    senders = collections.Counter()
+    plans = collections.Counter()
     number, differ = 0, 0
     with multiprocessing.Pool(os.cpu_count()) as pool:
         tasks = ((program, seed) for seed in range(first, last + 1))
         for seed, words, expected, got in pool.imap(compared, tasks, chunksize=8):
             number += 1
             statuses[expected[0]] += 1
-            if b"--senders" in words[:-1] and expected[0] in (0, 4, 5):
-                senders[int(words[words.index(b"--senders") + 1])] += 1
+            if expected[0] in (0, 4, 5):
+                plans[number_behind(words, b"--senders"), number_behind(words, b"--capacity")] += 1
             if same(expected, got):
                 continue
             differ += 1
@@ -79,7 +90,14 @@ def main(program, first, last):
     missing = [status for status in NEEDED_STATUSES if number >= 1000 and statuses[status] == 0]
     for status in missing:
         print(f"no case had the status {status}")
-    print("by senders: " + ", ".join(f"{count} with {how_many}" for how_many, count in sorted(senders.items())))
+    wanted = [(int(senders), int(capacity)) for senders in generate.SENDERS for capacity in generate.CAPACITIES]
+    if number >= 1000:
+        for plan in wanted:
+            if plans[plan] == 0:
+                missing.append(plan)
+                print("no case had {} senders and the capacity {}".format(*plan))
+    least = min(plans[plan] for plan in wanted)
+    print(f"each of {len(wanted)} numbers of senders and capacities at least {least} times")
     print(f"differential: {number} directories, {differ} differ")
     print("status " + "".join(f"{status:>8}" for status in sorted(statuses)))
     print("cases  " + "".join(f"{statuses[status]:>8}" for status in sorted(statuses)))

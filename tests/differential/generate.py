@@ -364,6 +364,10 @@ def is_text(word):
         return False
 
 
+SENDERS = [b"1", b"2", b"3", b"4", b"5", b"6", b"7", b"8", b"64"]
+CAPACITIES = [b"1", b"2", b"3", b"64", b"65536"]
+
+
 def some_options(rng):
     """The options but for --dir, as lists of words."""
     options = []
@@ -375,10 +379,10 @@ def some_options(rng):
         options.append([b"--no-details"])
     if rng.random() < 0.35:
         options.append([b"--debug-locks"])
-    if rng.random() < 0.8:
-        options.append([b"--senders", rng.choice([b"1", b"1", b"2", b"2", b"3", b"3", b"4", b"7", b"63", b"64", b"64"])])
-    if rng.random() < 0.4:
-        options.append([b"--capacity", rng.choice([b"1", b"1", b"2", b"3", b"64", b"65", b"1000", b"65535", b"65536"])])
+    if rng.random() < 0.9:
+        options.append([b"--senders", rng.choice(SENDERS)])
+    if rng.random() < 0.9:
+        options.append([b"--capacity", rng.choice(CAPACITIES)])
     return options
 
 

@@ -95,12 +95,15 @@ fn pass<T: AllocGlobal + Clock + Files + Threads + Wait + Sync>(
     lines: usize,
 ) -> Result<Passed, Fail> {
     let mut posts = Vec::new(rt.alloc());
+    let mut most_items = 0usize;
     for _ in 0..senders {
-        posts.push(posts_of(rt.alloc(), lines / senders.max(1), at_once)?)?;
+        let items = posts_of(rt.alloc(), lines / senders.max(1), at_once)?;
+        most_items = most_items.saturating_add(items.len());
+        posts.push(items)?;
     }
     let before = processor_seconds(rt)?;
     let start = Instant::now(rt)?;
-    let taken = exchange(rt, capacity, posts)?;
+    let taken = exchange(rt, capacity, posts, most_items)?;
     let time = start.elapsed(rt)?;
     let after = processor_seconds(rt)?;
     Ok(Passed {

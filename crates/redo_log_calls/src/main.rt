@@ -7,6 +7,7 @@ ghost use Rattle.std.specs.Prelude.{◌≤◌, ◌<◌, ◌^◌, length, IfSome}
 
 mod gather;
 mod mailbox;
+mod send;
 mod table;
 mod view;
 
@@ -78,6 +79,7 @@ fn make_with_logs(
         "gather_bad" => gather::gather(rt, &gather::BAD, plan),
         "gather_both_bad" => gather::gather(rt, &gather::BOTH_BAD, plan),
         "mailbox" => mailbox::mailbox(rt),
+        "send" => send::send_shares(rt, plan),
         "table" => table::table(rt, rt.alloc()),
         _ => make_with_texts(rt, name, plan),
     }

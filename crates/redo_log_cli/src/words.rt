@@ -102,7 +102,7 @@ fn with_values<'a>(alloc: Global, command: Command<'a>) -> Result<Command<'a>, A
         "How many senders read logs, 1 to 64 [default: 4]",
     );
     let capacity = number(alloc, "capacity", value_parser!(u32).range(1..=65_536)).help(
-        "How many entries may wait for the collector, 1 to 65536 [default: 64]",
+        "How many items of up to 1024 lines may wait, 1 to 65536 [default: 64]",
     );
     let target = Arg::new(alloc, "target")
         .value_name("TARGET")

@@ -172,10 +172,13 @@ fn expect_all<T: Abort + AllocGlobal + Threads + Wait + Sync>(
     load: Load,
 ) -> Result<(), Fail> {
     let mut posts = Vec::new(rt.alloc());
+    let mut most_items = 0usize;
     for sender in 0..load.senders {
-        posts.push(load.posts(rt.alloc(), sender)?)?;
+        let items = load.posts(rt.alloc(), sender)?;
+        most_items = most_items.saturating_add(items.len());
+        posts.push(items)?;
     }
-    let taken = exchange(rt, capacity, posts)?;
+    let taken = exchange(rt, capacity, posts, most_items)?;
     for sender in 0..load.senders {
         expect_of(rt, sender, &taken, load)?;
     }

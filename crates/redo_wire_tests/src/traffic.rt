@@ -6,12 +6,33 @@ use redo_wire::{Item, PostEnd, TakeEnd, What, open};
 use std::alloc::{AllocError, Global};
 use std::snapshot::Snapshot;
 use std::sync::Wait;
-use std::test::Fail;
 use std::thread;
 use std::thread::{Promise, PromisedHandle, Scope, Threads};
 
-/// What is posted at one end: items of streams, in order, of which the last is an `End`.
+/// What a sender posts at its end.
+pub trait Posting: Drop + Send {
+    /// How many streams it ends, or lets fail.
+    fn streams(&self) -> usize;
+
+    /// Posts it, and gives the end back.
+    fn post<T: Wait>(self, rt: &T, end: PostEnd) -> PostEnd
+        ensures { result.mailbox ≡ end.mailbox };
+}
+
+/// Items of a stream, in order, of which the last is an `End`.
 pub type Posts = Vec<(u32, What)>;
+
+impl Posting for Posts {
+    fn streams(&self) -> usize {
+        1
+    }
+
+    fn post<T: Wait>(self, rt: &T, end: PostEnd) -> PostEnd
+        ensures { result.mailbox ≡ end.mailbox }
+    {
+        post_items(rt, end, self)
+    }
+}
 
 /// What comes back from a thread is an end of the mailbox of the one that was handed in.
 #[derive(Drop)]
@@ -31,19 +52,24 @@ struct Emptied {
     is_lost: bool,
 }
 
-/// Opens a mailbox of this capacity with an end for each list of posts, and posts them side by side.
-/// Answers all items, in the order in which they were taken.
-pub fn exchange<T: AllocGlobal + Threads + Wait + Sync>(
+/// Opens a mailbox of this capacity with an end for each sender, which posts in a thread of its own. Answers
+/// all items, in the order in which they were taken; there may be so many.
+pub fn exchange<T: AllocGlobal + Threads + Wait + Sync, P: Posting>(
     rt: &T,
     capacity: u32,
-    posts: Vec<Posts>,
-) -> Result<Vec<Item>, Fail> {
+    posts: Vec<P>,
+    most_items: usize,
+) -> Result<Vec<Item>, &'static str> {
     let senders = posts.len();
     if capacity < 1 || capacity > 1 << 16 || senders < 1 || senders > 64 {
-        return Err(Fail::new("no such mailbox"));
+        return Err("no such mailbox");
     }
-    let taken = Vec::with_capacity(rt.alloc(), count_of(&posts))?;
-    let (mailbox, ends) = open(rt.alloc(), capacity, senders as u32)?;
+    let Ok(taken) = Vec::with_capacity(rt.alloc(), most_items) else {
+        return Err("no memory for the items");
+    };
+    let Ok((mailbox, ends)) = open(rt.alloc(), capacity, senders as u32) else {
+        return Err("open: no memory");
+    };
     let emptied = Emptied {
         mailbox,
         taken,
@@ -59,51 +85,43 @@ pub fn exchange<T: AllocGlobal + Threads + Wait + Sync>(
     emptied.all(rt)
 }
 
-/// How many items there are.
-fn count_of(posts: &[Posts]) -> usize {
-    let mut count = 0usize;
-    for items in posts {
-        count = count.saturating_add(items.len());
-    }
-    count
-}
-
 /// Starts a thread for each end, empties the mailbox meanwhile, joins the threads and meets their ends.
-/// So many post already; where one more can't be started, the mailbox is emptied of what these post.
-fn post_all<'s, T: Threads + Wait + Sync, E>(
+/// So many streams are posted already; where one more thread can't be started, the mailbox is emptied of these.
+fn post_all<'s, T: Threads + Wait + Sync, P: Posting + 's, E>(
     scope: &Scope<'s, E>,
     rt: &'s T,
     mut ends: Vec<PostEnd>,
-    mut posts: Vec<Posts>,
-    posting: usize,
+    mut posts: Vec<P>,
+    streams: usize,
     emptied: Emptied,
 ) -> Emptied
     requires { AllByRecursion (λ end. end.mailbox ≡ emptied.mailbox.mailbox) ends.items }
     ensures { result.mailbox.mailbox ≡ emptied.mailbox.mailbox }
 {
-    let (Some(end), Some(items)) = (ends.pop(), posts.pop()) else {
-        return emptied.take(rt, posting);
+    let (Some(end), Some(posting)) = (ends.pop(), posts.pop()) else {
+        return emptied.take(rt, streams);
     };
-    let Ok(thread) = start(scope, rt, end, items) else {
-        return emptied.take(rt, posting);
+    let streams_then = streams.wrapping_add(posting.streams());
+    let Ok(thread) = start(scope, rt, end, posting) else {
+        return emptied.take(rt, streams);
     };
-    let mut emptied = post_all(scope, rt, ends, posts, posting.wrapping_add(1), emptied);
+    let mut emptied = post_all(scope, rt, ends, posts, streams_then, emptied);
     let end = thread.join(rt);
     emptied.mailbox.meet(rt, end);
     emptied
 }
 
 /// Starts a thread that posts at an end.
-fn start<'s, T: Threads + Wait + Sync, E>(
+fn start<'s, T: Threads + Wait + Sync, P: Posting + 's, E>(
     scope: &Scope<'s, E>,
     rt: &'s T,
     end: PostEnd,
-    items: Posts,
+    posting: P,
 ) -> Result<PromisedHandle<PostEnd, OfOneMailbox>, AllocError>
     ensures { IfOk result (λ handle. handle.promise.0.value.mailbox ≡ end.mailbox) }
 {
     let promise = OfOneMailbox(Snapshot::of(&end));
-    Ok(scope.spawn_with(promise, move || post_items(rt, end, items))?)
+    Ok(scope.spawn_with(promise, move || posting.post(rt, end))?)
 }
 
 /// Posts the items, and gives the end back.
@@ -137,20 +155,20 @@ fn post<T: Wait>(rt: &T, end: &mut PostEnd, mut item: Item)
 }
 
 impl Emptied {
-    /// Takes until there were so many `End`s, or nothing more comes.
-    fn take<T: Wait>(mut self, rt: &T, posting: usize) -> Emptied
+    /// Takes until so many streams are over, or nothing more comes.
+    fn take<T: Wait>(mut self, rt: &T, streams: usize) -> Emptied
         ensures { result.mailbox.mailbox ≡ self.mailbox.mailbox }
     {
-        let mut posting = posting;
+        let mut streams = streams;
         for _ in rt.forever() {
-            if posting == 0 {
+            if streams == 0 {
                 return self;
             }
             let Some(item) = self.mailbox.take(rt) else {
                 return self;
             };
-            if matches!(item.what, What::End) {
-                posting = posting.wrapping_sub(1);
+            if matches!(item.what, What::End | What::Fail(_)) {
+                streams = streams.wrapping_sub(1);
             }
             self.keep(item);
         }
@@ -164,7 +182,7 @@ impl Emptied {
     }
 
     /// Takes what is left, once all ends were met, and answers all that was taken.
-    fn all<T: Wait>(mut self, rt: &T) -> Result<Vec<Item>, Fail> {
+    fn all<T: Wait>(mut self, rt: &T) -> Result<Vec<Item>, &'static str> {
         for _ in rt.forever() {
             let Some(item) = rest(rt, &mut self.mailbox)? else {
                 break;
@@ -172,7 +190,7 @@ impl Emptied {
             self.keep(item);
         }
         if self.is_lost {
-            return Err(Fail::new("no memory for what was taken"));
+            return Err("no memory for what was taken");
         }
         Ok(self.taken)
     }

@@ -1,0 +1,123 @@
+//! Senders that send their shares side by side, and what each posted.
+ghost use Rattle.std.specs.Prelude.{◌≡◌};
+
+use crate::gather::MAX_BYTES;
+use redo_gather::{Free, Plan, Share, send};
+use redo_line::{Entry, Pieces, TargetName};
+use redo_wire::{Item, PostEnd, What};
+use redo_wire_tests::traffic::{Posting, exchange};
+use std::alloc::{AllocError, Global};
+use std::io;
+use std::sync::Wait;
+use std::thread::Threads;
+
+/// The streams of a share, with their numbers and targets: one with a bad record, and one that is whole.
+const SHARE: [(u32, &[u8], &[u8]); 2] = [
+    (0, b"a", b"ok\nok\n@@REDO:do:7\n"),
+    (1, b"b", b"@@REDO:do:7:1.0000@@ c\nb1\nb2"),
+];
+
+/// How many items there may be.
+const MOST_ITEMS: usize = 1000;
+
+/// A share that is to be sent.
+#[derive(Drop)]
+struct Sending {
+    alloc: Global,
+    share: Share<Pieces>,
+}
+
+impl Posting for Sending {
+    fn streams(&self) -> usize {
+        self.share.len()
+    }
+
+    fn post<T: Wait>(self, rt: &T, end: PostEnd) -> PostEnd
+        ensures { result.mailbox ≡ end.mailbox }
+    {
+        send(rt, self.alloc, end, self.share, MAX_BYTES, &Free)
+    }
+}
+
+/// Sends a share for each of the plan's senders, through a mailbox of its capacity, and prints what each of
+/// them posted.
+pub fn send_shares(
+    rt: &(impl Print + AllocGlobal + Threads + Wait + Sync),
+    plan: Option<Plan>,
+) -> io::Result<()> {
+    let Some(plan) = plan else {
+        return println!(rt; "no number of senders");
+    };
+    let Ok(shares) = shares(rt.alloc(), plan.senders()) else {
+        return println!(rt; "no memory for the streams");
+    };
+    match exchange(rt, plan.capacity(), shares, MOST_ITEMS) {
+        Ok(items) => tell(rt, &items, plan.senders()),
+        Err(why) => println!(rt; "{why}"),
+    }
+}
+
+/// A share for each of so many senders; its streams come in reads of 10 bytes.
+fn shares(alloc: Global, senders: u32) -> Result<Vec<Sending>, AllocError> {
+    let mut shares = Vec::new(alloc);
+    for _ in 0..senders {
+        shares.push(Sending {
+            alloc,
+            share: share(alloc)?,
+        })?;
+    }
+    Ok(shares)
+}
+
+fn share(alloc: Global) -> Result<Share<Pieces>, AllocError> {
+    let mut share = Vec::new(alloc);
+    for (number, name, stream) in &SHARE {
+        let Ok(target) = TargetName::resolve(alloc, None, name) else {
+            return Err(AllocError);
+        };
+        share.push((*number, target, reader(alloc, stream)?))?;
+    }
+    Ok(share)
+}
+
+fn reader(alloc: Global, stream: &[u8]) -> Result<Pieces, AllocError> {
+    let mut reads = Vec::new(alloc);
+    for read in stream.chunks(10) {
+        reads.push(read.to_vec(alloc)?)?;
+    }
+    Ok(Pieces::new(reads, false))
+}
+
+/// Prints what each sender posted, in order.
+fn tell(rt: &impl Print, items: &[Item], senders: u32) -> io::Result<()> {
+    for sender in 0..senders {
+        for item in items {
+            if item.sender == sender {
+                tell_item(rt, item)?;
+            }
+        }
+    }
+    Ok(())
+}
+
+fn tell_item(rt: &impl Print, item: &Item) -> io::Result<()> {
+    match &item.what {
+        What::Line(entry) => tell_entry(rt, item, entry),
+        What::Lines(entries) => tell_entries(rt, item, entries),
+        What::End => println!(rt; "sender {}, stream {}: end", item.sender, item.stream),
+        What::Fail(fault) => {
+            println!(rt; "sender {}, stream {}: {fault:?}", item.sender, item.stream)
+        }
+    }
+}
+
+fn tell_entries(rt: &impl Print, item: &Item, entries: &[Entry]) -> io::Result<()> {
+    for entry in entries {
+        tell_entry(rt, item, entry)?;
+    }
+    Ok(())
+}
+
+fn tell_entry(rt: &impl Print, item: &Item, entry: &Entry) -> io::Result<()> {
+    println!(rt; "sender {}, stream {}: {entry:?}", item.sender, item.stream)
+}
