@@ -1,5 +1,6 @@
 -- How the list of an end grows.
 use Rattle.std.proofs.Common.{◌≡◌, ℕ, List, [], ◌∷◌, ◌++◌, Option, None, Some, map, refl, sym, ap, ◌∙◌, subst}
+use Rattle.std.specs.List.{AllByRecursion}
 use Rattle.std.proofs.lemmas.List.{append_assoc, append-nil, map-append}
 use Rattle.redo_line.specs.declared.entry.Entry.{Entry}
 use Rattle.redo_line.specs.declared.stream_fault.StreamFault.{StreamFault}
@@ -7,7 +8,7 @@ use Rattle.redo_wire.specs.declared.item.Item.{Item}
 use Rattle.redo_wire.specs.Mailbox.{Poster, posts}
 use Rattle.redo_gather.specs.Owed.{Given, IsOwedFor}
 use Rattle.redo_gather.specs.Private.Posting.{IsStreamPosted}
-use Rattle.redo_gather.specs.Sending.{AreOwed, HasPosted, HasSent, Numbered, item_of, last_of, line_of, singles, singles_in, told_of}
+use Rattle.redo_gather.specs.Sending.{AreOwed, HasPosted, HasSent, IsFilled, Numbered, item_of, last_of, line_of, singles, singles_in, told_of}
 
 pub singles-append : (front behind : List Item) → singles (front ++ behind) ≡ singles front ++ singles behind
 singles-append [] behind = refl
@@ -15,8 +16,12 @@ singles-append (item ∷ front) behind =
     ap (λ items. singles_in item.sender item.stream item.what ++ items) (singles-append front behind)
     ∙ sym (append_assoc (singles_in item.sender item.stream item.what) (singles front) (singles behind))
 
+filled-append : (front behind : List Item) → AllByRecursion (λ (item : Item). IsFilled item.what) front → AllByRecursion (λ (item : Item). IsFilled item.what) behind → AllByRecursion (λ (item : Item). IsFilled item.what) (front ++ behind)
+filled-append [] behind first second = second
+filled-append (item ∷ front) behind first second = (first.0, filled-append front behind first.1 second)
+
 pub nothing_posted : (end : Poster) → HasPosted end end []
-nothing_posted end = record { mailbox = refl; number = refl; items = []; posted = sym (append-nil end.posted); lines_are = refl }
+nothing_posted end = record { mailbox = refl; number = refl; items = []; posted = sym (append-nil end.posted); filled = tt; lines_are = refl }
 
 pub then_posted : (before between after : Poster) (first second : List Item) → HasPosted before between first → HasPosted between after second → HasPosted before after (first ++ second)
 then_posted before between after first second one two = record {
@@ -24,15 +29,17 @@ then_posted before between after first second one two = record {
   number = two.number ∙ one.number;
   items = one.items ++ two.items;
   posted = two.posted ∙ ap (λ items. items ++ two.items) one.posted ∙ append_assoc before.posted one.items two.items;
+  filled = filled-append one.items two.items one.filled two.filled;
   lines_are = singles-append one.items two.items ∙ (λ i. one.lines_are i ++ two.lines_are i);
 }
 
-pub one_posted : (before after : Poster) (item : Item) → after ≡ posts item before → HasPosted before after (singles_in item.sender item.stream item.what)
-one_posted before after item is = record {
+pub one_posted : (before after : Poster) (item : Item) → after ≡ posts item before → IsFilled item.what → HasPosted before after (singles_in item.sender item.stream item.what)
+one_posted before after item is filled = record {
   mailbox = ap (λ end. end.mailbox) is;
   number = ap (λ end. end.number) is;
   items = item ∷ [];
   posted = ap (λ end. end.posted) is;
+  filled = (filled, tt);
   lines_are = append-nil (singles_in item.sender item.stream item.what);
 }
 
@@ -43,6 +50,11 @@ lines_posted stream before between after first second one two =
     subst (HasPosted before after)
     (ap (λ n. map (line_of before.number stream) first ++ map (line_of n stream) second) one.number ∙ sym (map-append (line_of before.number stream) first second))
     (then_posted before between after _ _ one two)
+
+-- the end of a stream and its fault have no entries
+pub last_filled : (fault : Option StreamFault) → IsFilled (last_of fault)
+last_filled None = tt
+last_filled (Some fault) = tt
 
 last_single : (sender stream : ℕ) (fault : Option StreamFault) → singles_in sender stream (last_of fault) ≡ item_of sender stream (last_of fault) ∷ []
 last_single sender stream None = refl

@@ -1,5 +1,6 @@
 -- What a sender posts of the streams of its share.
-use Rattle.std.specs.Prelude.{◌≡◌, ℕ, List, [], ◌∷◌, ◌++◌, Option, None, Some, map}
+use Rattle.std.specs.Prelude.{◌≡◌, ⊤, ℕ, ◌≤◌, List, [], ◌∷◌, ◌++◌, Option, None, Some, length, map}
+use Rattle.std.specs.List.{AllByRecursion}
 use Rattle.redo_line.specs.declared.entry.Entry.{Entry}
 use Rattle.redo_line.specs.declared.stream_fault.StreamFault.{StreamFault}
 use Rattle.redo_line.specs.Feed.{Stream}
@@ -55,12 +56,23 @@ AreOwed max_bytes sender (stream ∷ share) items =
 
 -- ---- how the list of an end grows
 
+-- several entries in one item are two at least, and no more than this
+abbrev pub most_entries : ℕ
+most_entries = 1024
+
+abbrev pub IsFilled : What → Type 0
+IsFilled (Line entry) = ⊤
+IsFilled (Lines entries) = (2 ≤ length entries.items) × (length entries.items ≤ most_entries)
+IsFilled End = ⊤
+IsFilled (Fail fault) = ⊤
+
 -- it is the same end, and what it posted beyond is these entries, ends and faults, however they were put into items
 pub record HasPosted (before after : Poster) (lines : List Item) : Type 0 where
   pub mailbox : after.mailbox ≡ before.mailbox
   pub number : after.number ≡ before.number
   pub items : List Item
   pub posted : after.posted ≡ before.posted ++ items
+  pub filled : AllByRecursion (λ (item : Item). IsFilled item.what) items
   pub lines_are : singles items ≡ lines
 
 -- ..of all that is owed for a share

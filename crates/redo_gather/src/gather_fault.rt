@@ -8,8 +8,8 @@ use std::alloc::{AllocError, AllocFailed};
 /// Why the logs of streams can't be had.
 #[derive(Clone, Copy, Debug, PartialEq, Eq)]
 pub enum GatherFault {
-    /// The log of this stream can't be had; streams are counted from 0. The fault is never
-    /// `OutOfMemory`.
+    /// The log of this stream can't be had; streams are counted from 0. No gathering answers it with the
+    /// fault `OutOfMemory`.
     Stream { number: u32, fault: StreamFault },
     /// There was no memory.
     OutOfMemory,

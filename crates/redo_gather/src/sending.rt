@@ -4,7 +4,7 @@ ghost use Rattle.redo_line.specs.declared.entry.Entry.{Entry as Told};
 ghost use Rattle.redo_line.specs.Scan.{Scanned};
 ghost use Rattle.redo_gather.specs.Private.Posting.{AreLinesPosted, IsPosted, IsStreamPosted};
 ghost use Rattle.redo_gather.specs.Private.Reading.{IsRead, IsReadTo, IsRefused, fault_in};
-ghost use Rattle.redo_gather.specs.Sending.{HasPosted, HasSent, last_of, line_of, numbered, singles_in};
+ghost use Rattle.redo_gather.specs.Sending.{HasPosted, HasSent, IsFilled, last_of, line_of, most_entries, numbered, singles_in};
 
 use crate::gate::Gate;
 use redo_line::{Broken, Entry, Feed, Scan, Step, StreamFault, TargetName};
@@ -26,8 +26,8 @@ pub type Share<R> = Vec<(u32, TargetName, R)>;
 /// goes on with the next one; or, where there was no memory, some of the first entries and that.
 ///
 /// It has posted every entry that the bytes so far complete before it reads again, in as few items as
-/// have at most 1,024 entries each, and posts again what is handed back. It waits where the mailbox is
-/// full, and the gate is told before each read.
+/// have at most 1,024 entries each. It waits where the mailbox is full, and the gate is told before each
+/// read. It posts again what is handed back, so without a mailbox's other end it goes on for ever.
 pub fn send<T: Wait, R: Feed, G: Gate>(
     rt: &T,
     alloc: Global,
@@ -168,6 +168,7 @@ fn read_run(
 ) -> Result<usize, StreamFault>
     requires empty { run.old.items ≡ [] }
     requires place { from < length piece.now }
+    ensures room { length run.new.items ≤ most_entries }
     ensures place { IfOk result (λ upto. (from < upto) × (upto ≤ length piece.now)) }
 
     // Of a piece that was taken up to the place, behind a scan's bytes and these entries.
@@ -195,6 +196,7 @@ fn read_run(
 
 // Posts entries as one item.
 fn post_run<T: Wait>(rt: &T, end: &mut PostEnd, stream: u32, mut run: Vec<Entry>)
+    requires { length run.items ≤ most_entries }
     ensures { HasPosted end.old end.new (map (line_of end.old.number stream) run.items) }
 {
     if run.len() > 1 {
@@ -206,6 +208,7 @@ fn post_run<T: Wait>(rt: &T, end: &mut PostEnd, stream: u32, mut run: Vec<Entry>
 
 // Posts an item, again and again where it is handed back.
 fn post<T: Wait>(rt: &T, end: &mut PostEnd, stream: u32, what: What)
+    requires { IsFilled what }
     ensures { HasPosted end.old end.new (singles_in end.old.number stream what) }
 {
     let mut item = Item {

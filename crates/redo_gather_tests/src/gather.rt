@@ -1,6 +1,6 @@
 //! Streams that are gathered on one thread or by senders: their logs, or the fault of the
 //! least-numbered stream that has one.
-use crate::gate::{Event, Hold, Holding};
+use crate::gate::{Counting, Event, Filling, Hold, Holding, Starting};
 use crate::gathered::{WAYS, Way, gathered_by};
 use redo_gather::{Free, Gate, GatherFault};
 use redo_given::{Answer, Cut, Given, Script, captured, cuts, entered, logs_text, reader};
@@ -349,7 +349,7 @@ const PAIR: [Given<'static>; 2] = [("p", "p1\np2\n", false), ("q", "q1\nq2\n", f
 
 const PAIR_LOGS: &str = "p: Ended\ntext|p1\ntext|p2\nq: Ended\ntext|q1\ntext|q2\n";
 
-/// Two senders read these streams, a line at once, and no hold of the gate gives up.
+/// Two senders read these streams, a line at once, and each hold of the gate is kept.
 fn expect_held(
     rt: &(impl Abort + AllocGlobal + Threads + Wait + Sync),
     holds: [Hold; 2],
@@ -358,7 +358,7 @@ fn expect_held(
     let way = Way::Senders(2, 1);
     let answer = gathered_so(rt, &PAIR, Cut::InReadsOf(3), 1000, way, &gate)?;
     expect_answer(rt, &answer, Ok(PAIR_LOGS), "with holds")?;
-    assert_eq!(rt; gate.gave_up(), 0);
+    assert!(rt; gate.kept_all());
     Ok(())
 }
 
@@ -408,6 +408,87 @@ fn the_fault_of_the_least_number_is_told_though_it_comes_last(rt: HostRuntime) -
     )?;
     let want = Err(stream(0, StreamFault::BadRecord { line: 9 }));
     expect_answer(&rt, &answer, want, "with holds")?;
-    assert_eq!(rt; gate.gave_up(), 0);
+    assert!(rt; gate.kept_all());
+    Ok(())
+}
+
+/// As many senders as streams, each of which has one line: a sender for each.
+fn expect_started(
+    rt: &(impl Abort + AllocGlobal + Threads + Wait + Sync),
+    senders: u32,
+) -> Result<(), Fail> {
+    let gate = Starting::new(u64::from(senders));
+    let mut names = Vec::new(rt.alloc());
+    let mut readers = Vec::new(rt.alloc());
+    for i in 0..senders {
+        let name = format!(in rt.alloc(); "t{i}")?;
+        names.push(TargetName::resolve(rt.alloc(), None, name.as_bytes())?)?;
+        readers.push(reader(rt.alloc(), "x\n", false, Cut::InReadsOf(3))?)?;
+    }
+    let targets = entered(rt.alloc(), names)?;
+    let answer = gathered_by(rt, &targets, readers, 1000, Way::Senders(senders, 1), &gate)?;
+    assert!(rt; answer.is_ok());
+    assert_eq!(rt; gate.let_go(), u64::from(senders));
+    Ok(())
+}
+
+#[test]
+fn there_are_as_many_senders_as_the_plan_has(rt: HostRuntime) -> Result<(), Fail> {
+    for senders in [1, 2, 3, 8, 64] {
+        expect_started(&rt, senders)?;
+    }
+    Ok(())
+}
+
+// While who takes is held at the first line, the mailbox takes as many more as its capacity; one more is read, and
+// waits to be posted.
+#[test]
+fn as_many_items_wait_as_the_plan_has_room_for(rt: HostRuntime) -> Result<(), Fail> {
+    let mut lines = String::new(rt.alloc());
+    for _ in 0..200 {
+        lines.push_str("x\n")?;
+    }
+    let given = [("a", lines.as_str(), false)];
+    for capacity in [1, 2, 3, 64] {
+        let until = u64::from(capacity).saturating_add(2);
+        let gate = Filling::new(until);
+        let way = Way::Senders(1, capacity);
+        let answer = gathered_so(&rt, &given, Cut::InReadsOf(2), 1000, way, &gate)?;
+        assert!(rt; answer.is_ok());
+        assert_eq!(rt; gate.noted(), until);
+    }
+    Ok(())
+}
+
+/// Streams, how many reads of 7 bytes tell them, and how many entries they have.
+const COUNTED: [(Given<'static>, u64, u64); 6] = [
+    (("a", "1\n2\n3\n4\n5\n6\n7\n", false), 3, 7),
+    (("b", "", false), 1, 0),
+    (("c", "one\ntwo\nthree", false), 3, 3),
+    (("d", "a long line\n\n\n\n", false), 4, 4),
+    (("e", "1\n2\n3", false), 2, 3),
+    (("f", "\n\n\n\n\n\n\n\n\n\n", false), 3, 10),
+];
+
+// Several streams a sender, and several lines a read.
+#[test]
+fn the_gate_is_told_of_each_read_entry_and_end_of_each_stream(rt: HostRuntime) -> Result<(), Fail> {
+    let mut given = Vec::new(rt.alloc());
+    for (stream, _, _) in &COUNTED {
+        given.push(*stream)?;
+    }
+    for way in [Way::Senders(2, 1), Way::Senders(4, 64)] {
+        let gate = Counting::new(rt.alloc(), given.len())?;
+        let answer = gathered_so(&rt, &given, Cut::InReadsOf(7), 1000, way, &gate)?;
+        assert!(rt; answer.is_ok());
+        assert_eq!(rt; gate.wrong(), 0);
+        for (number, (_, reads, entries)) in COUNTED.iter().enumerate() {
+            assert_eq!(rt;
+                gate.told_of(number),
+                Some((*reads, *entries, 1)),
+                "stream {number}"
+            );
+        }
+    }
     Ok(())
 }

@@ -1,11 +1,13 @@
 -- What ends posted, counted.
-use Rattle.std.proofs.Common.{◌≡◌, ◌≢◌, ℕ, suc, ◌+◌, ◌≤◌, nat_eq, Bool, true, false, List, [], ◌∷◌, if◌then◌else◌, length, refl, sym, ap, ◌∙◌, inl, inr, arith}
+use Rattle.std.proofs.Common.{◌≡◌, ◌≢◌, ℕ, suc, ◌+◌, ◌<◌, ◌≤◌, nat_eq, Bool, true, false, List, [], ◌∷◌, ◌++◌, if◌then◌else◌, length, refl, sym, ap, ◌∙◌, inl, inr, arith}
 use Rattle.std.specs.List.{AllByRecursion}
 use Rattle.std.proofs.lemmas.Bool.Decides.{eqb_tells}
+use Rattle.std.proofs.lemmas.List.{append-nil, length-append}
 use Rattle.redo_wire.specs.declared.item.Item.{Item}
-use Rattle.redo_wire.specs.Machine.{of}
-use Rattle.redo_wire.specs.Mailbox.{Met, posted_by}
+use Rattle.redo_wire.specs.Machine.{IsFront, of}
+use Rattle.redo_wire.specs.Mailbox.{Met, left_of}
 use Rattle.redo_wire.specs.Private.Rule.{AreApart}
+use Rattle.redo_wire.proofs.Steps.{of-append}
 
 -- how many of these ends are that of an item
 abbrev hit : Bool → ℕ
@@ -54,10 +56,32 @@ within [] met apart = by met
     by (met ∷ others) = let behind = by others in omega (arith, behind)
 within (item ∷ items) met apart = omega (arith, one_more item items met, one_hit item met apart, within items met apart)
 
-same_total : (items : List Item) (met : List Met) → AllByRecursion (λ (m : Met). m.1 ≡ of m.0 items) met → posted_by met ≡ total items met
-same_total items [] are = refl
-same_total items (met ∷ others) are = let behind = same_total items others are.1 in omega (arith, behind, ap length are.0)
+-- what was posted behind a front is left of it
+left_total : (front items : List Item) (met : List Met) → AllByRecursion (λ (m : Met). m.1 ≡ of m.0 (front ++ items)) met → left_of front met ≡ total items met
+left_total front items [] are = refl
+left_total front items (met ∷ others) are =
+    let behind = left_total front items others are.1 in
+    omega (arith, behind, ap length are.0, ap length (of-append met.0 front items), length-append (of met.0 front) (of met.0 items))
 
--- ends that are apart posted no more than there is
-pub posted_within : (items : List Item) (met : List Met) → AreApart met → AllByRecursion (λ (m : Met). m.1 ≡ of m.0 items) met → posted_by met ≤ length items
-posted_within items met apart are = omega (arith, same_total items met are, within items met apart)
+-- no more is left of ends that are apart than there is
+pub left_within : (front items : List Item) (met : List Met) → AreApart met → AllByRecursion (λ (m : Met). m.1 ≡ of m.0 (front ++ items)) met → left_of front met ≤ length items
+left_within front items met apart are = omega (arith, left_total front items met are, within items met apart)
+
+-- ---- the law of one place
+
+no_items : (items : List Item) → length items ≡ 0 → items ≡ []
+no_items [] none = refl
+no_items (item ∷ items) none = absurd (omega (arith, none))
+
+-- where nothing is left of ends, all of what they posted was taken
+pub nothing_left : (taken : List Item) (met : List Met) → left_of taken met < 1 → AllByRecursion (λ (m : Met). IsFront (of m.0 taken) m.1) met → AllByRecursion (λ (m : Met). m.1 ≡ of m.0 taken) met
+nothing_left taken [] less fronts = tt
+nothing_left taken (met ∷ others) less fronts =
+    let behind = fronts.0.0 in
+    let none : length behind ≡ 0 = omega (arith, less, ap length fronts.0.1, length-append (of met.0 taken) behind) in
+    (fronts.0.1 ∙ ap (λ items. of met.0 taken ++ items) (no_items behind none) ∙ append-nil (of met.0 taken), nothing_left taken others (omega (arith, less)) fronts.1)
+
+-- and the way back
+pub none_left : (taken : List Item) (met : List Met) → AllByRecursion (λ (m : Met). m.1 ≡ of m.0 taken) met → left_of taken met ≡ 0
+none_left taken [] whole = refl
+none_left taken (met ∷ others) whole = omega (arith, none_left taken others whole.1, ap length whole.0)

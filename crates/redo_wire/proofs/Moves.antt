@@ -3,7 +3,7 @@ use Rattle.std.proofs.Common.{◌≡◌, ◌≢◌, ◌⊎◌, inl, inr, ℕ, ze
 use Rattle.std.specs.List.{AllByRecursion}
 use Rattle.std.proofs.lemmas.Bool.{eq-eqb}
 use Rattle.std.proofs.lemmas.Bool.Decides.{eqb_tells}
-use Rattle.std.proofs.lemmas.List.{append_assoc, append-nil, length-append}
+use Rattle.std.proofs.lemmas.List.{append_assoc, append-nil}
 use Rattle.std.proofs.lemmas.Option.{none-some}
 use Rattle.std.proofs.lemmas.Bool.{cases_lt}
 use mathlib.Core.Option.{some, some-ne-none}
@@ -14,9 +14,9 @@ use Rattle.redo_wire.specs.declared.item.Item.{Item}
 use Rattle.redo_wire.specs.declared.rule.View.{View}
 use Rattle.redo_wire.specs.declared.rule.View.TheVariants.{Idle, Starting, Posting, Taking}
 use Rattle.redo_wire.specs.Machine.{IsFront, State, of}
-use Rattle.redo_wire.specs.Mailbox.{Met, posted_by}
+use Rattle.redo_wire.specs.Mailbox.{Met, left_of}
 use Rattle.redo_wire.specs.Private.Rule.{Fits, FitsPosting, FitsStarting, FitsTaking, IsMet, KnowsMet, KnowsOf, Rules, with_got, with_put}
-use Rattle.redo_wire.proofs.Counting.{posted_within}
+use Rattle.redo_wire.proofs.Counting.{left_within}
 use Rattle.redo_wire.proofs.Steps.{lawful_opens, lawful_posts, lawful_takes, of-append, of-other, of-own}
 
 -- ---- lists of views
@@ -317,10 +317,13 @@ gets capacity senders made pass got met item items views rules at = (Taking capa
         all_map (λ (m : Met). m.1 ≡ of m.0 (got ++ item ∷ items)) (λ (m : Met). IsFront (of m.0 (got ++ item ∷ [])) m.1)
         (λ m is. (of m.0 items, is ∙ ap (of m.0) (sym (append_assoc got (item ∷ []) items)) ∙ of-append m.0 (got ++ item ∷ []) items)) met posted_are
 
-    bound : posted_by met + 1 ≤ length (got ++ item ∷ []) + capacity
+    bound : left_of (got ++ item ∷ []) met < capacity
     bound =
         let fits = rules.lawful.fits in let limit = mine.limit_is in
-        omega (arith, posted_within (got ++ item ∷ items) met mine.apart posted_are, fits, limit, ap length rules.queued_is, length-append got (item ∷ items), length-append got (item ∷ []))
+        let behind =
+        all_map (λ (m : Met). m.1 ≡ of m.0 (got ++ item ∷ items)) (λ (m : Met). m.1 ≡ of m.0 ((got ++ item ∷ []) ++ items))
+        (λ m is. is ∙ ap (of m.0) (sym (append_assoc got (item ∷ []) items))) met posted_are in
+        omega (arith, left_within (got ++ item ∷ []) items met mine.apart behind, fits, limit, ap length rules.queued_is)
 
 -- ---- what is learned
 

@@ -1,5 +1,5 @@
 -- A mailbox and its ends, as contracts see them.
-use Rattle.std.specs.Prelude.{◌≡◌, ℕ, ◌+◌, ◌<◌, ◌≤◌, List, [], ◌∷◌, ◌++◌, Some, ◌⊎◌, length, slice_get}
+use Rattle.std.specs.Prelude.{◌≡◌, ℕ, ◌+◌, ◌-◌, ◌<◌, List, [], ◌∷◌, ◌++◌, Some, ◌⊎◌, length, slice_get}
 use Rattle.std.specs.List.{AllByRecursion}
 use Rattle.atomic_table.specs.Seated.{TableId}
 use Rattle.atomic_table.specs.declared.badge.Badge.{Badge}
@@ -77,11 +77,11 @@ AreWhole collector = AllByRecursion (λ (met : Met). met.1 ≡ of met.0 collecto
 abbrev pub AreOfSenders : Collector → Type 0
 AreOfSenders collector = AllByRecursion (λ (item : Item). item.sender < collector.mailbox.senders) collector.taken
 
--- how many items these ends posted
-abbrev pub posted_by : List Met → ℕ
-posted_by [] = 0
-posted_by (met ∷ others) = length met.1 + posted_by others
+-- how many items these ends posted that were not taken
+abbrev pub left_of : List Item → List Met → ℕ
+left_of taken [] = 0
+left_of taken (met ∷ others) = (length met.1 - length (of met.0 taken)) + left_of taken others
 
 -- less than fits was posted by the ends that were met and is still to be taken
 abbrev pub LeavesRoom : Collector → Type 0
-LeavesRoom collector = posted_by collector.met + 1 ≤ length collector.taken + collector.mailbox.capacity
+LeavesRoom collector = left_of collector.taken collector.met < collector.mailbox.capacity

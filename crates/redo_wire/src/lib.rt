@@ -7,5 +7,5 @@ mod mailbox;
 mod rule;
 
 pub use item::{Item, What};
-pub use laws::steps_are_lawful;
+pub use laws::{room_for_one, steps_are_lawful};
 pub use mailbox::{PostEnd, TakeEnd, open};

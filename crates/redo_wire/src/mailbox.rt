@@ -125,8 +125,8 @@ impl PostEnd {
 }
 
 impl TakeEnd {
-    /// Takes the front of the mailbox, and waits while that is empty. There is none only if the mailbox was
-    /// empty at some moment of the call, and then nothing has changed.
+    /// Takes the front of the mailbox, and waits while that is empty and an end is left that may post. Where
+    /// there is none, all that the ends posted that were met was taken, and nothing has changed.
     #[tactic(auto, using(crate::proofs::Knowing::taking))]
     pub fn take<T: Wait>(&mut self, rt: &T) -> Option<Item>
         ensures stays { (self.new.mailbox ≡ self.old.mailbox) × (self.new.met ≡ self.old.met) }

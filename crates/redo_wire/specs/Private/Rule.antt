@@ -1,6 +1,6 @@
 -- The rule of the mailbox: there is a lawful state whose queue is what the channel holds, and every pass knows its part of
 -- it.
-use Rattle.std.specs.Prelude.{◌≡◌, ◌≢◌, ℕ, ◌+◌, ◌<◌, ◌≤◌, List, [], ◌∷◌, ◌++◌, Option, None, Some, length}
+use Rattle.std.specs.Prelude.{◌≡◌, ◌≢◌, ℕ, ◌+◌, ◌<◌, ◌≤◌, List, [], ◌∷◌, ◌++◌, Option, None, Some}
 use Rattle.std.specs.List.{AllByRecursion}
 use mathlib.Core.Option.{some}
 use lib.ListN.{get_elem?}
@@ -8,7 +8,7 @@ use Rattle.redo_wire.specs.declared.item.Item.{Item}
 use Rattle.redo_wire.specs.declared.rule.View.{View}
 use Rattle.redo_wire.specs.declared.rule.View.TheVariants.{Idle, Starting, Posting, Taking}
 use Rattle.redo_wire.specs.Machine.{State, IsFront, IsLawful, of}
-use Rattle.redo_wire.specs.Mailbox.{Met, posted_by}
+use Rattle.redo_wire.specs.Mailbox.{Met, left_of}
 
 -- no end was met twice
 abbrev pub AreApart : List Met → Type 0
@@ -108,7 +108,7 @@ KnowsMet Idle = Unit {0}
 KnowsMet Starting = Unit {0}
 KnowsMet (Posting capacity senders number put) = Unit {0}
 KnowsMet (Taking capacity senders made got met) =
-    AllByRecursion (λ (m : Met). IsFront (of m.0 got) m.1) met × (posted_by met + 1 ≤ length got + capacity)
+    AllByRecursion (λ (m : Met). IsFront (of m.0 got) m.1) met × (left_of got met < capacity)
 
 -- what the mailbox holds completes what was taken
 abbrev pub KnowsOf : View → List Item → Type 0
