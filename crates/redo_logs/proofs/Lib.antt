@@ -1,7 +1,6 @@
 pub mod ChangedLemmas
 mod FirstFault
 mod Growing
-mod Keeping
 pub mod LeastFault
 mod Storing
 mod TableRows

@@ -5,7 +5,6 @@
 #![tactic(auto)]
 
 mod entry_ref;
-mod kept;
 mod laws;
 mod log_state;
 mod log_table;
