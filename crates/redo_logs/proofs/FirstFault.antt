@@ -1,16 +1,17 @@
 -- The search for the first fault of a table.
-use Rattle.std.proofs.Common.{◌≡◌, ℕ, ◌+◌, ◌≤◌, List, [], ◌∷◌, Option, None, Some, map, length, refl, sym, ap, ◌∙◌, arith}
-use Rattle.std.specs.Map.{values_of}
+use Rattle.std.proofs.Common.{◌≡◌, ℕ, suc, ◌<◌, get_or, drop, ◌+◌, ◌≤◌, List, [], ◌∷◌, Option, None, Some, map, length, refl, sym, ap, ◌∙◌, arith}
 use Rattle.std.specs.Option.{option_map}
+use Rattle.std.proofs.Math.Seq.{drop-cons}
 use Rattle.std.proofs.lemmas.List.{length-map}
 use Rattle.redo_line.specs.declared.stream_fault.StreamFault.{StreamFault}
 use Rattle.redo_logs.specs.declared.log_state.LogState.{LogState}
 use Rattle.redo_logs.specs.declared.log_state.LogState.TheVariants.{Running, Ended, Failed}
 use Rattle.redo_logs.specs.declared.log_table.Log.{Log as Stored}
 use Rattle.redo_logs.specs.Logs.{Log, IsTable, most, fault_in, behind_one, first_fault, first_failed}
-use Rattle.redo_logs.specs.Private.Stored.{log_of}
+use Rattle.redo_logs.specs.Private.Kept.{Parts}
+use Rattle.redo_logs.specs.Private.Stored.{log_of, logs_of}
 
--- what each of these values says of a fault
+-- what each of these says of a fault
 abbrev faults_of : List Stored → List (Option StreamFault)
 faults_of left = map (λ (stored : Stored). fault_in stored.state) left
 
@@ -18,7 +19,7 @@ faults_of left = map (λ (stored : Stored). fault_in stored.state) left
 abbrev behind : ℕ → Option (ℕ × StreamFault) → Option (ℕ × StreamFault)
 behind number first = option_map (λ (found : ℕ × StreamFault). (number + found.0, found.1)) first
 
--- the first logs, as many as this number, have not failed, and these values are left
+-- the first logs, as many as this number, have not failed, and these are left
 pub record Searched (logs : List Log) (number : ℕ) (left : List Stored) : Type 0 where
   pub size : number + length left ≤ most
   pub answer : first_failed logs ≡ behind number (first_fault (faults_of left))
@@ -34,12 +35,12 @@ behind_none None = refl
 behind_none (Some found) = ap (λ n. Some (n, found.1)) (omega arith)
 
 -- the first log that failed is the first value that says so
-faults_stored : (entries : List (List ℕ × Stored)) → first_failed (map log_of entries) ≡ first_fault (faults_of (values_of entries))
-faults_stored entries = ap first_fault (same entries)
+faults_stored : (parts : Parts) (stored : List Stored) → first_failed (logs_of parts stored) ≡ first_fault (faults_of stored)
+faults_stored parts stored = ap first_fault (same stored)
   where
-    same : (es : List (List ℕ × Stored)) → map fault_in (map (λ (log : Log). log.state) (map log_of es)) ≡ faults_of (values_of es)
+    same : (logs : List Stored) → map fault_in (map (λ (log : Log). log.state) (logs_of parts logs)) ≡ faults_of logs
     same [] = refl
-    same (e ∷ es) = ap (λ faults. fault_in e.1.state ∷ faults) (same es)
+    same (log ∷ logs) = ap (λ faults. fault_in log.state ∷ faults) (same logs)
 
 -- a log that hasn't failed has no fault
 no_fault : (state : LogState) → ((fault : StreamFault) → state ≡ Failed fault → ⊥) → fault_in state ≡ None
@@ -47,12 +48,12 @@ no_fault Running not_failed = refl
 no_fault Ended not_failed = refl
 no_fault (Failed fault) not_failed = absurd (not_failed fault refl)
 
--- at the start all values are left
-pub searched_none : (entries : List (List ℕ × Stored)) (logs : List Log) → map log_of entries ≡ logs → IsTable (map log_of entries) → Searched logs 0 (values_of entries)
-searched_none entries logs is table =
+-- at the start all are left
+pub searched_none : (parts : Parts) (stored : List Stored) (logs : List Log) → logs_of parts stored ≡ logs → IsTable (logs_of parts stored) → Searched logs 0 stored
+searched_none parts stored logs is table =
     record {
-      size = let size = table.size in omega (arith, length-map entries log_of, length-map entries (λ entry. entry.1));
-      answer = ap first_failed (sym is) ∙ faults_stored entries ∙ sym (behind_none (first_fault (faults_of (values_of entries))));
+      size = let size = table.size in omega (arith, length-map stored (log_of parts));
+      answer = ap first_failed (sym is) ∙ faults_stored parts stored ∙ sym (behind_none (first_fault (faults_of stored)));
     }
 
 module _ (logs : List Log) (number : ℕ) (left : List Stored) (so_far : Searched logs number left) where
@@ -83,3 +84,9 @@ module _ (logs : List Log) (number : ℕ) (left : List Stored) (so_far : Searche
   -- if no log is left, there is no answer
   pub none_found : left ≡ [] → None ≡ first_failed logs
   none_found is = sym (so_far.answer ∙ ap (λ values. behind number (first_fault (faults_of values))) is)
+
+-- the log at a place is the first of those from there on
+pub left_at : (logs : List Stored) (place : ℕ) (log : Stored) → place < length logs → log ≡ get_or logs place log → drop place logs ≡ log ∷ drop (place + 1) logs
+left_at logs place log within is =
+    let next : suc place ≡ place + 1 = omega arith in
+    drop-cons logs place log within ∙ (λ i. sym is i ∷ drop (next i) logs)

@@ -1,6 +1,7 @@
 pub mod ChangedLemmas
 mod FirstFault
 mod Growing
+mod Keeping
 pub mod LeastFault
 mod Storing
 mod TableRows

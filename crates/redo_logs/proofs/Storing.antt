@@ -1,54 +1,189 @@
 -- The logs of a table, and what is stored for them.
-use Rattle.std.proofs.Common.{◌≡◌, ℕ, zero, suc, ◌&&◌, List, [], ◌∷◌, ◌++◌, Some, map, nat_eq, position, slice_get, refl, sym, ap, ◌∙◌}
+use Rattle.std.proofs.Common.{◌≡◌, ℕ, zero, suc, ◌+◌, ◌≤◌, ◌<◌, nat_eq, Bool, true, false, ◌&&◌, ◌||◌, true≢false, ◌-◌, List, [], ◌∷◌, ◌++◌, Option, None, Some, length, map, slice_get, slice_set, get_or, ltb, position, is_some, take, replicate, cond, refl, sym, ap, ◌∙◌, subst, arith}
 use Rattle.std.specs.Cmp.Lexicographic.{pointwise}
-use Rattle.std.specs.List.{list_all}
-use Rattle.std.specs.Map.{keys_of, values_of}
-use Rattle.std.proofs.lemmas.Option.{same_Some}
-use Rattle.indexmap.specs.IndexMap.{set_value_at}
+use Rattle.std.specs.List.{AllByRecursion, list_all, list_any}
+use Rattle.std.proofs.lemmas.Bool.{ltb-true, ltb-false}
+use Rattle.std.proofs.lemmas.List.{length-map, map_push, get_or_past, get_or-append_right, length-append}
+use Rattle.std.proofs.lemmas.List.Folds.{list_any_at}
+use Rattle.std.proofs.lemmas.Option.{same_Some, slice_get_within}
+use Rattle.redo_line.proofs.PlaceLemmas.{some_place}
 use Rattle.redo_line.specs.declared.entry.Entry.{Entry}
 use Rattle.redo_logs.specs.declared.log_table.Log.{Log as Stored}
-use Rattle.redo_logs.specs.Logs.{Log, changed, with_entry, targets_of, states_of, place_of, ends, has_ended}
-use Rattle.redo_logs.specs.Private.Stored.{log_of}
-use Rattle.redo_logs.proofs.ChangedLemmas.{changed-none}
+use Rattle.redo_logs.specs.declared.log_state.LogState.{LogState}
+use Rattle.redo_logs.specs.declared.kept.Record.{Record}
+use Rattle.redo_logs.specs.Logs.{Log, IsTable, changed, with_entry, with_state, targets_of, states_of, place_of, ends, has_ended}
+use Rattle.redo_logs.specs.Private.Kept.{Parts, Grows, NamesGrow, Within, name_at, seen}
+use Rattle.redo_logs.specs.Private.Stored.{IsLogWithin, IsStored, log_of, logs_of}
+use Rattle.redo_logs.proofs.ChangedLemmas.{IsTable-changed, changed-none, targets-changed}
+use Rattle.redo_logs.proofs.Keeping.{front_length, name_grown, all_seen_grown, all_within_grown}
 
--- the targets are the keys
-pub targets_stored : (entries : List (List ℕ × Stored)) → targets_of (map log_of entries) ≡ keys_of entries
-targets_stored [] = refl
-targets_stored (entry ∷ entries) = ap (λ targets. entry.0 ∷ targets) (targets_stored entries)
+abbrev state_of : Stored → LogState
+state_of stored = stored.state
 
--- the states are those of the values
-pub states_stored : (entries : List (List ℕ × Stored)) → states_of (map log_of entries) ≡ map (λ (stored : Stored). stored.state) (values_of entries)
-states_stored [] = refl
-states_stored (entry ∷ entries) = ap (λ states. entry.1.state ∷ states) (states_stored entries)
+module _ (parts : Parts) where
+  -- the states are those that are stored
+  pub states_stored : (logs : List Stored) → states_of (logs_of parts logs) ≡ map state_of logs
+  states_stored [] = refl
+  states_stored (log ∷ logs) = ap (λ states. log.state ∷ states) (states_stored logs)
 
--- the place of a target is that of its key
-pub place_stored : (target : List ℕ) (entries : List (List ℕ × Stored)) (logs : List Log) → map log_of entries ≡ logs → position (pointwise nat_eq target) (keys_of entries) ≡ place_of target logs
-place_stored target entries logs is =
-    ap (position (pointwise nat_eq target)) (sym (targets_stored entries)) ∙ ap (place_of target) is
+  -- all logs have ended exactly if all that is stored says so
+  pub all_stored : (logs : List Stored) → list_all has_ended (logs_of parts logs) ≡ list_all (λ (stored : Stored). ends stored.state) logs
+  all_stored [] = refl
+  all_stored (log ∷ logs) = ap (λ others. ends log.state && others) (all_stored logs)
 
--- all logs have ended exactly if all values say so
-pub all_stored : (entries : List (List ℕ × Stored)) → list_all has_ended (map log_of entries) ≡ list_all (λ (stored : Stored). ends stored.state) (values_of entries)
-all_stored [] = refl
-all_stored (entry ∷ entries) = ap (λ others. ends entry.1.state && others) (all_stored entries)
+  -- what is stored in the place of another changes one log, as it changes what is stored
+  pub written : (logs : List Stored) (number : ℕ) (old new : Stored) (change : Log → Log)
+      → slice_get logs number ≡ Some old → log_of parts new ≡ change (log_of parts old) → logs_of parts (slice_set logs number new) ≡ changed number change (logs_of parts logs)
+  written [] number old new change at says = refl
+  written (log ∷ logs) zero old new change at says =
+      ap (λ l. l ∷ logs_of parts logs) (says ∙ ap (λ (stored : Stored). change (log_of parts stored)) (sym (same_Some _ _ at)))
+  written (log ∷ logs) (suc number) old new change at says = ap (λ ls. log_of parts log ∷ ls) (written logs number old new change at says)
 
--- a value that is written in the place of another changes one log, as it changes the value
-pub written : (entries : List (List ℕ × Stored)) (number : ℕ) (old new : Stored) (change : Log → Log)
-    → slice_get (values_of entries) number ≡ Some old → ((target : List ℕ) → log_of (target, new) ≡ change (log_of (target, old)))
-    → map log_of (set_value_at entries number new) ≡ changed number change (map log_of entries)
-written [] number old new change at says = refl
-written (entry ∷ entries) zero old new change at says =
-    ap (λ log. log ∷ map log_of entries) (says entry.0 ∙ ap (λ (stored : Stored). change (log_of (entry.0, stored))) (sym (same_Some _ _ at)))
-written (entry ∷ entries) (suc number) old new change at says = ap (λ logs. log_of entry ∷ logs) (written entries number old new change at says)
+  pub written_within : (logs : List Stored) (number : ℕ) (old new : Stored)
+      → slice_get logs number ≡ Some old → (IsLogWithin parts old → IsLogWithin parts new) → AllByRecursion (IsLogWithin parts) logs → AllByRecursion (IsLogWithin parts) (slice_set logs number new)
+  written_within [] number old new at says within = within
+  written_within (log ∷ logs) zero old new at says within = (says (subst (IsLogWithin parts) (same_Some _ _ at) within.0), within.1)
+  written_within (log ∷ logs) (suc number) old new at says within = (within.0, written_within logs number old new at says within.1)
 
-module _ (entries : List (List ℕ × Stored)) (number : ℕ) (old new : Stored) (at : slice_get (values_of entries) number ≡ Some old) (same : new.state ≡ old.state) where
-  -- the same entries and the same state change nothing
-  pub same_written : new.entries.items ≡ old.entries.items → map log_of (set_value_at entries number new) ≡ map log_of entries
-  same_written items =
-      written entries number old new (λ log. log) at (λ target j. record { target = target; entries = items j; state = same j })
-      ∙ changed-none number (map log_of entries)
+  -- a log that is changed, but for its target
+  pub changed_stored : (logs : List Stored) (places : List (Option ℕ)) (number : ℕ) (old new : Stored) (change : Log → Log)
+      → ((log : Log) → (change log).target ≡ log.target) → slice_get logs number ≡ Some old → log_of parts new ≡ change (log_of parts old)
+      → (IsLogWithin parts old → IsLogWithin parts new) → IsStored parts logs places → IsStored parts (slice_set logs number new) places
+  changed_stored logs places number old new change keeps at says within stored =
+      let is = written logs number old new change at says in
+      let targets : targets_of (logs_of parts (slice_set logs number new)) ≡ targets_of (logs_of parts logs) = ap targets_of is ∙ targets-changed change keeps number (logs_of parts logs) in
+      record {
+        table = subst IsTable (sym is) (IsTable-changed change keeps number (logs_of parts logs) stored.table);
+        within = written_within logs number old new at within stored.within;
+        names_differ = stored.names_differ;
+        places_within = stored.places_within;
+        are_places = λ name below. stored.are_places name below ∙ ap (λ ts. position (pointwise nat_eq (name_at parts.names name)) ts) (sym targets);
+      }
 
-  -- one more entry is one more entry of the log
-  pub entry_written : (entry : Entry) → new.entries.items ≡ old.entries.items ++ entry ∷ []
-      → map log_of (set_value_at entries number new) ≡ changed number (with_entry entry) (map log_of entries)
-  entry_written entry items =
-      written entries number old new (with_entry entry) at (λ target j. record { target = target; entries = items j; state = same j })
+-- ---- one log
+
+module _ (parts : Parts) (old new : Stored) (name_is : new.name ≡ old.name) where
+  -- the same records in the same state
+  module _ (same : new.records.items ≡ old.records.items) where
+    pub same_log : new.state ≡ old.state → log_of parts new ≡ log_of parts old
+    same_log state = λ i. record { target = name_at parts.names (name_is i); entries = map (seen parts) (same i); state = state i }
+
+    pub same_log_within : IsLogWithin parts old → IsLogWithin parts new
+    same_log_within within = record {
+      name = subst (λ n. n < length parts.names) (sym name_is) within.name;
+      records = subst (AllByRecursion (Within parts)) (sym same) within.records;
+    }
+
+  -- one more record is one more entry
+  module _ (one : Record) (more : new.records.items ≡ old.records.items ++ one ∷ []) where
+    pub entry_log : (entry : Entry) → seen parts one ≡ entry → new.state ≡ old.state → log_of parts new ≡ with_entry entry (log_of parts old)
+    entry_log entry is state =
+        let entries = ap (map (seen parts)) more ∙ map_push (seen parts) old.records.items one ∙ ap (λ e. map (seen parts) old.records.items ++ e ∷ []) is in
+        λ i. record { target = name_at parts.names (name_is i); entries = entries i; state = state i }
+
+    pub entry_log_within : Within parts one → IsLogWithin parts old → IsLogWithin parts new
+    entry_log_within there within = record {
+      name = subst (λ n. n < length parts.names) (sym name_is) within.name;
+      records = subst (AllByRecursion (Within parts)) (sym more) (push old.records.items within.records);
+    }
+      where
+        push : (records : List Record) → AllByRecursion (Within parts) records → AllByRecursion (Within parts) (records ++ one ∷ [])
+        push [] all = (there, tt)
+        push (r ∷ records) all = (all.0, push records all.1)
+
+-- a log that has a state is there
+pub has_state : (parts : Parts) (logs : List Stored) (table : List Log) (number : ℕ) (state : LogState) → logs_of parts logs ≡ table → slice_get (states_of table) number ≡ Some state → number < length logs
+has_state parts logs table number state is at =
+    omega (arith, slice_get_within (states_of table) number state at, length-map table (λ (log : Log). log.state), ap length is, length-map logs (log_of parts))
+
+-- ---- names
+
+-- an element at a place
+all_at : {A : Type 0} (P : A → Type 0) (xs : List A) (i : ℕ) (d : A) → AllByRecursion P xs → i < length xs → P (get_or xs i d)
+all_at P [] i d all within = absurd (omega (arith, within))
+all_at P (x ∷ xs) zero d all within = all.0
+all_at P (x ∷ xs) (suc i) d all within = all_at P xs i d all.1 (omega (arith, within))
+
+none_at : {A : Type 0} (p : A → Bool) (xs : List A) (i : ℕ) (d : A) → list_any p xs ≡ false → i < length xs → p (get_or xs i d) ≡ false
+none_at p xs i d none within = by (p (get_or xs i d)) refl
+  where
+    by : (b : Bool) → p (get_or xs i d) ≡ b → b ≡ false
+    by false is = refl
+    by true is = absurd (true≢false (sym (list_any_at p xs i d within is) ∙ none))
+
+-- a name behind the old ones is none of them
+name_behind : (old new : List (List ℕ)) (number : ℕ) → (grows : NamesGrow old new) → length old ≤ number → number < length new → list_any (pointwise nat_eq (name_at new number)) old ≡ false
+name_behind old new number grows behind below =
+    subst (λ (name : List ℕ). list_any (pointwise nat_eq name) old ≡ false)
+    (sym (ap (λ names. get_or names number []) grows.front.is ∙ get_or-append_right old grows.front.more (length old) number [] refl behind))
+    (all_at (λ name. list_any (pointwise nat_eq name) old ≡ false) grows.front.more (number - length old) [] grows.differ
+    (omega (arith, behind, below, ap length grows.front.is, length-append old grows.front.more)))
+
+no_place : {A : Type 0} (p : A → Bool) (xs : List A) → list_any p xs ≡ false → position p xs ≡ None
+no_place p xs none = by (position p xs) (some_place p xs ∙ none)
+  where
+    by : (o : Option ℕ) → is_some o ≡ false → o ≡ None
+    by None absent = refl
+    by (Some i) absent = absurd (cc)
+
+module _ (parts : Parts) (name : List ℕ) where
+  none_targets : (logs : List Stored) → AllByRecursion (IsLogWithin parts) logs → list_any (pointwise nat_eq name) parts.names ≡ false → list_any (pointwise nat_eq name) (targets_of (logs_of parts logs)) ≡ false
+  none_targets [] within none = refl
+  none_targets (log ∷ logs) within none =
+      (λ i. none_at (pointwise nat_eq name) parts.names log.name [] none within.0.name i || list_any (pointwise nat_eq name) (targets_of (logs_of parts logs)))
+      ∙ none_targets logs within.1 none
+
+  -- where it isn't among the names, it has no log
+  pub unnamed : (logs : List Stored) → AllByRecursion (IsLogWithin parts) logs → position (pointwise nat_eq name) parts.names ≡ None → place_of name (logs_of parts logs) ≡ None
+  unnamed logs within none =
+      no_place (pointwise nat_eq name) (targets_of (logs_of parts logs))
+      (none_targets logs within (sym (some_place (pointwise nat_eq name) parts.names) ∙ ap is_some none))
+
+  -- where a name is none of the names, it has no log
+  pub none_placed : (logs : List Stored) → AllByRecursion (IsLogWithin parts) logs → list_any (pointwise nat_eq name) parts.names ≡ false → place_of name (logs_of parts logs) ≡ None
+  none_placed logs within none = no_place (pointwise nat_eq name) (targets_of (logs_of parts logs)) (none_targets logs within none)
+
+-- more is kept
+module _ (old new : Parts) (grows : Grows old new) where
+  log_grown : (stored : Stored) → IsLogWithin old stored → log_of new stored ≡ log_of old stored
+  log_grown stored within =
+      let target = name_grown old.names new.names stored.name grows.names within.name in
+      let entries = all_seen_grown old new stored.records.items grows within.records in
+      λ i. record { target = target i; entries = entries i; state = stored.state }
+
+  -- the logs are the same
+  pub logs_grown : (logs : List Stored) → AllByRecursion (IsLogWithin old) logs → logs_of new logs ≡ logs_of old logs
+  logs_grown [] within = refl
+  logs_grown (log ∷ logs) within = λ i. log_grown log within.0 i ∷ logs_grown logs within.1 i
+
+  logs_within : (logs : List Stored) → AllByRecursion (IsLogWithin old) logs → AllByRecursion (IsLogWithin new) logs
+  logs_within [] within = within
+  logs_within (log ∷ logs) within =
+      (record { name = omega (arith, within.0.name, front_length old.names new.names grows.names.front); records = all_within_grown old new log.records.items grows within.0.records }, logs_within logs within.1)
+
+  -- a name that is new has no log
+  pub grown_stored : (logs : List Stored) (places : List (Option ℕ)) → IsStored old logs places → IsStored new logs places
+  grown_stored logs places stored =
+      let same = logs_grown logs stored.within in
+      record {
+        table = subst IsTable (sym same) stored.table;
+        within = logs_within logs stored.within;
+        names_differ = grows.names.distinct stored.names_differ;
+        places_within = omega (arith, stored.places_within, front_length old.names new.names grows.names.front);
+        are_places = λ number below. by number below (ltb number (length old.names)) refl;
+      }
+    where
+      targets_then : targets_of (logs_of new logs) ≡ targets_of (logs_of old logs)
+      targets_then = ap targets_of (logs_grown logs stored.within)
+
+      by : (number : ℕ) → number < length new.names → (known : Bool) → ltb number (length old.names) ≡ known → get_or places number None ≡ place_of (name_at new.names number) (logs_of new logs)
+      by number below true known =
+          let before : number < length old.names = ltb-true number (length old.names) known in
+          stored.are_places number before
+          ∙ (λ i. position (pointwise nat_eq (sym (name_grown old.names new.names number grows.names before) i)) (sym targets_then i))
+      by number below false known =
+          let behind : length old.names ≤ number = ltb-false number (length old.names) known in
+          let absent = name_behind old.names new.names number grows.names behind below in
+          get_or_past places number None (omega (arith, stored.places_within, behind))
+          ∙ sym (ap (position (pointwise nat_eq (name_at new.names number))) targets_then
+          ∙ none_placed old (name_at new.names number) logs stored.within absent)

@@ -5,6 +5,7 @@
 #![tactic(auto)]
 
 mod entry_ref;
+mod kept;
 mod laws;
 mod log_state;
 mod log_table;

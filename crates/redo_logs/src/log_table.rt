@@ -1,4 +1,4 @@
-ghost use Rattle.std.specs.Prelude.{◌≡◌, ◌↔◌, ◌<◌, ◌^◌, ℕ, [], ◌∷◌, ◌++◌, length, slice_get};
+ghost use Rattle.std.specs.Prelude.{◌≡◌, ◌↔◌, ◌<◌, ◌≤◌, ◌^◌, ℕ, [], ◌∷◌, ◌++◌, length, slice_get, slice_index_or};
 ghost use Rattle.std.specs.Prelude.{None, Some, Err, IfOk, OnOk, OnErr, OnSome, IsSome};
 ghost use Rattle.std.specs.List.{list_all};
 ghost use Rattle.std.specs.Option.{option_map};
@@ -8,9 +8,9 @@ ghost use Rattle.redo_logs.specs.Logs.{IsTable, most, new_log, with_entry, with_
 ghost use Rattle.redo_logs.specs.Logs.{targets_of, states_of, place_of, entry_at, first_failed, has_ended};
 
 use crate::entry_ref::EntryRef;
+use crate::kept::{Kept, Record};
 use crate::log_state::LogState;
 use crate::table_fault::TableFault;
-use indexmap::IndexMap;
 use redo_line::{Entry, StreamFault, TargetName};
 use std::alloc::{AllocError, Global};
 use std::marker::Model;
@@ -19,8 +19,10 @@ use std::marker::Model;
 const MOST: usize = 1_048_575;
 
 #[derive(Debug, Drop)]
-struct Log {
-    entries: Vec<Entry>,
+pub struct Log {
+    // The number of its target's name.
+    name: usize,
+    records: Vec<Record>,
     state: LogState,
 }
 
@@ -29,20 +31,23 @@ struct Log {
 #[derive(Debug, Drop)]
 pub struct LogTable {
     alloc: Global,
-    logs: IndexMap<TargetName, Log>,
+    kept: Kept,
+    logs: Vec<Log>,
+    // By the number of a name, the number of its log. Behind the last place no name has one.
+    places: Vec<Option<u32>>,
 }
 
 impl Model for LogTable {
-    ghost use Rattle.std.specs.Prelude.{List, map};
-    ghost use Rattle.redo_logs.specs.Logs.{Log, IsTable};
+    ghost use Rattle.std.specs.Prelude.{List};
+    ghost use Rattle.redo_logs.specs.Logs.{Log};
 
     ghost Value = { List Log };
 
-    ghost use Rattle.redo_logs.specs.Private.Stored.{log_of};
+    ghost use Rattle.redo_logs.specs.Private.Stored.{IsStored, logs_of};
 
-    ghost view = { λ table. map log_of table.logs.entries };
+    ghost view = { λ table. logs_of table.kept table.logs.items };
 
-    ghost invariant = { λ table. IsTable (map log_of table.logs.entries) };
+    ghost invariant = { λ table. IsStored table.kept table.logs.items table.places.items };
 }
 
 impl LogTable {
@@ -52,7 +57,9 @@ impl LogTable {
     {
         LogTable {
             alloc,
-            logs: IndexMap::new(alloc),
+            kept: Kept::new(alloc),
+            logs: Vec::new(alloc),
+            places: Vec::new(alloc),
         }
     }
 
@@ -66,18 +73,21 @@ impl LogTable {
         ensures full { (result ≡ Err TableFault.Full) ↔ ((place_of target self.old ≡ None) × (length self.old ≡ most)) }
         ensures err { OnErr result (self.new ≡ self.old) }
     {
-        if self.logs.contains_key(&target) {
+        if self.find(&target).is_some() {
             return Err(TableFault::Twice);
         }
         let number = self.logs.len();
         if number == MOST {
             return Err(TableFault::Full);
         }
-        let log = Log {
-            entries: Vec::new(self.alloc),
+        let name = self.kept.number_of(target)?;
+        make_room(&mut self.places, self.kept.len())?;
+        self.logs.push(Log {
+            name,
+            records: Vec::new(self.alloc),
             state: LogState::Running,
-        };
-        self.logs.insert(target, log)?;
+        })?;
+        self.places[name] = Some(number as u32);
         Ok(number as u32)
     }
 
@@ -87,8 +97,8 @@ impl LogTable {
         ensures added { OnOk result (self.new ≡ changed stream (with_entry entry) self.old) }
         ensures err { OnErr result (self.new ≡ self.old) }
     {
-        let log = &mut self.logs[stream as usize];
-        log.entries.push(entry)?;
+        let record = self.kept.keep(entry)?;
+        self.logs[stream as usize].records.push(record)?;
         Ok(())
     }
 
@@ -120,10 +130,8 @@ impl LogTable {
     pub fn find(&self, target: &TargetName) -> Option<u32>
         ensures { result ≡ place_of target.now self.now }
     {
-        match self.logs.get_index_of(target) {
-            Some(i) => Some(i as u32),
-            None => None,
-        }
+        let name = self.kept.find(target)?;
+        place_at(&self.places, name)
     }
 
     /// The target of the log number `i`, which there has to be.
@@ -131,7 +139,7 @@ impl LogTable {
         requires { i < length self.now }
         ensures { slice_get (targets_of self.now) i ≡ Some result.now }
     {
-        &self.logs.keys().as_slice()[i as usize]
+        self.kept.name(self.logs[i as usize].name)
     }
 
     /// The state of the log number `i`, which there has to be.
@@ -147,9 +155,9 @@ impl LogTable {
         ensures entry { option_map entry_seen result ≡ entry_at i k self.now }
         ensures fits { OnSome result (k < 2 ^ 63) }
     {
-        let (_, log) = self.logs.get_index(i as usize)?;
-        let entry = log.entries.get(k)?;
-        Some(EntryRef::of(entry))
+        let log = self.logs.get(i as usize)?;
+        let record = log.records.get(k)?;
+        Some(self.kept.show(*record))
     }
 
     /// The least number of a log that failed, and its fault, if one did.
@@ -157,7 +165,7 @@ impl LogTable {
         ensures { result ≡ first_failed self.now }
     {
         let mut number = 0;
-        for log in self.logs.values() {
+        for log in &self.logs {
             if let LogState::Failed(fault) = log.state {
                 return Some((number, fault));
             }
@@ -171,7 +179,28 @@ impl LogTable {
         ensures { result ≡ list_all has_ended self.now }
     {
         self.logs
-            .values()
+            .iter()
             .all(|log| matches!(log.state, LogState::Ended))
+    }
+}
+
+// So many places at least; the new ones are none.
+fn make_room(places: &mut Vec<Option<u32>>, count: usize) -> Result<(), AllocError>
+    ensures room { OnOk result (count ≤ length places.new.items) }
+    ensures within { length places.old.items ≤ count → length places.new.items ≤ count }
+    ensures same { (number : ℕ) → slice_index_or places.new.items number None ≡ slice_index_or places.old.items number None }
+{
+    if places.len() < count {
+        places.resize(count, None)?;
+    }
+    Ok(())
+}
+
+fn place_at(places: &[Option<u32>], name: usize) -> Option<u32>
+    ensures { result ≡ slice_index_or places.now name None }
+{
+    match places.get(name) {
+        Some(place) => *place,
+        None => None,
     }
 }

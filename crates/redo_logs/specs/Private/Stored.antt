@@ -1,8 +1,31 @@
--- How a log is stored.
-use Rattle.std.specs.Prelude.{ℕ, List}
+-- How the logs of a table are stored.
+use Rattle.std.specs.Prelude.{◌≡◌, ℕ, ◌≤◌, ◌<◌, nat_eq, List, Option, None, length, map, slice_index_or}
+use Rattle.std.specs.List.{AllByRecursion, IsDistinct}
+use Rattle.std.specs.Cmp.Lexicographic.{pointwise}
 use Rattle.redo_logs.specs.declared.log_table.Log.{Log as Stored}
-use Rattle.redo_logs.specs.Logs.{Log}
+use Rattle.redo_logs.specs.Logs.{Log, IsTable, place_of}
+use Rattle.redo_logs.specs.Private.Kept.{Parts, Within, name_at, seen}
 
--- the log of a target, with what is stored for it
-abbrev pub log_of : List ℕ × Stored → Log
-log_of stored = record { target = stored.0; entries = stored.1.entries.items; state = stored.1.state }
+module _ (parts : Parts) where
+  -- the log that is stored so
+  abbrev pub log_of : Stored → Log
+  log_of stored = record { target = name_at parts.names stored.name; entries = map (seen parts) stored.records.items; state = stored.state }
+
+  abbrev pub logs_of : List Stored → List Log
+  logs_of logs = map log_of logs
+
+  -- what it points to is there
+  pub record IsLogWithin (stored : Stored) : Type 0 where
+    pub name : stored.name < length parts.names
+    pub records : AllByRecursion (Within parts) stored.records.items
+
+  -- by the number of a name, the number of its log; behind the last place there is none
+  abbrev pub ArePlaces : List Stored → List (Option ℕ) → Type 0
+  ArePlaces logs places = (number : ℕ) → number < length parts.names → slice_index_or places number None ≡ place_of (name_at parts.names number) (logs_of logs)
+
+  pub record IsStored (logs : List Stored) (places : List (Option ℕ)) : Type 0 where
+    pub table : IsTable (logs_of logs)
+    pub within : AllByRecursion IsLogWithin logs
+    pub names_differ : IsDistinct (pointwise nat_eq) parts.names
+    pub places_within : length places ≤ length parts.names
+    pub are_places : ArePlaces logs places

@@ -1,56 +1,71 @@
-use Rattle.std.proofs.Common.{◌<◌, is_some, map, refl, arith, sym, ap, ◌∙◌, nat_eq, subst, length}
-use Rattle.std.proofs.lemmas.Result.{err_from_is_err_and}
-use Rattle.std.specs.Cmp.Lexicographic.{pointwise}
+use Rattle.std.proofs.Common.{◌≡◌, ◌≤◌, ◌<◌, ◌++◌, ◌∷◌, [], None, Some, length, slice_set, rules, refl, sym, ap, ◌∙◌, subst, arith}
 use Rattle.std.proofs.lemmas.List.{length-map}
-use Rattle.indexmap.proofs.CallerLemmas.{insert_entry-new}
-use Rattle.redo_logs.specs.Logs.{IsTable, most}
-use Rattle.redo_logs.specs.Private.Stored.{log_of}
-use Rattle.redo_logs.proofs.Growing.{none, not_some, is_placed, target_is_new, no_place, one_stored, IsTable-grown}
+use Rattle.std.proofs.lemmas.Result.{MatchResult-from_err}
+use Rattle.redo_logs.specs.declared.log_state.LogState.TheVariants.{Running}
+use Rattle.redo_logs.specs.declared.log_table.Log.{Log as Stored}
+use Rattle.redo_logs.specs.Logs.{most, new_log, place_of}
+use Rattle.redo_logs.specs.Private.Stored.{IsStored, log_of, logs_of}
+use Rattle.redo_logs.proofs.Growing.{not_there, one_more, one_stored, placed_stored}
+use Rattle.redo_logs.proofs.Storing.{grown_stored, logs_grown}
 use Rattle.redo_logs.proofs.log_table.LogTable.enter.Goals as goal
 
-pub returns-then-contains_key-clause-twice : goal.returns-then-contains_key-clause-twice
-returns-then-contains_key-clause-twice c =
-    let place = is_placed c.args.target _ _ c.self.view_is in
-    (λ same. place ∙ sym c.contains_key.ensures ∙ c.if-contains_key.true, λ there. refl)
+pub invariant_of-self : goal.invariant_of-self
+invariant_of-self c = grown_stored _ _ c.in_err-name.ensures.grows _ _ c.self.invariant
 
-pub returns-then-contains_key-clause-full : goal.returns-then-contains_key-clause-full
-returns-then-contains_key-clause-full c =
-    let there = is_placed c.args.target _ _ c.self.view_is ∙ sym c.contains_key.ensures ∙ c.if-contains_key.true in
-    (λ same. absurd (grind (arith, same)), λ full. absurd (not_some _ (ap is_some full.0) there))
+pub returns-in_err-name-clause-err : goal.returns-in_err-name-clause-err
+returns-in_err-name-clause-err c =
+    MatchResult-from_err c.from_residual.result _ _ c.from_residual.ensures.0
+    (λ fault. logs_grown _ _ c.in_err-name.ensures.grows _ c.self.invariant.within ∙ c.self.view_is)
 
-pub returns-then-number-eq-MOST-clause-twice : goal.returns-then-number-eq-MOST-clause-twice
-returns-then-number-eq-MOST-clause-twice c =
-    let absent = is_placed c.args.target _ _ c.self.view_is ∙ sym c.contains_key.ensures ∙ c.if-contains_key.false in
-    (λ same. absurd (grind (arith, same)), λ there. absurd (not_some _ absent there))
+pub invariant_of-self-in_err-make_room : goal.invariant_of-self-in_err-make_room
+invariant_of-self-in_err-make_room c =
+    let grown = grown_stored _ _ c.in_ok-name.ensures.grows _ _ c.self.invariant in
+    let few : length c.self.inside.places.items ≤ c.len.result = subst (λ n. length c.self.inside.places.items ≤ n) (sym c.len.ensures) grown.places_within in
+    placed_stored _ _ _ _ (subst (λ n. length c.make_room.new.places.items ≤ n) c.len.ensures (c.in_err-make_room.ensures.within few)) c.in_err-make_room.ensures.same grown
 
-pub returns-then-number-eq-MOST-clause-full : goal.returns-then-number-eq-MOST-clause-full
-returns-then-number-eq-MOST-clause-full c =
-    let absent = sym c.contains_key.ensures ∙ c.if-contains_key.false in
-    let count = length-map c.self.inside.logs.entries log_of in
-    (λ same. (no_place c.args.target _ _ c.self.view_is absent, omega (arith, count, ap length c.self.view_is, c.len-number.ensures.len, c.if-number-eq-MOST.true)), λ full. refl)
+pub returns-in_err-make_room-clause-err : goal.returns-in_err-make_room-clause-err
+returns-in_err-make_room-clause-err c =
+    MatchResult-from_err c.from_residual-in_err-make_room.result _ _ c.from_residual-in_err-make_room.ensures.0
+    (λ fault. logs_grown _ _ c.in_ok-name.ensures.grows _ c.self.invariant.within ∙ c.self.view_is)
 
-pub returns-in_err-insert-clause-twice : goal.returns-in_err-insert-clause-twice
-returns-in_err-insert-clause-twice c =
-    let p = err_from_is_err_and c.from_residual.result c.from_residual.ensures.1 in
-    let absent = is_placed c.args.target _ _ c.self.view_is ∙ sym c.contains_key.ensures ∙ c.if-contains_key.false in
-    rw (p.1, p.2) (λ same. absurd (grind (arith, same)), λ there. absurd (not_some _ absent there))
+pub invariant_of-self-in_err-push : goal.invariant_of-self-in_err-push
+invariant_of-self-in_err-push c =
+    let grown = grown_stored _ _ c.in_ok-name.ensures.grows _ _ c.self.invariant in
+    let few : length c.self.inside.places.items ≤ c.len.result = subst (λ n. length c.self.inside.places.items ≤ n) (sym c.len.ensures) grown.places_within in
+    subst (λ logs. IsStored c.number_of.new.self logs c.make_room.new.places.items) (sym c.in_err-push.ensures.items)
+    (placed_stored _ _ _ _ (subst (λ n. length c.make_room.new.places.items ≤ n) c.len.ensures (c.in_ok-make_room.ensures.within few)) c.in_ok-make_room.ensures.same grown)
 
-pub returns-clause-entered : goal.returns-clause-entered
-returns-clause-entered c =
-    let absent = sym c.contains_key.ensures ∙ c.if-contains_key.false in
-    let entries = c.in_ok-insert.ensures.entries ∙ insert_entry-new (pointwise nat_eq) c.self.inside.logs c.args.target _ (none _ absent) in
-    ap (map log_of) entries ∙ one_stored c.args.target _ _ c.self.view_is _ c.new.ensures.items refl
+pub returns-in_err-push-clause-err : goal.returns-in_err-push-clause-err
+returns-in_err-push-clause-err c =
+    MatchResult-from_err c.from_residual-in_err-push.result _ _ c.from_residual-in_err-push.ensures.0
+    (λ fault. ap (logs_of c.number_of.new.self) c.in_err-push.ensures.items ∙ logs_grown _ _ c.in_ok-name.ensures.grows _ c.self.invariant.within ∙ c.self.view_is)
 
 pub invariant_of-self-2 : goal.invariant_of-self-2
 invariant_of-self-2 c =
-    let absent = sym c.contains_key.ensures ∙ c.if-contains_key.false in
-    let table = subst IsTable c.self.view_is c.self.invariant in
-    let size = table.size in
-    let count = length-map c.self.inside.logs.entries log_of in
-    let room : length c.args.self.now < most = omega (arith, size, count, ap length c.self.view_is, c.len-number.ensures.len, c.if-number-eq-MOST.false) in
-    subst IsTable (sym (returns-clause-entered c)) (IsTable-grown _ c.args.target table room (target_is_new c.args.target _ _ c.self.view_is absent))
+    let parts = c.number_of.new.self in
+    let logs = c.self.inside.logs.items in
+    let places = c.make_room.new.places.items in
+    let log : Stored = record { name = c.in_ok-name.name; records = c.new.result; state = Running } in
+    let named = c.in_ok-name.ensures.is in
+    let grown = grown_stored _ _ c.in_ok-name.ensures.grows _ _ c.self.invariant in
+    let same = logs_grown _ _ c.in_ok-name.ensures.grows _ c.self.invariant.within ∙ c.self.view_is in
+    let few : length c.self.inside.places.items ≤ c.len.result = subst (λ n. length c.self.inside.places.items ≤ n) (sym c.len.ensures) grown.places_within in
+    let stored = placed_stored _ _ _ _ (subst (λ n. length places ≤ n) c.len.ensures (c.in_ok-make_room.ensures.within few)) c.in_ok-make_room.ensures.same grown in
+    let count : c.len-number.result ≡ length logs = search rules in
+    let size = c.self.invariant.table.size in
+    let room : length logs < most = omega (arith, size, count, c.if-number-eq-MOST.false, length-map logs (log_of c.self.inside.kept)) in
+    let there = c.in_ok-make_room.ensures.room in
+    let has_place : c.in_ok-name.name < length places = omega (arith, there, c.len.ensures, named.below) in
+    let none = sym c.find.ensures ∙ not_there c.find.result (sym c.is_some.ensures ∙ c.if-is_some.false) in
+    let absent = (λ i. place_of (named.is i) (same i)) ∙ none in
+    subst (λ ls. IsStored parts ls (slice_set places c.in_ok-name.name (Some c.len-number.result))) (sym c.in_ok-push.ensures.items)
+    (subst (λ n. IsStored parts (logs ++ log ∷ []) (slice_set places c.in_ok-name.name (Some n))) (sym count)
+    (one_more parts logs places c.in_ok-name.name log refl c.new.ensures.items refl stored named.below room has_place absent))
 
-pub returns-clause-twice : goal.returns-clause-twice
-returns-clause-twice c =
-    let absent = is_placed c.args.target _ _ c.self.view_is ∙ sym c.contains_key.ensures ∙ c.if-contains_key.false in
-    (λ same. absurd (grind (arith, same)), λ there. absurd (not_some _ absent there))
+pub returns-clause-entered : goal.returns-clause-entered
+returns-clause-entered c =
+    let log : Stored = record { name = c.in_ok-name.name; records = c.new.result; state = Running } in
+    let same = logs_grown _ _ c.in_ok-name.ensures.grows _ c.self.invariant.within ∙ c.self.view_is in
+    ap (logs_of c.number_of.new.self) c.in_ok-push.ensures.items
+    ∙ one_stored c.number_of.new.self c.self.inside.logs.items c.make_room.new.places.items c.in_ok-name.name log refl c.new.ensures.items refl
+    ∙ (λ i. same i ++ new_log (c.in_ok-name.ensures.is.is i) ∷ [])

@@ -1,16 +1,19 @@
-use Rattle.std.proofs.Common.{refl, subst, sym, ap, ◌∙◌}
-use Rattle.redo_logs.specs.declared.log_state.LogState.TheVariants.{Failed}
-use Rattle.redo_logs.specs.Logs.{IsTable, changed, with_state}
-use Rattle.redo_logs.proofs.ChangedLemmas.{IsTable-changed}
-use Rattle.redo_logs.proofs.Storing.{written}
+use Rattle.std.proofs.Common.{refl, ap, ◌∙◌}
+use Rattle.std.proofs.lemmas.Option.{slice_get_read}
+use Rattle.redo_logs.specs.declared.log_state.LogState.TheVariants.{Running, Failed}
+use Rattle.redo_logs.specs.Logs.{changed, with_state}
+use Rattle.redo_logs.proofs.Storing.{changed_stored, has_state, written}
 use Rattle.redo_logs.proofs.log_table.LogTable.fail.Goals as goal
-
-pub returns : goal.returns
-returns c =
-    written c.self.inside.logs.entries c.args.stream _ _ (with_state (Failed c.args.fault)) c.index_mut.ensures.value (λ target. refl)
-    ∙ ap (changed c.args.stream (with_state (Failed c.args.fault))) c.self.view_is
 
 pub invariant_of-self : goal.invariant_of-self
 invariant_of-self c =
-    let table = subst IsTable c.self.view_is c.self.invariant in
-    subst IsTable (sym (returns c)) (IsTable-changed (with_state (Failed c.args.fault)) (λ log. refl) c.args.stream _ table)
+    let kept = c.self.inside.kept in
+    let below = has_state _ _ _ c.args.stream Running c.self.view_is c.requires.running in
+    changed_stored _ c.self.inside.logs.items _ c.args.stream _ _ (with_state (Failed c.args.fault)) (λ log. refl) (slice_get_read _ _ c.args.stream _ refl below c.index_mut.ensures.value) refl
+    (λ within. record { name = within.name; records = within.records }) c.self.invariant
+
+pub returns : goal.returns
+returns c =
+    let below = has_state _ _ _ c.args.stream Running c.self.view_is c.requires.running in
+    written _ c.self.inside.logs.items c.args.stream _ _ (with_state (Failed c.args.fault)) (slice_get_read _ _ c.args.stream _ refl below c.index_mut.ensures.value) refl
+    ∙ ap (changed c.args.stream (with_state (Failed c.args.fault))) c.self.view_is

@@ -1,0 +1,187 @@
+-- What is kept stays where it is, when more is kept.
+use Rattle.std.proofs.Common.{◌≡◌, ℕ, zero, suc, ◌+◌, ◌-◌, ◌≤◌, ◌<◌, Bool, true, false, if◌then◌else◌, List, [], ◌∷◌, ◌++◌, Option, None, Some, nat_eq, length, map, take, drop, slice_get, slice_range, refl, sym, ap, ◌∙◌, subst, arith}
+use Rattle.std.specs.Cmp.Lexicographic.{pointwise, same_text}
+use Rattle.std.specs.List.{AllByRecursion, IsDistinct, list_any}
+use Rattle.std.proofs.lemmas.List.{length_push, drop-append-le, take-append-le, get_or_append_left, length-append, length-drop, take_all, append_assoc, append-nil}
+use Rattle.std.proofs.Math.Seq.{drop-append_seam}
+use Rattle.std.proofs.lemmas.Cmp.{nat_list_eq_equiv}
+use Rattle.std.proofs.lemmas.Map.Keys.{IsDistinct-push}
+use Rattle.std.proofs.lemmas.Option.{slice_get_within, get_or_from_slice_get}
+use Rattle.redo_line.specs.declared.entry.Entry.{Entry}
+use Rattle.redo_line.specs.declared.entry.Entry.TheVariants as entry
+use Rattle.redo_logs.specs.declared.kept.NoteAt.{NoteAt}
+use Rattle.redo_logs.specs.declared.kept.Record.{Record}
+use Rattle.redo_logs.specs.declared.kept.Record.TheVariants.{Text, Mention, Done, Closing, Note}
+use Rattle.redo_logs.specs.Private.Kept.{Parts, IsFront, NamesGrow, Grows, IsNamed, name_at, note_seen, seen, IsNoteWithin, Within}
+
+-- ---- growing
+
+pub front_none : {A : Type 0} (xs : List A) → IsFront xs xs
+front_none xs = record { more = []; is = sym (append-nil xs) }
+
+pub front_front : {A : Type 0} (xs ys zs : List A) → IsFront xs ys → IsFront ys zs → IsFront xs zs
+front_front xs ys zs first second = record {
+  more = first.more ++ second.more;
+  is = second.is ∙ ap (λ front. front ++ second.more) first.is ∙ append_assoc xs first.more second.more;
+}
+
+-- more in front of nothing else
+pub front_length : {A : Type 0} (xs ys : List A) → IsFront xs ys → length xs ≤ length ys
+front_length xs ys front = omega (arith, ap length front.is, length-append xs front.more)
+
+-- ---- what is seen
+
+-- a range of a front
+range_front : (xs more : List ℕ) (start end : ℕ) → start ≤ end → end ≤ length xs → slice_range (xs ++ more) start end ≡ slice_range xs start end
+range_front xs more start end order within =
+    ap (take (end - start)) (drop-append-le start xs more (omega (arith, order, within)))
+    ∙ take-append-le (end - start) (drop start xs) more (omega (arith, order, within, length-drop start xs))
+
+range_grown : (xs ys : List ℕ) (start end : ℕ) → IsFront xs ys → start ≤ end → end ≤ length xs → slice_range ys start end ≡ slice_range xs start end
+range_grown xs ys start end front order within =
+    ap (λ bytes. slice_range bytes start end) front.is ∙ range_front xs front.more start end order within
+
+-- what stands at a place of a front
+get_front : {A : Type 0} (xs more : List A) (number : ℕ) → number < length xs → slice_get (xs ++ more) number ≡ slice_get xs number
+get_front [] more number within = absurd (omega (arith, within))
+get_front (x ∷ xs) more zero within = refl
+get_front (x ∷ xs) more (suc number) within = get_front xs more number (omega (arith, within))
+
+-- a name stays the name of its number
+pub name_grown : (old new : List (List ℕ)) (number : ℕ) → NamesGrow old new → number < length old → name_at new number ≡ name_at old number
+name_grown old new number grows within = ap (λ names. name_at names number) grows.front.is ∙ get_or_append_left old grows.front.more [] number within
+
+note_grown : (old new : List ℕ) (at : Option NoteAt) → IsFront old new → IsNoteWithin old at → note_seen new at ≡ note_seen old at
+note_grown old new None front within = absurd within
+note_grown old new (Some at) front within =
+    let kind = range_grown old new at.start at.middle front within.0 (omega (arith, within.1, within.2)) in
+    let text = range_grown old new at.middle at.end front within.1 within.2 in
+    λ i. entry.Note (kind i) (text i)
+
+note_at_grown : (old new : List NoteAt) (bytes : List ℕ) (note : ℕ) → IsFront old new → IsNoteWithin bytes (slice_get old note) → slice_get new note ≡ slice_get old note
+note_at_grown old new bytes note front within =
+    ap (λ notes. slice_get notes note) front.is ∙ get_front old front.more note (there (slice_get old note) refl within)
+  where
+    there : (at : Option NoteAt) → slice_get old note ≡ at → IsNoteWithin bytes at → note < length old
+    there None is within = absurd within
+    there (Some at) is within = slice_get_within old note at is
+
+-- an entry stays what it is seen as
+pub seen_grown : (old new : Parts) (record' : Record) → Grows old new → Within old record' → seen new record' ≡ seen old record'
+seen_grown old new (Text start end) grows within = ap entry.Text (range_grown old.bytes new.bytes start end grows.bytes within.0 within.1)
+seen_grown old new (Mention how name) grows within = ap (entry.Mention how) (name_grown old.names new.names name grows.names within)
+seen_grown old new (Done status name) grows within = ap (entry.Done status) (name_grown old.names new.names name grows.names within)
+seen_grown old new (Closing status) grows within = refl
+seen_grown old new (Note note) grows within =
+    ap (note_seen new.bytes) (note_at_grown old.notes new.notes old.bytes note grows.notes within)
+    ∙ note_grown old.bytes new.bytes (slice_get old.notes note) grows.bytes within
+
+-- and is still there
+pub within_grown : (old new : Parts) (record' : Record) → Grows old new → Within old record' → Within new record'
+within_grown old new (Text start end) grows within = (within.0, omega (arith, within.1, front_length old.bytes new.bytes grows.bytes))
+within_grown old new (Mention how name) grows within = omega (arith, within, front_length old.names new.names grows.names.front)
+within_grown old new (Done status name) grows within = omega (arith, within, front_length old.names new.names grows.names.front)
+within_grown old new (Closing status) grows within = within
+within_grown old new (Note note) grows within =
+    subst (IsNoteWithin new.bytes) (sym (note_at_grown old.notes new.notes old.bytes note grows.notes within)) (more (slice_get old.notes note) within)
+  where
+    more : (at : Option NoteAt) → IsNoteWithin old.bytes at → IsNoteWithin new.bytes at
+    more None within = within
+    more (Some at) within = (within.0, within.1, omega (arith, within.2, front_length old.bytes new.bytes grows.bytes))
+
+pub all_seen_grown : (old new : Parts) (records : List Record) → Grows old new → AllByRecursion (Within old) records → map (seen new) records ≡ map (seen old) records
+all_seen_grown old new [] grows within = refl
+all_seen_grown old new (one ∷ records) grows within = λ i. seen_grown old new one grows within.0 i ∷ all_seen_grown old new records grows within.1 i
+
+pub all_within_grown : (old new : Parts) (records : List Record) → Grows old new → AllByRecursion (Within old) records → AllByRecursion (Within new) records
+all_within_grown old new [] grows within = within
+all_within_grown old new (one ∷ records) grows within = (within_grown old new one grows within.0, all_within_grown old new records grows within.1)
+
+-- ---- steps
+
+names_none : (names : List (List ℕ)) → NamesGrow names names
+names_none names = record { front = record { more = []; is = sym (append-nil names) }; differ = tt; distinct = λ distinct. distinct }
+
+-- nothing more is kept
+pub grows_none : (parts : Parts) → Grows parts parts
+grows_none parts = record { bytes = front_none parts.bytes; notes = front_none parts.notes; names = names_none parts.names }
+
+-- a name is kept
+pub names_grow : (names : List (List ℕ)) (name : List ℕ) (new : List (List ℕ)) → new ≡ (if list_any (pointwise nat_eq name) names then names else names ++ name ∷ []) → NamesGrow names new
+names_grow names name new is = by (list_any (pointwise nat_eq name) names) refl is
+  where
+    by : (known : Bool) → list_any (pointwise nat_eq name) names ≡ known → new ≡ (if known then names else names ++ name ∷ []) → NamesGrow names new
+    by true known is =
+        let same = is ∙ refl in
+        record { front = record { more = []; is = same ∙ sym (append-nil names) }; differ = tt; distinct = subst (IsDistinct (pointwise nat_eq)) (sym same) }
+    by false known is = record {
+      front = record { more = name ∷ []; is = is };
+      differ = (known, tt);
+      distinct = λ distinct. subst (IsDistinct (pointwise nat_eq)) (sym is) (IsDistinct-push nat_list_eq_equiv names name distinct known);
+    }
+
+-- texts alone are kept
+pub bytes_grow : (old new : Parts) → IsFront old.bytes new.bytes → new.notes ≡ old.notes → new.names ≡ old.names → Grows old new
+bytes_grow old new front notes names = record {
+  bytes = front;
+  notes = subst (IsFront old.notes) (sym notes) (front_none old.notes);
+  names = subst (NamesGrow old.names) (sym names) (names_none old.names);
+}
+
+-- a note and its texts are kept
+pub note_grows : (old new : Parts) (at : NoteAt) → IsFront old.bytes new.bytes → new.notes ≡ old.notes ++ at ∷ [] → new.names ≡ old.names → Grows old new
+note_grows old new at front notes names = record {
+  bytes = front;
+  notes = record { more = at ∷ []; is = notes };
+  names = subst (NamesGrow old.names) (sym names) (names_none old.names);
+}
+
+-- a name is kept
+pub name_grows : (old new : Parts) (name : List ℕ) → new.bytes ≡ old.bytes → new.notes ≡ old.notes
+    → new.names ≡ (if list_any (pointwise nat_eq name) old.names then old.names else old.names ++ name ∷ []) → Grows old new
+name_grows old new name bytes notes names = record {
+  bytes = subst (IsFront old.bytes) (sym bytes) (front_none old.bytes);
+  notes = subst (IsFront old.notes) (sym notes) (front_none old.notes);
+  names = names_grow old.names name new.names names;
+}
+
+pub front_same : {A : Type 0} (old new : List A) → new ≡ old → IsFront old new
+front_same old new same = record { more = []; is = same ∙ sym (append-nil old) }
+
+-- the name that stands at a place
+pub named : (names : List (List ℕ)) (number : ℕ) (name there : List ℕ) → slice_get names number ≡ Some there → pointwise nat_eq name there ≡ true → IsNamed names number name
+named names number name there at same = record {
+  below = slice_get_within names number there at;
+  is = get_or_from_slice_get names number there [] at ∙ sym (same_text name there (sym same));
+}
+
+-- what was put behind others
+range_put : (xs ys more : List ℕ) → slice_range ((xs ++ ys) ++ more) (length xs) (length (xs ++ ys)) ≡ ys
+range_put xs ys more =
+    range_front (xs ++ ys) more (length xs) (length (xs ++ ys)) (omega (arith, length-append xs ys)) (omega arith)
+    ∙ ap (take (length (xs ++ ys) - length xs)) (drop-append_seam xs ys)
+    ∙ take_all (length (xs ++ ys) - length xs) ys (omega (arith, length-append xs ys))
+
+-- what was put last
+get_put : {A : Type 0} (xs : List A) (x : A) → slice_get (xs ++ x ∷ []) (length xs) ≡ Some x
+get_put [] x = refl
+get_put (y ∷ xs) x = get_put xs x
+
+-- a note that was put behind the others
+pub note_kept : (bytes kind text first second : List ℕ) (notes new : List NoteAt)
+    → first ≡ bytes ++ kind → second ≡ first ++ text
+    → new ≡ notes ++ record { start = length bytes; middle = length first; end = length second } ∷ []
+    → note_seen second (slice_get new (length notes)) ≡ entry.Note kind text
+note_kept bytes kind text first second notes new first_is second_is new_is =
+    ap (λ (ns : List NoteAt). note_seen second (slice_get ns (length notes))) new_is
+    ∙ ap (note_seen second) (get_put notes (record { start = length bytes; middle = length first; end = length second }))
+    ∙ (λ i. note_seen (second_is i) (Some (record { start = length bytes; middle = length first; end = length (second_is i) })))
+    ∙ (λ i. note_seen (first_is i ++ text) (Some (record { start = length bytes; middle = length (first_is i); end = length (first_is i ++ text) })))
+    ∙ (λ i. entry.Note (range_put bytes kind text i) (range_last (bytes ++ kind) text i))
+  where
+    range_last : (xs ys : List ℕ) → slice_range (xs ++ ys) (length xs) (length (xs ++ ys)) ≡ ys
+    range_last xs ys = ap (λ bs. slice_range bs (length xs) (length (xs ++ ys))) (sym (append-nil (xs ++ ys))) ∙ range_put xs ys []
+
+-- where what was put ends
+pub end_of : (end : ℕ) (xs ys new : List ℕ) → end ≡ length xs + length ys → new ≡ xs ++ ys → end ≡ length new
+end_of end xs ys new is new_is = is ∙ sym (length-append xs ys) ∙ ap length (sym new_is)

@@ -1,0 +1,66 @@
+-- How entries are kept: their texts one behind the other, their names each once, and records that say where these are.
+use Rattle.std.specs.Prelude.{◌≡◌, ℕ, ◌≤◌, ◌<◌, false, List, [], ◌∷◌, ◌++◌, Option, None, Some, nat_eq, length, slice_get, slice_index_or, slice_range, ⊤}
+use Rattle.std.specs.List.{AllByRecursion, IsDistinct, list_any}
+use Rattle.std.specs.Cmp.Lexicographic.{pointwise}
+use Rattle.redo_line.specs.declared.entry.Entry.{Entry}
+use Rattle.redo_line.specs.declared.entry.Entry.TheVariants as entry
+use Rattle.redo_logs.specs.declared.kept.NoteAt.{NoteAt}
+use Rattle.redo_logs.specs.declared.kept.Record.{Record}
+use Rattle.redo_logs.specs.declared.kept.Record.TheVariants.{Text, Mention, Done, Closing, Note}
+
+pub record Parts : Type 0 where
+  pub bytes : List ℕ
+  pub notes : List NoteAt
+  pub names : List (List ℕ)
+
+abbrev pub no_parts : Parts
+no_parts = record { bytes = []; notes = []; names = [] }
+
+-- a list stands in front of another
+pub record IsFront {A : Type 0} (front whole : List A) : Type 0 where
+  pub more : List A
+  pub is : whole ≡ front ++ more
+
+-- names stand in front of others, which are not among them, and no name stands twice if none did
+pub record NamesGrow (old new : List (List ℕ)) : Type 0 where
+  pub front : IsFront old new
+  pub differ : AllByRecursion (λ name. list_any (pointwise nat_eq name) old ≡ false) front.more
+  pub distinct : IsDistinct (pointwise nat_eq) old → IsDistinct (pointwise nat_eq) new
+
+-- what was kept stays
+pub record Grows (old new : Parts) : Type 0 where
+  pub bytes : IsFront old.bytes new.bytes
+  pub notes : IsFront old.notes new.notes
+  pub names : NamesGrow old.names new.names
+
+-- the name of a number
+abbrev pub name_at : List (List ℕ) → ℕ → List ℕ
+name_at names number = slice_index_or names number []
+
+pub record IsNamed (names : List (List ℕ)) (number : ℕ) (name : List ℕ) : Type 0 where
+  pub below : number < length names
+  pub is : name_at names number ≡ name
+
+abbrev pub note_seen : List ℕ → Option NoteAt → Entry
+note_seen bytes None = entry.Note [] []
+note_seen bytes (Some at) = entry.Note (slice_range bytes at.start at.middle) (slice_range bytes at.middle at.end)
+
+-- the entry that is kept so
+abbrev pub seen : Parts → Record → Entry
+seen parts (Text start end) = entry.Text (slice_range parts.bytes start end)
+seen parts (Mention how name) = entry.Mention how (name_at parts.names name)
+seen parts (Done status name) = entry.Done status (name_at parts.names name)
+seen parts (Closing status) = entry.Closing status
+seen parts (Note note) = note_seen parts.bytes (slice_get parts.notes note)
+
+abbrev pub IsNoteWithin : List ℕ → Option NoteAt → Type 0
+IsNoteWithin bytes None = ⊥
+IsNoteWithin bytes (Some at) = (at.start ≤ at.middle) × (at.middle ≤ at.end) × (at.end ≤ length bytes)
+
+-- where its parts are, there is something
+abbrev pub Within : Parts → Record → Type 0
+Within parts (Text start end) = (start ≤ end) × (end ≤ length parts.bytes)
+Within parts (Mention how name) = name < length parts.names
+Within parts (Done status name) = name < length parts.names
+Within parts (Closing status) = ⊤
+Within parts (Note note) = IsNoteWithin parts.bytes (slice_get parts.notes note)

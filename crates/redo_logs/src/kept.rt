@@ -1,0 +1,167 @@
+//! What the entries of all logs are kept in: their texts one behind the other, and their names, each once.
+ghost use Rattle.std.specs.Prelude.{◌≡◌, ◌+◌, ◌<◌, ◌++◌, [], nat_eq, length, position, slice_get, IfOk};
+ghost use Rattle.std.specs.Cmp.Lexicographic.{pointwise};
+ghost use Rattle.redo_line.specs.declared.entry.Entry.TheVariants.{Note};
+ghost use Rattle.redo_logs.specs.EntryRef.{entry_seen};
+ghost use Rattle.redo_logs.specs.Private.Kept.{Grows, IsNamed, Within, no_parts, seen};
+
+use crate::entry_ref::EntryRef;
+use indexmap::IndexSet;
+use redo_line::{Entry, How, TargetName};
+use std::alloc::{AllocError, Global};
+use std::marker::Model;
+
+/// An entry as a log keeps it: where its texts are, and which names it has.
+#[derive(Clone, Copy, Debug)]
+pub enum Record {
+    Text { start: usize, end: usize },
+    Mention { how: How, name: usize },
+    Done { status: i32, name: usize },
+    Closing { status: i32 },
+    Note { note: usize },
+}
+
+// A table asks for so many bytes an entry, beside its texts.
+const _: () = prove!(std::mem::size_of::<Record>() == 24);
+
+/// Where a note's kind and its text are, one behind the other.
+#[derive(Clone, Copy, Debug)]
+pub struct NoteAt {
+    start: usize,
+    middle: usize,
+    end: usize,
+}
+
+#[derive(Debug, Drop)]
+pub struct Kept {
+    // All texts and kinds.
+    bytes: Vec<u8>,
+    notes: Vec<NoteAt>,
+    names: IndexSet<TargetName>,
+}
+
+impl Model for Kept {
+    ghost use Rattle.redo_logs.specs.Private.Kept.{Parts};
+
+    ghost Value = { Parts };
+
+    ghost view = { λ kept. record { bytes = kept.bytes.items; notes = kept.notes.items; names = kept.names.keys } };
+}
+
+impl Kept {
+    pub fn new(alloc: Global) -> Kept
+        ensures { result ≡ no_parts }
+    {
+        Kept {
+            bytes: Vec::new(alloc),
+            notes: Vec::new(alloc),
+            names: IndexSet::new(alloc),
+        }
+    }
+
+    /// Keeps an entry. What was kept before stays, and where this is refused, nobody sees what else is kept.
+    pub fn keep(&mut self, entry: Entry) -> Result<Record, AllocError>
+        ensures grows { Grows self.old self.new }
+        ensures within { IfOk result (Within self.new) }
+        ensures seen { IfOk result (λ kept. seen self.new kept ≡ entry) }
+    {
+        match entry {
+            Entry::Text(line) => {
+                let (start, end) = self.put(line.bytes())?;
+                Ok(Record::Text { start, end })
+            }
+            Entry::Mention { how, name } => {
+                let name = self.number_of(name)?;
+                Ok(Record::Mention { how, name })
+            }
+            Entry::Done { status, name } => {
+                let name = self.number_of(name)?;
+                Ok(Record::Done { status, name })
+            }
+            Entry::Closing { status } => Ok(Record::Closing { status }),
+            Entry::Note { kind, text } => self.keep_note(kind.bytes(), text.bytes()),
+        }
+    }
+
+    // Puts a text behind the others, and answers where it begins and ends.
+    fn put(&mut self, text: &[u8]) -> Result<(usize, usize), AllocError>
+        ensures grows { Grows self.old self.new }
+        ensures others { (self.new.notes ≡ self.old.notes) × (self.new.names ≡ self.old.names) }
+        ensures start { IfOk result (λ span. span.0 ≡ length self.old.bytes) }
+        ensures end { IfOk result (λ span. span.1 ≡ length self.old.bytes + length text.now) }
+        ensures bytes { IfOk result (λ span. self.new.bytes ≡ self.old.bytes ++ text.now) }
+    {
+        let start = self.bytes.len();
+        self.bytes.extend_from_slice(text)?;
+        Ok((start, self.bytes.len()))
+    }
+
+    fn keep_note(&mut self, kind: &[u8], text: &[u8]) -> Result<Record, AllocError>
+        ensures grows { Grows self.old self.new }
+        ensures within { IfOk result (Within self.new) }
+        ensures seen { IfOk result (λ kept. seen self.new kept ≡ Note kind.now text.now) }
+    {
+        let (start, middle) = self.put(kind)?;
+        let (_, end) = self.put(text)?;
+        let note = self.notes.len();
+        self.notes.push(NoteAt { start, middle, end })?;
+        Ok(Record::Note { note })
+    }
+
+    /// The number of a name, which is among the names from now on.
+    pub fn number_of(&mut self, name: TargetName) -> Result<usize, AllocError>
+        ensures grows { Grows self.old self.new }
+        ensures is { IfOk result (λ number. IsNamed self.new.names number name) }
+    {
+        let (number, _) = self.names.insert_full(name)?;
+        Ok(number)
+    }
+
+    /// The number of a name, if it is among the names. The look-up is by hash.
+    pub fn find(&self, name: &TargetName) -> Option<usize>
+        ensures { result ≡ position (pointwise nat_eq name.now) self.now.names }
+    {
+        self.names.get_index_of(name)
+    }
+
+    /// How many names there are.
+    pub fn len(&self) -> usize
+        ensures { result ≡ length self.now.names }
+    {
+        self.names.len()
+    }
+
+    /// The name of this number, which there has to be.
+    pub fn name(&self, number: usize) -> &TargetName
+        requires { number < length self.now.names }
+        ensures { IsNamed self.now.names number result.now }
+    {
+        &self.names.as_slice()[number]
+    }
+
+    /// An entry that is kept.
+    pub fn show(&self, kept: Record) -> EntryRef<'_>
+        requires { Within self.now kept }
+        ensures { entry_seen result ≡ seen self.now kept }
+    {
+        match kept {
+            Record::Text { start, end } => EntryRef::Text(&self.bytes[start..end]),
+            Record::Mention { how, name } => EntryRef::Mention {
+                how,
+                name: self.name(name),
+            },
+            Record::Done { status, name } => EntryRef::Done {
+                status,
+                name: self.name(name),
+            },
+            Record::Closing { status } => EntryRef::Closing { status },
+            Record::Note { note } => {
+                let NoteAt { start, middle, end } = self.notes[note];
+                EntryRef::Note {
+                    kind: &self.bytes[start..middle],
+                    text: &self.bytes[middle..end],
+                }
+            }
+        }
+    }
+}
