@@ -5,14 +5,15 @@ use Rattle.std.specs.List.{AllByRecursion, IsDistinct, list_any, position_from}
 use Rattle.std.proofs.lemmas.Bool.{ltb-true, ltb-false, eqb-true, eqb-false}
 use Rattle.std.proofs.lemmas.Cmp.{nat_list_eq_equiv}
 use Rattle.std.proofs.lemmas.Iterator.Adapters.{position_from-zero}
-use Rattle.std.proofs.lemmas.List.{length_push, length-append, length-map, map_push, take_all, get_or_past, length-replicate, length-set, get_or_append_left, get_or-append_right, get_or-set_same, get_or-set_other}
+use Rattle.std.proofs.lemmas.List.{length_push, length-map, map_push, take_all, get_or_past, length-set, get_or_append_left, get_or-append_right, get_or-set_same, get_or-set_other}
 use Rattle.std.proofs.lemmas.Option.{same_Some}
 use Rattle.std.proofs.lemmas.Map.Keys.{IsDistinct-push, apart_from_distinct}
 use Rattle.redo_line.proofs.PlaceLemmas.{some_place, first_passes}
 use Rattle.redo_logs.specs.declared.log_state.LogState.TheVariants.{Running}
 use Rattle.redo_logs.specs.declared.log_table.Log.{Log as Stored}
 use Rattle.redo_logs.specs.Logs.{Log, IsTable, most, new_log, targets_of, place_of}
-use Rattle.redo_logs.specs.Private.Kept.{IsNamed, Parts, Within, name_at, seen}
+use Rattle.redo_logs.specs.Numbering.{IsNamed, name_at}
+use Rattle.redo_logs.specs.Private.Kept.{Parts, Within, seen}
 use Rattle.redo_logs.specs.Private.Stored.{IsLogWithin, IsStored, log_of, logs_of}
 
 -- a table with room takes the log of a new target

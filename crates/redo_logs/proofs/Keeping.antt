@@ -2,17 +2,17 @@
 use Rattle.std.proofs.Common.{◌≡◌, ℕ, zero, suc, ◌+◌, ◌-◌, ◌≤◌, ◌<◌, Bool, true, false, if◌then◌else◌, List, [], ◌∷◌, ◌++◌, Option, None, Some, nat_eq, length, map, take, drop, slice_get, slice_range, refl, sym, ap, ◌∙◌, subst, arith}
 use Rattle.std.specs.Cmp.Lexicographic.{pointwise, same_text}
 use Rattle.std.specs.List.{AllByRecursion, IsDistinct, list_any}
-use Rattle.std.proofs.lemmas.List.{length_push, drop-append-le, take-append-le, get_or_append_left, length-append, length-drop, take_all, append_assoc, append-nil}
+use Rattle.std.proofs.lemmas.List.{drop-append-le, take-append-le, get_or_append_left, length-append, length-drop, take_all, append_assoc, append-nil}
 use Rattle.std.proofs.Math.Seq.{drop-append_seam}
 use Rattle.std.proofs.lemmas.Cmp.{nat_list_eq_equiv}
 use Rattle.std.proofs.lemmas.Map.Keys.{IsDistinct-push}
 use Rattle.std.proofs.lemmas.Option.{slice_get_within, get_or_from_slice_get}
-use Rattle.redo_line.specs.declared.entry.Entry.{Entry}
 use Rattle.redo_line.specs.declared.entry.Entry.TheVariants as entry
 use Rattle.redo_logs.specs.declared.kept.NoteAt.{NoteAt}
 use Rattle.redo_logs.specs.declared.kept.Record.{Record}
 use Rattle.redo_logs.specs.declared.kept.Record.TheVariants.{Text, Mention, Done, Closing, Note}
-use Rattle.redo_logs.specs.Private.Kept.{Parts, IsFront, NamesGrow, Grows, IsNamed, name_at, note_seen, seen, IsNoteWithin, Within}
+use Rattle.redo_logs.specs.Numbering.{IsNamed, name_at}
+use Rattle.redo_logs.specs.Private.Kept.{Parts, IsFront, NamesGrow, Grows, note_seen, seen, IsNoteWithin, Within}
 
 -- ---- growing
 

@@ -1,5 +1,5 @@
 -- The logs of a table, and what is stored for them.
-use Rattle.std.proofs.Common.{◌≡◌, ℕ, zero, suc, ◌+◌, ◌≤◌, ◌<◌, nat_eq, Bool, true, false, ◌&&◌, ◌||◌, true≢false, ◌-◌, List, [], ◌∷◌, ◌++◌, Option, None, Some, length, map, slice_get, slice_set, get_or, ltb, position, is_some, take, replicate, cond, refl, sym, ap, ◌∙◌, subst, arith}
+use Rattle.std.proofs.Common.{◌≡◌, ℕ, zero, suc, ◌≤◌, ◌<◌, nat_eq, Bool, true, false, ◌&&◌, ◌||◌, true≢false, ◌-◌, List, [], ◌∷◌, ◌++◌, Option, None, Some, length, map, slice_get, slice_set, get_or, ltb, position, is_some, refl, sym, ap, ◌∙◌, subst, arith}
 use Rattle.std.specs.Cmp.Lexicographic.{pointwise}
 use Rattle.std.specs.List.{AllByRecursion, list_all, list_any}
 use Rattle.std.proofs.lemmas.Bool.{ltb-true, ltb-false}
@@ -11,10 +11,11 @@ use Rattle.redo_line.specs.declared.entry.Entry.{Entry}
 use Rattle.redo_logs.specs.declared.log_table.Log.{Log as Stored}
 use Rattle.redo_logs.specs.declared.log_state.LogState.{LogState}
 use Rattle.redo_logs.specs.declared.kept.Record.{Record}
-use Rattle.redo_logs.specs.Logs.{Log, IsTable, changed, with_entry, with_state, targets_of, states_of, place_of, ends, has_ended}
-use Rattle.redo_logs.specs.Private.Kept.{Parts, Grows, NamesGrow, Within, name_at, seen}
+use Rattle.redo_logs.specs.Logs.{Log, IsTable, changed, with_entry, targets_of, states_of, place_of, ends, has_ended}
+use Rattle.redo_logs.specs.Numbering.{name_at}
+use Rattle.redo_logs.specs.Private.Kept.{Parts, Grows, NamesGrow, Within, seen}
 use Rattle.redo_logs.specs.Private.Stored.{IsLogWithin, IsStored, log_of, logs_of}
-use Rattle.redo_logs.proofs.ChangedLemmas.{IsTable-changed, changed-none, targets-changed}
+use Rattle.redo_logs.proofs.ChangedLemmas.{IsTable-changed, targets-changed}
 use Rattle.redo_logs.proofs.Keeping.{front_length, name_grown, all_seen_grown, all_within_grown}
 
 abbrev state_of : Stored → LogState

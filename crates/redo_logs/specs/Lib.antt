@@ -1,4 +1,5 @@
 pub mod EntryRef
 pub mod Laws
 pub mod Logs
+pub mod Numbering
 pub mod Private

@@ -3,9 +3,11 @@ ghost use Rattle.std.specs.Prelude.{◌≡◌, ◌+◌, ◌<◌, ◌++◌, [], n
 ghost use Rattle.std.specs.Cmp.Lexicographic.{pointwise};
 ghost use Rattle.redo_line.specs.declared.entry.Entry.TheVariants.{Note};
 ghost use Rattle.redo_logs.specs.EntryRef.{entry_seen};
-ghost use Rattle.redo_logs.specs.Private.Kept.{Grows, IsNamed, Within, no_parts, seen};
+ghost use Rattle.redo_logs.specs.Numbering.{IsNamed, IsNumbered, numbered_seen};
+ghost use Rattle.redo_logs.specs.Private.Kept.{Grows, Within, no_parts, seen};
 
 use crate::entry_ref::EntryRef;
+use crate::numbered::NumberedEntry;
 use indexmap::IndexSet;
 use redo_line::{Entry, How, TargetName};
 use std::alloc::{AllocError, Global};
@@ -162,6 +164,18 @@ impl Kept {
                     text: &self.bytes[middle..end],
                 }
             }
+        }
+    }
+
+    /// The same, in which a mentioned target stands as the number of its name.
+    pub fn show_numbered(&self, kept: Record) -> NumberedEntry<'_>
+        requires { Within self.now kept }
+        ensures seen { numbered_seen self.now.names result ≡ seen self.now kept }
+        ensures numbered { IsNumbered self.now.names result }
+    {
+        match kept {
+            Record::Mention { how, name } => NumberedEntry::Mention { how, name },
+            other => NumberedEntry::Other(self.show(other)),
         }
     }
 }

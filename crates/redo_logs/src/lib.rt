@@ -9,10 +9,12 @@ mod kept;
 mod laws;
 mod log_state;
 mod log_table;
+mod numbered;
 mod table_fault;
 
 pub use entry_ref::EntryRef;
 pub use laws::least_fault;
 pub use log_state::LogState;
 pub use log_table::LogTable;
+pub use numbered::{Numbered, NumberedEntry};
 pub use table_fault::TableFault;

@@ -10,6 +10,7 @@ ghost use Rattle.redo_logs.specs.Logs.{targets_of, states_of, place_of, entry_at
 use crate::entry_ref::EntryRef;
 use crate::kept::{Kept, Record};
 use crate::log_state::LogState;
+use crate::numbered::Numbered;
 use crate::table_fault::TableFault;
 use redo_line::{Entry, StreamFault, TargetName};
 use std::alloc::{AllocError, Global};
@@ -21,9 +22,9 @@ const MOST: usize = 1_048_575;
 #[derive(Debug, Drop)]
 pub struct Log {
     // The number of its target's name.
-    name: usize,
-    records: Vec<Record>,
-    state: LogState,
+    pub name: usize,
+    pub records: Vec<Record>,
+    pub state: LogState,
 }
 
 /// The logs of a run, numbered from 0 in the order in which their targets were entered. No target has
@@ -130,8 +131,7 @@ impl LogTable {
     pub fn find(&self, target: &TargetName) -> Option<u32>
         ensures { result ≡ place_of target.now self.now }
     {
-        let name = self.kept.find(target)?;
-        place_at(&self.places, name)
+        self.numbered().find(target)
     }
 
     /// The target of the log number `i`, which there has to be.
@@ -174,6 +174,13 @@ impl LogTable {
         None
     }
 
+    /// The same logs, with a number for each name. It asks for no memory.
+    pub fn numbered(&self) -> Numbered<'_>
+        ensures { result.logs ≡ self.now }
+    {
+        Numbered::new(&self.kept, &self.logs, &self.places)
+    }
+
     /// Whether every log has ended, as those of the empty table have.
     pub fn all_ended(&self) -> bool
         ensures { result ≡ list_all has_ended self.now }
@@ -194,13 +201,4 @@ fn make_room(places: &mut Vec<Option<u32>>, count: usize) -> Result<(), AllocErr
         places.resize(count, None)?;
     }
     Ok(())
-}
-
-fn place_at(places: &[Option<u32>], name: usize) -> Option<u32>
-    ensures { result ≡ slice_index_or places.now name None }
-{
-    match places.get(name) {
-        Some(place) => *place,
-        None => None,
-    }
 }

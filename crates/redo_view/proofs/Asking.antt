@@ -1,138 +1,153 @@
 -- What is shown of the targets asked for, one after another.
-use Rattle.std.proofs.Common.{◌≡◌, ℕ, zero, suc, ◌+◌, ◌<◌, cond, get_or, drop, Bool, true, false, not, List, [], ◌∷◌, ◌++◌, Option, None, Some, Result, Ok, Err, length, take, refl, sym, ap, ◌∙◌, subst, arith}
-use Rattle.std.specs.Prelude.{OnOk}
+use Rattle.std.proofs.Common.{◌≡◌, ℕ, zero, suc, ◌+◌, ◌≤◌, ◌<◌, cond, get_or, drop, Bool, true, false, not, nat_eq, List, [], ◌∷◌, ◌++◌, Option, None, Some, Result, Ok, Err, length, take, replicate, refl, sym, ap, ◌∙◌, subst, arith}
 use Rattle.std.specs.Result.{IsErrAnd}
-use Rattle.std.specs.List.{position_from}
+use Rattle.std.specs.Cmp.Lexicographic.{pointwise}
+use Rattle.std.specs.List.{IsDistinct, position_from}
 use Rattle.std.proofs.lemmas.Bool.{not-false}
 use Rattle.std.proofs.lemmas.Iterator.Adapters.{position_from-zero}
-use Rattle.std.proofs.lemmas.List.{append_assoc, append-nil, take_more, take-append-drop}
+use Rattle.std.proofs.lemmas.List.{append_assoc, append-nil, length-map, take_all, take_more, take-append-drop}
 use Rattle.redo_line.specs.declared.feed.Broken.{Broken}
+use Rattle.redo_line.specs.Sink.{Taken, Writes, adds}
 use Rattle.redo_line.proofs.WritesLemmas.{adds-adds}
-use Rattle.redo_line.specs.Sink.{Taken, adds, Writes}
-use Rattle.redo_logs.specs.Logs.{Log, targets_of}
+use Rattle.redo_logs.specs.Logs.{IsTable, Log, targets_of}
+use Rattle.redo_logs.specs.Numbering.{Numbering}
 use Rattle.redo_view.specs.declared.options.Options.{Options}
 use Rattle.redo_view.specs.declared.step.Seen.{Seen}
 use Rattle.redo_view.specs.declared.stop.Stop.{Stop}
-use Rattle.redo_view.specs.declared.stop.Stop.TheVariants.{Write}
+use Rattle.redo_view.specs.declared.stop.Stop.TheVariants.{Write, OutOfMemory}
 use Rattle.redo_view.specs.Text.{redo_line}
-use Rattle.redo_view.specs.Expansion.{Shown, is_among, with_text, opened_log, unless_opened, after_asked, expansion}
+use Rattle.redo_view.specs.Expansion.{Shown, is_among, with_text, unless_opened, after_asked, expansion}
+use Rattle.redo_view.specs.Private.Shown.{HasShown, Shows, marks_of}
+use Rattle.redo_view.specs.Private.Step.{Fits}
 use Rattle.redo_view.specs.Private.Stopped.{Written}
-use Rattle.redo_view.specs.Laws.{behind_text}
-use Rattle.redo_view.specs.Private.Seen.{IsSeen, SawAsked, from_here, asked_from}
 use Rattle.redo_view.specs.View.{unknown_among}
-use Rattle.redo_view.proofs.Shifting.{opened-shift}
-use Rattle.redo_view.proofs.Showing.{adds-nothing, stopped}
+use Rattle.redo_view.proofs.Shifting.{log_text-grows}
+use Rattle.redo_view.proofs.Walking.{adds-nothing, stopped}
 
--- a part behind what was written
-pub behind : (A : Type 0) (told middle after : Option Taken) (front part : List ℕ) (done : Result A Stop) → middle ≡ adds told front 0 → Written middle after part done → Written told after (front ++ part) done
-behind A told middle after front part (Ok x) written wrote = wrote ∙ ap (λ t. adds t part 0) written ∙ adds-adds told front part 0 0
-behind A told middle after front part (Err stop) written wrote = stopped A A told middle after front part [] (front ++ part) stop written wrote (append-nil (front ++ part))
+module _ (numbering : Numbering) (options : Options) (target : List ℕ) (first told : Option Taken) (before : Seen) (shown : Shown) (has : HasShown numbering first told before shown) where
+  abbrev line : List ℕ
+  line = redo_line 0 target
 
--- a write that failed
-pub write_stopped : (A : Type 0) (told after : Option Taken) (part rest : List ℕ) (broken : Broken) (done : Result A Stop) → IsErrAnd done (λ stop. stop ≡ Write) → Writes told after part (Err broken) → Written told after (part ++ rest) done
-write_stopped A told after part rest broken (Ok x) is wrote = absurd is
-write_stopped A told after part rest broken (Err stop) is wrote =
-    subst (λ (s : Stop). Written {A = A} told after (part ++ rest) (Err s)) (sym is)
-    (stopped A A told told after [] part rest (part ++ rest) Write (adds-nothing told) wrote refl)
+  -- its log was opened before
+  pub asked_again : is_among target shown.opened ≡ true → HasShown numbering first told before (unless_opened numbering.logs options (is_among target shown.opened) target shown)
+  asked_again old = subst (λ b. HasShown numbering first told before (unless_opened numbering.logs options b target shown)) (sym old) has
+
+  module _ (new : is_among target shown.opened ≡ false) where
+    -- its line wasn't written whole
+    pub line_stopped : (now : Option Taken) (after : Seen) (broken : Broken) (done : Result (Unit {0}) Stop) → IsErrAnd done (λ stop. stop ≡ Write) → Writes told now line (Err broken)
+        → Shows numbering first now after (unless_opened numbering.logs options (is_among target shown.opened) target shown) done
+    line_stopped now after broken (Ok x) is wrote = absurd is
+    line_stopped now after broken (Err stop) is wrote =
+        let more = log_text-grows numbering.logs options target 1 (with_text line shown) in
+        subst (λ b. Shows numbering {A = Unit {0}} first now after (unless_opened numbering.logs options b target shown) (Err stop)) (sym new)
+        (subst (λ (s : Stop). Shows numbering {A = Unit {0}} first now after (unless_opened numbering.logs options false target shown) (Err s)) (sym is)
+        (stopped (Unit {0}) (Unit {0}) first told now shown.text line more.0 (unless_opened numbering.logs options false target shown).text Write has.taken wrote (sym more.1)))
+
+    -- it was written
+    pub line_written : (now : Option Taken) → now ≡ adds told line 0 → HasShown numbering first now before (with_text line shown)
+    line_written now wrote = record {
+      seen_is = record { named = has.seen_is.named; opened = has.seen_is.opened };
+      taken = wrote ∙ ap (λ t. adds t line 0) has.taken ∙ adds-adds first shown.text line 0 0;
+    }
+
+-- an error is told of what was written, and of nothing else
+wrote_stopped : (A : Type 0) (numbering : Numbering) (first now : Option Taken) (seen : Seen) (whole : Shown) (stop : Stop) → Shows numbering {A = A} first now seen whole (Err stop) → Written {A = A} first now whole.text (Err stop)
+wrote_stopped A numbering first now seen whole Write shows = shows
+wrote_stopped A numbering first now seen whole OutOfMemory shows = shows
+
+no_marks : (names : List (List ℕ)) → replicate (length names) false ≡ marks_of names []
+no_marks [] = refl
+no_marks (name ∷ names) = ap (λ marks. false ∷ marks) (no_marks names)
+
+abbrev nothing : Shown
+nothing = record { named = []; opened = []; text = [] }
 
 module _ (logs : List Log) (options : Options) where
-  -- the line of a target, and then its log
-  pub asked_is : (name : List ℕ) (named opened : List (List ℕ)) → is_among name opened ≡ false
-      → asked_from logs options named opened name ≡ behind_text (redo_line 0 name) (opened_log logs options name 1 (from_here named opened))
-  asked_is name named opened new =
-      ap (λ b. unless_opened logs options b name (from_here named opened)) new
-      ∙ ap (λ (t : List ℕ). opened_log logs options name 1 (record { named = named; opened = opened; text = t })) (sym (append-nil (redo_line 0 name)))
-      ∙ opened-shift logs options name 1 (redo_line 0 name) (from_here named opened)
-
-  pub asked_not : (name : List ℕ) (named opened : List (List ℕ)) → is_among name opened ≡ true → asked_from logs options named opened name ≡ from_here named opened
-  asked_not name named opened old = ap (λ b. unless_opened logs options b name (from_here named opened)) old
-
-  pub saw_asked : (A : Type 0) (name : List ℕ) (before after : Seen) (done : Result A Stop) → is_among name before.opened ≡ false
-      → OnOk done (IsSeen after (opened_log logs options name 1 (from_here before.named before.opened))) → SawAsked logs options name before after done
-  saw_asked A name before after (Ok x) new saw =
-      let is = asked_is name before.named before.opened new in record {
-        named = saw.named ∙ sym (ap (λ (s : Shown). s.named) is);
-        opened = saw.opened ∙ sym (ap (λ (s : Shown). s.opened) is);
-      }
-  saw_asked A name before after (Err stop) new saw = saw
-
-  asked_shift : (b : Bool) (name text : List ℕ) (shown : Shown) → unless_opened logs options b name (behind_text text shown) ≡ behind_text text (unless_opened logs options b name shown)
-  asked_shift true name text shown = refl
-  asked_shift false name text shown =
-      ap (λ (t : List ℕ). opened_log logs options name 1 (record { named = shown.named; opened = shown.opened; text = t })) (append_assoc text shown.text (redo_line 0 name))
-      ∙ opened-shift logs options name 1 text (with_text (redo_line 0 name) shown)
-
-  -- one target, behind what was shown before
-  pub one_asked : (name : List ℕ) (shown : Shown) → unless_opened logs options (is_among name shown.opened) name shown ≡ behind_text shown.text (asked_from logs options shown.named shown.opened name)
-  one_asked name shown =
-      ap (λ (t : List ℕ). unless_opened logs options (is_among name shown.opened) name (record { named = shown.named; opened = shown.opened; text = t })) (sym (append-nil shown.text))
-      ∙ asked_shift (is_among name shown.opened) name shown.text (from_here shown.named shown.opened)
-
   pub asked-append : (first others : List (List ℕ)) (shown : Shown) → after_asked logs options (first ++ others) shown ≡ after_asked logs options others (after_asked logs options first shown)
   asked-append [] others shown = refl
   asked-append (name ∷ first) others shown = asked-append first others (unless_opened logs options (is_among name shown.opened) name shown)
 
   -- the text only grows
-  asked-grows : (asked : List (List ℕ)) (shown : Shown) → (rest : List ℕ) × ((after_asked logs options asked shown).text ≡ shown.text ++ rest)
-  asked-grows [] shown = ([], sym (append-nil shown.text))
-  asked-grows (name ∷ asked) shown =
-      let one = one_asked name shown in
-      let more = asked-grows asked (unless_opened logs options (is_among name shown.opened) name shown) in
-      let own = (asked_from logs options shown.named shown.opened name).text in (
-        own ++ more.0,
-        more.1 ∙ ap (λ (s : Shown). s.text ++ more.0) one ∙ append_assoc shown.text own more.0,
-      )
+  one_grows : (b : Bool) (name : List ℕ) (shown : Shown) → (rest : List ℕ) × ((unless_opened logs options b name shown).text ≡ shown.text ++ rest)
+  one_grows true name shown = ([], sym (append-nil shown.text))
+  one_grows false name shown =
+      let more = log_text-grows logs options name 1 (with_text (redo_line 0 name) shown) in
+      (redo_line 0 name ++ more.0, more.1 ∙ append_assoc shown.text (redo_line 0 name) more.0)
 
+  asked_grows : (asked : List (List ℕ)) (shown : Shown) → (rest : List ℕ) × ((after_asked logs options asked shown).text ≡ shown.text ++ rest)
+  asked_grows [] shown = ([], sym (append-nil shown.text))
+  asked_grows (name ∷ asked) shown =
+      let one = one_grows (is_among name shown.opened) name shown in
+      let more = asked_grows asked (unless_opened logs options (is_among name shown.opened) name shown) in
+      (one.0 ++ more.0, more.1 ∙ ap (λ t. t ++ more.0) one.1 ∙ append_assoc shown.text one.0 more.0)
+
+module _ (numbering : Numbering) (options : Options) (asked : List (List ℕ)) (first : Option Taken) where
   -- what was shown once the first of the targets asked for were gone over
-  abbrev pub asked_so_far : List (List ℕ) → ℕ → Shown
-  asked_so_far asked k = after_asked logs options (take k asked) (record { named = []; opened = []; text = [] })
+  abbrev pub asked_so_far : ℕ → Shown
+  asked_so_far k = after_asked numbering.logs options (take k asked) nothing
 
-  pub record Asked (asked : List (List ℕ)) (k : ℕ) (told now : Option Taken) (named opened : List (List ℕ)) : Type 0 where
-    pub named_is : named ≡ (asked_so_far asked k).named
-    pub opened_is : opened ≡ (asked_so_far asked k).opened
-    pub told_is : now ≡ adds told (asked_so_far asked k).text 0
+  pub none_asked : (seen : Seen) → seen.named.items ≡ replicate (length numbering.names) false → seen.opened.items ≡ replicate (length numbering.logs) false
+      → HasShown numbering first first seen (asked_so_far 0)
+  none_asked seen named opened = record {
+    seen_is = record {
+      named = named ∙ no_marks numbering.names;
+      opened =
+          opened ∙ ap (λ (n : ℕ). replicate n false) (sym (length-map numbering.logs (λ (log : Log). log.target))) ∙ no_marks (targets_of numbering.logs);
+    };
+    taken = adds-nothing first;
+  }
 
-  pub none_asked : (asked : List (List ℕ)) (told : Option Taken) → Asked asked 0 told told [] []
-  none_asked asked told = record { named_is = refl; opened_is = refl; told_is = adds-nothing told }
+  -- how far a viewer came
+  pub record Asks (k : ℕ) (now : Option Taken) (seen : Seen) : Type 0 where
+    pub names_differ : IsDistinct (pointwise nat_eq) numbering.names
+    pub table : IsTable numbering.logs
+    pub has : HasShown numbering first now seen (asked_so_far k)
 
-  module _ (asked : List (List ℕ)) (k : ℕ) (default name : List ℕ) (below : k < length asked) (name_is : get_or asked k default ≡ name) (told now : Option Taken) (named opened : List (List ℕ)) (so_far : Asked asked k told now named opened) where
-    -- what the next target adds
-    abbrev pub own : Shown
-    own = asked_from logs options named opened name
+  -- there is a mark for each name and each log
+  pub asks_fit : (k : ℕ) (now : Option Taken) (seen : Seen) → Asks k now seen → Fits numbering seen
+  asks_fit k now seen asks = record {
+    names_differ = asks.names_differ;
+    table = asks.table;
+    names = ap length asks.has.seen_is.named ∙ length-map numbering.names (λ name. is_among name (asked_so_far k).named);
+    logs =
+        ap length asks.has.seen_is.opened ∙ length-map (targets_of numbering.logs) (λ name. is_among name (asked_so_far k).opened)
+        ∙ length-map numbering.logs (λ (log : Log). log.target);
+  }
 
-    next : asked_so_far asked (k + 1) ≡ behind_text (asked_so_far asked k).text own
-    next =
-        ap (λ names. after_asked logs options names (record { named = []; opened = []; text = [] })) (take_more asked k default below ∙ ap (λ n. take k asked ++ n ∷ []) name_is)
-        ∙ asked-append (take k asked) (name ∷ []) (record { named = []; opened = []; text = [] })
-        ∙ one_asked name (asked_so_far asked k)
-        ∙ (λ i. behind_text (asked_so_far asked k).text (asked_from logs options (sym so_far.named_is i) (sym so_far.opened_is i) name))
+  module _ (k : ℕ) (default name : List ℕ) (below : k < length asked) (name_is : get_or asked k default ≡ name) where
+    -- what is shown behind one target more
+    abbrev pub next : Shown
+    next = unless_opened numbering.logs options (is_among name (asked_so_far k).opened) name (asked_so_far k)
 
-    pub one_more_asked : (after : Option Taken) (named' opened' : List (List ℕ)) → after ≡ adds now own.text 0 → named' ≡ own.named → opened' ≡ own.opened → Asked asked (k + 1) told after named' opened'
-    one_more_asked after named' opened' wrote named_is opened_is =
-        record {
-          named_is = named_is ∙ sym (ap (λ (s : Shown). s.named) next);
-          opened_is = opened_is ∙ sym (ap (λ (s : Shown). s.opened) next);
-          told_is =
-              wrote ∙ ap (λ t. adds t own.text 0) so_far.told_is ∙ adds-adds told (asked_so_far asked k).text own.text 0 0
-              ∙ sym (ap (λ (s : Shown). adds told s.text 0) next);
-        }
+    next_is : next ≡ asked_so_far (k + 1)
+    next_is =
+        sym (ap (λ names. after_asked numbering.logs options names nothing) (take_more asked k default below ∙ ap (λ n. take k asked ++ n ∷ []) name_is)
+        ∙ asked-append numbering.logs options (take k asked) (name ∷ []) nothing)
 
-    -- the rest of the text
-    others : (rest : List ℕ) × ((asked_so_far asked (k + 1)).text ++ rest ≡ expansion logs options asked)
-    others =
-        let more = asked-grows (drop (k + 1) asked) (asked_so_far asked (k + 1)) in (
-          more.0,
-          sym more.1
-              ∙ ap (λ (s : Shown). s.text) (
-              sym (asked-append (take (k + 1) asked) (drop (k + 1) asked) (record { named = []; opened = []; text = [] }))
-              ∙ ap (λ names. after_asked logs options names (record { named = []; opened = []; text = [] })) (take-append-drop (k + 1) asked)
-              ),
-        )
+    -- it was shown
+    pub one_more_asked : (now after : Option Taken) (seen later : Seen) → Asks k now seen → HasShown numbering first after later next → Asks (k + 1) after later
+    one_more_asked now after seen later asks has = record {
+      names_differ = asks.names_differ;
+      table = asks.table;
+      has = subst (HasShown numbering first after later) next_is has;
+    }
 
-    pub asked_stopped : (A : Type 0) (after : Option Taken) (stop : Stop) → Written {A = A} now after own.text (Err stop) → Written {A = A} told after (expansion logs options asked) (Err stop)
-    asked_stopped A after stop stops =
-        stopped A A told now after (asked_so_far asked k).text own.text others.0 (expansion logs options asked) stop so_far.told_is stops
-        (ap (λ (s : Shown). s.text ++ others.0) (sym next) ∙ others.1)
+    -- it wasn't, or not whole
+    pub asked_stopped : (A : Type 0) (now : Option Taken) (seen : Seen) (stop : Stop) (logs : List Log) → numbering.logs ≡ logs → Shows numbering {A = A} first now seen next (Err stop)
+        → Written {A = A} first now (expansion logs options asked) (Err stop)
+    asked_stopped A now seen stop logs same shows =
+        let more = asked_grows numbering.logs options (drop (k + 1) asked) (asked_so_far (k + 1)) in
+        stopped A A first first now [] next.text more.0 (expansion logs options asked) stop (adds-nothing first) (wrote_stopped A numbering first now seen next stop shows)
+        (ap (λ (s : Shown). s.text ++ more.0) next_is ∙ sym more.1 ∙ ap (λ (s : Shown). s.text)
+        (sym (asked-append numbering.logs options (take (k + 1) asked) (drop (k + 1) asked) nothing)
+        ∙ ap (λ names. after_asked numbering.logs options names nothing) (take-append-drop (k + 1) asked))
+        ∙ ap (λ logs. expansion logs options asked) same)
+
+  -- all were
+  pub all_asked : (k : ℕ) (now : Option Taken) (seen : Seen) (logs : List Log) → numbering.logs ≡ logs → length asked ≤ k → Asks k now seen → now ≡ adds first (expansion logs options asked) 0
+  all_asked k now seen logs same end asks =
+      asks.has.taken ∙ ap (λ names. adds first (after_asked numbering.logs options names nothing).text 0) (take_all k asked end)
+      ∙ ap (λ logs. adds first (expansion logs options asked) 0) same
 
 -- a name of which none is unknown has a log
 none_unknown : (logs : List Log) (asked : List (List ℕ)) (from k : ℕ) (default : List ℕ) → position_from (λ name. not (is_among name (targets_of logs))) from asked ≡ None → k < length asked

@@ -2,8 +2,11 @@ mod Asking
 mod ExpansionRows
 mod FirstMention
 mod Growing
+mod Left
+mod Marking
+mod OneEntry
 mod Opening
 mod Reaching
 mod Shifting
-mod Showing
+mod Walking
 mod WritingLemmas

@@ -12,7 +12,7 @@ use Rattle.redo_view.specs.Expansion.{Opening, Shown, is_among, log_of, mentions
 use Rattle.redo_view.specs.Laws.{GoesOver}
 use Rattle.redo_view.specs.Reached.{mentions_target, mentioned_in}
 use Rattle.redo_view.proofs.Growing.{Names, Keeps, more-keeps, left-le, left-lt, left-all, Growth, Grown, grown-none, grown-both, Kept, kept}
-use Rattle.redo_view.specs.Private.Left.{left}
+use Rattle.redo_view.proofs.Left.{left}
 
 -- whatever was opened before a log is opened stays so
 abbrev pub Keeping : Opening → Type 0

@@ -1,12 +1,12 @@
 -- What is shown of a log does not depend on the text before it, and its entries are shown one after the other.
-use Rattle.std.proofs.Common.{◌≡◌, ℕ, zero, suc, ◌+◌, ◌<◌, Bool, true, false, inl, inr, List, [], ◌∷◌, ◌++◌, Option, None, Some, is_some, length, take, refl, sym, ap, ◌∙◌, subst, arith}
+use Rattle.std.proofs.Common.{◌≡◌, ℕ, zero, suc, ◌+◌, ◌<◌, Bool, true, false, List, [], ◌∷◌, ◌++◌, Option, None, Some, is_some, length, refl, sym, ap, ◌∙◌, subst, arith}
 use Rattle.std.specs.Prelude.{◌&&◌, not, nat_eq, slice_get, cond, if◌then◌else◌}
 use Rattle.std.specs.List.{position_from}
 use Rattle.std.specs.Cmp.Lexicographic.{pointwise, same_text}
 use Rattle.std.proofs.lemmas.Bool.{and_from, not-true}
 use Rattle.std.proofs.lemmas.Iterator.Adapters.{position_from-zero}
-use Rattle.std.proofs.lemmas.List.{append_assoc, append-nil, take_all, take_more}
-use Rattle.std.proofs.lemmas.Option.{none-some, same_Some, slice_get_cases, slice_get_within, get_or_from_slice_get}
+use Rattle.std.proofs.lemmas.List.{append_assoc, append-nil}
+use Rattle.std.proofs.lemmas.Option.{none-some, same_Some}
 use Rattle.redo_line.specs.declared.entry.Entry.{Entry}
 use Rattle.redo_line.specs.declared.entry.Entry.TheVariants.{Text, Mention, Done, Closing, Note}
 use Rattle.redo_line.specs.declared.entry.How.{How}
@@ -15,7 +15,7 @@ use Rattle.redo_logs.specs.Logs.{Log, targets_of, place_of, entry_at}
 use Rattle.redo_view.specs.declared.options.Options.{Options}
 use Rattle.redo_view.specs.Expansion.{Opening, Shown, is_among, with_name, with_text, log_of, mentions, mention_text, mention, begun, opens, opened_if, mentioned_if, after_entry, after_entries, opened_within, opened_log}
 use Rattle.redo_view.specs.Laws.{behind_text}
-use Rattle.redo_view.specs.Private.Step.{own_text, named_after, opened_by, opened_after}
+use Rattle.redo_view.proofs.OneEntry.{mid, own_text, opened_by, opened_after}
 
 -- ---- a text before what is shown
 
@@ -106,21 +106,16 @@ module _ (logs : List Log) (options : Options) where
     ap (λ t. (opened_log logs options target depth t).text) (after_own s) ∙ ap (λ (t : Shown). t.text) (opened-shift target depth s.text (without_text s)),
   )
 
-  -- ---- one entry more
+  -- ---- entries in two parts
 
-  -- the last of some entries comes behind the others
-  pub entries-more : (inner : Opening) (depth : ℕ) (entries : List Entry) (entry : Entry) (s : Shown)
-      → after_entries logs options inner depth (entries ++ entry ∷ []) s ≡ after_entry logs options inner depth entry (after_entries logs options inner depth entries s)
-  entries-more inner depth [] entry s = refl
-  entries-more inner depth (first ∷ entries) entry s = entries-more inner depth entries entry (after_entry logs options inner depth first s)
+  pub entries-append : (inner : Opening) (depth : ℕ) (first others : List Entry) (s : Shown)
+      → after_entries logs options inner depth (first ++ others) s ≡ after_entries logs options inner depth others (after_entries logs options inner depth first s)
+  entries-append inner depth [] others s = refl
+  entries-append inner depth (entry ∷ first) others s = entries-append inner depth first others (after_entry logs options inner depth entry s)
 
 -- ---- what one entry does
 
--- what is shown behind an entry, without the log that it opens
-abbrev pub mid : Options → ℕ → Entry → Shown → Shown
-mid options depth entry s = record { named = named_after options s.named entry; opened = s.opened; text = s.text ++ own_text options depth s.named entry }
-
--- the same of a mention that counts, or doesn't
+-- what is shown behind a mention that counts, or doesn't, without the log that it opens
 abbrev mid_if : Bool → Options → ℕ → How → List ℕ → Shown → Shown
 mid_if counts options depth how name s = record {
   named = if counts then with_name name s.named else s.named;
@@ -224,21 +219,3 @@ module _ (target : List ℕ) where
       let found = first_from logs 0 number (sym (position_from-zero (pointwise nat_eq target) (targets_of logs)) ∙ is) in
       let there : found.0 ≡ number = omega (arith, found.1) in
       subst (λ j. IsAt j logs (log_of target logs)) there found.2
-
--- ---- the first entries of a log
-
--- there is none at this place, so all are before it
-pub all_entries : (entries : List Entry) (k : ℕ) → slice_get entries k ≡ None → take k entries ≡ entries
-all_entries entries k none =
-    elim ((slice_get_cases entries k).1) [ inl there ↦ absurd (none-some there.0 (sym none ∙ there.2)) | inr past ↦ take_all k entries past.0 ]
-
--- the one at this place is the next
-pub take_one_more : (entries : List Entry) (k : ℕ) (entry : Entry) → slice_get entries k ≡ Some entry → take (k + 1) entries ≡ take k entries ++ entry ∷ []
-take_one_more entries k entry is =
-    take_more entries k entry (slice_get_within entries k entry is) ∙ ap (λ e. take k entries ++ e ∷ []) (get_or_from_slice_get entries k entry entry is)
-
--- so it comes behind those before it
-pub entries-next : (logs : List Log) (options : Options) (inner : Opening) (depth : ℕ) (entries : List Entry) (k : ℕ) (entry : Entry) (s : Shown) → slice_get entries k ≡ Some entry
-    → after_entries logs options inner depth (take (k + 1) entries) s ≡ after_entry logs options inner depth entry (after_entries logs options inner depth (take k entries) s)
-entries-next logs options inner depth entries k entry s is =
-    ap (λ some. after_entries logs options inner depth some s) (take_one_more entries k entry is) ∙ entries-more logs options inner depth (take k entries) entry s

@@ -1,5 +1,4 @@
 -- What only clauses of private functions cite: it helps to prove the others, and nobody has to believe it.
-pub mod Left
-pub mod Seen
+pub mod Shown
 pub mod Step
 pub mod Stopped

@@ -3,7 +3,6 @@
 
 mod laws;
 mod log;
-mod names;
 mod options;
 mod step;
 mod stop;

@@ -1,37 +1,57 @@
 //! A whole log, with the logs that it mentions.
-ghost use Rattle.std.specs.Prelude.{◌<◌, ◌+◌, ◌^◌};
-ghost use Rattle.redo_view.specs.Private.Left.{left};
-ghost use Rattle.redo_view.specs.Private.Seen.{IsNew, WroteLog, SawLog};
+ghost use Rattle.std.specs.Prelude.{◌≡◌, ◌<◌, false, length};
+ghost use Rattle.redo_view.specs.Private.Shown.{ShowsLog};
+ghost use Rattle.redo_view.specs.Private.Step.{Fits, is_marked};
 
 use crate::options::Options;
-use crate::step::{Seen, show_entry};
+use crate::step::{Seen, begin, show_entry};
 use crate::stop::Stop;
 use redo_line::Sink;
-use redo_logs::LogTable;
+use redo_logs::Numbered;
+use std::alloc::Global;
 
-/// Opens the log of this number, and shows it with the logs that are opened from it.
+// A log that is being shown, and which of its entries comes next.
+#[derive(Clone, Copy, Debug)]
+pub struct Frame {
+    number: u32,
+    next: usize,
+}
+
+/// Opens the log of this number, and shows it with the logs that are opened from it, each one level deeper
+/// than the log that mentions it.
 pub fn show_log<W: Sink>(
-    table: &LogTable,
+    alloc: Global,
+    logs: &Numbered<'_>,
     options: &Options,
     number: u32,
-    depth: usize,
     seen: &mut Seen,
     out: &mut W,
 ) -> Result<(), Stop>
-    requires known { IsNew table.now options.now number seen.old }
-    requires depth { depth + left table.now seen.old.opened < 2 ^ 60 }
-    ensures text { WroteLog table.now options.now number depth seen.old (W.tells out.old) (W.tells out.new) result }
-    ensures seen { SawLog table.now options.now number depth seen.old seen.new result }
+    requires number { number < length logs.now.logs }
+    requires new { is_marked seen.old.opened.items number ≡ false }
+    requires fits { Fits logs.now seen.old }
+    ensures { ShowsLog logs.now options.now number seen.old seen.new (W.tells out.old) (W.tells out.new) result }
 {
-    let target = table.name(number);
-    seen.named.add(target)?;
-    seen.opened.add(target)?;
-    let mut k = 0;
-    'entries: while let Some(entry) = table.entry(number, k) {
-        if let Some(inner) = show_entry(table, options, depth, entry, seen, out)? {
-            show_log(table, options, inner, depth + 1, seen, out)?;
+    begin(logs, number, seen);
+    let mut outer = Vec::new(alloc);
+    let mut frame = Frame { number, next: 0 };
+    'entries: loop {
+        match logs.entry(frame.number, frame.next) {
+            Some(entry) => {
+                frame.next += 1;
+                if let Some(inner) = show_entry(logs, options, outer.len() + 1, entry, seen, out)? {
+                    begin(logs, inner, seen);
+                    outer.push(frame)?;
+                    frame = Frame {
+                        number: inner,
+                        next: 0,
+                    };
+                }
+            }
+            None => match outer.pop() {
+                Some(back) => frame = back,
+                None => return Ok(()),
+            },
         }
-        k += 1;
     }
-    Ok(())
 }

@@ -1,47 +1,51 @@
 //! One entry of a log: its own text, and which log it opens.
-ghost use Rattle.std.specs.Prelude.{◌≡◌, ◌<◌, ◌^◌, IfOk, OnOk};
-ghost use Rattle.redo_line.specs.declared.entry.Entry.TheVariants.{Mention};
+ghost use Rattle.std.specs.Prelude.{◌≡◌, ◌<◌, ◌^◌, false, length, IfOk, OnOk};
 ghost use Rattle.redo_line.specs.Sink.{Writes};
-ghost use Rattle.redo_logs.specs.EntryRef.{entry_seen};
-ghost use Rattle.redo_view.specs.Expansion.{mentions, mention_text};
+ghost use Rattle.redo_logs.specs.declared.numbered.NumberedEntry.TheVariants.{Mention};
+ghost use Rattle.redo_logs.specs.Numbering.{IsNumbered};
+ghost use Rattle.redo_view.specs.Expansion.{mentions};
+ghost use Rattle.redo_view.specs.Private.Shown.{Begins};
 ghost use Rattle.redo_view.specs.Private.Stopped.{Written};
-ghost use Rattle.redo_view.specs.Private.Step.{own_text, named_after, opened_by, opened_after};
+ghost use Rattle.redo_view.specs.Private.Step.{Fits, is_marked, marked, line_of, own_text, named_after, opened_by, opened_after};
 
-use crate::names::Names;
 use crate::options::Options;
 use crate::stop::Stop;
 use crate::texts::{write_entry, write_mention, write_target};
 use redo_line::{Broken, How, Sink, TargetName};
-use redo_logs::{EntryRef, LogTable};
+use redo_logs::{Numbered, NumberedEntry};
 
-/// What was shown so far: the targets that were named, and those whose logs were opened.
+/// What was shown so far.
 #[derive(Debug, Drop)]
 pub struct Seen {
-    pub named: Names,
-    pub opened: Names,
+    // By the number of a name, whether it was named.
+    pub named: Vec<bool>,
+    // By the number of a log, whether it was opened.
+    pub opened: Vec<bool>,
 }
 
 /// Shows an entry, and names the target that it mentions. Answers the number of the log that is to be
 /// opened then.
 pub fn show_entry<W: Sink>(
-    table: &LogTable,
+    logs: &Numbered<'_>,
     options: &Options,
     depth: usize,
-    entry: EntryRef<'_>,
+    entry: NumberedEntry<'_>,
     seen: &mut Seen,
     out: &mut W,
 ) -> Result<Option<u32>, Stop>
-    requires { depth < 2 ^ 60 }
-    ensures text { Written (W.tells out.old) (W.tells out.new) (own_text options.now depth seen.old.named (entry_seen entry.entry)) result }
-    ensures named { OnOk result (seen.new.named ≡ named_after options.now seen.old.named (entry_seen entry.entry)) }
-    ensures opened { seen.new.opened ≡ seen.old.opened }
-    ensures opens { IfOk result (λ inner. inner ≡ opened_after table.now options.now seen.old.opened (entry_seen entry.entry)) }
+    requires depth { depth < 2 ^ 60 }
+    requires entry { IsNumbered logs.now.names entry }
+    requires fits { Fits logs.now seen.old }
+    ensures text { Written (W.tells out.old) (W.tells out.new) (own_text logs.now options.now depth seen.old.named.items entry.entry) result }
+    ensures named { OnOk result (seen.new.named.items ≡ named_after logs.now options.now seen.old.named.items entry.entry) }
+    ensures opened { seen.new.opened.items ≡ seen.old.opened.items }
+    ensures opens { IfOk result (λ inner. inner ≡ opened_after logs.now options.now seen.old.opened.items entry.entry) }
 {
     match entry {
-        EntryRef::Mention { how, name } => {
-            show_mention(table, options, depth, how, name, seen, out)
+        NumberedEntry::Mention { how, name } => {
+            show_mention(logs, options, depth, how, name, seen, out)
         }
-        other => {
+        NumberedEntry::Other(other) => {
             write_entry(options, depth, other, out)?;
             Ok(None)
         }
@@ -49,26 +53,28 @@ pub fn show_entry<W: Sink>(
 }
 
 fn show_mention<W: Sink>(
-    table: &LogTable,
+    logs: &Numbered<'_>,
     options: &Options,
     depth: usize,
     how: How,
-    name: &TargetName,
+    name: usize,
     seen: &mut Seen,
     out: &mut W,
 ) -> Result<Option<u32>, Stop>
-    requires { depth < 2 ^ 60 }
-    ensures text { Written (W.tells out.old) (W.tells out.new) (own_text options.now depth seen.old.named (Mention how name.now)) result }
-    ensures named { OnOk result (seen.new.named ≡ named_after options.now seen.old.named (Mention how name.now)) }
-    ensures opened { seen.new.opened ≡ seen.old.opened }
-    ensures opens { IfOk result (λ inner. inner ≡ opened_after table.now options.now seen.old.opened (Mention how name.now)) }
+    requires depth { depth < 2 ^ 60 }
+    requires name { name < length logs.now.names }
+    requires fits { Fits logs.now seen.old }
+    ensures text { Written (W.tells out.old) (W.tells out.new) (own_text logs.now options.now depth seen.old.named.items (Mention how name)) result }
+    ensures named { OnOk result (seen.new.named.items ≡ named_after logs.now options.now seen.old.named.items (Mention how name)) }
+    ensures opened { seen.new.opened.items ≡ seen.old.opened.items }
+    ensures opens { IfOk result (λ inner. inner ≡ opened_after logs.now options.now seen.old.opened.items (Mention how name)) }
 {
     if !is_mention(options, how) {
         return Ok(None);
     }
-    write_line(options, depth, how, name, &seen.named, out)?;
-    seen.named.add(name)?;
-    Ok(log_to_open(table, options, name, &seen.opened))
+    write_line(options, depth, how, logs.name(name), seen.named[name], out)?;
+    seen.named[name] = true;
+    Ok(log_to_open(logs, options, name, &seen.opened))
 }
 
 fn is_mention(options: &Options, how: How) -> bool
@@ -86,15 +92,15 @@ fn write_line<W: Sink>(
     depth: usize,
     how: How,
     name: &TargetName,
-    named: &Names,
+    was_named: bool,
     out: &mut W,
 ) -> Result<(), Broken>
     requires { depth < 2 ^ 60 }
-    ensures { Writes (W.tells out.old) (W.tells out.new) (mention_text options.now depth how name.now named.now) result }
+    ensures { Writes (W.tells out.old) (W.tells out.new) (line_of options.now depth how name.now was_named) result }
 {
     if options.debug_locks {
         write_mention(depth, how, name, out)
-    } else if named.contains(name) {
+    } else if was_named {
         Ok(())
     } else {
         write_target(depth, name, out)
@@ -102,17 +108,31 @@ fn write_line<W: Sink>(
 }
 
 // The log of a mentioned target, if it is to be opened.
-fn log_to_open(
-    table: &LogTable,
-    options: &Options,
-    name: &TargetName,
-    opened: &Names,
-) -> Option<u32>
-    ensures { result ≡ opened_by table.now options.now name.now opened.now }
+fn log_to_open(logs: &Numbered<'_>, options: &Options, name: usize, opened: &[bool]) -> Option<u32>
+    requires name { name < length logs.now.names }
+    requires fits { length opened.now ≡ length logs.now.logs }
+    ensures { result ≡ opened_by logs.now options.now opened.now name }
 {
-    if options.recursive && !opened.contains(name) {
-        table.find(name)
-    } else {
-        None
+    if !options.recursive {
+        return None;
     }
+    let number = logs.log_of(name)?;
+    if opened[number as usize] {
+        None
+    } else {
+        Some(number)
+    }
+}
+
+/// Begins the log of this number: its target is named, and it is opened.
+pub fn begin(logs: &Numbered<'_>, number: u32, seen: &mut Seen)
+    requires number { number < length logs.now.logs }
+    requires new { is_marked seen.old.opened.items number ≡ false }
+    requires fits { Fits logs.now seen.old }
+    ensures opened { seen.new.opened.items ≡ marked seen.old.opened.items number }
+    ensures fits { Fits logs.now seen.new }
+    ensures begins { Begins logs.now number seen.old seen.new }
+{
+    seen.named[logs.target(number)] = true;
+    seen.opened[number as usize] = true;
 }

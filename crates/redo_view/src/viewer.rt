@@ -3,19 +3,19 @@ ghost use Rattle.std.specs.List.{list_all};
 ghost use Rattle.redo_logs.specs.Logs.{has_ended, targets_of};
 ghost use Rattle.redo_view.specs.declared.viewer.ViewFault.TheVariants.{Unknown, Write, OutOfMemory};
 ghost use Rattle.redo_view.specs.Expansion.{is_among, expansion};
-ghost use Rattle.redo_view.specs.Private.Seen.{WroteAsked, SawAsked};
+ghost use Rattle.redo_view.specs.Private.Shown.{ShowsAsked};
+ghost use Rattle.redo_view.specs.Private.Step.{Fits};
 ghost use Rattle.redo_view.specs.Private.Stopped.{Written};
 ghost use Rattle.redo_view.specs.View.{unknown_among};
 ghost use Rattle.redo_view.specs.Written.{WroteAll, WroteFront, WroteNothing, WroteUntilFailed};
 
 use crate::log::show_log;
-use crate::names::Names;
 use crate::options::Options;
 use crate::step::Seen;
 use crate::stop::Stop;
 use crate::texts::write_target;
 use redo_line::{Sink, TargetName};
-use redo_logs::LogTable;
+use redo_logs::{LogTable, Numbered};
 use std::alloc::Global;
 
 /// Why logs aren't shown, or not their whole text.
@@ -35,7 +35,6 @@ pub enum ViewFault {
 ///
 /// Whether each target has a log is known before a byte is written, and before memory is asked for. A
 /// write that fails or takes no byte ends it, and nothing is written behind it. `out` isn't flushed.
-/// Logs that are shown one inside the other take stack.
 pub fn view<W: Sink>(
     alloc: Global,
     table: &LogTable,
@@ -90,37 +89,36 @@ fn show_asked<W: Sink>(
     requires { unknown_among table.now asked.now ≡ None }
     ensures { Written (W.tells out.old) (W.tells out.new) (expansion table.now options.now asked.now) result }
 {
+    let logs = table.numbered();
     let mut seen = Seen {
-        named: Names::new(alloc),
-        opened: Names::new(alloc),
+        named: vec![in alloc; false; logs.names()]?,
+        opened: vec![in alloc; false; logs.len() as usize]?,
     };
     for name in asked {
-        show_target(table, options, name, &mut seen, out)?;
+        show_target(alloc, &logs, options, name, &mut seen, out)?;
     }
     Ok(())
 }
 
 // Shows the line and the log of a target, unless its log was opened before.
 fn show_target<W: Sink>(
-    table: &LogTable,
+    alloc: Global,
+    logs: &Numbered<'_>,
     options: &Options,
     name: &TargetName,
     seen: &mut Seen,
     out: &mut W,
 ) -> Result<(), Stop>
-    requires { is_among name.now (targets_of table.now) ≡ true }
-    ensures text { WroteAsked table.now options.now name.now seen.old (W.tells out.old) (W.tells out.new) result }
-    ensures seen { SawAsked table.now options.now name.now seen.old seen.new result }
+    requires known { is_among name.now (targets_of logs.now.logs) ≡ true }
+    requires fits { Fits logs.now seen.old }
+    ensures { ShowsAsked logs.now options.now name.now seen.old seen.new (W.tells out.old) (W.tells out.new) result }
 {
-    // No more logs than there are stand one inside the other.
-    let logs = table.len();
-    prove!(logs <= 1_048_575);
-    if seen.opened.contains(name) {
-        return Ok(());
-    }
-    let Some(number) = table.find(name) else {
+    let Some(number) = logs.find(name) else {
         unreachable!()
     };
+    if seen.opened[number as usize] {
+        return Ok(());
+    }
     write_target(0, name, out)?;
-    show_log(table, options, number, 1, seen, out)
+    show_log(alloc, logs, options, number, seen, out)
 }

@@ -1,5 +1,5 @@
 -- How entries are kept: their texts one behind the other, their names each once, and records that say where these are.
-use Rattle.std.specs.Prelude.{◌≡◌, ℕ, ◌≤◌, ◌<◌, false, List, [], ◌∷◌, ◌++◌, Option, None, Some, nat_eq, length, slice_get, slice_index_or, slice_range, ⊤}
+use Rattle.std.specs.Prelude.{◌≡◌, ℕ, ◌≤◌, ◌<◌, false, List, [], ◌++◌, Option, None, Some, nat_eq, length, slice_get, slice_range, ⊤}
 use Rattle.std.specs.List.{AllByRecursion, IsDistinct, list_any}
 use Rattle.std.specs.Cmp.Lexicographic.{pointwise}
 use Rattle.redo_line.specs.declared.entry.Entry.{Entry}
@@ -7,6 +7,7 @@ use Rattle.redo_line.specs.declared.entry.Entry.TheVariants as entry
 use Rattle.redo_logs.specs.declared.kept.NoteAt.{NoteAt}
 use Rattle.redo_logs.specs.declared.kept.Record.{Record}
 use Rattle.redo_logs.specs.declared.kept.Record.TheVariants.{Text, Mention, Done, Closing, Note}
+use Rattle.redo_logs.specs.Numbering.{name_at}
 
 pub record Parts : Type 0 where
   pub bytes : List ℕ
@@ -32,14 +33,6 @@ pub record Grows (old new : Parts) : Type 0 where
   pub bytes : IsFront old.bytes new.bytes
   pub notes : IsFront old.notes new.notes
   pub names : NamesGrow old.names new.names
-
--- the name of a number
-abbrev pub name_at : List (List ℕ) → ℕ → List ℕ
-name_at names number = slice_index_or names number []
-
-pub record IsNamed (names : List (List ℕ)) (number : ℕ) (name : List ℕ) : Type 0 where
-  pub below : number < length names
-  pub is : name_at names number ≡ name
 
 abbrev pub note_seen : List ℕ → Option NoteAt → Entry
 note_seen bytes None = entry.Note [] []

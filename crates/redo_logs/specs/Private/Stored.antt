@@ -4,7 +4,8 @@ use Rattle.std.specs.List.{AllByRecursion, IsDistinct}
 use Rattle.std.specs.Cmp.Lexicographic.{pointwise}
 use Rattle.redo_logs.specs.declared.log_table.Log.{Log as Stored}
 use Rattle.redo_logs.specs.Logs.{Log, IsTable, place_of}
-use Rattle.redo_logs.specs.Private.Kept.{Parts, Within, name_at, seen}
+use Rattle.redo_logs.specs.Numbering.{Numbering, name_at}
+use Rattle.redo_logs.specs.Private.Kept.{Parts, Within, seen}
 
 module _ (parts : Parts) where
   -- the log that is stored so
@@ -13,6 +14,10 @@ module _ (parts : Parts) where
 
   abbrev pub logs_of : List Stored → List Log
   logs_of logs = map log_of logs
+
+  -- the same, with the names
+  abbrev pub numbering_of : List Stored → Numbering
+  numbering_of logs = record { logs = logs_of logs; names = parts.names }
 
   -- what it points to is there
   pub record IsLogWithin (stored : Stored) : Type 0 where

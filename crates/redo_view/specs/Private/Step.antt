@@ -1,36 +1,59 @@
--- What one entry adds.
-use Rattle.std.specs.Prelude.{ℕ, ◌&&◌, not, List, [], Option, None, if◌then◌else◌}
-use Rattle.redo_line.specs.declared.entry.Entry.{Entry}
-use Rattle.redo_line.specs.declared.entry.Entry.TheVariants.{Text, Mention, Done, Closing, Note}
-use Rattle.redo_logs.specs.Logs.{Log, place_of}
+-- What one entry adds, by what a viewer has marked: of each name, by its number, whether it was named, and of each log, by its
+-- number, whether it was opened.
+use Rattle.std.specs.Prelude.{◌≡◌, ℕ, Bool, true, false, List, [], ◌++◌, Option, None, Some, length, nat_eq, slice_index_or, slice_set, if◌then◌else◌}
+use Rattle.std.specs.Cmp.Lexicographic.{pointwise}
+use Rattle.std.specs.List.{IsDistinct}
+use Rattle.redo_line.specs.declared.entry.How.{How}
+use Rattle.redo_logs.specs.Logs.{IsTable, place_of}
+use Rattle.redo_logs.specs.declared.numbered.NumberedEntry.{NumberedEntry}
+use Rattle.redo_logs.specs.declared.numbered.NumberedEntry.TheVariants.{Mention, Other}
+use Rattle.redo_logs.specs.EntryRef.{entry_seen}
+use Rattle.redo_logs.specs.Numbering.{Numbering, name_at}
 use Rattle.redo_view.specs.declared.options.Options.{Options}
-use Rattle.redo_view.specs.Text.{entry_text}
-use Rattle.redo_view.specs.Expansion.{is_among, with_name, mentions, mention_text}
+use Rattle.redo_view.specs.declared.step.Seen.{Seen}
+use Rattle.redo_view.specs.Text.{redo_line, remark, entry_text}
+use Rattle.redo_view.specs.Expansion.{mentions}
 
--- the text of an entry, without that of a log that it opens
-abbrev pub own_text : Options → ℕ → List (List ℕ) → Entry → List ℕ
-own_text options depth named (Text line) = entry_text options depth (Text line)
-own_text options depth named (Mention how name) = if mentions options how then mention_text options depth how name named else []
-own_text options depth named (Done status name) = entry_text options depth (Done status name)
-own_text options depth named (Closing status) = entry_text options depth (Closing status)
-own_text options depth named (Note kind text) = entry_text options depth (Note kind text)
+-- no two names and no two logs are the same, and there is a mark for each
+pub record Fits (numbering : Numbering) (seen : Seen) : Type 0 where
+  pub names_differ : IsDistinct (pointwise nat_eq) numbering.names
+  pub table : IsTable numbering.logs
+  pub names : length seen.named.items ≡ length numbering.names
+  pub logs : length seen.opened.items ≡ length numbering.logs
 
--- the targets that are named behind it
-abbrev pub named_after : Options → List (List ℕ) → Entry → List (List ℕ)
-named_after options named (Text line) = named
-named_after options named (Mention how name) = if mentions options how then with_name name named else named
-named_after options named (Done status name) = named
-named_after options named (Closing status) = named
-named_after options named (Note kind text) = named
+abbrev pub is_marked : List Bool → ℕ → Bool
+is_marked marks number = slice_index_or marks number false
 
--- the number of a mentioned target's log, if it is to be opened
-abbrev pub opened_by : List Log → Options → List ℕ → List (List ℕ) → Option ℕ
-opened_by logs options name opened = if options.recursive && not (is_among name opened) then place_of name logs else None
+abbrev pub marked : List Bool → ℕ → List Bool
+marked marks number = slice_set marks number true
 
--- the number of the log that an entry opens
-abbrev pub opened_after : List Log → Options → List (List ℕ) → Entry → Option ℕ
-opened_after logs options opened (Text line) = None
-opened_after logs options opened (Mention how name) = if mentions options how then opened_by logs options name opened else None
-opened_after logs options opened (Done status name) = None
-opened_after logs options opened (Closing status) = None
-opened_after logs options opened (Note kind text) = None
+-- the line of a mention, by whether its target was named
+abbrev pub line_of : Options → ℕ → How → List ℕ → Bool → List ℕ
+line_of options depth how name was_named =
+    if options.debug_locks then redo_line depth (name ++ remark how) else if was_named then [] else redo_line depth name
+
+-- a log, if it wasn't opened
+abbrev pub if_new : List Bool → Option ℕ → Option ℕ
+if_new opened None = None
+if_new opened (Some number) = if is_marked opened number then None else Some number
+
+module _ (numbering : Numbering) (options : Options) where
+  -- the text of an entry, without that of a log that it opens
+  abbrev pub own_text : ℕ → List Bool → NumberedEntry → List ℕ
+  own_text depth named (Mention how name) =
+      if mentions options how then line_of options depth how (name_at numbering.names name) (is_marked named name) else []
+  own_text depth named (Other entry) = entry_text options depth (entry_seen entry)
+
+  -- which names are marked behind it
+  abbrev pub named_after : List Bool → NumberedEntry → List Bool
+  named_after named (Mention how name) = if mentions options how then marked named name else named
+  named_after named (Other entry) = named
+
+  -- the number of the log of the target of this name, if it is to be opened
+  abbrev pub opened_by : List Bool → ℕ → Option ℕ
+  opened_by opened name = if options.recursive then if_new opened (place_of (name_at numbering.names name) numbering.logs) else None
+
+  -- the number of the log that an entry opens
+  abbrev pub opened_after : List Bool → NumberedEntry → Option ℕ
+  opened_after opened (Mention how name) = if mentions options how then opened_by opened name else None
+  opened_after opened (Other entry) = None

@@ -1,5 +1,5 @@
 use Rattle.std.proofs.Common.{refl}
-use Rattle.redo_view.proofs.Showing.{entries-append}
+use Rattle.redo_view.proofs.Shifting.{entries-append}
 use Rattle.redo_view.proofs.laws.entries_in_order.Goals as goal
 
 pub returns-clause-one : goal.returns-clause-one

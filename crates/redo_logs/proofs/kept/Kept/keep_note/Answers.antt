@@ -1,5 +1,4 @@
 use Rattle.std.proofs.Common.{◌≡◌, rules, ap, ◌∙◌, ◌++◌, ◌∷◌, [], length, slice_get}
-use Rattle.redo_logs.specs.declared.kept.NoteAt.{NoteAt}
 use Rattle.redo_logs.specs.Private.Kept.{Parts, note_seen}
 use Rattle.redo_logs.proofs.Keeping.{end_of, note_kept}
 use Rattle.redo_logs.proofs.kept.Kept.keep_note.Goals as goal

@@ -1,4 +1,4 @@
-use Rattle.std.proofs.Common.{sym, ap, ◌∙◌, [], ◌++◌, ◌∷◌, List, ℕ, if◌then◌else◌, nat_eq}
+use Rattle.std.proofs.Common.{ap, ◌∙◌, [], ◌++◌, ◌∷◌, List, ℕ, if◌then◌else◌, nat_eq}
 use Rattle.std.specs.Cmp.Lexicographic.{pointwise}
 use Rattle.std.specs.List.{list_any}
 use Rattle.redo_logs.specs.Private.Kept.{Parts}

@@ -1,4 +1,4 @@
-use Rattle.std.proofs.Common.{rules, ◌≡◌, ◌∷◌, ◌+◌, drop, length, subst, sym, ap, ◌∙◌, arith}
+use Rattle.std.proofs.Common.{rules, ◌+◌, drop, subst, sym, arith}
 use Rattle.std.proofs.Math.ListN.{drop_of_length-le}
 use Rattle.redo_logs.proofs.FirstFault.{Searched, left_at, searched_none, searched_one, found, more, none_found}
 use Rattle.redo_logs.proofs.log_table.LogTable.first_fault.Goals as goal

@@ -1,4 +1,4 @@
-use Rattle.std.proofs.Common.{drop, ◌≤◌, length}
+use Rattle.std.proofs.Common.{drop}
 use Rattle.redo_logs.proofs.FirstFault.{Searched}
 use Rattle.redo_logs.proofs.log_table.LogTable.first_fault.Given as goal
 

@@ -1,0 +1,40 @@
+-- What one entry does, without the log that it opens.
+use Rattle.std.specs.Prelude.{ℕ, ◌&&◌, not, List, [], ◌++◌, Option, None, if◌then◌else◌}
+use Rattle.redo_line.specs.declared.entry.Entry.{Entry}
+use Rattle.redo_line.specs.declared.entry.Entry.TheVariants.{Text, Mention, Done, Closing, Note}
+use Rattle.redo_logs.specs.Logs.{Log, place_of}
+use Rattle.redo_view.specs.declared.options.Options.{Options}
+use Rattle.redo_view.specs.Text.{entry_text}
+use Rattle.redo_view.specs.Expansion.{Shown, is_among, with_name, mentions, mention_text}
+
+-- the text of an entry, without that of a log that it opens
+abbrev pub own_text : Options → ℕ → List (List ℕ) → Entry → List ℕ
+own_text options depth named (Text line) = entry_text options depth (Text line)
+own_text options depth named (Mention how name) = if mentions options how then mention_text options depth how name named else []
+own_text options depth named (Done status name) = entry_text options depth (Done status name)
+own_text options depth named (Closing status) = entry_text options depth (Closing status)
+own_text options depth named (Note kind text) = entry_text options depth (Note kind text)
+
+-- the targets that are named behind it
+abbrev pub named_after : Options → List (List ℕ) → Entry → List (List ℕ)
+named_after options named (Text line) = named
+named_after options named (Mention how name) = if mentions options how then with_name name named else named
+named_after options named (Done status name) = named
+named_after options named (Closing status) = named
+named_after options named (Note kind text) = named
+
+-- the number of a mentioned target's log, if it is to be opened
+abbrev pub opened_by : List Log → Options → List ℕ → List (List ℕ) → Option ℕ
+opened_by logs options name opened = if options.recursive && not (is_among name opened) then place_of name logs else None
+
+-- the number of the log that an entry opens
+abbrev pub opened_after : List Log → Options → List (List ℕ) → Entry → Option ℕ
+opened_after logs options opened (Text line) = None
+opened_after logs options opened (Mention how name) = if mentions options how then opened_by logs options name opened else None
+opened_after logs options opened (Done status name) = None
+opened_after logs options opened (Closing status) = None
+opened_after logs options opened (Note kind text) = None
+
+-- what is shown behind it
+abbrev pub mid : Options → ℕ → Entry → Shown → Shown
+mid options depth entry s = record { named = named_after options s.named entry; opened = s.opened; text = s.text ++ own_text options depth s.named entry }
