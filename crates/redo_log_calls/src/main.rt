@@ -5,6 +5,7 @@
 
 ghost use Rattle.std.specs.Prelude.{◌≤◌, ◌<◌, ◌^◌, length, IfSome};
 
+mod chain;
 mod gather;
 mod mailbox;
 mod send;
@@ -92,6 +93,7 @@ fn make_with_texts(
     plan: Option<Plan>,
 ) -> io::Result<()> {
     match calls {
+        "chain" => chain::view_chain(rt, rt.alloc()),
         "run_bad" => view::run_streams(rt, &view::AT_FAULT, plan),
         "run_locks" => view::run_streams(rt, &view::LOCKED, plan),
         "run_unknown" => view::run_streams(rt, &view::UNKNOWN, plan),

@@ -12,7 +12,7 @@ const MOST: u32 = 1_048_575;
 pub fn table(rt: &impl Print, alloc: Global) -> io::Result<()> {
     let mut table = LogTable::new(alloc);
     if fill(rt, alloc, &mut table)? {
-        end_first(&mut table);
+        end(&mut table, 0);
         fail_second(&mut table);
         tell(rt, &table)?;
         tell_ends(rt, &table)?;
@@ -65,12 +65,17 @@ fn tell_refused(rt: &impl Print, alloc: Global, table: &mut LogTable) -> io::Res
 }
 
 /// Enters the target that is named by a number.
-fn enter_number(alloc: Global, table: &mut LogTable, number: u32) -> Result<u32, TableFault> {
-    let name = format!(in alloc; "{number}").map_err(|_| TableFault::OutOfMemory)?;
-    let target = TargetName::resolve(alloc, None, name.as_bytes()).map_err(
-        |_| TableFault::OutOfMemory,
-    )?;
-    table.enter(target)
+pub fn enter_number(alloc: Global, table: &mut LogTable, number: u32) -> Result<u32, TableFault> {
+    match numbered(alloc, number) {
+        Some(target) => table.enter(target),
+        None => Err(TableFault::OutOfMemory),
+    }
+}
+
+/// A number as the name of a target, if there is memory for it.
+pub fn numbered(alloc: Global, number: u32) -> Option<TargetName> {
+    let name = format!(in alloc; "{number}").ok()?;
+    TargetName::resolve(alloc, None, name.as_bytes()).ok()
 }
 
 /// Enters a target, and answers whether there was memory for its name.
@@ -97,7 +102,7 @@ fn add_text(rt: &impl Print, alloc: Global, table: &mut LogTable) -> io::Result<
             println!(rt; "entry: no memory")?;
             return Ok(false);
         };
-        match add(table, entry) {
+        match add(table, 0, entry) {
             Some(answer) => println!(rt; "add: {answer:?}")?,
             None => println!(rt; "the log doesn't run")?,
         }
@@ -119,23 +124,23 @@ fn text_entry(alloc: Global, table: &LogTable) -> Option<Entry> {
     read_line(alloc, table.name(0), bytes, true).ok()
 }
 
-/// Adds an entry to the first log, if it runs.
-fn add(table: &mut LogTable, entry: Entry) -> Option<Result<(), &'static str>> {
-    if table.len() == 0 {
+/// Adds an entry to the log of this number, if it runs.
+pub fn add(table: &mut LogTable, stream: u32, entry: Entry) -> Option<Result<(), &'static str>> {
+    if table.len() <= stream {
         return None;
     }
-    match table.state(0) {
-        LogState::Running => Some(table.add(0, entry).map_err(|_| "no memory")),
+    match table.state(stream) {
+        LogState::Running => Some(table.add(stream, entry).map_err(|_| "no memory")),
         _ => None,
     }
 }
 
-/// Ends the first log, if it runs.
-fn end_first(table: &mut LogTable) {
-    if table.len() > 0
-        && let LogState::Running = table.state(0)
+/// Ends the log of this number, if it runs.
+pub fn end(table: &mut LogTable, stream: u32) {
+    if table.len() > stream
+        && let LogState::Running = table.state(stream)
     {
-        table.end(0);
+        table.end(stream);
     }
 }
 

@@ -21,7 +21,8 @@ pub struct Case {
     options: Options,
 }
 
-const DEEP: Options = Options {
+/// With the logs of mentioned targets, and all text.
+pub const DEEP: Options = Options {
     recursive: true,
     unchanged: false,
     details: true,

@@ -12,8 +12,8 @@ use Rattle.redo_line.proofs.PlaceLemmas.{some_place, first_passes}
 use Rattle.redo_logs.specs.declared.log_state.LogState.TheVariants.{Running}
 use Rattle.redo_logs.specs.declared.log_table.Log.{Log as Stored}
 use Rattle.redo_logs.specs.Logs.{Log, IsTable, most, new_log, targets_of, place_of}
-use Rattle.redo_logs.specs.Numbering.{IsNamed, name_at}
-use Rattle.redo_logs.specs.Private.Kept.{Parts, Within, seen}
+use Rattle.redo_logs.specs.Numbering.{name_at}
+use Rattle.redo_logs.specs.Private.Kept.{IsNamed, Parts, Within, seen}
 use Rattle.redo_logs.specs.Private.Stored.{IsLogWithin, IsStored, log_of, logs_of}
 
 -- a table with room takes the log of a new target

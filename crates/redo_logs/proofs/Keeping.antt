@@ -11,8 +11,8 @@ use Rattle.redo_line.specs.declared.entry.Entry.TheVariants as entry
 use Rattle.redo_logs.specs.declared.kept.NoteAt.{NoteAt}
 use Rattle.redo_logs.specs.declared.kept.Record.{Record}
 use Rattle.redo_logs.specs.declared.kept.Record.TheVariants.{Text, Mention, Done, Closing, Note}
-use Rattle.redo_logs.specs.Numbering.{IsNamed, name_at}
-use Rattle.redo_logs.specs.Private.Kept.{Parts, IsFront, NamesGrow, Grows, note_seen, seen, IsNoteWithin, Within}
+use Rattle.redo_logs.specs.Numbering.{name_at}
+use Rattle.redo_logs.specs.Private.Kept.{Parts, IsFront, NamesGrow, Grows, IsNamed, note_seen, seen, IsNoteWithin, Within}
 
 -- ---- growing
 

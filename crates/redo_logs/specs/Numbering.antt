@@ -1,5 +1,5 @@
 -- What a table is whose names have numbers: its logs, and its names in the order of these numbers.
-use Rattle.std.specs.Prelude.{◌≡◌, ℕ, ◌<◌, List, [], length, slice_index_or, ⊤}
+use Rattle.std.specs.Prelude.{ℕ, ◌<◌, List, [], length, slice_index_or, ⊤}
 use Rattle.redo_line.specs.declared.entry.Entry.{Entry}
 use Rattle.redo_line.specs.declared.entry.Entry.TheVariants as entry
 use Rattle.redo_logs.specs.declared.numbered.NumberedEntry.{NumberedEntry}
@@ -14,11 +14,6 @@ pub record Numbering : Type 0 where
 -- the name of a number
 abbrev pub name_at : List (List ℕ) → ℕ → List ℕ
 name_at names number = slice_index_or names number []
-
--- a number is that of this name
-pub record IsNamed (names : List (List ℕ)) (number : ℕ) (name : List ℕ) : Type 0 where
-  pub below : number < length names
-  pub is : name_at names number ≡ name
 
 -- the entry that is shown
 abbrev pub numbered_seen : List (List ℕ) → NumberedEntry → Entry

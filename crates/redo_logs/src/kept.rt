@@ -3,8 +3,8 @@ ghost use Rattle.std.specs.Prelude.{◌≡◌, ◌+◌, ◌<◌, ◌++◌, [], n
 ghost use Rattle.std.specs.Cmp.Lexicographic.{pointwise};
 ghost use Rattle.redo_line.specs.declared.entry.Entry.TheVariants.{Note};
 ghost use Rattle.redo_logs.specs.EntryRef.{entry_seen};
-ghost use Rattle.redo_logs.specs.Numbering.{IsNamed, IsNumbered, numbered_seen};
-ghost use Rattle.redo_logs.specs.Private.Kept.{Grows, Within, no_parts, seen};
+ghost use Rattle.redo_logs.specs.Numbering.{IsNumbered, numbered_seen};
+ghost use Rattle.redo_logs.specs.Private.Kept.{Grows, IsNamed, Within, no_parts, seen};
 
 use crate::entry_ref::EntryRef;
 use crate::numbered::NumberedEntry;

@@ -120,7 +120,7 @@ module _ (numbering : Numbering) where
       module _ (options : Options) where
         -- its text
         pub text_is : (depth : ℕ) (entry : NumberedEntry) → IsNumbered numbering.names entry
-            → own_text numbering options depth seen.named.items entry ≡ alone.own_text options depth shown.named (numbered_seen numbering.names entry)
+            → own_text numbering options depth seen entry ≡ alone.own_text options depth shown.named (numbered_seen numbering.names entry)
         text_is depth (Mention how name) below =
             ap (λ was_named. if mentions options how then line_of options depth how (name_at numbering.names name) was_named else [])
             (ap (λ marks. is_marked marks name) is.named ∙ mark_at numbering.names shown.named name below)

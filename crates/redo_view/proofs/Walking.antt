@@ -171,7 +171,7 @@ module _ (numbering : Numbering) (options : Options) (first : Option Taken) (who
       it = numbered_seen numbering.names entry
 
       abbrev own : List ℕ
-      own = own_text numbering options depth seen.named.items entry
+      own = own_text numbering options depth seen entry
 
       -- the frame behind it
       abbrev next : Frame
@@ -394,7 +394,7 @@ module _ (numbering : Numbering) (options : Options) (number : ℕ) (before : Se
     module _ (entry : NumberedEntry) (at : entry_at frame.number frame.next numbering.logs ≡ Some (numbered_seen numbering.names entry)) (numbered : IsNumbered numbering.names entry) where
       -- its text, where this many frames stand around it
       abbrev text : ℕ → List ℕ
-      text count = own_text numbering options (count + 1) seen.named.items entry
+      text count = own_text numbering options (count + 1) seen entry
 
       abbrev further : Frame
       further = record { number = frame.number; next = frame.next + 1 }

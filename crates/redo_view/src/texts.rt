@@ -11,7 +11,7 @@ use redo_line::{Broken, How, Sink, TargetName, push_all};
 use redo_logs::EntryRef;
 
 // As many spaces are written at once.
-const SPACES: [u8; 64] = [b' '; 64];
+const SPACES: &[u8] = &[b' '; 4096];
 
 /// Writes the text of an entry that mentions nothing; of one that does it writes nothing.
 pub fn write_entry<W: Sink>(

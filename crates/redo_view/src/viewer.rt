@@ -35,6 +35,7 @@ pub enum ViewFault {
 ///
 /// Whether each target has a log is known before a byte is written, and before memory is asked for. A
 /// write that fails or takes no byte ends it, and nothing is written behind it. `out` isn't flushed.
+/// Logs that are shown one inside the other take memory, and no stack.
 pub fn view<W: Sink>(
     alloc: Global,
     table: &LogTable,

@@ -34,6 +34,11 @@ pub record Grows (old new : Parts) : Type 0 where
   pub notes : IsFront old.notes new.notes
   pub names : NamesGrow old.names new.names
 
+-- a number is that of this name
+pub record IsNamed (names : List (List ℕ)) (number : ℕ) (name : List ℕ) : Type 0 where
+  pub below : number < length names
+  pub is : name_at names number ≡ name
+
 abbrev pub note_seen : List ℕ → Option NoteAt → Entry
 note_seen bytes None = entry.Note [] []
 note_seen bytes (Some at) = entry.Note (slice_range bytes at.start at.middle) (slice_range bytes at.middle at.end)

@@ -39,10 +39,10 @@ if_new opened (Some number) = if is_marked opened number then None else Some num
 
 module _ (numbering : Numbering) (options : Options) where
   -- the text of an entry, without that of a log that it opens
-  abbrev pub own_text : ℕ → List Bool → NumberedEntry → List ℕ
-  own_text depth named (Mention how name) =
-      if mentions options how then line_of options depth how (name_at numbering.names name) (is_marked named name) else []
-  own_text depth named (Other entry) = entry_text options depth (entry_seen entry)
+  abbrev pub own_text : ℕ → Seen → NumberedEntry → List ℕ
+  own_text depth seen (Mention how name) =
+      if mentions options how then line_of options depth how (name_at numbering.names name) (is_marked seen.named.items name) else []
+  own_text depth seen (Other entry) = entry_text options depth (entry_seen entry)
 
   -- which names are marked behind it
   abbrev pub named_after : List Bool → NumberedEntry → List Bool

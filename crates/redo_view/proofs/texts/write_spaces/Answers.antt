@@ -11,7 +11,7 @@ returns-in_err-push_all g c =
     let middle = g.W.Sink.tells c.loop-left.out in
     let some = c.min-some.result in
     let few : some ≤ c.loop-left.left = omega (arith, c.min-some.ensures) in
-    let part_is : take some (replicate 64 32) ≡ spaces some = take-replicate some 64 32 (omega (arith, c.min-some.ensures)) in
+    let part_is : take some (replicate 4096 32) ≡ spaces some = take-replicate some 4096 32 (omega (arith, c.min-some.ensures)) in
     in_midst _ (spaces c.args.count) middle _ (spaces (c.args.count - c.loop-left.left)) (spaces some) (spaces (c.loop-left.left - some)) _ _ c.from_residual.ensures.0 kept.1
     (subst (λ (b : List ℕ). Writes middle (g.W.Sink.tells c.push_all.new.out) b (Err c.in_err-push_all.field-0.0)) part_is c.in_err-push_all.ensures) (other_spaces c.args.count c.loop-left.left some kept.0 few)
 
@@ -23,7 +23,7 @@ loop-left-preserved g c =
     let after = g.W.Sink.tells c.push_all.new.out in
     let some = c.min-some.result in
     let few : some ≤ c.loop-left.left = omega (arith, c.min-some.ensures) in
-    let part_is : take some (replicate 64 32) ≡ spaces some = take-replicate some 64 32 (omega (arith, c.min-some.ensures)) in
+    let part_is : take some (replicate 4096 32) ≡ spaces some = take-replicate some 4096 32 (omega (arith, c.min-some.ensures)) in
     let left : c.loop-left.left - some ≤ c.args.count = let within = kept.0 in omega arith in (
       left,
       one_more told middle after (spaces (c.args.count - c.loop-left.left)) (spaces some) kept.1 (subst (λ (b : List ℕ). after ≡ adds middle b 0) part_is c.in_ok-push_all.ensures)

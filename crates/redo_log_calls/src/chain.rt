@@ -1,0 +1,65 @@
+//! A chain of 1,000,000 logs, each of which mentions the target of the next, shown one inside the other.
+ghost use Rattle.std.specs.Prelude.{None};
+
+use crate::table::{add, end, enter_number, numbered};
+use crate::view::DEEP;
+use redo_line::{Broken, Entry, How, Sink};
+use redo_logs::LogTable;
+use redo_view::view;
+use std::alloc::Global;
+use std::io;
+
+const LENGTH: u32 = 1_000_000;
+
+/// A writer that takes all bytes, and counts them.
+#[derive(Debug, Drop)]
+struct Counter {
+    bytes: u64,
+}
+
+impl Sink for Counter {
+    ghost tells = { λ _. None };
+
+    fn push(&mut self, bytes: &[u8]) -> Result<usize, Broken> {
+        self.bytes = self.bytes.saturating_add(bytes.len() as u64);
+        Ok(bytes.len())
+    }
+}
+
+/// Views the chain from its first log, and prints the answer and how many bytes were written.
+pub fn view_chain(rt: &impl Print, alloc: Global) -> io::Result<()> {
+    let mut table = LogTable::new(alloc);
+    if let Some(number) = first_refused(alloc, &mut table) {
+        return println!(rt; "{number} was refused");
+    }
+    let Some(first) = numbered(alloc, 0) else {
+        return println!(rt; "no memory for the target");
+    };
+    if !table.all_ended() {
+        return println!(rt; "a log hasn't ended");
+    }
+    let mut out = Counter { bytes: 0 };
+    let answer = view(alloc, &table, &DEEP, &[first], &mut out);
+    println!(rt; "view: {answer:?}")?;
+    println!(rt; "bytes: {}", out.bytes)
+}
+
+/// Enters the logs of the chain, up to the first that is refused.
+fn first_refused(alloc: Global, table: &mut LogTable) -> Option<u32> {
+    for number in 0..LENGTH {
+        if enter_link(alloc, table, number).is_none() {
+            return Some(number);
+        }
+    }
+    None
+}
+
+/// Enters a log that mentions the target of the next number, and ends it.
+fn enter_link(alloc: Global, table: &mut LogTable, number: u32) -> Option<()> {
+    let stream = enter_number(alloc, table, number).ok()?;
+    let name = numbered(alloc, number.checked_add(1)?)?;
+    let how = How::Made;
+    add(table, stream, Entry::Mention { how, name })?.ok()?;
+    end(table, stream);
+    Some(())
+}
