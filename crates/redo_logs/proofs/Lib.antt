@@ -5,4 +5,3 @@ mod Keeping
 pub mod LeastFault
 mod Storing
 mod TableRows
-pub mod TextLines
