@@ -27,7 +27,7 @@ pub mark_at : (names others : Names) (number : ℕ) → number < length names �
 mark_at names others number below = get_or-map (λ name. is_among name others) names number [] false below
 
 -- a mark that was read
-pub mark_read : (marks : List Bool) (number : ℕ) (mark : Bool) → number < length marks → mark ≡ get_or marks number mark → mark ≡ is_marked marks number
+mark_read : (marks : List Bool) (number : ℕ) (mark : Bool) → number < length marks → mark ≡ get_or marks number mark → mark ≡ is_marked marks number
 mark_read marks number mark below read =
     read ∙ same_Some (get_or marks number mark) (is_marked marks number) (sym (slice_get-get_or marks number mark below) ∙ slice_get-get_or marks number false below)
 
@@ -92,6 +92,12 @@ module _ (numbering : Numbering) where
         ap (λ marks. is_marked marks number) is.opened
         ∙ mark_at (targets_of numbering.logs) shown.opened number (omega (arith, first.2, count_targets))
         ∙ ap (λ name. is_among name shown.opened) (get_or_from_slice_get (targets_of numbering.logs) number target [] first.0)
+
+    -- as its mark was read
+    pub mark_tells : (target : List ℕ) (number : ℕ) (mark : Bool) → Fits numbering seen → place_of target numbering.logs ≡ Some number → mark ≡ get_or seen.opened.items number mark → mark ≡ is_among target shown.opened
+    mark_tells target number mark fits placed read =
+        let below = (first_log target numbering.logs number placed).2 in
+        mark_read seen.opened.items number mark (omega (arith, below, fits.logs)) read ∙ was_opened target number placed
 
     module _ (fits : Fits numbering seen) where
       -- a log that wasn't opened is begun

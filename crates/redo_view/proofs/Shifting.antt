@@ -81,11 +81,6 @@ module _ (logs : List Log) (options : Options) where
   unfolding opened_log
   opened-shift target depth x s = within-shift (length logs + 1) target depth x s
 
-  -- nor what an entry adds
-  pub entry-shift : (depth : ℕ) (entry : Entry) (x : List ℕ) (s : Shown)
-      → after_entry logs options (opened_log logs options) depth entry (behind_text x s) ≡ behind_text x (after_entry logs options (opened_log logs options) depth entry s)
-  entry-shift depth entry x s = one-shift (opened_log logs options) opened-shift depth entry x s
-
   -- nor what entries add
   pub entries-shift : (depth : ℕ) (entries : List Entry) (x : List ℕ) (s : Shown)
       → after_entries logs options (opened_log logs options) depth entries (behind_text x s) ≡ behind_text x (after_entries logs options (opened_log logs options) depth entries s)

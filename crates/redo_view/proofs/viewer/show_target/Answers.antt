@@ -1,10 +1,10 @@
-use Rattle.std.proofs.Common.{true≢false, is_some, sym, ap, ◌∙◌, subst, arith}
+use Rattle.std.proofs.Common.{true≢false, is_some, sym, ap, ◌∙◌, subst}
 use Rattle.redo_view.specs.Expansion.{unless_opened, with_text}
 use Rattle.redo_view.specs.Text.{redo_line}
 use Rattle.redo_view.specs.Private.Shown.{Shows}
 use Rattle.redo_view.proofs.Asking.{asked_again, line_stopped, line_written}
-use Rattle.redo_view.proofs.Marking.{mark_read, was_opened}
-use Rattle.redo_view.proofs.Shifting.{first_log, placed-listed}
+use Rattle.redo_view.proofs.Marking.{mark_tells}
+use Rattle.redo_view.proofs.Shifting.{placed-listed}
 use Rattle.redo_view.proofs.viewer.show_target.Goals as goal
 
 pub unreachable-requires : goal.unreachable-requires
@@ -14,26 +14,20 @@ unreachable-requires g c =
 pub returns-then-index : goal.returns-then-index
 returns-then-index g c first shown has =
     let placed = sym c.find.ensures ∙ c.in-Some.is in
-    let below = (first_log c.args.name.now c.args.logs.now.logs c.in-Some.number placed).2 in
-    let mark = mark_read c.args.seen.now.opened.items c.in-Some.number c.index.result.now (omega (arith, below, c.requires.fits.logs)) c.index.ensures in
-    let was = mark ∙ was_opened c.args.logs.now c.args.seen.now shown has.seen_is c.args.name.now c.in-Some.number placed in
+    let was = mark_tells c.args.logs.now c.args.seen.now shown has.seen_is c.args.name.now c.in-Some.number c.index.result.now c.requires.fits placed c.index.ensures in
     asked_again c.args.logs.now c.args.options.now c.args.name.now first _ c.args.seen.now shown has (sym was ∙ c.if-index.true)
 
 pub returns-in_err-write_target : goal.returns-in_err-write_target
 returns-in_err-write_target g c first shown has =
     let placed = sym c.find.ensures ∙ c.in-Some.is in
-    let below = (first_log c.args.name.now c.args.logs.now.logs c.in-Some.number placed).2 in
-    let mark = mark_read c.args.seen.now.opened.items c.in-Some.number c.index.result.now (omega (arith, below, c.requires.fits.logs)) c.index.ensures in
-    let was = mark ∙ was_opened c.args.logs.now c.args.seen.now shown has.seen_is c.args.name.now c.in-Some.number placed in
+    let was = mark_tells c.args.logs.now c.args.seen.now shown has.seen_is c.args.name.now c.in-Some.number c.index.result.now c.requires.fits placed c.index.ensures in
     line_stopped c.args.logs.now c.args.options.now c.args.name.now first _ c.args.seen.now shown has (sym was ∙ c.if-index.false) _ _ c.in_err-write_target.field-0.0 c.from_residual.result c.from_residual.ensures.1
     c.in_err-write_target.ensures
 
 pub returns : goal.returns
 returns g c first shown has =
     let placed = sym c.find.ensures ∙ c.in-Some.is in
-    let below = (first_log c.args.name.now c.args.logs.now.logs c.in-Some.number placed).2 in
-    let mark = mark_read c.args.seen.now.opened.items c.in-Some.number c.index.result.now (omega (arith, below, c.requires.fits.logs)) c.index.ensures in
-    let was = mark ∙ was_opened c.args.logs.now c.args.seen.now shown has.seen_is c.args.name.now c.in-Some.number placed in
+    let was = mark_tells c.args.logs.now c.args.seen.now shown has.seen_is c.args.name.now c.in-Some.number c.index.result.now c.requires.fits placed c.index.ensures in
     subst (λ opened. Shows c.args.logs.now first (g.W.Sink.tells c.show_log.new.out) c.show_log.new.seen (unless_opened c.args.logs.now.logs c.args.options.now opened c.args.name.now shown) c.show_log.result)
     (sym c.if-index.false ∙ was)
     (c.show_log.ensures c.args.name.now first (with_text (redo_line 0 c.args.name.now) shown) placed
