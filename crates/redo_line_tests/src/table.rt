@@ -1,7 +1,7 @@
 //! The table of logs: what its calls answer, and what they leave.
 use redo_given::{entry_text, line, logs_text};
 use redo_line::{StreamFault, TargetName, read_line};
-use redo_logs::{LogState, LogTable, TableFault};
+use redo_logs::{LogState, LogTable, NumberedEntry, TableFault};
 use std::alloc::Global;
 use std::process::Abort;
 use std::test::Fail;
@@ -158,5 +158,53 @@ fn all_logs_have_ended(rt: HostRuntime) -> Result<(), Fail> {
     close(&mut table, 1, None)?;
     close(&mut table, 0, None)?;
     expect_ends(&rt, &table, None, true);
+    Ok(())
+}
+
+/// A table whose first log has two texts, then one that was added behind another log's, and a mention.
+fn table_of_lines(alloc: Global) -> Result<LogTable, Fail> {
+    let mut table = table_of_two(alloc)?;
+    add_all(alloc, &mut table, 0, &["x", "yy"])?;
+    add(alloc, &mut table, 1, "other")?;
+    add_all(alloc, &mut table, 0, &["z", "@@REDO:do:1:1@@ b", ""])?;
+    Ok(table)
+}
+
+/// At each entry the lines of the texts that were added one behind the other, and how many they are.
+const LINES: [(u32, usize, &str, usize); 8] = [
+    (0, 0, "x\nyy\n", 2),
+    (0, 1, "yy\n", 1),
+    (0, 2, "z\n", 1),
+    (0, 3, "", 0),
+    (0, 4, "\n", 1),
+    (0, 5, "", 0),
+    (1, 0, "other\n", 1),
+    (2, 0, "", 0),
+];
+
+#[test]
+fn lines_of_texts_are_had_together(rt: HostRuntime) -> Result<(), Fail> {
+    let table = table_of_lines(rt.alloc())?;
+    let logs = table.numbered();
+    for (i, k, lines, count) in LINES {
+        let found = logs.lines(i, k);
+        assert_eq!(rt; (found.0, found.1), (lines.as_bytes(), count));
+    }
+    Ok(())
+}
+
+#[test]
+fn a_mention_has_the_number_of_its_name(rt: HostRuntime) -> Result<(), Fail> {
+    let table = table_of_lines(rt.alloc())?;
+    let logs = table.numbered();
+    let Some(NumberedEntry::Mention { name, .. }) = logs.entry(0, 3) else {
+        return Err("no mention".into());
+    };
+    if name >= logs.names() || logs.len() < 2 {
+        return Err("no name of this number".into());
+    }
+    assert_eq!(rt; logs.name(name).bytes(), b"b".as_slice());
+    assert_eq!(rt; logs.log_of(name), Some(1));
+    assert_eq!(rt; logs.target(1), name);
     Ok(())
 }

@@ -7,6 +7,7 @@ use Rattle.std.proofs.Math.Seq.{drop-append_seam}
 use Rattle.std.proofs.lemmas.Cmp.{nat_list_eq_equiv}
 use Rattle.std.proofs.lemmas.Map.Keys.{IsDistinct-push}
 use Rattle.std.proofs.lemmas.Option.{slice_get_within, get_or_from_slice_get}
+use Rattle.redo_line.specs.Lines.{line_feed}
 use Rattle.redo_line.specs.declared.entry.Entry.TheVariants as entry
 use Rattle.redo_logs.specs.declared.kept.NoteAt.{NoteAt}
 use Rattle.redo_logs.specs.declared.kept.Record.{Record}
@@ -68,7 +69,9 @@ note_at_grown old new bytes note front within =
 
 -- an entry stays what it is seen as
 pub seen_grown : (old new : Parts) (record' : Record) → Grows old new → Within old record' → seen new record' ≡ seen old record'
-seen_grown old new (Text start end) grows within = ap entry.Text (range_grown old.bytes new.bytes start end grows.bytes within.0 within.1)
+seen_grown old new (Text start end) grows within =
+    let end_there : end ≤ length old.bytes = let below = slice_get_within old.bytes end line_feed within.1 in omega (arith, below) in
+    ap entry.Text (range_grown old.bytes new.bytes start end grows.bytes within.0 end_there)
 seen_grown old new (Mention how name) grows within = ap (entry.Mention how) (name_grown old.names new.names name grows.names within)
 seen_grown old new (Done status name) grows within = ap (entry.Done status) (name_grown old.names new.names name grows.names within)
 seen_grown old new (Closing status) grows within = refl
@@ -78,7 +81,10 @@ seen_grown old new (Note note) grows within =
 
 -- and is still there
 pub within_grown : (old new : Parts) (record' : Record) → Grows old new → Within old record' → Within new record'
-within_grown old new (Text start end) grows within = (within.0, omega (arith, within.1, front_length old.bytes new.bytes grows.bytes))
+within_grown old new (Text start end) grows within = (
+  within.0,
+  ap (λ bytes. slice_get bytes end) grows.bytes.is ∙ get_front old.bytes grows.bytes.more end (slice_get_within old.bytes end line_feed within.1) ∙ within.1,
+)
 within_grown old new (Mention how name) grows within = omega (arith, within, front_length old.names new.names grows.names.front)
 within_grown old new (Done status name) grows within = omega (arith, within, front_length old.names new.names grows.names.front)
 within_grown old new (Closing status) grows within = within

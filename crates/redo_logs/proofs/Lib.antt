@@ -5,3 +5,4 @@ mod Keeping
 pub mod LeastFault
 mod Storing
 mod TableRows
+pub mod TextLines

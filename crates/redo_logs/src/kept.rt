@@ -1,10 +1,11 @@
 //! What the entries of all logs are kept in: their texts one behind the other, and their names, each once.
 ghost use Rattle.std.specs.Prelude.{◌≡◌, ◌+◌, ◌<◌, ◌++◌, [], nat_eq, length, position, slice_get, IfOk};
+ghost use Rattle.std.specs.List.{AllByRecursion};
 ghost use Rattle.std.specs.Cmp.Lexicographic.{pointwise};
-ghost use Rattle.redo_line.specs.declared.entry.Entry.TheVariants.{Note};
+ghost use Rattle.redo_line.specs.declared.entry.Entry.TheVariants.{Note, Text};
 ghost use Rattle.redo_logs.specs.EntryRef.{entry_seen};
 ghost use Rattle.redo_logs.specs.Numbering.{IsNumbered, numbered_seen};
-ghost use Rattle.redo_logs.specs.Private.Kept.{Grows, IsNamed, Within, no_parts, seen};
+ghost use Rattle.redo_logs.specs.Private.Kept.{AreLinesOf, Grows, IsNamed, IsTextRecord, Within, no_parts, seen};
 
 use crate::entry_ref::EntryRef;
 use crate::numbered::NumberedEntry;
@@ -68,10 +69,7 @@ impl Kept {
         ensures seen { IfOk result (λ kept. seen self.new kept ≡ entry) }
     {
         match entry {
-            Entry::Text(line) => {
-                let (start, end) = self.put(line.bytes())?;
-                Ok(Record::Text { start, end })
-            }
+            Entry::Text(line) => self.keep_line(line.bytes()),
             Entry::Mention { how, name } => {
                 let name = self.number_of(name)?;
                 Ok(Record::Mention { how, name })
@@ -96,6 +94,17 @@ impl Kept {
         let start = self.bytes.len();
         self.bytes.extend_from_slice(text)?;
         Ok((start, self.bytes.len()))
+    }
+
+    // Behind a line stands a line feed, so that lines of a log that stand one behind the other are had at once.
+    fn keep_line(&mut self, line: &[u8]) -> Result<Record, AllocError>
+        ensures grows { Grows self.old self.new }
+        ensures within { IfOk result (Within self.new) }
+        ensures seen { IfOk result (λ kept. seen self.new kept ≡ Text line.now) }
+    {
+        let (start, end) = self.put(line)?;
+        self.put(b"\n")?;
+        Ok(Record::Text { start, end })
     }
 
     fn keep_note(&mut self, kind: &[u8], text: &[u8]) -> Result<Record, AllocError>
@@ -177,5 +186,27 @@ impl Kept {
             Record::Mention { how, name } => NumberedEntry::Mention { how, name },
             other => NumberedEntry::Other(self.show(other)),
         }
+    }
+
+    /// The lines of the texts that records have first, as far as these stand one behind the other, and how many
+    /// they are.
+    pub fn lines(&self, records: &[Record]) -> (&[u8], usize)
+        requires { AllByRecursion (Within self.now) records.now }
+        ensures lines { AreLinesOf self.now records.now result.0.now result.1 }
+        ensures some { IsTextRecord (slice_get records.now 0) → 0 < result.1 }
+    {
+        let bytes = self.bytes.as_slice();
+        let Some(Record::Text { start: first, end }) = records.first() else {
+            return (&[], 0);
+        };
+        let mut last = *end + 1;
+        let mut count = 1;
+        while let Some(Record::Text { start, end }) = records.get(count)
+            && *start == last
+        {
+            last = *end + 1;
+            count += 1;
+        }
+        (&bytes[*first..last], count)
     }
 }

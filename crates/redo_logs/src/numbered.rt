@@ -1,10 +1,10 @@
 //! The logs of a table while they are only read, with a number for each name.
-ghost use Rattle.std.specs.Prelude.{◌≡◌, ◌<◌, ◌^◌, length, nat_eq, slice_get, slice_index_or, Some, None, OnSome, IfSome};
+ghost use Rattle.std.specs.Prelude.{◌≡◌, ◌+◌, ◌<◌, ◌^◌, length, nat_eq, slice_get, slice_index_or, Some, None, OnSome, IfSome};
 ghost use Rattle.std.specs.Cmp.Lexicographic.{pointwise};
 ghost use Rattle.std.specs.List.{IsDistinct};
 ghost use Rattle.std.specs.Option.{option_map};
 ghost use Rattle.redo_logs.specs.Logs.{IsTable, targets_of, place_of, entry_at};
-ghost use Rattle.redo_logs.specs.Numbering.{IsNumbered, name_at, numbered_seen};
+ghost use Rattle.redo_logs.specs.Numbering.{AreLinesAt, HasText, IsNumbered, name_at, numbered_seen};
 ghost use Rattle.redo_logs.specs.Private.Stored.{IsStored, numbering_of};
 
 use crate::entry_ref::EntryRef;
@@ -113,5 +113,22 @@ impl<'a> Numbered<'a> {
         let log = self.logs.get(i as usize)?;
         let record = log.records.get(k)?;
         Some(self.kept.show_numbered(*record))
+    }
+
+    /// The lines of the texts that stand in the log number `i` from its entry number `k` on, each with its line
+    /// feed, as far as they were added one behind the other, and how many they are. There is one at least
+    /// where the entry is a text.
+    pub fn lines(&self, i: u32, k: usize) -> (&'a [u8], usize)
+        ensures lines { AreLinesAt self.now.logs i k result.0.now result.1 }
+        ensures some { HasText self.now.logs i k → 0 < result.1 }
+        ensures fits { k + result.1 < 2 ^ 64 }
+    {
+        let Some(log) = self.logs.get(i as usize) else {
+            return (&[], 0);
+        };
+        match log.records.get(k..) {
+            Some(records) => self.kept.lines(records),
+            None => (&[], 0),
+        }
     }
 }

@@ -1,22 +1,26 @@
 -- How far a viewer came that shows logs one inside the other.
 use Rattle.std.proofs.Common.{◌≡◌, ℕ, zero, suc, ◌+◌, ◌≤◌, ◌<◌, Bool, true, false, if◌then◌else◌, inl, inr, List, [], ◌∷◌, ◌++◌, Option, None, Some, Ok, Err, length, take, drop, slice_get, refl, sym, ap, ◌∙◌, subst, arith}
 use Rattle.std.specs.Prelude.{option_and_then}
-use Rattle.std.proofs.lemmas.List.{append_assoc, append-nil, drop_all, drop_more, length-append, length-set, take-append-drop}
+use Rattle.std.specs.List.{flat_map}
+use Rattle.std.proofs.lemmas.List.Concat.{flat_map-cons}
+use Rattle.std.proofs.lemmas.List.{append_assoc, append-nil, drop_all, drop_more, length-append, length-drop, length-set, take-append-drop}
 use Rattle.std.proofs.lemmas.Option.{get_or_from_slice_get, none-some, same_Some, slice_get_cases, slice_get_within}
 use Rattle.std.proofs.Math.Seq.{take-append_seam}
+use Rattle.redo_line.specs.Lines.{with_line_feed}
 use Rattle.redo_line.specs.declared.entry.Entry.{Entry}
+use Rattle.redo_line.specs.declared.entry.Entry.TheVariants as entry
 use Rattle.redo_line.specs.Sink.{Taken, adds}
 use Rattle.redo_line.proofs.WritesLemmas.{adds-adds}
 use Rattle.redo_logs.specs.declared.numbered.NumberedEntry.{NumberedEntry}
 use Rattle.redo_logs.specs.declared.numbered.NumberedEntry.TheVariants.{Mention, Other}
 use Rattle.redo_logs.specs.Logs.{Log, entry_at, place_of}
-use Rattle.redo_logs.specs.Numbering.{IsNumbered, Numbering, numbered_seen}
+use Rattle.redo_logs.specs.Numbering.{AreLinesAt, AreTexts, IsNumbered, Numbering, numbered_seen}
 use Rattle.redo_view.specs.declared.log.Frame.{Frame}
 use Rattle.redo_view.specs.declared.options.Options.{Options}
 use Rattle.redo_view.specs.declared.step.Seen.{Seen}
 use Rattle.redo_view.specs.declared.stop.Stop.{Stop}
 use Rattle.redo_view.specs.declared.stop.Stop.TheVariants.{Write, OutOfMemory}
-use Rattle.redo_view.specs.Expansion.{Opening, Shown, after_entries, after_entry, begun, log_of, mentions, opened_log}
+use Rattle.redo_view.specs.Expansion.{Opening, Shown, after_entries, after_entry, begun, log_of, mentions, opened_log, with_text}
 use Rattle.redo_view.specs.Private.Shown.{Begins, HasShown, IsSeen, Shows, ShowsLog}
 use Rattle.redo_view.specs.Private.Step.{Fits, is_marked, marked, named_after, opened_after, own_text}
 use Rattle.redo_view.specs.Private.Stopped.{Written}
@@ -273,6 +277,95 @@ module _ (numbering : Numbering) (options : Options) (first : Option Taken) (who
             ∙ ap (λ text. adds first text 0) (sym (take-append_seam (walks.shown.text ++ own) rest.0) ∙ ap (take (length (walks.shown.text ++ own))) rest.1),
       )
 
+-- ---- texts
+
+-- the lines of texts, if these are shown
+abbrev pub shown_lines : Options → List (List ℕ) → List ℕ
+shown_lines options texts = if options.details then flat_map with_line_feed texts else []
+
+-- the text is behind the others
+one_line : (details : Bool) (text : List ℕ) (texts : List (List ℕ))
+    → (if details then with_line_feed text else []) ++ (if details then flat_map with_line_feed texts else []) ≡ (if details then flat_map with_line_feed (text ∷ texts) else [])
+one_line true text texts = sym (flat_map-cons with_line_feed text texts)
+one_line false text texts = refl
+
+no_line : (details : Bool) → [] ≡ (if details then flat_map with_line_feed [] else [])
+no_line true = refl
+no_line false = refl
+
+module _ (numbering : Numbering) (options : Options) (first : Option Taken) (whole : Shown) (outer : List Frame) (number : ℕ) where
+  -- the frame at an entry
+  abbrev at_entry : ℕ → Frame
+  at_entry k = record { number = number; next = k }
+
+  -- A viewer that came to the entry k went over so many texts.
+  record GoneOver (now : Option Taken) (seen : Seen) (k count : ℕ) (lines text : List ℕ) : Type 0 where
+    walks : Walks numbering options first whole (adds now lines 0) seen outer (at_entry (k + count))
+    text_is : walks.shown.text ≡ text ++ lines
+
+  abbrev put : (now later : Option Taken) (seen : Seen) (k other : ℕ) → later ≡ now → other ≡ k → Walks numbering options first whole now seen outer (at_entry k) → Walks numbering options first whole later seen outer (at_entry other)
+  put now later seen k other same place walks = record {
+    shown = walks.shown;
+    has = record { seen_is = walks.has.seen_is; taken = same ∙ walks.has.taken };
+    is =
+        ap (λ (n : ℕ). finished numbering.logs options 1 outer (gone_over numbering.logs options (length outer + 1) (at_entry n) walks.shown)) place ∙ walks.is;
+  }
+
+  over_one : (now : Option Taken) (seen : Seen) (k : ℕ) (text : List ℕ) (walks : Walks numbering options first whole now seen outer (at_entry k)) → entry_at number k numbering.logs ≡ Some (entry.Text text)
+      → GoneOver now seen k 1 (if options.details then with_line_feed text else []) walks.shown.text
+  over_one now seen k text walks at = record {
+    walks = record {
+      shown = with_text own walks.shown;
+      has = record {
+        seen_is = record { named = walks.has.seen_is.named; opened = walks.has.seen_is.opened };
+        taken = ap (λ t. adds t own 0) walks.has.taken ∙ adds-adds first walks.shown.text own 0 0;
+      };
+      is =
+          ap (finished numbering.logs options 1 outer) (sym (ap (λ entries. after_entries numbering.logs options (opened_log numbering.logs options) (length outer + 1) entries walks.shown)
+          (drop_one k (entries_at number numbering.logs) (entry.Text text) (sym (entry_in number k numbering.logs) ∙ at))))
+          ∙ walks.is;
+    };
+    text_is = refl;
+  }
+    where
+      own : List ℕ
+      own = if options.details then with_line_feed text else []
+
+  over_all : (now : Option Taken) (seen : Seen) (k : ℕ) (texts : List (List ℕ)) (walks : Walks numbering options first whole now seen outer (at_entry k)) → AreTexts numbering.logs number k texts
+      → GoneOver now seen k (length texts) (shown_lines options texts) walks.shown.text
+  over_all now seen k [] walks are =
+      let none = no_line options.details in record {
+        walks = put now (adds now (shown_lines options []) 0) seen k (k + 0) (sym (adds-nothing now ∙ ap (λ lines. adds now lines 0) none)) (omega arith) walks;
+        text_is = sym (append-nil walks.shown.text) ∙ ap (λ lines. walks.shown.text ++ lines) none;
+      }
+  over_all now seen k (text ∷ texts) walks are =
+      let own = if options.details then with_line_feed text else [] in
+      let rest = shown_lines options texts in
+      let lines = one_line options.details text texts in
+      let one = over_one now seen k text walks are.0 in
+      let others = over_all (adds now own 0) seen (k + 1) texts one.walks are.1 in record {
+        walks = put (adds (adds now own 0) rest 0) (adds now (shown_lines options (text ∷ texts)) 0) seen ((k + 1) + length texts) (k + length (text ∷ texts))
+            (sym (adds-adds now own rest 0 0 ∙ ap (λ l. adds now l 0) lines)) (omega arith) others.walks;
+        text_is = others.text_is ∙ ap (λ t. t ++ rest) one.text_is ∙ append_assoc walks.shown.text own rest ∙ ap (λ l. walks.shown.text ++ l) lines;
+      }
+
+  -- more of the whole comes behind what was shown
+  more : (now : Option Taken) (seen : Seen) (k : ℕ) (walks : Walks numbering options first whole now seen outer (at_entry k)) → (rest : List ℕ) × (walks.shown.text ++ rest ≡ whole.text)
+  more now seen k walks =
+      let near = text-grows numbering.logs options (length outer + 1) (left_of numbering.logs (at_entry k)) walks.shown in
+      let far = finished_grows numbering.logs options 1 outer (gone_over numbering.logs options (length outer + 1) (at_entry k) walks.shown) in (
+        near.0 ++ far.0,
+        sym (append_assoc walks.shown.text near.0 far.0) ∙ ap (λ t. t ++ far.0) (sym near.1) ∙ sym far.1 ∙ ap (λ (s : Shown). s.text) walks.is,
+      )
+
+  -- texts weren't written whole
+  over_stopped : (A B : Type 0) (now after : Option Taken) (seen : Seen) (k : ℕ) (texts : List (List ℕ)) (stop : Stop) → Walks numbering options first whole now seen outer (at_entry k) → AreTexts numbering.logs number k texts
+      → Written {A = A} now after (shown_lines options texts) (Err stop) → Written {A = B} first after whole.text (Err stop)
+  over_stopped A B now after seen k texts stop walks are wrote =
+      let over = over_all now seen k texts walks are in
+      let rest = more (adds now (shown_lines options texts) 0) seen (k + length texts) over.walks in
+      stopped A B first now after walks.shown.text (shown_lines options texts) rest.0 whole.text stop walks.has.taken wrote (ap (λ t. t ++ rest.0) (sym over.text_is) ∙ rest.1)
+
 -- ---- how much is left to do
 
 -- how many logs aren't opened
@@ -390,6 +483,44 @@ module _ (numbering : Numbering) (options : Options) (number : ℕ) (before : Se
     pub gone_through : (done : Unit {0}) → length outer ≡ 0 → entry_at frame.number frame.next numbering.logs ≡ None → ShowsLog numbering {A = Unit {0}} options number before seen told now (Ok done)
     gone_through done no_outer none target first shown placed has =
         comes_to_end numbering options first (opened_log numbering.logs options target 1 shown) now seen outer frame (goes.walks target first shown placed has) (no_frames outer no_outer) none
+
+    -- texts
+    module _ (bytes : List ℕ) (count : ℕ) (lines : AreLinesAt numbering.logs frame.number frame.next bytes count) where
+      abbrev shown_bytes : List ℕ
+      shown_bytes = if options.details then bytes else []
+
+      abbrev beyond : Frame
+      beyond = record { number = frame.number; next = frame.next + count }
+
+      bytes_shown : shown_bytes ≡ shown_lines options lines.texts
+      bytes_shown = ap (λ bytes. if options.details then bytes else []) lines.bytes_are
+
+      pub goes_over : (later : Option Taken) → later ≡ adds now shown_bytes 0 → Goes later seen outer beyond
+      goes_over later wrote = record {
+        fits = goes.fits;
+        room = goes.room;
+        walks = λ target first shown placed has.
+            let whole = opened_log numbering.logs options target 1 shown in
+            let over = over_all numbering options first whole outer frame.number now seen frame.next lines.texts (goes.walks target first shown placed has) lines.are in
+            put numbering options first whole outer frame.number (adds now (shown_lines options lines.texts) 0) later seen (frame.next + length lines.texts) (frame.next + count)
+            (wrote ∙ ap (λ bytes. adds now bytes 0) bytes_shown) (ap (λ (n : ℕ). frame.next + n) (sym lines.count_is)) over.walks;
+      }
+
+      pub lines_stopped : (A : Type 0) (later : Option Taken) (after : Seen) (stop : Stop) → Written {A = A} now later shown_bytes (Err stop) → ShowsLog numbering {A = Unit {0}} options number before after told later (Err stop)
+      lines_stopped A later after stop wrote target first shown placed has =
+          shows_stopped (Unit {0}) (Unit {0}) numbering first later after (opened_log numbering.logs options target 1 shown) stop
+          (over_stopped numbering options first (opened_log numbering.logs options target 1 shown) outer frame.number A (Unit {0}) now later seen frame.next lines.texts stop (goes.walks target first shown placed has) lines.are
+          (subst (λ bytes. Written {A = A} now later bytes (Err stop)) bytes_shown wrote))
+
+      there : (texts : List (List ℕ)) → AreTexts numbering.logs frame.number frame.next texts → length texts ≡ count → 0 < count → frame.next < length (entries_at frame.number numbering.logs)
+      there [] are is some = absurd (omega (arith, is, some))
+      there (text ∷ texts) are is some = slice_get_within (entries_at frame.number numbering.logs) frame.next (entry.Text text) (sym (entry_in frame.number frame.next numbering.logs) ∙ are.0)
+
+      pub less_over : 0 < count → work numbering.logs seen.opened.items outer beyond < work numbering.logs seen.opened.items outer frame
+      less_over some =
+          let entries = entries_at frame.number numbering.logs in
+          let below = there lines.texts lines.are lines.count_is some in
+          omega (arith, below, some, length-drop frame.next entries, length-drop (frame.next + count) entries)
 
     module _ (entry : NumberedEntry) (at : entry_at frame.number frame.next numbering.logs ≡ Some (numbered_seen numbering.names entry)) (numbered : IsNumbered numbering.names entry) where
       -- its text, where this many frames stand around it

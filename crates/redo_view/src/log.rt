@@ -6,6 +6,7 @@ ghost use Rattle.redo_view.specs.Private.Step.{Fits, is_marked};
 use crate::options::Options;
 use crate::step::{Seen, begin, show_entry};
 use crate::stop::Stop;
+use crate::texts::write_lines;
 use redo_line::Sink;
 use redo_logs::Numbered;
 use std::alloc::Global;
@@ -36,22 +37,24 @@ pub fn show_log<W: Sink>(
     let mut outer = Vec::new(alloc);
     let mut frame = Frame { number, next: 0 };
     'entries: loop {
-        match logs.entry(frame.number, frame.next) {
-            Some(entry) => {
-                frame.next += 1;
-                if let Some(inner) = show_entry(logs, options, outer.len() + 1, entry, seen, out)? {
-                    begin(logs, inner, seen);
-                    outer.push(frame)?;
-                    frame = Frame {
-                        number: inner,
-                        next: 0,
-                    };
-                }
+        let (lines, count) = logs.lines(frame.number, frame.next);
+        if count > 0 {
+            write_lines(options, lines, out)?;
+            frame.next += count;
+        } else if let Some(entry) = logs.entry(frame.number, frame.next) {
+            frame.next += 1;
+            if let Some(inner) = show_entry(logs, options, outer.len() + 1, entry, seen, out)? {
+                begin(logs, inner, seen);
+                outer.push(frame)?;
+                frame = Frame {
+                    number: inner,
+                    next: 0,
+                };
             }
-            None => match outer.pop() {
-                Some(back) => frame = back,
-                None => return Ok(()),
-            },
+        } else if let Some(back) = outer.pop() {
+            frame = back;
+        } else {
+            return Ok(());
         }
     }
 }

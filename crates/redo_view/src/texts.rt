@@ -32,6 +32,17 @@ pub fn write_entry<W: Sink>(
     }
 }
 
+/// Writes lines that are no records, each with its line feed.
+pub fn write_lines<W: Sink>(options: &Options, lines: &[u8], out: &mut W) -> Result<(), Broken>
+    ensures { Writes (W.tells out.old) (W.tells out.new) (if options.now.details then lines.now else []) result }
+{
+    if options.details {
+        push_all(out, lines)
+    } else {
+        Ok(())
+    }
+}
+
 /// Writes a mention's own line.
 pub fn write_mention<W: Sink>(
     depth: usize,

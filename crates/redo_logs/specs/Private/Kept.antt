@@ -1,9 +1,10 @@
 -- How entries are kept: their texts one behind the other, their names each once, and records that say where these are.
-use Rattle.std.specs.Prelude.{◌≡◌, ℕ, ◌≤◌, ◌<◌, false, List, [], ◌++◌, Option, None, Some, nat_eq, length, slice_get, slice_range, ⊤}
-use Rattle.std.specs.List.{AllByRecursion, IsDistinct, list_any}
+use Rattle.std.specs.Prelude.{◌≡◌, ℕ, ◌≤◌, ◌<◌, false, List, [], ◌∷◌, ◌++◌, Option, None, Some, nat_eq, length, slice_get, slice_range, ⊤}
+use Rattle.std.specs.List.{AllByRecursion, IsDistinct, flat_map, list_any}
 use Rattle.std.specs.Cmp.Lexicographic.{pointwise}
 use Rattle.redo_line.specs.declared.entry.Entry.{Entry}
 use Rattle.redo_line.specs.declared.entry.Entry.TheVariants as entry
+use Rattle.redo_line.specs.Lines.{line_feed, with_line_feed}
 use Rattle.redo_logs.specs.declared.kept.NoteAt.{NoteAt}
 use Rattle.redo_logs.specs.declared.kept.Record.{Record}
 use Rattle.redo_logs.specs.declared.kept.Record.TheVariants.{Text, Mention, Done, Closing, Note}
@@ -55,10 +56,31 @@ abbrev pub IsNoteWithin : List ℕ → Option NoteAt → Type 0
 IsNoteWithin bytes None = ⊥
 IsNoteWithin bytes (Some at) = (at.start ≤ at.middle) × (at.middle ≤ at.end) × (at.end ≤ length bytes)
 
--- where its parts are, there is something
+-- where its parts are, there is something, and behind a text stands a line feed
 abbrev pub Within : Parts → Record → Type 0
-Within parts (Text start end) = (start ≤ end) × (end ≤ length parts.bytes)
+Within parts (Text start end) = (start ≤ end) × (slice_get parts.bytes end ≡ Some line_feed)
 Within parts (Mention how name) = name < length parts.names
 Within parts (Done status name) = name < length parts.names
 Within parts (Closing status) = ⊤
 Within parts (Note note) = IsNoteWithin parts.bytes (slice_get parts.notes note)
+
+-- the entries of these records, as far as they go, are these texts
+abbrev pub SeenAsTexts : Parts → List Record → List (List ℕ) → Type 0
+SeenAsTexts parts records [] = ⊤
+SeenAsTexts parts [] (text ∷ texts) = ⊥
+SeenAsTexts parts (record' ∷ records) (text ∷ texts) = (seen parts record' ≡ entry.Text text) × SeenAsTexts parts records texts
+
+-- the bytes are the lines of so many texts, which the records have first
+pub record AreLinesOf (parts : Parts) (records : List Record) (bytes : List ℕ) (count : ℕ) : Type 0 where
+  pub texts : List (List ℕ)
+  pub are : SeenAsTexts parts records texts
+  pub count_is : length texts ≡ count
+  pub bytes_are : bytes ≡ flat_map with_line_feed texts
+
+abbrev pub IsTextRecord : Option Record → Type 0
+IsTextRecord None = ⊥
+IsTextRecord (Some (Text start end)) = ⊤
+IsTextRecord (Some (Mention how name)) = ⊥
+IsTextRecord (Some (Done status name)) = ⊥
+IsTextRecord (Some (Closing status)) = ⊥
+IsTextRecord (Some (Note note)) = ⊥
