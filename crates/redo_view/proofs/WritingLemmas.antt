@@ -1,8 +1,8 @@
 -- Texts that are written in parts.
-use Rattle.std.proofs.Common.{◌≡◌, ℕ, zero, suc, ℤ, ◌+◌, ◌-◌, ◌≤◌, List, [], ◌∷◌, ◌++◌, refl, Option, Result, Ok, Err, length, sym, ◌∙◌, ap, subst, arith, le_refl}
+use Rattle.std.proofs.Common.{◌≡◌, ℕ, zero, suc, ℤ, ◌+◌, ◌-◌, ◌≤◌, List, [], ◌∷◌, ◌++◌, refl, Option, Result, Ok, Err, length, take, take-add, sym, ◌∙◌, ap, subst, arith, le_refl}
 use Rattle.std.specs.Prelude.{codes, pos, negsuc}
 use Rattle.std.specs.Result.{IsErr, IsErrAnd}
-use Rattle.std.proofs.lemmas.List.{append_assoc, replicate-append-replicate, take_all}
+use Rattle.std.proofs.lemmas.List.{append_assoc, replicate-append-replicate, take_all, take-replicate}
 use Rattle.redo_line.specs.declared.feed.Broken.{Broken}
 use Rattle.redo_line.specs.Lines.{line_feed, with_line_feed}
 use Rattle.redo_line.specs.Sink.{Taken, adds, Writes}
@@ -41,14 +41,22 @@ exit_shown depth (pos (suc status)) name other = refl
 exit_shown depth (negsuc status) name other = refl
 
 -- the end of the line of a target that failed
-pub exit_parts : (number : List ℕ) → codes " (exit " ++ number ++ with_line_feed (codes ")") ≡ with_line_feed (codes " (exit " ++ number ++ codes ")")
+pub exit_parts : (number : List ℕ) → codes " (exit " ++ number ++ codes ")\n" ≡ with_line_feed (codes " (exit " ++ number ++ codes ")")
 exit_parts number = ap (λ t. codes " (exit " ++ t) (sym (append_assoc number (codes ")") (line_feed ∷ [])))
 
 -- the text of a check
-pub check_parts : (begin text : List ℕ) → (begin ++ codes "(") ++ text ++ with_line_feed (codes ")") ≡ begin ++ with_line_feed (codes "(" ++ text ++ codes ")")
+pub check_parts : (begin text : List ℕ) → (begin ++ codes "(") ++ text ++ codes ")\n" ≡ begin ++ with_line_feed (codes "(" ++ text ++ codes ")")
 check_parts begin text =
-    append_assoc (begin ++ codes "(") text (with_line_feed (codes ")")) ∙ append_assoc begin (codes "(") (text ++ with_line_feed (codes ")"))
+    append_assoc (begin ++ codes "(") text (codes ")\n") ∙ append_assoc begin (codes "(") (text ++ codes ")\n")
     ∙ ap (λ t. begin ++ (codes "(" ++ t)) (sym (append_assoc text (codes ")") (line_feed ∷ [])))
+
+-- the beginning of a redo line, of one that isn't deep
+pub begun_part : (some : ℕ) → some ≤ 64 → take (4 + some) (codes "redo                                                                ") ≡ codes "redo" ++ spaces some
+begun_part some within = take-add 4 some (codes "redo" ++ spaces 64) ∙ ap (λ (t : List ℕ). codes "redo" ++ t) (take-replicate some 64 32 within)
+
+-- and the spaces of one that is
+pub begun_parts : (count some : ℕ) → some ≤ count → (codes "redo" ++ spaces some) ++ spaces (count - some) ≡ codes "redo" ++ spaces count
+begun_parts count some within = append_assoc (codes "redo") (spaces some) (spaces (count - some)) ∙ ap (λ (t : List ℕ). codes "redo" ++ t) (replicate-append-replicate some (count - some) 32 ∙ ap spaces (omega arith))
 
 -- some of the spaces that are left
 pub some_spaces : (count left some : ℕ) → left ≤ count → some ≤ left → spaces (count - left) ++ spaces some ≡ spaces (count - (left - some))

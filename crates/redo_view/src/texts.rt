@@ -10,6 +10,9 @@ use itoa::Buffer;
 use redo_line::{Broken, How, Sink, TargetName, push_all};
 use redo_logs::EntryRef;
 
+// What redo lines begin with, up to a depth of 31.
+const INDENT: &[u8] = b"redo                                                                ";
+
 // As many spaces are written at once.
 const SPACES: &[u8] = &[b' '; 4096];
 
@@ -54,7 +57,7 @@ pub fn write_mention<W: Sink>(
     ensures { Writes (W.tells out.old) (W.tells out.new) (redo_line depth (name.now ++ remark how)) result }
 {
     begin_line(depth, name.bytes(), out)?;
-    end_line(remark_of(how), out)
+    push_all(out, ended_remark(how))
 }
 
 /// Writes the line of a target.
@@ -66,15 +69,16 @@ pub fn write_target<W: Sink>(depth: usize, name: &TargetName, out: &mut W) -> Re
     end_line(name.bytes(), out)
 }
 
-fn remark_of(how: How) -> &'static [u8]
-    ensures { result.now ≡ remark how }
+// What stands behind the name in a mention's line, up to its end.
+fn ended_remark(how: How) -> &'static [u8]
+    ensures { result.now ≡ with_line_feed (remark how) }
 {
     match how {
-        How::Made => b"",
-        How::Waiting => b" (WAITING)",
-        How::Locked => b" (locked...)",
-        How::Unlocked => b" (...unlocked!)",
-        How::Unchanged => b" (unchanged)",
+        How::Made => b"\n",
+        How::Waiting => b" (WAITING)\n",
+        How::Locked => b" (locked...)\n",
+        How::Unlocked => b" (...unlocked!)\n",
+        How::Unchanged => b" (unchanged)\n",
     }
 }
 
@@ -111,7 +115,7 @@ fn end_exit<W: Sink>(status: i32, out: &mut W) -> Result<(), Broken>
     let mut buffer = Buffer::new();
     push_all(out, b" (exit ")?;
     push_all(out, buffer.format(status).as_bytes())?;
-    end_line(b")", out)
+    push_all(out, b")\n")
 }
 
 fn write_note<W: Sink>(depth: usize, kind: &[u8], text: &[u8], out: &mut W) -> Result<(), Broken>
@@ -138,7 +142,7 @@ fn write_check<W: Sink>(depth: usize, text: &[u8], out: &mut W) -> Result<(), Br
 {
     begin_line(depth, b"(", out)?;
     push_all(out, text)?;
-    end_line(b")", out)
+    push_all(out, b")\n")
 }
 
 // Writes the beginning of a redo line.
@@ -162,8 +166,10 @@ fn write_indent<W: Sink>(depth: usize, out: &mut W) -> Result<(), Broken>
     requires { depth < 2 ^ 60 }
     ensures { Writes (W.tells out.old) (W.tells out.new) (indent depth) result }
 {
-    push_all(out, b"redo")?;
-    write_spaces(2 + 2 * depth, out)
+    let count = 2 + 2 * depth;
+    let some = count.min(64);
+    push_all(out, &INDENT[..4 + some])?;
+    write_spaces(count - some, out)
 }
 
 fn write_spaces<W: Sink>(count: usize, out: &mut W) -> Result<(), Broken>

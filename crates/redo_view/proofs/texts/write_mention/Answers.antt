@@ -21,4 +21,4 @@ returns g c =
     let begun = indent c.args.depth in
     at_last told (redo_line c.args.depth (name ++ remark c.args.how)) middle _ (begun ++ name) (with_line_feed (remark c.args.how)) _
     (subst (λ (n : List ℕ). middle ≡ adds told (begun ++ n) 0) c.bytes.ensures.bytes c.in_ok-begin_line.ensures)
-    (subst (λ (r : List ℕ). Writes middle (g.W.Sink.tells c.end_line.new.out) (with_line_feed r) c.end_line.result) c.remark_of.ensures c.end_line.ensures) (line_parts begun name (remark c.args.how))
+    (subst (λ (r : List ℕ). Writes middle (g.W.Sink.tells c.push_all.new.out) r c.push_all.result) c.ended_remark.ensures c.push_all.ensures) (line_parts begun name (remark c.args.how))
