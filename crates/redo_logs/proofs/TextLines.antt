@@ -1,5 +1,5 @@
 -- Texts that stand one behind the other, each with a line feed.
-use Rattle.std.proofs.Common.{◌≡◌, ℕ, zero, suc, ◌+◌, ◌-◌, ◌≤◌, ◌<◌, List, [], ◌∷◌, ◌++◌, Option, None, Some, inl, inr, length, map, take, drop, get_or, slice_get, slice_range, refl, sym, ap, ◌∙◌, subst, arith}
+use Rattle.std.proofs.Common.{◌≡◌, ℕ, zero, suc, ◌+◌, ◌-◌, ◌≤◌, ◌<◌, List, [], ◌∷◌, ◌++◌, Option, None, Some, inl, inr, length, take, drop, get_or, slice_get, slice_range, refl, sym, ap, ◌∙◌, subst, arith}
 use Rattle.std.specs.Prelude.{option_and_then}
 use Rattle.std.specs.List.{AllByRecursion, flat_map}
 use Rattle.std.specs.Option.{option_map}
@@ -9,7 +9,6 @@ use Rattle.std.proofs.lemmas.List.Folds.{drop_split}
 use Rattle.std.proofs.lemmas.Option.{get_or_from_slice_get, none-some, same_Some, slice_get-map, slice_get_cases, slice_get_within}
 use Rattle.std.proofs.Math.Seq.{take-append-add}
 use Rattle.redo_line.specs.Lines.{line_feed, with_line_feed}
-use Rattle.redo_line.specs.declared.entry.Entry.{Entry}
 use Rattle.redo_line.specs.declared.entry.Entry.TheVariants as entry
 use Rattle.redo_logs.specs.declared.kept.NoteAt.{NoteAt}
 use Rattle.redo_logs.specs.declared.kept.Record.{Record}
@@ -18,7 +17,7 @@ use Rattle.redo_logs.specs.declared.log_table.Log.{Log as Stored}
 use Rattle.redo_logs.specs.Logs.{Log, entry_at}
 use Rattle.redo_logs.specs.Numbering.{AreLinesAt, AreTexts, HasText}
 use Rattle.redo_logs.specs.Private.Kept.{AreLinesOf, IsTextRecord, Parts, SeenAsTexts, Within, note_seen, seen}
-use Rattle.redo_logs.specs.Private.Stored.{IsLogWithin, log_of, logs_of}
+use Rattle.redo_logs.specs.Private.Stored.{log_of, logs_of}
 
 -- ---- ranges
 
