@@ -6,8 +6,8 @@ use crate::Taken;
 use crate::scans::{MAX_BYTES, PIECE_BYTES};
 use crate::tables::{held, numbered_names, table_of};
 use redo_gather::gather_plain;
-use redo_given::{Cut, cut_into_reads, names_of};
-use redo_line::{Pieces, Taker, TargetName};
+use redo_given::{Counter, Cut, cut_into_reads, names_of};
+use redo_line::{Pieces, TargetName};
 use redo_logs::LogTable;
 use redo_view::{Options, view as write_text};
 use std::alloc::Global;
@@ -21,9 +21,6 @@ const WHOLE: Options = Options {
     details: true,
     debug_locks: false,
 };
-
-/// How many bytes a text may have.
-const TEXT_BYTES: usize = 64_000_000;
 
 fn readers(alloc: Global, streams: &[Vec<u8>]) -> Result<Vec<Pieces>, Fail> {
     let mut readers = Vec::new(alloc);
@@ -64,7 +61,7 @@ fn gather_readers(
     Ok(Taken { found, time })
 }
 
-/// Writes the text of the streams' logs into memory. They are gathered before the clock starts.
+/// Counts the bytes of the text of the streams' logs. They are gathered before the clock starts.
 pub fn view(rt: &(impl Clock + AllocGlobal), streams: &[Vec<u8>]) -> Result<Taken, Fail> {
     let table = logs_of(rt.alloc(), streams)?;
     let asked = numbered_names(rt.alloc(), 1)?;
@@ -87,7 +84,7 @@ fn view_time(
 ) -> Result<Duration, Fail>
     requires { list_all has_ended table.now ≡ true }
 {
-    let mut out = Taker::new(rt.alloc(), TEXT_BYTES, usize::MAX)?;
+    let mut out = Counter { bytes: 0 };
     let start = Instant::now(rt)?;
     write_text(rt.alloc(), table, &WHOLE, asked, &mut out)?;
     Ok(start.elapsed(rt)?)

@@ -1,30 +1,14 @@
 //! A chain of 1,000,000 logs, each of which mentions the target of the next, shown one inside the other.
-ghost use Rattle.std.specs.Prelude.{None};
-
 use crate::table::{add, end, enter_number, numbered};
 use crate::view::DEEP;
-use redo_line::{Broken, Entry, How, Sink};
+use redo_given::Counter;
+use redo_line::{Entry, How};
 use redo_logs::LogTable;
 use redo_view::view;
 use std::alloc::Global;
 use std::io;
 
 const LENGTH: u32 = 1_000_000;
-
-/// A writer that takes all bytes, and counts them.
-#[derive(Debug, Drop)]
-struct Counter {
-    bytes: u64,
-}
-
-impl Sink for Counter {
-    ghost tells = { λ _. None };
-
-    fn push(&mut self, bytes: &[u8]) -> Result<usize, Broken> {
-        self.bytes = self.bytes.saturating_add(bytes.len() as u64);
-        Ok(bytes.len())
-    }
-}
 
 /// Views the chain from its first log, and prints the answer and how many bytes were written.
 pub fn view_chain(rt: &impl Print, alloc: Global) -> io::Result<()> {
