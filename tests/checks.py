@@ -1,9 +1,11 @@
-"""What the tests of the built program share: where it is, and a count of what was as expected."""
+"""What the tests of the built programs share: where they are, and a count of what was as expected."""
 import os
 import sys
 
 TOP = os.path.dirname(os.path.dirname(os.path.abspath(__file__)))
 PROGRAM = os.path.join(TOP, "crates/redo_log/out/redo_log")
+# The program that makes single calls.
+CALLS = os.path.join(TOP, "crates/redo_log_calls/out/redo_log_calls")
 
 
 def contents(path):
@@ -22,7 +24,7 @@ class Checks:
             self.passed += 1
         else:
             self.failed += 1
-            print(f"{name}: {str(found)[:1500]}, not {str(wanted)[:1500]}")
+            print(f"{name}: {str(found)[:600]}, not {str(wanted)[:600]}")
 
     def end(self, name):
         """Prints the count and ends the process, with 1 if something was not as expected."""

@@ -1,7 +1,9 @@
-"""Compares a program with model.py. Usage: compare.py PROGRAM FIRST LAST
+"""Compares a program with model.py. Usage: compare.py PROGRAM GENERATOR FIRST LAST
 
-For each seed from FIRST to LAST, both included, a fresh directory gets a case of generate.py, PROGRAM runs in it, and
-status, standard output and standard error are compared byte for byte with the model's. (TMPDIR=/dev/shm makes it faster.)
+For each seed from FIRST to LAST, both included, a fresh directory gets a case of GENERATOR, which is `generate` or `storm`,
+PROGRAM runs in it, and status, standard output and standard error are compared byte for byte with the model's. In a storm
+each 200th seed is a log that grows while PROGRAM reads it; the answer has to be that of a front of it. (TMPDIR=/dev/shm
+makes it faster.)
 """
 
 import collections
@@ -14,10 +16,13 @@ import tempfile
 
 import generate
 import model
+import storm
 
 MOST_SECONDS = 20  # for one run
 MOST_PRINTED = 10
 NEEDED_STATUSES = [0, 2, 3, 4, 5, 24]
+STATUSES = [0, 2, 3, 4, 5, 6, 7, 24]
+GENERATORS = {"generate": generate, "storm": storm}
 
 
 def run(program, directory, words):
@@ -37,12 +42,45 @@ def same(expected, got):
     return got == expected
 
 
+def fronts_of(directory, words, path, more):
+    """The model's answers where the file has some of the bytes that are appended to it."""
+    with open(path, "rb") as file:
+        first = file.read()
+    answers = []
+    for end in range(len(more) + 1):
+        with open(path, "wb") as file:
+            file.write(first + more[:end])
+        answers.append(model.answer(directory, words))
+    with open(path, "wb") as file:
+        file.write(first)
+    return answers
+
+
+def compared_as_it_grows(program, seed, directory):
+    """Seed, words, the model's answer for a front of what was appended, and the program's."""
+    words, path, more = storm.growing(seed, directory)
+    answers = fronts_of(directory, words, path, more)
+    process = subprocess.Popen([os.fsencode(program)] + words, cwd=directory, stdout=subprocess.PIPE, stderr=subprocess.PIPE)
+    with open(path, "ab", buffering=0) as file:
+        for byte in more:
+            file.write(bytes([byte]))
+    try:
+        out, err = process.communicate(timeout=MOST_SECONDS)
+        got = process.returncode, out, err
+    except subprocess.TimeoutExpired:
+        process.kill()
+        got = "timeout", b"", b""
+    return seed, words, got if got in answers else answers[-1], got
+
+
 def compared(task):
     """Seed, words, the model's answer and the program's."""
-    program, seed = task
+    program, generator, seed = task
     directory = tempfile.mkdtemp(prefix="redo-log.")
     try:
-        words = generate.case(seed, directory)
+        if generator == "storm" and seed % 200 == 0:
+            return compared_as_it_grows(program, seed, directory)
+        words = GENERATORS[generator].case(seed, directory)
         expected = model.answer(directory, words)
         return seed, words, expected, run(program, directory, words)
     except Exception as error:
@@ -67,17 +105,28 @@ def show(title, answer):
     print(f"  {title} status {status}\n    stdout {'(the help text)' if out is None else out}\n    stderr {err}")
 
 
-def main(program, first, last):
+def kind_of(status):
+    """What is to be counted of a run's end, if it is none of the table's statuses."""
+    if status == "timeout":
+        return "hangs"
+    if status in STATUSES:
+        return None
+    return "signals" if status < 0 else "statuses outside the table"
+
+
+def main(program, generator, first, last):
     if os.path.exists(program):
         program = os.path.abspath(program)
     statuses = collections.Counter()
     plans = collections.Counter()
+    ends = collections.Counter()
     number, differ = 0, 0
     with multiprocessing.Pool(os.cpu_count()) as pool:
-        tasks = ((program, seed) for seed in range(first, last + 1))
+        tasks = ((program, generator, seed) for seed in range(first, last + 1))
         for seed, words, expected, got in pool.imap(compared, tasks, chunksize=8):
             number += 1
             statuses[expected[0]] += 1
+            ends[kind_of(got[0])] += 1
             if expected[0] in (0, 4, 5):
                 plans[number_behind(words, b"--senders"), number_behind(words, b"--capacity")] += 1
             if same(expected, got):
@@ -98,14 +147,15 @@ def main(program, first, last):
                 print("no case had {} senders and the capacity {}".format(*plan))
     least = min(plans[plan] for plan in wanted)
     print(f"each of {len(wanted)} numbers of senders and capacities at least {least} times")
-    print(f"differential: {number} directories, {differ} differ")
+    print(", ".join(f"{ends[kind]} {kind}" for kind in ("hangs", "signals", "statuses outside the table")))
+    print(f"{generator}, seeds {first} to {last}: {number} directories, {differ} differ")
     print("status " + "".join(f"{status:>8}" for status in sorted(statuses)))
     print("cases  " + "".join(f"{statuses[status]:>8}" for status in sorted(statuses)))
     return 1 if differ or missing else 0
 
 
 if __name__ == "__main__":
-    if len(sys.argv) != 4:
-        print("usage: compare.py PROGRAM FIRST LAST", file=sys.stderr)
+    if len(sys.argv) != 5 or sys.argv[2] not in GENERATORS:
+        print("usage: compare.py PROGRAM GENERATOR FIRST LAST", file=sys.stderr)
         sys.exit(2)
-    sys.exit(main(sys.argv[1], int(sys.argv[2]), int(sys.argv[3])))
+    sys.exit(main(sys.argv[1], sys.argv[2], int(sys.argv[3]), int(sys.argv[4])))

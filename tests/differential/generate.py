@@ -368,8 +368,8 @@ SENDERS = [b"1", b"2", b"3", b"4", b"5", b"6", b"7", b"8", b"64"]
 CAPACITIES = [b"1", b"2", b"3", b"64", b"65536"]
 
 
-def some_options(rng):
-    """The options but for --dir, as lists of words."""
+def some_options(rng, senders, capacities):
+    """The options but for --dir, as lists of words, with one of these numbers of senders and capacities."""
     options = []
     if rng.random() < 0.8:
         options.append([rng.choice([b"-r", b"--recursive"])])
@@ -380,9 +380,9 @@ def some_options(rng):
     if rng.random() < 0.35:
         options.append([b"--debug-locks"])
     if rng.random() < 0.9:
-        options.append([b"--senders", rng.choice(SENDERS)])
+        options.append([b"--senders", rng.choice(senders)])
     if rng.random() < 0.9:
-        options.append([b"--capacity", rng.choice(CAPACITIES)])
+        options.append([b"--capacity", rng.choice(capacities)])
     return options
 
 
@@ -467,7 +467,7 @@ def write(path, content):
             file.write(content)
 
 
-def case(seed: int, directory: str) -> list[bytes]:
+def case(seed: int, directory: str, senders: list[bytes] = SENDERS, capacities: list[bytes] = CAPACITIES) -> list[bytes]:
     rng = random.Random(seed)
     plan = rng.choice(PLANS)
     faults = [] if plan in ("none", "help") else [plan]
@@ -514,7 +514,7 @@ def case(seed: int, directory: str) -> list[bytes]:
     for name, content in files.items():
         write(os.path.join(base, name), content)
 
-    options = some_options(rng)
+    options = some_options(rng, senders, capacities)
     if place == b".":
         if rng.random() < 0.5:
             options.append([b"--dir", rng.choice([b".", b".", b"./", b"./.", b".//"])])
@@ -533,7 +533,7 @@ def case(seed: int, directory: str) -> list[bytes]:
         asked, behind = break_words(rng, options, asked)
     if plan == "help":
         # Only where each reading gives the help text: good words, and the targets behind it.
-        options = some_options(rng)
+        options = some_options(rng, senders, capacities)
         help_word = [rng.choice([b"-h", b"--help"])]
         return [word for option in options for word in option] + help_word + [w for w in asked if is_text(w) and not w.startswith(b"-")]
     return words_of(rng, options, asked, behind)

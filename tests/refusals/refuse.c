@@ -1,5 +1,12 @@
-/* Preloaded into a program: answers null to the request for memory whose number REFUSE_REQUEST
-   gives, counted from 1 over all threads, and to no other. It then writes one byte to the file descriptor 9. */
+/* Preloaded into a program: answers null to one request for memory, and to no other. It then writes one byte to the file
+   descriptor 9. The environment says which request that is:
+     REFUSE_REQUEST   its number, counted from 1 over all requests that count
+     REFUSE_THREAD    only the requests of this thread count; 0 is the first thread, and the others are counted as they
+                      are started. Without it those of all threads count
+     REFUSE_SIZE      only requests of so many bytes and more count */
+#define _GNU_SOURCE
+#include <dlfcn.h>
+#include <pthread.h>
 #include <stddef.h>
 #include <stdlib.h>
 #include <unistd.h>
@@ -8,10 +15,19 @@ void *__libc_malloc(size_t size);
 void *__libc_realloc(void *block, size_t size);
 
 static long requests;
+static long threads;
+static __thread long thread;
 
-static int is_refused(void) {
-    const char *number = getenv("REFUSE_REQUEST");
-    if (number == NULL || __atomic_add_fetch(&requests, 1, __ATOMIC_SEQ_CST) != atol(number)) {
+static long number_of(const char *name, long otherwise) {
+    const char *value = getenv(name);
+    return value == NULL ? otherwise : atol(value);
+}
+
+static int is_refused(size_t size) {
+    if (size < (size_t)number_of("REFUSE_SIZE", 0) || thread != number_of("REFUSE_THREAD", thread)) {
+        return 0;
+    }
+    if (__atomic_add_fetch(&requests, 1, __ATOMIC_SEQ_CST) != number_of("REFUSE_REQUEST", 0)) {
         return 0;
     }
     (void)!write(9, "r", 1);
@@ -19,9 +35,31 @@ static int is_refused(void) {
 }
 
 void *malloc(size_t size) {
-    return is_refused() ? NULL : __libc_malloc(size);
+    return is_refused(size) ? NULL : __libc_malloc(size);
 }
 
 void *realloc(void *block, size_t size) {
-    return is_refused() ? NULL : __libc_realloc(block, size);
+    return is_refused(size) ? NULL : __libc_realloc(block, size);
+}
+
+/* What a thread is started with: its number, and what it is to do. */
+struct start {
+    long number;
+    void *(*body)(void *);
+    void *given;
+};
+
+static void *started(void *given) {
+    struct start start = *(struct start *)given;
+    free(given);
+    thread = start.number;
+    return start.body(start.given);
+}
+
+typedef int start_thread(pthread_t *, const pthread_attr_t *, void *(*)(void *), void *);
+
+int pthread_create(pthread_t *id, const pthread_attr_t *how, void *(*body)(void *), void *given) {
+    struct start *start = __libc_malloc(sizeof *start);
+    *start = (struct start){__atomic_add_fetch(&threads, 1, __ATOMIC_SEQ_CST), body, given};
+    return ((start_thread *)dlsym(RTLD_NEXT, "pthread_create"))(id, how, started, start);
 }

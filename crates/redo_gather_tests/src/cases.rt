@@ -104,8 +104,11 @@ pub const LOGS: [Case; 6] = [
     ),
 ];
 
+/// A log that mentions its own target.
+const OF_ITSELF: [Given; 1] = [("a", "@@REDO:do:7:1.0000@@ a\nt\n")];
+
 /// Mentions are shown, and opened where `recursive` is set.
-pub const MENTIONS: [Case; 5] = [
+pub const MENTIONS: [Case; 7] = [
     (&BUILD, DEEP, &["all"], BUILD_TEXT),
     (
         &BUILD,
@@ -122,6 +125,8 @@ pub const MENTIONS: [Case; 5] = [
         &["a"],
         "redo  a\nredo    b\nt\n",
     ),
+    (&OF_ITSELF, DEEP, &["a"], "redo  a\nt\n"),
+    (&OF_ITSELF, DEEP_LOCKS, &["a"], "redo  a\nredo    a\nt\n"),
     (
         &[("d/a", "@@REDO:do:7:1.0000@@ ../e//x\n"), ("e/x", "q\n")],
         DEEP,

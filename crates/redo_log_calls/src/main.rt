@@ -6,6 +6,7 @@
 ghost use Rattle.std.specs.Prelude.{◌≤◌, ◌<◌, ◌^◌, length, IfSome};
 
 mod chain;
+mod command;
 mod gather;
 mod mailbox;
 mod send;
@@ -31,7 +32,10 @@ fn main(rt: HostRuntime) -> io::Result<ExitCode> {
         println!(rt; "no argument")?;
         return Ok(ExitCode::from(7));
     };
-    make(&rt, &calls)?;
+    match calls.as_str() {
+        "command_unflushed" => command::command_unflushed(&rt)?,
+        calls => make(&rt, calls)?,
+    }
     Ok(ExitCode::SUCCESS)
 }
 
@@ -51,6 +55,20 @@ fn make(
         "scan_of_input" => scan_of_input(rt),
         "step" => step(rt, rt.alloc()),
         "taker" => taker(rt, rt.alloc()),
+        _ => make_for_command(rt, calls),
+    }
+}
+
+/// Makes the calls of this name that the command is made of.
+fn make_for_command(
+    rt: &(impl Print + AllocGlobal + Threads + Wait + Sync),
+    calls: &str,
+) -> io::Result<()> {
+    match calls {
+        "fault_line" => command::fault_lines(rt, rt.alloc()),
+        "help_text" => command::help(rt, rt.alloc()),
+        "read_names" => command::names(rt, rt.alloc()),
+        "read_words" => command::words(rt, rt.alloc()),
         _ => make_with_logs(rt, calls),
     }
 }

@@ -5,9 +5,13 @@
 #[cfg(test)]
 mod captures;
 #[cfg(test)]
+mod failing;
+#[cfg(test)]
 mod faults;
 #[cfg(test)]
 mod index;
+#[cfg(test)]
+mod many;
 #[cfg(test)]
 mod names_file;
 #[cfg(test)]

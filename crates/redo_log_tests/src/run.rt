@@ -7,7 +7,7 @@ use redo_gather::{Free, Plan};
 use redo_gather_tests::cases::{ASKED, CHOSEN, Case, LOGS, MAX_BYTES, MENTIONS, PLAIN, STATUSES};
 use redo_gather_tests::gate::{Event, Hold, Holding};
 use redo_given::{Answer, Cut, Given, Script, cuts, whole};
-use redo_line::{StreamFault, Taker};
+use redo_line::{Sink, StreamFault, Taker};
 use redo_log_cli::{Failure, Index, RunFault, fault_line, read_index, run, status};
 use redo_view::Options;
 use std::alloc::{AllocError, Global};
@@ -19,21 +19,21 @@ use std::thread::Threads;
 
 /// What a run answered, and what the program would print of it and end with.
 #[derive(Debug, Drop, PartialEq, Eq)]
-struct Outcome {
-    answer: Result<(), RunFault>,
-    line: Vec<u8>,
-    status: u8,
+pub struct Outcome {
+    pub answer: Result<(), RunFault>,
+    pub line: Vec<u8>,
+    pub status: u8,
 }
 
 /// Runs with these readers.
-fn ran(
+pub fn ran(
     rt: &(impl AllocGlobal + Threads + Wait + Sync),
     given: &[Given<'_>],
     cut: Cut,
     plan: &Plan,
     options: &Options,
     asked: &[&str],
-    out: &mut Taker,
+    out: &mut impl Sink,
 ) -> Result<Outcome, Fail> {
     let alloc = rt.alloc();
     let (index, readers) = captured(alloc, given, cut)?;
@@ -77,7 +77,7 @@ fn words(alloc: Global, asked: &[&str]) -> Result<Vec<Vec<u8>>, AllocError> {
 }
 
 /// The text of a run, or its fault, the line of it and the status.
-type Want<'a> = Result<&'a str, (RunFault, &'a str, u8)>;
+pub type Want<'a> = Result<&'a str, (RunFault, &'a str, u8)>;
 
 /// Numbers of senders, and capacities.
 const PLANS: [(u32, u32); 6] = [(1, 1), (1, 64), (2, 1), (2, 64), (64, 1), (64, 64)];
@@ -103,7 +103,7 @@ fn expect_run(
     Ok(())
 }
 
-fn expect_planned(
+pub fn expect_planned(
     rt: &(impl Abort + AllocGlobal + Threads + Wait + Sync),
     given: &[Given<'_>],
     cut: Cut,
@@ -121,7 +121,7 @@ fn expect_planned(
 }
 
 /// What is wanted, and the text that is written.
-fn outcome_of<'a>(alloc: Global, want: Want<'a>) -> Result<(Outcome, &'a str), AllocError> {
+pub fn outcome_of<'a>(alloc: Global, want: Want<'a>) -> Result<(Outcome, &'a str), AllocError> {
     let (answer, line, status, text) = match want {
         Ok(text) => (Ok(()), "", 0, text),
         Err((fault, line, status)) => (Err(fault), line, status, ""),
@@ -174,7 +174,7 @@ const CLOSING: &str = "@@REDO:done:7:1.0000@@ 0 a\n";
 
 const CLOSING_AND_MORE: &str = "@@REDO:done:7:1.0000@@ 0 a\nz";
 
-fn stream<'a>(number: u32, fault: StreamFault, line: &'a str, status: u8) -> Want<'a> {
+pub fn stream<'a>(number: u32, fault: StreamFault, line: &'a str, status: u8) -> Want<'a> {
     Err((RunFault::Stream { number, fault }, line, status))
 }
 
@@ -185,7 +185,7 @@ fn unknown<'a>(place: usize, line: &'a str) -> Want<'a> {
 /// Two streams, and the number of the one that is told, its fault, the line and the status.
 type AtFault = ([Given<'static>; 2], u32, StreamFault, &'static str, u8);
 
-const AT_FAULT: [AtFault; 6] = [
+const AT_FAULT: [AtFault; 7] = [
     (
         [("all", "ok\n@@REDO:do:7\n", false), ("b", "", false)],
         0,
@@ -219,6 +219,13 @@ const AT_FAULT: [AtFault; 6] = [
         0,
         StreamFault::BadRecord { line: 1 },
         "redo-log: a: line 1: bad record\n",
+        4,
+    ),
+    (
+        [("all", "@@REDO:do:7\nok\n", false), ("b", "", false)],
+        0,
+        StreamFault::BadRecord { line: 1 },
+        "redo-log: all: line 1: bad record\n",
         4,
     ),
     (
@@ -352,39 +359,6 @@ fn a_word_is_a_name_relative_to_the_base(rt: HostRuntime) -> Result<(), Fail> {
         expect_run(&rt, &given, 1000, &PLAIN, asked, Ok(text))?;
     }
     Ok(())
-}
-
-/// What a run of one stream ends with, where the writer has so much room and takes so many bytes at
-/// once, and what was written.
-fn expect_hello(
-    rt: &(impl Abort + AllocGlobal + Threads + Wait + Sync),
-    room: usize,
-    per_call: usize,
-    want: Want<'_>,
-    text: &[u8],
-) -> Result<(), Fail> {
-    let alloc = rt.alloc();
-    let given = [("all", "hello\n", false)];
-    let plan = Plan::new(4, 64, 1000)?;
-    let mut out = Taker::new(alloc, room, per_call)?;
-    let cut = Cut::InReadsOf(1);
-    let ran = ran(rt, &given, cut, &plan, &PLAIN, &["all"], &mut out)?;
-    let (outcome, _) = outcome_of(alloc, want)?;
-    expect_outcome(rt, &ran, &outcome, out.bytes(), text);
-    Ok(())
-}
-
-const CANNOT_WRITE: Want<'static> = Err((RunFault::Write, "redo-log: cannot write\n", 6));
-
-#[test]
-fn a_writer_that_fails_ends_a_run(rt: HostRuntime) -> Result<(), Fail> {
-    let text = "redo  all\nhello\n";
-    let bytes = text.as_bytes();
-    for room in 0..bytes.len() {
-        expect_hello(&rt, room, 1000, CANNOT_WRITE, &bytes[..room])?;
-    }
-    expect_hello(&rt, bytes.len(), 3, Ok(text), bytes)?;
-    expect_hello(&rt, bytes.len(), 0, CANNOT_WRITE, b"")
 }
 
 // Each stream's second line is read only once the other's first one was taken.

@@ -1,0 +1,123 @@
+//! The calls that the command is made of, and the command with a writer whose flush fails.
+use redo_line::{Pieces, StreamFault};
+use redo_log_cli::{
+    Failure, RunFault, command, fault_line, help_text, read_index, read_names, read_words,
+};
+use std::alloc::{AllocError, Global};
+use std::io;
+use std::io::Write;
+use std::rt::Files;
+use std::sync::Wait;
+use std::thread::Threads;
+
+/// Words, as a job.
+pub fn words(rt: &impl Print, alloc: Global) -> io::Result<()> {
+    let Ok(words) = strings(alloc, &["--dir", "d", "-r", "--senders", "2", "all", "x"]) else {
+        return println!(rt; "no memory for the words");
+    };
+    match read_words(alloc, words) {
+        Ok(job) => println!(rt; "read_words: {} {:?}", job.dir(), job.targets()),
+        Err(fault) => println!(rt; "read_words: {fault:?}"),
+    }
+}
+
+fn strings(alloc: Global, words: &[&str]) -> Result<Vec<String>, AllocError> {
+    let mut strings = Vec::new(alloc);
+    for word in words {
+        strings.push(format!(in alloc; "{word}")?)?;
+    }
+    Ok(strings)
+}
+
+/// The help text.
+pub fn help(rt: &impl Print, alloc: Global) -> io::Result<()> {
+    match help_text(alloc) {
+        Ok(text) => print!(rt; "{text}"),
+        Err(_) => println!(rt; "help_text: no memory"),
+    }
+}
+
+/// The bytes of the file `names`, in two reads.
+pub fn names(rt: &impl Print, alloc: Global) -> io::Result<()> {
+    let Ok(mut reader) = two_reads(alloc) else {
+        return println!(rt; "no memory for the reads");
+    };
+    match read_names(alloc, &mut reader) {
+        Ok(bytes) => println!(rt; "read_names: {bytes:?}"),
+        Err(failure) => println!(rt; "read_names: {failure:?}"),
+    }
+}
+
+fn two_reads(alloc: Global) -> Result<Pieces, AllocError> {
+    let mut reads = Vec::new(alloc);
+    for read in [b"1 a".as_slice(), b"ll\n".as_slice()] {
+        reads.push(read.to_vec(alloc)?)?;
+    }
+    Ok(Pieces::new(reads, false))
+}
+
+/// The line of a stream's fault, and that of an unknown word.
+pub fn fault_lines(rt: &impl Print, alloc: Global) -> io::Result<()> {
+    let (Ok(index), Ok(word)) = (
+        read_index(alloc, b"7 d/a\n1 b\n".as_slice()),
+        b"nope".to_vec(alloc),
+    ) else {
+        return println!(rt; "no memory for the index and the word");
+    };
+    if index.len() < 2 {
+        return println!(rt; "a short index");
+    }
+    let fault = StreamFault::BadRecord { line: 20 };
+    let of_stream = RunFault::Stream { number: 1, fault };
+    tell_line(rt, fault_line(alloc, &Failure::Run(of_stream), &index, &[]))?;
+    let of_word = RunFault::Unknown { place: 0 };
+    tell_line(
+        rt,
+        fault_line(alloc, &Failure::Run(of_word), &index, &[word]),
+    )
+}
+
+fn tell_line(rt: &impl Print, line: Result<Vec<u8>, AllocError>) -> io::Result<()> {
+    match line {
+        Ok(line) => println!(rt; "fault_line: {line:?}"),
+        Err(_) => println!(rt; "fault_line: no memory"),
+    }
+}
+
+/// A writer that takes all bytes, and whose flush fails.
+#[derive(Drop)]
+struct Unflushed {
+    bytes: Vec<u8>,
+}
+
+impl Write for Unflushed {
+    fn write(&mut self, buf: &[u8]) -> io::Result<usize> {
+        self.bytes.extend_from_slice(buf)?;
+        Ok(buf.len())
+    }
+
+    fn flush(&mut self) -> io::Result<()> {
+        Err(io::Error::from(io::ErrorKind::Other))
+    }
+}
+
+/// The command for the targets `x` and `all` of the directory that this runs in, with writers whose
+/// flush fails.
+pub fn command_unflushed(
+    rt: &(impl Print + Files<File: Send> + Threads + Wait + Sync + AllocGlobal),
+) -> io::Result<()> {
+    let alloc = rt.alloc();
+    let Ok(words) = strings(alloc, &["x", "all"]) else {
+        return println!(rt; "no memory for the words");
+    };
+    let mut out = Unflushed {
+        bytes: Vec::new(alloc),
+    };
+    let mut err = Unflushed {
+        bytes: Vec::new(alloc),
+    };
+    let status = command(rt, words, &mut out, &mut err);
+    println!(rt; "command: {status}")?;
+    println!(rt; "bytes: {:?}", out.bytes)?;
+    println!(rt; "line: {:?}", err.bytes)
+}

@@ -1,0 +1,146 @@
+//! Runs whose writer fails, at each byte and in each call, and runs whose readers fail, at each read.
+ghost use Rattle.std.specs.Prelude.{None};
+
+use crate::run::{Want, expect_planned, outcome_of, ran, stream};
+use redo_gather::Plan;
+use redo_gather_tests::cases::{BUILD, BUILD_TEXT, DEEP, MAX_BYTES};
+use redo_given::{Cut, whole};
+use redo_line::{Broken, Sink, StreamFault, Taker};
+use redo_log_cli::RunFault;
+use std::process::Abort;
+use std::sync::Wait;
+use std::test::Fail;
+use std::thread::Threads;
+
+const CANNOT_WRITE: Want<'static> = Err((RunFault::Write, "redo-log: cannot write\n", 6));
+
+/// The text of the build goes to a writer with so much room.
+fn expect_room(
+    rt: &(impl Abort + AllocGlobal + Threads + Wait + Sync),
+    room: usize,
+    per_call: usize,
+    want: Want<'_>,
+    text: &[u8],
+) -> Result<(), Fail> {
+    let alloc = rt.alloc();
+    let mut out = Taker::new(alloc, room, per_call)?;
+    expect_build(rt, want, &mut out)?;
+    assert_eq!(rt; out.bytes(), text, "{room}");
+    Ok(())
+}
+
+/// This is answered where the text of the build goes to a writer.
+fn expect_build(
+    rt: &(impl Abort + AllocGlobal + Threads + Wait + Sync),
+    want: Want<'_>,
+    out: &mut impl Sink,
+) -> Result<(), Fail> {
+    let alloc = rt.alloc();
+    let given = whole(alloc, &BUILD)?;
+    let plan = Plan::new(4, 64, MAX_BYTES)?;
+    let ran = ran(rt, &given, Cut::InReadsOf(1), &plan, &DEEP, &["all"], out)?;
+    let (outcome, _) = outcome_of(alloc, want)?;
+    assert_eq!(rt; ran, outcome);
+    Ok(())
+}
+
+#[test]
+fn a_writer_that_is_full_ends_a_run(rt: HostRuntime) -> Result<(), Fail> {
+    let text = BUILD_TEXT.as_bytes();
+    assert_eq!(rt; text.len(), 70);
+    for room in 0..text.len() {
+        expect_room(&rt, room, 1000, CANNOT_WRITE, &text[..room])?;
+    }
+    expect_room(&rt, text.len(), 3, Ok(BUILD_TEXT), text)?;
+    expect_room(&rt, text.len(), 0, CANNOT_WRITE, b"")
+}
+
+/// A writer that takes one byte in each call but one, which fails.
+#[derive(Drop)]
+struct FailingOnce {
+    taken: Vec<u8>,
+    fails_at: usize,
+    calls: usize,
+}
+
+impl Sink for FailingOnce {
+    ghost tells = { λ _. None };
+
+    fn push(&mut self, bytes: &[u8]) -> Result<usize, Broken> {
+        self.calls = self.calls.saturating_add(1);
+        if self.calls == self.fails_at {
+            return Err(Broken);
+        }
+        let Some(byte) = bytes.first() else {
+            return Ok(0);
+        };
+        match self.taken.push(*byte) {
+            Ok(()) => Ok(1),
+            Err(_) => Err(Broken),
+        }
+    }
+}
+
+/// The text of the build goes to a writer that fails in this call and in no other.
+fn expect_failing_once(
+    rt: &(impl Abort + AllocGlobal + Threads + Wait + Sync),
+    fails_at: usize,
+    want: Want<'_>,
+    text: &[u8],
+    calls: usize,
+) -> Result<(), Fail> {
+    let mut out = FailingOnce {
+        taken: Vec::new(rt.alloc()),
+        fails_at,
+        calls: 0,
+    };
+    expect_build(rt, want, &mut out)?;
+    assert_eq!(rt; out.taken.as_slice(), text, "{fails_at}");
+    assert_eq!(rt; out.calls, calls, "{fails_at}");
+    Ok(())
+}
+
+#[test]
+fn nothing_is_written_behind_a_failed_write(rt: HostRuntime) -> Result<(), Fail> {
+    let text = BUILD_TEXT.as_bytes();
+    for before in 0..text.len() {
+        let call = before.saturating_add(1);
+        expect_failing_once(&rt, call, CANNOT_WRITE, &text[..before], call)?;
+    }
+    let more = text.len().saturating_add(1);
+    expect_failing_once(&rt, more, Ok(BUILD_TEXT), text, text.len())
+}
+
+/// Some streams of the build fail behind so many bytes, read one by one, and nothing is written.
+fn expect_failed_reads(
+    rt: &(impl Abort + AllocGlobal + Threads + Wait + Sync),
+    behind: [Option<usize>; 3],
+    want: Want<'_>,
+) -> Result<(), Fail> {
+    let mut given = Vec::new(rt.alloc());
+    for ((name, stream), bytes) in BUILD.iter().zip(behind) {
+        let front = bytes.and_then(|bytes| stream.get(..bytes));
+        given.push((*name, front.unwrap_or(stream), bytes.is_some()))?;
+    }
+    for senders in [1, 2, 64] {
+        let plan = Plan::new(senders, 1, MAX_BYTES)?;
+        expect_planned(rt, &given, Cut::InReadsOf(1), &plan, &DEEP, &["all"], want)?;
+    }
+    Ok(())
+}
+
+#[test]
+fn each_failed_read_is_told_and_nothing_written(rt: HostRuntime) -> Result<(), Fail> {
+    let [(_, all), _, (_, last)] = BUILD;
+    assert_eq!(rt; (all.len(), last.len()), (113, 5));
+    let told = stream(0, StreamFault::Read, "redo-log: all: cannot be read\n", 5);
+    for bytes in 0..114 {
+        expect_failed_reads(&rt, [Some(bytes), None, None], told)?;
+    }
+    let told = stream(2, StreamFault::Read, "redo-log: b.o: cannot be read\n", 5);
+    for bytes in 0..6 {
+        expect_failed_reads(&rt, [None, None, Some(bytes)], told)?;
+    }
+    let told = stream(1, StreamFault::Read, "redo-log: a.o: cannot be read\n", 5);
+    expect_failed_reads(&rt, [None, Some(0), Some(0)], told)
+}

@@ -1,0 +1,82 @@
+//! Runs of many logs: each of them at fault, and each mentioning the next.
+use crate::run::{expect_planned, ran, stream};
+use redo_gather::Plan;
+use redo_gather_tests::cases::{DEEP, MAX_BYTES, PLAIN};
+use redo_given::Cut;
+use redo_line::{StreamFault, Taker};
+use std::alloc::{AllocError, Global};
+use std::process::Abort;
+use std::test::Fail;
+
+/// Names of four digits, in order.
+fn numbers(alloc: Global, count: usize) -> Result<Vec<String>, AllocError> {
+    let mut names = Vec::new(alloc);
+    for number in 1000..count.saturating_add(1000) {
+        names.push(format!(in alloc; "{number}")?)?;
+    }
+    Ok(names)
+}
+
+#[test]
+fn the_first_of_many_bad_logs_is_told(rt: HostRuntime) -> Result<(), Fail> {
+    let names = numbers(rt.alloc(), 64)?;
+    let mut given = Vec::new(rt.alloc());
+    for name in &names {
+        given.push((name.as_str(), "@@REDO:\n", false))?;
+    }
+    let fault = StreamFault::BadRecord { line: 1 };
+    let told = stream(0, fault, "redo-log: 1000: line 1: bad record\n", 4);
+    let plan = Plan::new(64, 1, MAX_BYTES)?;
+    for cut in [Cut::InReadsOf(1), Cut::InReadsOf(1000)] {
+        expect_planned(&rt, &given, cut, &plan, &PLAIN, &["1063"], told)?;
+    }
+    Ok(())
+}
+
+/// Streams of which each mentions the target of the next, and the last has a line.
+fn chain(alloc: Global, names: &[String]) -> Result<Vec<String>, AllocError> {
+    let mut streams = Vec::new(alloc);
+    for name in names.iter().skip(1) {
+        streams.push(format!(in alloc; "@@REDO:do:1:1@@ {name}\n")?)?;
+    }
+    streams.push(format!(in alloc; "end\n")?)?;
+    Ok(streams)
+}
+
+/// The end of the chain's text, behind the spaces of its last log's line.
+const LAST: &str = "3999\nend\n";
+
+#[test]
+fn a_chain_of_logs_is_shown_to_its_end(rt: HostRuntime) -> Result<(), Fail> {
+    let alloc = rt.alloc();
+    let names = numbers(alloc, 3000)?;
+    let streams = chain(alloc, &names)?;
+    let mut given = Vec::new(alloc);
+    for (name, stream) in names.iter().zip(streams.iter()) {
+        given.push((name.as_str(), stream.as_str(), false))?;
+    }
+    let plan = Plan::new(4, 64, MAX_BYTES)?;
+    let mut out = Taker::new(alloc, 10_000_000, 10_000_000)?;
+    let ran = ran(
+        &rt,
+        &given,
+        Cut::InReadsOf(1000),
+        &plan,
+        &DEEP,
+        &["1000"],
+        &mut out,
+    )?;
+    assert_eq!(rt; ran.status, 0);
+    expect_end_of_chain(&rt, out.bytes());
+    Ok(())
+}
+
+// The line of the last of 3,000 logs has 6,000 spaces, and its log has one line.
+fn expect_end_of_chain(rt: &impl Abort, text: &[u8]) {
+    assert_eq!(rt; text.len(), 9_030_004);
+    let (front, end) = text.split_at(text.len().saturating_sub(LAST.len()));
+    assert_eq!(rt; end, LAST.as_bytes());
+    let (front, spaces) = front.split_at(front.len().saturating_sub(6000));
+    assert!(rt; spaces.iter().all(|byte| *byte == b' '));
+    assert!(rt; front.ends_with(b"\nredo"));
+}
