@@ -18,6 +18,9 @@ const READ_BYTES: usize = 64 * 1024;
 // How many entries an item may have.
 const MOST_ENTRIES: usize = 1024;
 
+// An item has no entry more behind the one with which its texts and names come to so many bytes.
+const ENOUGH_BYTES: usize = 128 * 1024;
+
 /// The streams of one sender, in order: each has its number, the target of its log, and its reader.
 pub type Share<R> = Vec<(u32, TargetName, R)>;
 
@@ -26,7 +29,8 @@ pub type Share<R> = Vec<(u32, TargetName, R)>;
 /// goes on with the next one; or, where there was no memory, some of the first entries and that.
 ///
 /// It has posted every entry that the bytes so far complete before it reads again, in as few items as
-/// have at most 1,024 entries each. It waits where the mailbox is full, and the gate is told before each
+/// have at most 1,024 entries each, and none behind the one with which the texts and names of an item come to
+/// 131,072 bytes. It waits where the mailbox is full, and the gate is told before each
 /// read. It posts again what is handed back, so without a mailbox's other end it goes on for ever.
 pub fn send<T: Wait, R: Feed, G: Gate>(
     rt: &T,
@@ -159,7 +163,8 @@ fn send_piece<T: Wait>(
     Ok(())
 }
 
-// Reads on in a piece, until a run is as long as an item may be. Answers the place that it came to.
+// Reads on in a piece, until a run is as long as an item may be, or has enough bytes. Answers the place that it
+// came to.
 fn read_run(
     run: &mut Vec<Entry>,
     scan: &mut Scan,
@@ -179,12 +184,14 @@ fn read_run(
     ensures reads_nothing { IfErr result (λ fault. fault ≢ Read) }
 {
     let mut upto = from;
-    'lines: while run.len() < MOST_ENTRIES {
+    let mut bytes = 0;
+    'lines: while run.len() < MOST_ENTRIES && bytes < ENOUGH_BYTES {
         match scan.step(piece, upto)? {
             Step::Found {
                 entry,
                 upto: behind,
             } => {
+                bytes = bytes_of(&entry).saturating_add(bytes);
                 run.push(entry)?;
                 upto = behind;
             }
@@ -192,6 +199,16 @@ fn read_run(
         }
     }
     Ok(upto)
+}
+
+// How many bytes the texts and the name of an entry have.
+fn bytes_of(entry: &Entry) -> usize {
+    match entry {
+        Entry::Text(line) => line.bytes().len(),
+        Entry::Mention { name, .. } | Entry::Done { name, .. } => name.bytes().len(),
+        Entry::Closing { .. } => 0,
+        Entry::Note { kind, text } => kind.bytes().len().saturating_add(text.bytes().len()),
+    }
 }
 
 // Posts entries as one item.

@@ -111,23 +111,49 @@ fn a_sender_posts_what_a_reading_completes(rt: HostRuntime) -> Result<(), Fail> 
     Ok(())
 }
 
+/// How many entries the items have that a sender posts of a stream in such reads.
+fn counts_of(
+    rt: &(impl AllocGlobal + Threads + Wait + Sync),
+    name: &str,
+    stream: &str,
+    cut: Cut,
+) -> Result<Vec<usize>, Fail> {
+    let first = share(rt.alloc(), 5, &[(name, stream, false)], cut)?;
+    let second = share(rt.alloc(), 9, &[NOTHING], Cut::InReadsOf(1))?;
+    let mut counts = Vec::new(rt.alloc());
+    for item in &sent(rt, first, second, 1, &Free)? {
+        if item.sender == 0 {
+            counts.push(entries_in(item))?;
+        }
+    }
+    Ok(counts)
+}
+
 #[test]
 fn an_item_has_at_most_1024_entries(rt: HostRuntime) -> Result<(), Fail> {
     let mut stream = String::new(rt.alloc());
     for _ in 0..2049 {
         stream.push_str("x\n")?;
     }
-    let given = [("a", stream.as_str(), false)];
-    let first = share(rt.alloc(), 5, &given, Cut::InReadsOf(5000))?;
-    let second = share(rt.alloc(), 9, &[NOTHING], Cut::InReadsOf(1))?;
-    let taken = sent(&rt, first, second, 1, &Free)?;
-    let mut counts = Vec::new(rt.alloc());
-    for item in &taken {
-        if item.sender == 0 {
-            counts.push(entries_in(item))?;
-        }
-    }
+    let counts = counts_of(&rt, "a", &stream, Cut::InReadsOf(5000))?;
     assert_eq!(rt; counts.as_slice(), [1024, 1024, 1, 0].as_slice());
+    Ok(())
+}
+
+// Names are as long as the directory of the log's target, and with three of them an item has bytes enough.
+#[test]
+fn an_item_has_no_entry_behind_131072_bytes(rt: HostRuntime) -> Result<(), Fail> {
+    let mut name = String::new(rt.alloc());
+    for _ in 0..30_000 {
+        name.push_str("d/")?;
+    }
+    name.push_str("a")?;
+    let mut stream = String::new(rt.alloc());
+    for _ in 0..7 {
+        stream.push_str("@@REDO:do:1:1@@ b\n")?;
+    }
+    let counts = counts_of(&rt, &name, &stream, Cut::InReadsOf(5000))?;
+    assert_eq!(rt; counts.as_slice(), [3, 3, 1, 0].as_slice());
     Ok(())
 }
 
