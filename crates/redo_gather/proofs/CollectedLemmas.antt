@@ -10,7 +10,7 @@ use Rattle.redo_line.specs.Feed.{Stream}
 use Rattle.redo_line.proofs.GaveLemmas.{weaker}
 use Rattle.redo_logs.specs.declared.log_state.LogState.{LogState}
 use Rattle.redo_logs.specs.declared.log_state.LogState.TheVariants.{Ended, Failed, Running}
-use Rattle.redo_logs.specs.Logs.{Log, changed, new_log}
+use Rattle.redo_logs.specs.Logs.{Log, changed, new_log, with_entries}
 use Rattle.redo_wire.specs.declared.item.Item.{Item}
 use Rattle.redo_wire.specs.declared.item.What.{What}
 use Rattle.redo_wire.specs.declared.item.What.TheVariants.{End, Fail, Line, Lines}
@@ -20,7 +20,7 @@ use Rattle.redo_gather.specs.declared.collecting.Collector.{Collector}
 use Rattle.redo_gather.specs.Owed.{Given, IsWhole}
 use Rattle.redo_gather.specs.Private.Collecting.{AllTaken, Holds, IsNoWant, NoneWants, Owes, changed_by, step, stored}
 use Rattle.redo_gather.specs.Private.Dealing.{share_from}
-use Rattle.redo_gather.specs.Private.Storing.{state_after, with_entries}
+use Rattle.redo_gather.specs.Private.Storing.{state_after}
 use Rattle.redo_gather.specs.Sending.{AreOwed, item_of, line_of, singles, singles_in}
 use Rattle.redo_gather.proofs.InterleavingLemmas.{interleaved, length-stored, none-on, none_in_told, on, ran_told, run, stored-append}
 use Rattle.redo_gather.proofs.OwedLemmas.{is_whole}
@@ -72,10 +72,10 @@ stored_lines sender stream (entry ∷ entries) table =
 stored_one : (sender stream : ℕ) (what : What) (table : List Log) → stored (singles_in sender stream what) table ≡ changed stream (step what) table
 stored_one sender stream (Line entry) table = refl
 stored_one sender stream (Lines entries) table =
-    stored_lines sender stream entries.items table ∙ changed-same stream _ (step (Lines entries)) (λ log. by log.target log.entries log.state) table
+    stored_lines sender stream entries table ∙ changed-same stream _ (step (Lines entries)) (λ log. by log.target log.entries log.state) table
   where
     by : (target : List ℕ) (so_far : List Entry) (state : LogState)
-        → with_lines state entries.items (record { target = target; entries = so_far; state = state }) ≡ changed_by state (Lines entries) (record { target = target; entries = so_far; state = state })
+        → with_lines state entries (record { target = target; entries = so_far; state = state }) ≡ changed_by state (Lines entries) (record { target = target; entries = so_far; state = state })
     by target so_far Running = refl
     by target so_far Ended = refl
     by target so_far (Failed fault) = refl
@@ -88,7 +88,7 @@ none_lines sender stream (entry ∷ entries) = ((λ is. absurd (cc)), none_lines
 
 none_one : (sender stream : ℕ) (what : What) → what ≢ Fail OutOfMemory → NoneWants (singles_in sender stream what)
 none_one sender stream (Line entry) had = ((λ is. absurd (cc)), tt)
-none_one sender stream (Lines entries) had = none_lines sender stream entries.items
+none_one sender stream (Lines entries) had = none_lines sender stream entries
 none_one sender stream End had = ((λ is. absurd (cc)), tt)
 none_one sender stream (Fail fault) had = (had, tt)
 
@@ -124,7 +124,7 @@ of-lines false sender number stream (entry ∷ entries) is =
 of-single : (own : Bool) (sender number stream : ℕ) (what : What) → nat_eq number sender ≡ own → of sender (singles_in number stream what) ≡ cond own (singles_in number stream what) []
 of-single true sender number stream (Line entry) is = of-lines true sender number stream (entry ∷ []) is
 of-single false sender number stream (Line entry) is = of-lines false sender number stream (entry ∷ []) is
-of-single own sender number stream (Lines entries) is = of-lines own sender number stream entries.items is
+of-single own sender number stream (Lines entries) is = of-lines own sender number stream entries is
 of-single true sender number stream End is = ap (λ b. cond b (item_of number stream End ∷ []) []) is
 of-single false sender number stream End is = ap (λ b. cond b (item_of number stream End ∷ []) []) is
 of-single true sender number stream (Fail fault) is = ap (λ b. cond b (item_of number stream (Fail fault) ∷ []) []) is
@@ -157,7 +157,7 @@ below_lines senders sender stream (entry ∷ entries) below = (below, below_line
 
 below_single : (senders sender stream : ℕ) (what : What) → sender < senders → AllByRecursion (λ (item : Item). item.sender < senders) (singles_in sender stream what)
 below_single senders sender stream (Line entry) below = (below, tt)
-below_single senders sender stream (Lines entries) below = below_lines senders sender stream entries.items below
+below_single senders sender stream (Lines entries) below = below_lines senders sender stream entries below
 below_single senders sender stream End below = (below, tt)
 below_single senders sender stream (Fail fault) below = (below, tt)
 

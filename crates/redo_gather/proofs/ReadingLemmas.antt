@@ -1,5 +1,5 @@
 -- What a loop over the reads of one stream has of it.
-use Rattle.std.proofs.Common.{◌≡◌, ◌≢◌, inl, inr, ℕ, ◌+◌, ◌-◌, ◌<◌, ◌≤◌, Bool, true, false, List, [], ◌∷◌, ◌++◌, Option, None, Some, IfSome, Ok, Err, length, take, drop, option_to_list, filter_map, refl, sym, ap, ◌∙◌, subst, arith}
+use Rattle.std.proofs.Common.{◌≡◌, ◌≢◌, inl, inr, ℕ, ◌+◌, ◌-◌, ◌<◌, ◌≤◌, Bool, true, false, List, [], ◌∷◌, ◌++◌, Option, None, Some, IfSome, IfNone, Ok, Err, length, take, drop, option_to_list, filter_map, refl, sym, ap, ◌∙◌, subst, arith}
 use Rattle.std.specs.List.{slice_range}
 use Rattle.std.proofs.lemmas.List.{append_assoc, append-nil, take-append-drop}
 use Rattle.std.proofs.Math.Seq.{take-add}
@@ -10,9 +10,7 @@ use Rattle.redo_line.specs.declared.stream_fault.StreamFault.TheVariants.{Read, 
 use Rattle.redo_line.specs.Feed.{Stream, Pulls}
 use Rattle.redo_line.specs.Laws.{IsFront}
 use Rattle.redo_line.specs.Log.{stream_of, entries_of, fault_of, log_of, part_of, unless_fault}
-use Rattle.redo_line.specs.declared.scan.Step.{Step}
-use Rattle.redo_line.specs.declared.scan.Step.TheVariants.{Found, More}
-use Rattle.redo_line.specs.Scan.{Scanned, Finds, IfMore, IsFine, MayRefuse, TakesAll, entries_in, entries_so_far, fault_so_far, so_far, took}
+use Rattle.redo_line.specs.Scan.{Scanned, Finds, IsFine, MayRefuse, TakesAll, entries_in, entries_so_far, fault_so_far, so_far, took}
 use Rattle.redo_line.proofs.FaultLemmas.{early_fault, early_part, failed_read, failed_part, no_fault}
 use Rattle.redo_line.proofs.GaveLemmas.{Gave, Gave-none, Gave-more, Gave-end, Gave-failed, weaker}
 use Rattle.redo_line.proofs.LogLemmas.{entries_lead_part, entries_lead_log}
@@ -34,10 +32,10 @@ none_read told scan entries no_byte read = record { gave = subst (λ b. Gave tol
 
 -- ---- one piece
 
--- a step that found nothing
-pub if_more : (step : Step) (P : Type 0) → ((entry : Entry) (upto : ℕ) → step ≡ Found entry upto → ⊥) → IfMore step P → P
-if_more (Found entry upto) P none more = absurd (none entry upto refl)
-if_more More P none more = more
+-- where nothing was found
+pub if_none : {A : Type 0} (found : Option A) (P : Type 0) → ((x : A) → found ≡ Some x → ⊥) → IfNone found P → P
+if_none (Some x) P none more = absurd (none x refl)
+if_none None P none more = more
 
 fine_then : (old new : Scanned) (bytes : List ℕ) → new ≡ took bytes old → fault_so_far old.target old.max_bytes (old.bytes ++ bytes) ≡ None → IsFine new
 fine_then old new bytes is fine = subst IsFine (sym is) (record { refused_none = refl; no_fault = fine })

@@ -20,7 +20,7 @@ line_of sender stream entry = item_of sender stream (Line entry)
 
 abbrev pub singles_in : ℕ → ℕ → What → List Item
 singles_in sender stream (Line entry) = line_of sender stream entry ∷ []
-singles_in sender stream (Lines entries) = map (line_of sender stream) entries.items
+singles_in sender stream (Lines entries) = map (line_of sender stream) entries
 singles_in sender stream End = item_of sender stream End ∷ []
 singles_in sender stream (Fail fault) = item_of sender stream (Fail fault) ∷ []
 
@@ -62,7 +62,7 @@ most_entries = 1024
 
 abbrev pub IsFilled : What → Type 0
 IsFilled (Line entry) = ⊤
-IsFilled (Lines entries) = (2 ≤ length entries.items) × (length entries.items ≤ most_entries)
+IsFilled (Lines entries) = (2 ≤ length entries) × (length entries ≤ most_entries)
 IsFilled End = ⊤
 IsFilled (Fail fault) = ⊤
 

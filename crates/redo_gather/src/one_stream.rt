@@ -5,14 +5,14 @@ ghost use Rattle.redo_line.specs.Scan.{so_far, took};
 ghost use Rattle.redo_gather.specs.Owed.{IsOwedFor};
 ghost use Rattle.redo_gather.specs.Private.Reading.{IsRead, IsRefused, fault_in};
 
-use redo_line::{Broken, Entry, Feed, Scan, Step, StreamFault, TargetName};
+use redo_line::{Broken, Entries, Feed, Scan, StreamFault, TargetName};
 use std::alloc::Global;
 
 /// What was read of a stream: the entries of its log and no fault, or those before its fault and the
 /// fault. Where there was no memory, it has some of the first entries and that for its fault.
 #[derive(Debug, Drop)]
 pub struct StreamLog {
-    pub entries: Vec<Entry>,
+    pub entries: Entries,
     pub fault: Option<StreamFault>,
 }
 
@@ -30,10 +30,10 @@ pub fn read_stream<R: Feed, B: Fn(u64)>(
     requires at_most { max_bytes ≤ 2 ^ 40 }
     requires room { 0 < length buf.old }
     requires callable { B.IsAlwaysCallable before_read.now }
-    ensures owed { IsOwedFor max_bytes (target, R.tells reader.old) result.entries.items result.fault }
+    ensures owed { IsOwedFor max_bytes (target, R.tells reader.old) result.entries result.fault }
     ensures buf { length buf.new ≡ length buf.old }
 {
-    let mut entries = Vec::new(alloc);
+    let mut entries = Entries::new(alloc);
     let scan = Scan::new(alloc, target, max_bytes);
     match read_entries(&mut entries, scan, reader, buf, before_read) {
         Ok(()) => StreamLog {
@@ -49,7 +49,7 @@ pub fn read_stream<R: Feed, B: Fn(u64)>(
 
 // Reads the entries of a stream, up to its end or its fault.
 fn read_entries<R: Feed, B: Fn(u64)>(
-    entries: &mut Vec<Entry>,
+    entries: &mut Entries,
     scan: Scan,
     reader: &mut R,
     buf: &mut [u8],
@@ -57,10 +57,10 @@ fn read_entries<R: Feed, B: Fn(u64)>(
 ) -> Result<(), StreamFault>
     requires at_most { scan.max_bytes ≤ 2 ^ 40 }
     requires begins { scan.bytes ≡ [] }
-    requires read { IsRead scan entries.old.items }
+    requires read { IsRead scan entries.old }
     requires room { 0 < length buf.old }
     requires callable { B.IsAlwaysCallable before_read.now }
-    ensures owed { IsOwedFor scan.max_bytes (scan.target, R.tells reader.old) entries.new.items (fault_in result) }
+    ensures owed { IsOwedFor scan.max_bytes (scan.target, R.tells reader.old) entries.new (fault_in result) }
     ensures buf { length buf.new ≡ length buf.old }
 {
     let mut scan = scan;
@@ -81,16 +81,15 @@ fn read_entries<R: Feed, B: Fn(u64)>(
 }
 
 // Reads the entries of the lines that end in a piece.
-fn read_piece(entries: &mut Vec<Entry>, scan: &mut Scan, piece: &[u8]) -> Result<(), StreamFault>
-    requires { IsRead scan.old entries.old.items }
+fn read_piece(entries: &mut Entries, scan: &mut Scan, piece: &[u8]) -> Result<(), StreamFault>
+    requires { IsRead scan.old entries.old }
     ensures took { OnOk result (scan.new ≡ took piece.now scan.old) }
-    ensures read { OnOk result (IsRead scan.new entries.new.items) }
-    ensures refused { IfErr result (IsRefused scan.old piece.now entries.new.items) }
+    ensures read { OnOk result (IsRead scan.new entries.new) }
+    ensures refused { IfErr result (IsRefused scan.old piece.now entries.new) }
     ensures reads_nothing { IfErr result (λ fault. fault ≢ Read) }
 {
     let mut from = 0;
-    'lines: while let Step::Found { entry, upto } = scan.step(piece, from)? {
-        entries.push(entry)?;
+    'lines: while let Some(upto) = scan.step_into(piece, from, entries)? {
         from = upto;
     }
     Ok(())

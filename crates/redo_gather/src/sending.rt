@@ -1,5 +1,5 @@
-ghost use Rattle.std.specs.Prelude.{◌≡◌, ◌≢◌, ◌<◌, ◌≤◌, ◌^◌, ◌++◌, [], IfOk, IfErr, length, map, List};
-ghost use Rattle.redo_line.specs.declared.stream_fault.StreamFault.TheVariants.{Read};
+ghost use Rattle.std.specs.Prelude.{◌≡◌, ◌≢◌, ◌<◌, ◌≤◌, ◌^◌, ◌++◌, [], IfOk, IfErr, OnOk, OnErr, length, map, List};
+ghost use Rattle.redo_line.specs.declared.stream_fault.StreamFault.TheVariants.{OutOfMemory, Read};
 ghost use Rattle.redo_line.specs.declared.entry.Entry.{Entry as Told};
 ghost use Rattle.redo_line.specs.Scan.{Scanned};
 ghost use Rattle.redo_gather.specs.Private.Posting.{AreLinesPosted, IsPosted, IsStreamPosted};
@@ -7,7 +7,7 @@ ghost use Rattle.redo_gather.specs.Private.Reading.{IsRead, IsReadTo, IsRefused,
 ghost use Rattle.redo_gather.specs.Sending.{HasPosted, HasSent, IsFilled, last_of, line_of, most_entries, numbered, singles_in};
 
 use crate::gate::Gate;
-use redo_line::{Broken, Entry, Feed, Scan, Step, StreamFault, TargetName};
+use redo_line::{Broken, Entries, Feed, Scan, StreamFault, TargetName};
 use redo_wire::{Item, PostEnd, What};
 use std::alloc::Global;
 use std::sync::Wait;
@@ -28,10 +28,10 @@ pub type Share<R> = Vec<(u32, TargetName, R)>;
 /// Of each stream it posts the entries of its log and an end; or those before its fault and the fault, and
 /// goes on with the next one; or, where there was no memory, some of the first entries and that.
 ///
-/// It has posted every entry that the bytes so far complete before it reads again, in as few items as
-/// have at most 1,024 entries each, and none behind the one with which the texts and names of an item come to
-/// 131,072 bytes. It waits where the mailbox is full, and the gate is told before each
-/// read. It posts again what is handed back, so without a mailbox's other end it goes on for ever.
+/// It has posted every entry that the bytes so far complete before it reads again, in as few items as have at most
+/// 1,024 entries each, and none behind the one with which the texts and names of an item come to 131,072 bytes. It
+/// waits where the mailbox is full, and the gate is told before each read. It posts again what is handed back, so
+/// without a mailbox's other end it goes on for ever.
 pub fn send<T: Wait, R: Feed, G: Gate>(
     rt: &T,
     alloc: Global,
@@ -155,72 +155,70 @@ fn send_piece<T: Wait>(
 {
     let mut from = 0;
     'runs: while from < piece.len() {
-        let mut run = Vec::new(alloc);
+        let mut run = Entries::new(alloc);
         let answer = read_run(&mut run, scan, piece, from);
-        post_run(rt, end, stream, run);
+        post_run(rt, alloc, end, stream, run)?;
         from = answer?;
     }
     Ok(())
 }
 
-// Reads on in a piece, until a run is as long as an item may be, or has enough bytes. Answers the place that it
-// came to.
+// Reads on in a piece, until a run is as long as an item may be, or has enough bytes. Answers how far it came.
 fn read_run(
-    run: &mut Vec<Entry>,
+    run: &mut Entries,
     scan: &mut Scan,
     piece: &[u8],
     from: usize,
 ) -> Result<usize, StreamFault>
-    requires empty { run.old.items ≡ [] }
+    requires empty { run.old ≡ [] }
     requires place { from < length piece.now }
-    ensures room { length run.new.items ≤ most_entries }
+    ensures room { length run.new ≤ most_entries }
     ensures place { IfOk result (λ upto. (from < upto) × (upto ≤ length piece.now)) }
 
     // Of a piece that was taken up to the place, behind a scan's bytes and these entries.
     ensures read { (begun : Scanned) (first : List Told) → IsReadTo begun piece.now from scan.old first →
-        IfOk result (λ upto. IsReadTo begun piece.now upto scan.new (first ++ run.new.items)) }
+        IfOk result (λ upto. IsReadTo begun piece.now upto scan.new (first ++ run.new)) }
     ensures refused { (begun : Scanned) (first : List Told) → IsReadTo begun piece.now from scan.old first →
-        IfErr result (IsRefused begun piece.now (first ++ run.new.items)) }
+        IfErr result (IsRefused begun piece.now (first ++ run.new)) }
     ensures reads_nothing { IfErr result (λ fault. fault ≢ Read) }
 {
     let mut upto = from;
-    let mut bytes = 0;
-    'lines: while run.len() < MOST_ENTRIES && bytes < ENOUGH_BYTES {
-        match scan.step(piece, upto)? {
-            Step::Found {
-                entry,
-                upto: behind,
-            } => {
-                bytes = bytes_of(&entry).saturating_add(bytes);
-                run.push(entry)?;
-                upto = behind;
-            }
-            Step::More => return Ok(piece.len()),
+    'lines: loop {
+        match scan.step_into(piece, upto, run)? {
+            Some(behind) => upto = behind,
+            None => return Ok(piece.len()),
+        }
+        if run.len() == MOST_ENTRIES || bytes_of(run) >= ENOUGH_BYTES {
+            return Ok(upto);
         }
     }
-    Ok(upto)
 }
 
-// How many bytes the texts and the name of an entry have.
-fn bytes_of(entry: &Entry) -> usize {
-    match entry {
-        Entry::Text(line) => line.bytes().len(),
-        Entry::Mention { name, .. } | Entry::Done { name, .. } => name.bytes().len(),
-        Entry::Closing { .. } => 0,
-        Entry::Note { kind, text } => kind.bytes().len().saturating_add(text.bytes().len()),
-    }
+// How many bytes the texts and names of entries have.
+fn bytes_of(entries: &Entries) -> usize {
+    let layout = entries.layout();
+    layout.bytes.len().saturating_add(layout.names.len())
 }
 
-// Posts entries as one item.
-fn post_run<T: Wait>(rt: &T, end: &mut PostEnd, stream: u32, mut run: Vec<Entry>)
-    requires { length run.items ≤ most_entries }
-    ensures { HasPosted end.old end.new (map (line_of end.old.number stream) run.items) }
+// Posts entries as one item; a single one in memory of its own.
+fn post_run<T: Wait>(
+    rt: &T,
+    alloc: Global,
+    end: &mut PostEnd,
+    stream: u32,
+    run: Entries,
+) -> Result<(), StreamFault>
+    requires { length run ≤ most_entries }
+    ensures posted { OnOk result (HasPosted end.old end.new (map (line_of end.old.number stream) run)) }
+    ensures err { OnErr result (end.new ≡ end.old) }
+    ensures no_memory { IfErr result (λ fault. fault ≡ OutOfMemory) }
 {
-    if run.len() > 1 {
-        post(rt, end, stream, What::Lines(run));
-    } else if let Some(entry) = run.pop() {
-        post(rt, end, stream, What::Line(entry));
+    match run.len() {
+        0 => {}
+        1 => post(rt, end, stream, What::Line(run.into_entry(alloc)?)),
+        _ => post(rt, end, stream, What::Lines(run)),
     }
+    Ok(())
 }
 
 // Posts an item, again and again where it is handed back.

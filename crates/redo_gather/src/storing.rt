@@ -7,10 +7,10 @@ ghost use Rattle.redo_logs.specs.declared.log_state.LogState.TheVariants.{Runnin
 ghost use Rattle.redo_logs.specs.Logs.{changed, most, new_log, states_of};
 ghost use Rattle.redo_wire.specs.declared.item.What.TheVariants.{Fail};
 ghost use Rattle.redo_gather.specs.Private.Collecting.{step};
-ghost use Rattle.redo_gather.specs.Private.Storing.{completed, with_entries};
+ghost use Rattle.redo_gather.specs.Private.Storing.{completed};
 
 use crate::one_stream::StreamLog;
-use redo_line::{Entry, StreamFault, TargetName};
+use redo_line::{StreamFault, TargetName};
 use redo_logs::{LogState, LogTable, TableFault};
 use redo_wire::{Item, What};
 use std::alloc::{AllocError, Global};
@@ -36,14 +36,14 @@ pub fn enter_all(alloc: Global, names: Vec<TargetName>) -> Result<LogTable, Allo
 /// Adds what was read of a stream to its log, and ends it, or lets it fail. What was cut short is refused.
 pub fn store(table: &mut LogTable, number: u32, log: StreamLog) -> Result<(), AllocError>
     requires { slice_get (states_of table.old) number ≡ Some Running }
-    ensures stored { OnOk result (table.new ≡ changed number (completed log.entries.items log.fault) table.old) }
+    ensures stored { OnOk result (table.new ≡ changed number (completed log.entries log.fault) table.old) }
     ensures had_memory { OnOk result (log.fault ≢ Some OutOfMemory) }
 {
     if is_cut_short(&log) {
         return Err(AllocError);
     }
     let StreamLog { entries, fault } = log;
-    add_all(table, number, entries)?;
+    table.add_all(number, &entries)?;
     match fault {
         None => table.end(number),
         Some(fault) => table.fail(number, fault),
@@ -83,21 +83,9 @@ fn store_in(table: &mut LogTable, stream: u32, what: What) -> Result<(), AllocEr
 {
     match what {
         What::Line(entry) => table.add(stream, entry)?,
-        What::Lines(entries) => add_all(table, stream, entries)?,
+        What::Lines(entries) => table.add_all(stream, &entries)?,
         What::End => table.end(stream),
         What::Fail(fault) => table.fail(stream, fault),
-    }
-    Ok(())
-}
-
-// Adds entries to a log.
-fn add_all(table: &mut LogTable, stream: u32, entries: Vec<Entry>) -> Result<(), AllocError>
-    requires { slice_get (states_of table.old) stream ≡ Some Running }
-    ensures states { OnOk result (states_of table.new ≡ states_of table.old) }
-    ensures added { OnOk result (table.new ≡ changed stream (with_entries entries.items) table.old) }
-{
-    for entry in entries {
-        table.add(stream, entry)?;
     }
     Ok(())
 }

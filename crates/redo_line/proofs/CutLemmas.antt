@@ -38,25 +38,17 @@ free_before bytes n nowhere =
 pub upto_feed : (bytes : List ℕ) (at : ℕ) → at < length bytes → Passes (is_byte line_feed) bytes at → take (at + 1) bytes ≡ take at bytes ++ line_feed ∷ []
 upto_feed bytes at below passes = take_more bytes at 0 below ∙ ap (λ (b : ℕ). take at bytes ++ b ∷ []) (eqb-true (get_or bytes at 0) line_feed passes)
 
--- what a cutter takes of a piece, from a place on, where a line feed is left in it
-pub line_at : (before line piece left : List ℕ) (from at : ℕ) → left ≡ drop from piece
-    → NoneBefore (Passes (is_byte line_feed) left) 0 (length left) at × Passes (is_byte line_feed) left at
-    → line ≡ before ++ take at left → Cuts before (slice_range piece from (from + at + 1)) (line ∷ []) []
-line_at before line piece left from at is found line_is taken kept =
-    let count : from + at + 1 - from ≡ at + 1 = omega arith in
-    let part : slice_range piece from (from + at + 1) ≡ take at left ++ line_feed ∷ [] =
-    ap (λ n. take n (drop from piece)) count ∙ ap (take (at + 1)) (sym is) ∙ upto_feed left at found.0.high found.1 in
-    rw (part, line_is) (cuts_line before (take at left) (free_before left at found.0.before) taken kept)
+-- what a cutter takes of a piece in which a line feed stands
+pub line_in : (before line piece : List ℕ) (at : ℕ) → NoneBefore (Passes (is_byte line_feed) piece) 0 (length piece) at × Passes (is_byte line_feed) piece at
+    → line ≡ before ++ take at piece → Cuts before (take (at + 1) piece) (line ∷ []) []
+line_in before line piece at found line_is taken kept =
+    rw (upto_feed piece at found.0.high found.1, line_is) (cuts_line before (take at piece) (free_before piece at found.0.before) taken kept)
 
--- and where none is left
-pub none_from : (before after piece left : List ℕ) (from : ℕ) → left ≡ drop from piece
-    → Nowhere (Passes (is_byte line_feed) left) 0 (length left) → after ≡ before ++ left → Cuts before (drop from piece) [] after
-none_from before after piece left from is nowhere after_is taken kept =
-    let free = subst HasNoLineFeed (take_all (length left) left (le_refl (length left))) (free_before left (length left) nowhere) in
-    rw (← is, after_is) (cuts_none before left free taken kept)
+-- and where none does
+pub none_in : (before after piece : List ℕ) → Nowhere (Passes (is_byte line_feed) piece) 0 (length piece) → after ≡ before ++ piece → Cuts before piece [] after
+none_in before after piece nowhere after_is taken kept =
+    let free = subst HasNoLineFeed (take_all (length piece) piece (le_refl (length piece))) (free_before piece (length piece) nowhere) in
+    rw after_is (cuts_none before piece free taken kept)
 
-pub no_feed : (piece left : List ℕ) (from : ℕ) → left ≡ drop from piece
-    → Nowhere (Passes (is_byte line_feed) left) 0 (length left) → Contains (drop from piece) line_feed → ⊥
-no_feed piece left from is nowhere there =
-    let here : Contains left line_feed = subst (λ xs. Contains xs line_feed) (sym is) there in
-    nowhere here.0 zero-le here.1 (eq-eqb (get_or left here.0 0) line_feed (get_or_default left here.0 0 line_feed here.1 ∙ here.2))
+pub no_feed : (piece : List ℕ) → Nowhere (Passes (is_byte line_feed) piece) 0 (length piece) → Contains piece line_feed → ⊥
+no_feed piece nowhere here = nowhere here.0 zero-le here.1 (eq-eqb (get_or piece here.0 0) line_feed (get_or_default piece here.0 0 line_feed here.1 ∙ here.2))

@@ -1,6 +1,7 @@
 pub mod CutLemmas
 mod DigitLemmas
 mod DirectoryLemmas
+pub mod EntriesLemmas
 mod EntryLemmas
 mod EntryListLemmas
 pub mod FaultLemmas

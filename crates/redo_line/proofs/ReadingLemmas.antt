@@ -15,7 +15,7 @@ use Rattle.redo_line.specs.declared.name.NameFault.TheVariants as name
 use Rattle.redo_line.specs.declared.record.Kind.{Kind}
 use Rattle.redo_line.specs.Entry.{behind_mark, line_entry, done, done_parted, said, record_entry, entry_of}
 use Rattle.redo_line.specs.Line.{bad_name}
-use Rattle.redo_line.specs.Private.Line.{Reads}
+use Rattle.redo_line.specs.Private.Line.{IsRefused, ReadsInto}
 use Rattle.redo_line.specs.Private.Record.{kind_and_text}
 use Rattle.redo_line.specs.Names.{normal}
 use Rattle.redo_line.specs.Record.{mark, colon, at_sign, space, Fields, kind_of, fields_of, status_of}
@@ -37,12 +37,14 @@ with make target [] some none = some refl
 with make target (byte ∷ bytes) some none = absurd (cc)
 
 -- a name that can't be resolved
-pub bad_name_read : (make : List ℕ → Entry) (target written : List ℕ) (fault : NameFault) (result : Result Entry LineFault)
-    → (◌≡◌ {A = Result (List ℕ) NameFault} (Err fault) (Err name.Empty) ↔ (written ≡ [])) → IsErr result × IsErrAnd result (λ given. given ≡ bad_name fault) → Reads result (of_name make target written)
-bad_name_read make target written fault (Ok entry) empty is = absurd is.1
-bad_name_read make target written name.Empty (Err given) empty is = subst (λ g. Reads (Err g) (of_name make target written)) (sym is.1) (without make target written (empty.0 refl))
-bad_name_read make target written name.OutOfMemory (Err given) empty is =
-    subst (λ g. Reads (Err g) (of_name make target written)) (sym is.1) (with make target written (λ none. let e = empty.1 none in absurd (cc)))
+pub refused_name : (make : List ℕ → Entry) (target written : List ℕ) (fault : NameFault) → (◌≡◌ {A = Result (Unit {0}) NameFault} (Err fault) (Err name.Empty) ↔ (written ≡ [])) → IsRefused (bad_name fault) (of_name make target written)
+refused_name make target written name.Empty empty = without make target written (empty.0 refl)
+refused_name make target written name.OutOfMemory empty = with make target written (λ none. let e = empty.1 none in absurd (cc))
+
+-- what was refused is told, and nothing was put behind the entries
+pub refused_into : (result : Result Bool LineFault) (given : LineFault) (read : Option Entry) (old new : List Entry) → IsErr result × IsErrAnd result (λ fault. fault ≡ given) → IsRefused given read → new ≡ old → ReadsInto result read old new
+refused_into (Ok closing) given read old new told refused same = absurd told.1
+refused_into (Err fault) given read old new told refused same = (subst (λ f. IsRefused f read) (sym told.1) refused, same)
 
 pub named_read : (make : List ℕ → Entry) (target written mentioned : List ℕ) → normal (Some target) written ≡ Some mentioned → of_name make target written ≡ Some (make mentioned)
 named_read make target written mentioned is = rw is refl
@@ -120,9 +122,8 @@ end_is line text ends =
     ap (λ n. drop n line) count ∙ ap (drop (length ends.0)) ends.1 ∙ drop-append_seam ends.0 text
 
 -- no memory for what there is
-pub no_memory_read : (result : Result Entry LineFault) (entry : Entry) → IsErr result × IsErrAnd result (λ given. given ≡ OutOfMemory) → Reads result (Some entry)
-no_memory_read (Ok read) entry is = absurd is.1
-no_memory_read (Err given) entry is = subst (λ g. Reads (Err g) (Some entry)) (sym is.1) (λ none. none-some entry (sym none))
+pub no_memory : (read : Option Entry) (entry : Entry) → read ≡ Some entry → IsRefused OutOfMemory read
+no_memory read entry is none = none-some entry (sym none ∙ is)
 
 -- a line that need not be a record
 begins_not : (line : List ℕ) (ended : Bool) → (ended && pointwise nat_eq mark (take 7 line)) ≡ false → behind_mark line ended ≡ None

@@ -4,24 +4,15 @@ use Rattle.std.specs.List.{slice_range}
 use Rattle.std.proofs.lemmas.List.{append-nil, length-take, take_all, take-append-le, take-append-drop}
 use Rattle.std.proofs.Math.Seq.{take-nil}
 use Rattle.std.proofs.lemmas.Option.{same_Some}
-use Rattle.redo_line.specs.declared.cutter.Cut.{Cut}
-use Rattle.redo_line.specs.declared.cutter.Cut.TheVariants.{Line, More}
 use Rattle.redo_line.specs.declared.entry.Entry.{Entry}
 use Rattle.redo_line.specs.declared.stream_fault.StreamFault.{StreamFault}
 use Rattle.redo_line.specs.declared.stream_fault.StreamFault.TheVariants.{BadRecord, AfterClose, TooLong, OutOfMemory}
-use Rattle.redo_line.specs.Cut.{Cuts, IfLine, IfMore}
+use Rattle.redo_line.specs.Cut.{Cuts}
 use Rattle.redo_line.specs.Entry.{entry_of}
 use Rattle.redo_line.specs.Lines.{ended, rest}
 use Rattle.redo_line.specs.Log.{closes}
 use Rattle.redo_line.specs.Private.Progress.{Progress, IsAfter, Finds, TakesAll, Refuses, byte_fault, first_byte_fault}
 use Rattle.redo_line.proofs.ScanLemmas.{late_refuses, bad_refuses, after_line, ends_line, long_refuses, after_rest, ends_none}
-
--- what is known of a cutter's answer
-pub of_line : (cut : Cut) (bytes : List ℕ) (upto : ℕ) (P : List ℕ → ℕ → Type 0) → cut ≡ Line bytes upto → IfLine cut P → P bytes upto
-of_line cut bytes upto P is known = subst (λ c. IfLine c P) is known
-
-pub of_more : (cut : Cut) (P : Type 0) → cut ≡ More → IfMore cut P → P
-of_more cut P is known = subst (λ c. IfMore c P) is known
 
 -- a fault that is handed on
 pub handed_on : {X : Type 0} (result : Result X StreamFault) (given : StreamFault) (P : StreamFault → Type 0) → IsErrAnd result (λ fault. fault ≡ given) → P given → IfErr result P
@@ -91,17 +82,13 @@ module _ (now p : Progress) (same : p ≡ now) (u : List ℕ) (after_now : IsAft
         by (byte ∷ bytes) (suc room) true some room_is closed_is = absurd (let told = sym (first_is byte bytes (suc room) true some room_is closed_is) ∙ is in cc)
         by (byte ∷ bytes) (suc room) false some room_is closed_is = inl closed_is
 
-    module _ (line : List ℕ) (upto : ℕ) (place : (0 < upto) × (upto ≤ length a)) (cut : Cuts p.kept (slice_range a 0 upto) (line ∷ []) []) where
+    module _ (line : List ℕ) (upto : ℕ) (place : (0 < upto) × (upto ≤ length a)) (cut : Cuts p.kept (take upto a) (line ∷ []) []) where
       slice_is : slice_range piece from (from + upto) ≡ take upto a
       slice_is =
           let count : from + upto - from ≡ upto = omega arith in
           let behind = drop (p.max_bytes - p.taken) left in
           let parts : left ≡ a ++ behind = sym (take-append-drop (p.max_bytes - p.taken) left) ∙ ap (λ (b : List ℕ). b ++ behind) (sym a_is) in
           ap (λ n. take n (drop from piece)) count ∙ ap (take upto) (sym left_is ∙ parts) ∙ take-append-le upto a behind place.1
-
-      -- the same cut
-      cut_front : Cuts p.kept (take upto a) (line ∷ []) []
-      cut_front = let count : upto - 0 ≡ upto = omega arith in subst (λ n. Cuts p.kept (take n a) (line ∷ []) []) count cut
 
       open_log : p.closed ≡ false
       open_log = by open_or_none
@@ -112,15 +99,15 @@ module _ (now p : Progress) (same : p ≡ now) (u : List ℕ) (after_now : IsAft
 
       pub refuses_bad : entry_of p.target line true ≡ None → Refuses now u (drop from piece) (BadRecord (p.lines + 1))
       refuses_bad none =
-          refuses (BadRecord (p.lines + 1)) (bad_refuses p u after left a a_is (take upto a) (drop upto a) line cut_front (sym (take-append-drop upto a)) open_log none)
+          refuses (BadRecord (p.lines + 1)) (bad_refuses p u after left a a_is (take upto a) (drop upto a) line cut (sym (take-append-drop upto a)) open_log none)
 
       pub line_found : (entry : Entry) (kept : List ℕ) (closed : Bool) → entry_of p.target line true ≡ Some entry → kept ≡ [] → closed ≡ closes (Some entry)
           → Finds now (record { target = p.target; max_bytes = p.max_bytes; kept = kept; taken = p.taken + upto; lines = p.lines + 1; closed = closed }) u (slice_range piece from (from + upto)) entry
       line_found entry kept closed entry_is none closed_is =
           let size : length (take upto a) ≡ upto = let few = length-take upto a in let within = place.1 in omega (arith, few, within) in
           let parts = sym (take-append-drop upto a) in
-          let behind = after_line p u after left a a_is (take upto a) (drop upto a) line cut_front parts open_log entry entry_is kept (p.taken + upto) closed none (ap (λ n. p.taken + n) (sym size)) closed_is in
-          let ends = ends_line p u after left a a_is (take upto a) (drop upto a) line cut_front parts open_log entry entry_is in
+          let behind = after_line p u after left a a_is (take upto a) (drop upto a) line cut parts open_log entry entry_is kept (p.taken + upto) closed none (ap (λ n. p.taken + n) (sym size)) closed_is in
+          let ends = ends_line p u after left a a_is (take upto a) (drop upto a) line cut parts open_log entry entry_is in
           let then : Progress = record { target = p.target; max_bytes = p.max_bytes; kept = kept; taken = p.taken + upto; lines = p.lines + 1; closed = closed } in
           let finds : Finds p then u (take upto a) entry = record { after = behind; ends = ends } in
           subst (λ (s : List ℕ). Finds now then u s entry) (sym slice_is) (subst (λ (q : Progress). Finds q then u (take upto a) entry) same finds)

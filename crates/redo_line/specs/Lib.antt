@@ -1,5 +1,6 @@
 pub mod Cut
 pub mod Decimal
+pub mod Entries
 pub mod Entry
 pub mod Fault
 pub mod Feed

@@ -72,6 +72,12 @@ refused_with fault scan = record { target = scan.target; max_bytes = scan.max_by
 abbrev pub Finds : Scanned → Scanned → List ℕ → Entry → Type 0
 Finds old new bytes entry = (new ≡ took bytes old) × EndsLine old.target old.max_bytes old.bytes bytes entry
 
+-- ..which was put behind others
+pub record FindsMore (old new : Scanned) (bytes : List ℕ) (first all : List Entry) : Type 0 where
+  pub entry : Entry
+  pub finds : Finds old new bytes entry
+  pub put : all ≡ first ++ entry ∷ []
+
 -- these bytes were taken: no line ends in them, and no entry comes
 abbrev pub TakesAll : Scanned → Scanned → List ℕ → Type 0
 TakesAll old new bytes = (new ≡ took bytes old) × EndsNone old.target old.max_bytes old.bytes bytes

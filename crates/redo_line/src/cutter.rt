@@ -1,6 +1,7 @@
-ghost use Rattle.std.specs.Prelude.{◌≡◌, ◌<◌, ◌≤◌, ◌↔◌, [], ◌∷◌, ◌++◌, length, drop, slice_range, Contains, IsTrue, IfOk, OnErr};
+ghost use Rattle.std.specs.Prelude.{◌≡◌, ◌<◌, ◌≤◌, ◌↔◌, [], ◌∷◌, ◌++◌, length, take, drop, slice_range, Contains, IsTrue, IsSome, IfSome, IfNone, IfOk, OnErr};
 ghost use Rattle.redo_line.specs.Lines.{line_feed, unended};
 ghost use Rattle.redo_line.specs.Cut.{Cuts, IfLine, IfMore, is_line};
+ghost use Rattle.redo_line.specs.Private.CutLine.{IsWithin, line_bytes};
 
 use crate::line_text::LineText;
 use memchr::memchr;
@@ -15,6 +16,37 @@ pub enum Cut {
     Line { bytes: LineText, upto: usize },
     /// No line ends in the rest of the piece, all of which was kept.
     More,
+}
+
+// A line, without its line feed.
+#[derive(Debug, Drop)]
+pub enum Line<'a> {
+    // It lies within a piece.
+    Within(&'a [u8]),
+    // It was put together of several.
+    Joined(Vec<u8>),
+}
+
+impl<'a> Line<'a> {
+    pub fn bytes(&self) -> &[u8]
+        ensures { result.now ≡ line_bytes self.now }
+    {
+        match self {
+            Line::Within(bytes) => bytes,
+            Line::Joined(bytes) => bytes,
+        }
+    }
+
+    // Its bytes in memory of their own. Only one within a piece asks for that.
+    fn into_vec(self, alloc: Global) -> Result<Vec<u8>, AllocError>
+        ensures bytes { IfOk result (λ bytes. bytes.items ≡ line_bytes self.entry) }
+        ensures err { OnErr result (IsWithin self.entry) }
+    {
+        match self {
+            Line::Within(bytes) => bytes.to_vec(alloc),
+            Line::Joined(bytes) => Ok(bytes),
+        }
+    }
 }
 
 /// Cuts bytes that come in pieces into lines. A cutter is seen as what it keeps: the bytes that
@@ -64,33 +96,53 @@ impl Cutter {
         ensures more { IfOk result (λ cut. IfMore cut (Cuts self.old (drop from piece.now) [] self.new)) }
         ensures err { OnErr result (self.new ≡ self.old) }
     {
-        let left = &piece[from..];
-        match memchr(b'\n', left) {
+        match self.next_line(&piece[from..])? {
+            Some((line, upto)) => Ok(Cut::Line {
+                bytes: LineText::from_vec(line.into_vec(self.alloc)?),
+                upto: from + upto,
+            }),
+            None => Ok(Cut::More),
+        }
+    }
+
+    // Takes the bytes of a piece up to its first line feed, and answers the line and how many bytes these are; or all
+    // of the piece, where none is in it. A refusal changes nothing.
+    pub(crate) fn next_line<'a>(
+        &mut self,
+        piece: &'a [u8],
+    ) -> Result<Option<(Line<'a>, usize)>, AllocError>
+        ensures found { IfOk result (λ found. IsSome found ↔ Contains piece.now line_feed) }
+        ensures place { IfOk result (λ found. IfSome found (λ cut. (0 < cut.1) × (cut.1 ≤ length piece.now))) }
+        ensures line { IfOk result (λ found. IfSome found (λ cut. Cuts self.old (take cut.1 piece.now) (line_bytes cut.0 ∷ []) [])) }
+        ensures line_kept { IfOk result (λ found. IfSome found (λ _. self.new ≡ [])) }
+        ensures within { IfOk result (λ found. IfSome found (λ cut. IsWithin cut.0 → self.old ≡ [])) }
+        ensures more { IfOk result (λ found. IfNone found (Cuts self.old piece.now [] self.new)) }
+        ensures err { OnErr result (self.new ≡ self.old) }
+    {
+        match memchr(b'\n', piece) {
             Some(at) => {
-                let bytes = self.take_with(&left[..at])?;
-                Ok(Cut::Line {
-                    bytes: LineText::from_vec(bytes),
-                    upto: from + at + 1,
-                })
+                let line = self.take_with(&piece[..at])?;
+                Ok(Some((line, at + 1)))
             }
             None => {
-                self.kept.extend_from_slice(left)?;
-                Ok(Cut::More)
+                self.kept.extend_from_slice(piece)?;
+                Ok(None)
             }
         }
     }
 
-    // Takes what is kept, with these bytes behind it.
-    fn take_with(&mut self, bytes: &[u8]) -> Result<Vec<u8>, AllocError>
-        ensures items { IfOk result (λ line. line.items ≡ self.old ++ bytes.now) }
+    // The line that what is kept makes with these bytes behind it.
+    fn take_with<'a>(&mut self, bytes: &'a [u8]) -> Result<Line<'a>, AllocError>
+        ensures line { IfOk result (λ line. line_bytes line ≡ self.old ++ bytes.now) }
         ensures taken { IfOk result (λ _. self.new ≡ []) }
+        ensures within { IfOk result (λ line. IsWithin line → self.old ≡ []) }
         ensures err { OnErr result (self.new ≡ self.old) }
     {
         if self.kept.is_empty() {
-            return bytes.to_vec(self.alloc);
+            return Ok(Line::Within(bytes));
         }
         self.kept.extend_from_slice(bytes)?;
-        Ok(mem::replace(&mut self.kept, Vec::new(self.alloc)))
+        Ok(Line::Joined(mem::replace(&mut self.kept, Vec::new(self.alloc))))
     }
 
     /// The bytes after the last line feed, if there are any: the unended line.

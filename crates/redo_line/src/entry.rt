@@ -1,6 +1,3 @@
-ghost use Rattle.std.specs.Prelude.{◌≡◌, Some};
-ghost use Rattle.redo_line.specs.Log.{closes};
-
 use crate::line_text::LineText;
 use crate::name::TargetName;
 
@@ -32,16 +29,4 @@ pub enum Entry {
     Closing { status: i32 },
     /// A record of any other kind.
     Note { kind: LineText, text: LineText },
-}
-
-impl Entry {
-    // Whether nothing may stand behind it.
-    pub(crate) fn closes(&self) -> bool
-        ensures { result ≡ closes (Some self.now) }
-    {
-        match self {
-            Entry::Closing { .. } => true,
-            _ => false,
-        }
-    }
 }

@@ -10,6 +10,7 @@
 
 mod cutter;
 mod decimal;
+mod entries;
 mod entry;
 mod failures;
 mod feed;
@@ -32,6 +33,7 @@ mod writing;
 
 pub use cutter::{Cut, Cutter};
 pub use decimal::read_number;
+pub use entries::{Entries, EntryAt, Layout};
 pub use entry::{Entry, How};
 pub use feed::{Broken, Feed};
 pub use laws::{

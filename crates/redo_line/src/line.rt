@@ -4,13 +4,16 @@ ghost use Rattle.redo_line.specs.Parts.{parted};
 ghost use Rattle.redo_line.specs.Record.{mark, space};
 ghost use Rattle.redo_line.specs.Entry.{entry_of, behind_mark, done_parted};
 ghost use Rattle.redo_line.specs.Line.{bad_name};
-ghost use Rattle.redo_line.specs.Private.Line.{Reads};
+ghost use Rattle.redo_line.specs.Private.CutLine.{line_bytes};
+ghost use Rattle.redo_line.specs.Private.Line.{Reads, ReadsInto};
 ghost use Rattle.redo_line.specs.declared.entry.Entry.TheVariants.{Text};
 ghost use Rattle.redo_line.specs.declared.line.LineFault.TheVariants.{BadRecord, OutOfMemory};
 
+use crate::cutter::Line;
+use crate::entries::Entries;
 use crate::entry::Entry;
 use crate::line_text::LineText;
-use crate::name::{NameFault, TargetName};
+use crate::name::{NameFault, TargetName, resolve_to};
 use crate::parts::split_at_first;
 use crate::record::{Kind, kind_of, read_fields, read_status};
 use std::alloc::{AllocError, Global};
@@ -62,7 +65,7 @@ pub fn read_line(
     ensures text { behind_mark line ended ≡ None → result ≡ Ok (Text line) }
 {
     if is_candidate(line.bytes(), ended) {
-        read_record(alloc, target, line)
+        read_apart(alloc, target, line.bytes())
     } else {
         Ok(Entry::Text(line))
     }
@@ -75,32 +78,68 @@ fn is_candidate(line: &[u8], ended: bool) -> bool
     ended && line.starts_with(MARK)
 }
 
-fn read_record(alloc: Global, target: &TargetName, line: LineText) -> Result<Entry, LineFault>
-    requires { IsTrue (starts_with nat_eq line mark) }
-    ensures { Reads result (entry_of target.now line true) }
+// What a record says, in memory of its own.
+fn read_apart(alloc: Global, target: &TargetName, line: &[u8]) -> Result<Entry, LineFault>
+    requires { IsTrue (starts_with nat_eq line.now mark) }
+    ensures { Reads result (entry_of target.now line.now true) }
 {
-    let Some(fields) = read_fields(&line.bytes()[MARK.len()..]) else {
+    let mut read = Entries::new(alloc);
+    let mut path = Vec::new(alloc);
+    read_record(&mut read, &mut path, target, line)?;
+    let entry = read.into_entry(alloc)?;
+    Ok(entry)
+}
+
+/// Puts what an ended line says in the log of a target behind entries, and answers whether it closes the log. A
+/// refusal leaves them as they were. The path has room for a name.
+pub fn read_into(
+    entries: &mut Entries,
+    path: &mut Vec<u8>,
+    target: &TargetName,
+    line: Line<'_>,
+) -> Result<bool, LineFault>
+    ensures { ReadsInto result (entry_of target.now (line_bytes line.entry) true) entries.old entries.new }
+{
+    if is_candidate(line.bytes(), true) {
+        return read_record(entries, path, target, line.bytes());
+    }
+    entries.push_line(line)?;
+    Ok(false)
+}
+
+fn read_record(
+    entries: &mut Entries,
+    path: &mut Vec<u8>,
+    target: &TargetName,
+    line: &[u8],
+) -> Result<bool, LineFault>
+    requires { IsTrue (starts_with nat_eq line.now mark) }
+    ensures { ReadsInto result (entry_of target.now line.now true) entries.old entries.new }
+{
+    let Some(fields) = read_fields(&line[MARK.len()..]) else {
         return Err(LineFault::BadRecord);
     };
     match kind_of(fields.kind) {
         Kind::Mention(how) => {
-            let name = TargetName::resolve(alloc, Some(target), fields.text)?;
-            Ok(Entry::Mention { how, name })
+            resolve_to(path, Some(target), fields.text)?;
+            entries.push_mention(how, path)?;
+            Ok(false)
         }
-        Kind::Done => read_done(alloc, target, fields.text),
+        Kind::Done => read_done(entries, path, target, fields.text),
         Kind::Note => {
-            let kind = LineText::copy_of(alloc, fields.kind)?;
-            let text_from = line.bytes().len() - fields.text.len();
-            Ok(Entry::Note {
-                kind,
-                text: line.behind(text_from),
-            })
+            entries.push_note(fields.kind, fields.text)?;
+            Ok(false)
         }
     }
 }
 
-fn read_done(alloc: Global, target: &TargetName, text: &[u8]) -> Result<Entry, LineFault>
-    ensures { Reads result (done_parted target.now (parted space text.now)) }
+fn read_done(
+    entries: &mut Entries,
+    path: &mut Vec<u8>,
+    target: &TargetName,
+    text: &[u8],
+) -> Result<bool, LineFault>
+    ensures { ReadsInto result (done_parted target.now (parted space text.now)) entries.old entries.new }
 {
     let Some((status, name)) = split_at_first(b' ', text) else {
         return Err(LineFault::BadRecord);
@@ -108,10 +147,12 @@ fn read_done(alloc: Global, target: &TargetName, text: &[u8]) -> Result<Entry, L
     let Some(status) = read_status(status) else {
         return Err(LineFault::BadRecord);
     };
-    let name = TargetName::resolve(alloc, Some(target), name)?;
-    if name.same(target) {
-        Ok(Entry::Closing { status })
+    resolve_to(path, Some(target), name)?;
+    let closes = path.as_slice() == target.bytes();
+    if closes {
+        entries.push_closing(status)?;
     } else {
-        Ok(Entry::Done { status, name })
+        entries.push_done(status, path)?;
     }
+    Ok(closes)
 }

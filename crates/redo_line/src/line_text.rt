@@ -33,6 +33,12 @@ impl LineText {
         })
     }
 
+    pub(crate) fn into_vec(self) -> Vec<u8>
+        ensures { result.items ≡ self }
+    {
+        self.bytes
+    }
+
     // What stands behind so many bytes, in the memory of the line.
     pub(crate) fn behind(mut self, count: usize) -> LineText
         requires { count ≤ length self }

@@ -1,4 +1,4 @@
-ghost use Rattle.std.specs.Prelude.{◌≡◌, ◌<◌, ◌↔◌, [], Some, Err, IsTrue, IfOk, length, option_copied, if◌then◌else◌};
+ghost use Rattle.std.specs.Prelude.{◌≡◌, ◌<◌, ◌↔◌, [], Some, Err, IsTrue, IfOk, OnOk, length, option_copied, if◌then◌else◌};
 ghost use Rattle.std.proofs.Common.{rules};
 ghost use Rattle.std.specs.Cmp.Rules.{hashing};
 ghost use Rattle.std.specs.Cmp.Lexicographic.{nat_list_eq_equiv, pointwise};
@@ -62,11 +62,19 @@ impl TargetName {
         ensures ok { IfOk result (λ target. normal (option_copied of.entry) name.now ≡ Some target) }
         ensures empty { (result ≡ Err NameFault.Empty) ↔ (name.now ≡ []) }
     {
-        if name.is_empty() {
-            return Err(NameFault::Empty);
-        }
-        let bytes = normal_form(alloc, of, name)?;
+        let mut bytes = Vec::new(alloc);
+        resolve_to(&mut bytes, of, name)?;
         Ok(TargetName { bytes })
+    }
+
+    /// The name that is this normal form.
+    pub fn of_normal(alloc: Global, bytes: &[u8]) -> Result<TargetName, AllocError>
+        requires { IsNormal bytes.now }
+        ensures { IfOk result (λ name. name ≡ bytes.now) }
+    {
+        Ok(TargetName {
+            bytes: bytes.to_vec(alloc)?,
+        })
     }
 
     /// The bytes of the name, which are a normal form.
@@ -88,25 +96,37 @@ impl TargetName {
     pub fn copy(&self, alloc: Global) -> Result<TargetName, AllocError>
         ensures { IfOk result (λ copy. copy ≡ self.now) }
     {
-        Ok(TargetName {
-            bytes: self.bytes.as_slice().to_vec(alloc)?,
-        })
+        TargetName::of_normal(alloc, self.bytes())
     }
 }
 
-fn normal_form(alloc: Global, of: Option<&TargetName>, name: &[u8]) -> Result<Vec<u8>, AllocError>
+/// The normal form of a name, by the rule of [`TargetName::resolve`], in the place of what a path was before.
+pub fn resolve_to(path: &mut Vec<u8>, of: Option<&TargetName>, name: &[u8]) -> Result<(), NameFault>
+    ensures ok { OnOk result (normal (option_copied of.entry) name.now ≡ Some path.new.items) }
+    ensures is_normal { OnOk result (IsNormal path.new.items) }
+    ensures empty { (result ≡ Err NameFault.Empty) ↔ (name.now ≡ []) }
+{
+    if name.is_empty() {
+        return Err(NameFault::Empty);
+    }
+    normal_form(path, of, name)?;
+    Ok(())
+}
+
+fn normal_form(path: &mut Vec<u8>, of: Option<&TargetName>, name: &[u8]) -> Result<(), AllocError>
     requires some { 0 < length name.now }
-    ensures { IfOk result (λ bytes. normal (option_copied of.entry) name.now ≡ Some bytes.items) }
+    ensures { OnOk result (normal (option_copied of.entry) name.now ≡ Some path.new.items) }
 {
     let (absolute, directory) = directory(of, name);
     let room = directory.len().saturating_add(name.len()).saturating_add(1);
-    let mut path = Vec::with_capacity(alloc, room)?;
-    add_segments(&mut path, absolute, directory)?;
-    add_segments(&mut path, absolute, name)?;
+    path.clear();
+    path.reserve(room)?;
+    add_segments(path, absolute, directory)?;
+    add_segments(path, absolute, name)?;
     if path.is_empty() {
         path.push(own_name(absolute))?;
     }
-    Ok(path)
+    Ok(())
 }
 
 // The name of the root, or of where a relative name stands.

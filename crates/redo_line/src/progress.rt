@@ -1,17 +1,17 @@
-ghost use Rattle.std.specs.Prelude.{◌≡◌, ◌↔◌, Err, ◌<◌, ◌≤◌, ◌+◌, ◌^◌, ◌⊎◌, List, ℕ, true, None, Some, [], IfOk, IfErr, length, take, drop, slice_range};
+ghost use Rattle.std.specs.Prelude.{◌≡◌, ◌↔◌, Err, ◌<◌, ◌≤◌, ◌+◌, ◌^◌, ◌⊎◌, List, ℕ, true, None, Some, [], IfOk, IfErr, IfSome, IfNone, length, take, drop, slice_range};
 ghost use Rattle.redo_line.specs.Entry.{entry_of};
 ghost use Rattle.redo_line.specs.Lines.{unended};
-ghost use Rattle.redo_line.specs.Private.Progress.{IsAfter, Finds, TakesAll, Refuses, first_byte_fault};
-ghost use Rattle.redo_line.specs.Scan.{IfFound, IfMore};
+ghost use Rattle.redo_line.specs.Private.CutLine.{line_bytes};
+ghost use Rattle.redo_line.specs.Private.Line.{IsPut};
+ghost use Rattle.redo_line.specs.Private.Progress.{IsAfter, FindsMore, TakesAll, Refuses, first_byte_fault};
 ghost use Rattle.redo_line.specs.declared.stream_fault.StreamFault.{StreamFault};
 ghost use Rattle.redo_line.specs.declared.stream_fault.StreamFault.TheVariants.{BadRecord, OutOfMemory};
 
-use crate::cutter::{Cut, Cutter};
-use crate::entry::Entry;
-use crate::line::{LineFault, read_line};
+use crate::cutter::{Cutter, Line};
+use crate::entries::Entries;
+use crate::line::{LineFault, read_into};
 use crate::line_text::LineText;
 use crate::name::TargetName;
-use crate::scan::Step;
 use crate::stream_fault::StreamFault;
 use std::alloc::Global;
 use std::marker::Model;
@@ -19,10 +19,11 @@ use std::marker::Model;
 /// How far a stream was scanned, while nothing in it was refused.
 #[derive(Debug, Drop)]
 pub struct Progress {
-    alloc: Global,
     target: TargetName,
     max_bytes: u64,
     cutter: Cutter,
+    // Room for names.
+    path: Vec<u8>,
     taken: u64,
     lines: u64,
     closed: bool,
@@ -50,30 +51,38 @@ impl Progress {
         ensures limit { result.max_bytes ≡ max_bytes }
     {
         Progress {
-            alloc,
             target,
             max_bytes,
             cutter: Cutter::new(alloc),
+            path: Vec::new(alloc),
             taken: 0,
             lines: 0,
             closed: false,
         }
     }
 
-    // Takes the bytes of a piece from a place on, up to the end of the first line. After a refusal
-    // nothing is known of it.
-    pub fn advance(&mut self, piece: &[u8], from: usize) -> Result<Step, StreamFault>
+    // Takes the bytes of a piece from a place on, up to the end of the first line, puts its entry behind others, and
+    // answers the place behind it; or takes all, where no line ends. After a refusal nothing is known of it, and the
+    // entries are as they were.
+    pub fn advance(
+        &mut self,
+        piece: &[u8],
+        from: usize,
+        entries: &mut Entries,
+    ) -> Result<Option<usize>, StreamFault>
         requires from { from ≤ length piece.now }
         requires limit { self.old.max_bytes ≤ 2 ^ 40 }
         requires after { (before : List ℕ) × IsAfter self.old before }
-        ensures place { IfOk result (λ step. IfFound step (λ entry upto. (from < upto) × (upto ≤ length piece.now))) }
-        ensures found { (before : List ℕ) → IsAfter self.old before →
-            IfOk result (λ step. IfFound step (λ entry upto. Finds self.old self.new before (slice_range piece.now from upto) entry)) }
+        ensures place { IfOk result (λ found. IfSome found (λ upto. (from < upto) × (upto ≤ length piece.now))) }
+        ensures found { (before : List ℕ) → IsAfter self.old before → IfOk result (λ found. IfSome found (λ upto.
+            FindsMore self.old self.new before (slice_range piece.now from upto) entries.old entries.new)) }
         ensures more { (before : List ℕ) → IsAfter self.old before →
-            IfOk result (λ step. IfMore step (TakesAll self.old self.new before (drop from piece.now))) }
+            IfOk result (λ found. IfNone found (TakesAll self.old self.new before (drop from piece.now))) }
+        ensures none { IfOk result (λ found. IfNone found (entries.new ≡ entries.old)) }
         ensures refuses { (before : List ℕ) → IsAfter self.old before →
             IfErr result (λ fault. (fault ≡ OutOfMemory) ⊎ Refuses self.old before (drop from piece.now) fault) }
         ensures at_once { (fault : StreamFault) → first_byte_fault self.old (drop from piece.now) ≡ Some fault → result ≡ Err fault }
+        ensures err { IfErr result (λ _. entries.new ≡ entries.old) }
         ensures target { self.new.target ≡ self.old.target }
         ensures max_bytes { self.new.max_bytes ≡ self.old.max_bytes }
     {
@@ -82,23 +91,20 @@ impl Progress {
             return Err(fault);
         }
         let allowed = within(left, self.max_bytes - self.taken);
-        match self.cutter.next(allowed, 0)? {
-            Cut::Line { bytes, upto } => {
-                let entry = read_entry(self.alloc, &self.target, bytes, self.lines + 1)?;
+        match self.cutter.next_line(allowed)? {
+            Some((line, upto)) => {
+                let number = self.lines + 1;
+                self.closed = read_entry(entries, &mut self.path, &self.target, line, number)?;
                 self.taken += upto as u64;
-                self.lines += 1;
-                self.closed = entry.closes();
-                Ok(Step::Found {
-                    entry,
-                    upto: from + upto,
-                })
+                self.lines = number;
+                Ok(Some(from + upto))
             }
-            Cut::More => {
+            None => {
                 if allowed.len() < left.len() {
                     return Err(StreamFault::TooLong);
                 }
                 self.taken += left.len() as u64;
-                Ok(Step::More)
+                Ok(None)
             }
         }
     }
@@ -143,17 +149,20 @@ fn within(bytes: &[u8], room: u64) -> &[u8]
 }
 
 fn read_entry(
-    alloc: Global,
+    entries: &mut Entries,
+    path: &mut Vec<u8>,
     target: &TargetName,
-    line: LineText,
+    line: Line<'_>,
     number: u64,
-) -> Result<Entry, StreamFault>
-    ensures entry { IfOk result (λ entry. entry_of target.now line true ≡ Some entry) }
-    ensures fault { IfErr result (λ fault. (fault ≡ OutOfMemory) ⊎ ((fault ≡ BadRecord number) × (entry_of target.now line true ≡ None))) }
-    ensures bad { (result ≡ Err (BadRecord number)) ↔ (entry_of target.now line true ≡ None) }
+) -> Result<bool, StreamFault>
+    ensures put { IfOk result (λ closing. IsPut closing (entry_of target.now (line_bytes line.entry) true) entries.old entries.new) }
+    ensures fault { IfErr result (λ fault.
+        (fault ≡ OutOfMemory) ⊎ ((fault ≡ BadRecord number) × (entry_of target.now (line_bytes line.entry) true ≡ None))) }
+    ensures bad { (result ≡ Err (BadRecord number)) ↔ (entry_of target.now (line_bytes line.entry) true ≡ None) }
+    ensures err { IfErr result (λ _. entries.new ≡ entries.old) }
 {
-    match read_line(alloc, target, line, true) {
-        Ok(entry) => Ok(entry),
+    match read_into(entries, path, target, line) {
+        Ok(closes) => Ok(closes),
         Err(LineFault::BadRecord) => Err(StreamFault::BadRecord { line: number }),
         Err(LineFault::OutOfMemory) => Err(StreamFault::OutOfMemory),
     }

@@ -1,10 +1,11 @@
-ghost use Rattle.std.specs.Prelude.{◌≡◌, ◌≢◌, ◌<◌, ◌≤◌, ◌^◌, ◌++◌, [], None, Some, Ok, Err, IfOk, IfErr, length, drop, slice_range, option_to_list};
+ghost use Rattle.std.specs.Prelude.{◌≡◌, ◌≢◌, ◌<◌, ◌≤◌, ◌^◌, ◌++◌, [], None, Some, Ok, Err, IfOk, IfErr, IfSome, IfNone, length, drop, slice_range, option_to_list};
 ghost use Rattle.redo_line.specs.Lines.{rest, unended};
 ghost use Rattle.redo_line.specs.Log.{log_of};
-ghost use Rattle.redo_line.specs.Scan.{Finds, TakesAll, IfFound, IfMore, IsFine, MayRefuse, RefusesFirst, entries_in, refused_with, so_far, text_of};
+ghost use Rattle.redo_line.specs.Scan.{Finds, FindsMore, TakesAll, IfFound, IfMore, IsFine, MayRefuse, RefusesFirst, entries_in, refused_with, so_far, text_of};
 ghost use Rattle.redo_line.specs.declared.stream_fault.StreamFault.{StreamFault};
 ghost use Rattle.redo_line.specs.declared.stream_fault.StreamFault.TheVariants.{Read};
 
+use crate::entries::Entries;
 use crate::entry::Entry;
 use crate::history::History;
 use crate::name::TargetName;
@@ -26,6 +27,7 @@ pub enum Step {
 /// as the bytes that it took, with the target, the limit, and what it refused.
 #[derive(Debug, Drop)]
 pub struct Scan {
+    alloc: Global,
     progress: Progress,
     history: History,
     refused: Option<StreamFault>,
@@ -58,6 +60,7 @@ impl Scan {
         ensures none_found { entries_in result ≡ [] }
     {
         Scan {
+            alloc,
             progress: Progress::new(alloc, target, max_bytes),
             history: History::none(),
             refused: None,
@@ -91,17 +94,63 @@ impl Scan {
         ensures again { (fault : StreamFault) → self.old.refused ≡ Some fault → result ≡ Err fault }
         ensures reads_nothing { IfErr result (λ fault. fault ≢ Read) }
     {
+        let before = History::then(&self.history, &[]);
+        let mut read = Entries::new(self.alloc);
+        let Some(upto) = self.step_into(piece, from, &mut read)? else {
+            return Ok(Step::More);
+        };
+        match read.into_entry(self.alloc) {
+            Ok(entry) => Ok(Step::Found { entry, upto }),
+            Err(_) => {
+                self.history = before;
+                self.refused = Some(StreamFault::OutOfMemory);
+                Err(StreamFault::OutOfMemory)
+            }
+        }
+    }
+
+    /// The same, in which the entry of the line is put behind others, and the place after its line feed is answered,
+    /// or `None`, where no line ends. Where it is refused the entries stay as they are.
+    pub fn step_into(
+        &mut self,
+        piece: &[u8],
+        from: usize,
+        entries: &mut Entries,
+    ) -> Result<Option<usize>, StreamFault>
+        requires { from ≤ length piece.now }
+
+        // The bytes up to the place end one line more, which has no fault, and its entry stands last.
+        ensures place { IfOk result (λ found. IfSome found (λ upto. (from < upto) × (upto ≤ length piece.now))) }
+        ensures found { IfOk result (λ found. IfSome found (λ upto.
+            FindsMore self.old self.new (slice_range piece.now from upto) entries.old entries.new)) }
+
+        // Or all that is left of the piece was taken. It ends no line more, and has no fault.
+        ensures more { IfOk result (λ found. IfNone found (TakesAll self.old self.new (drop from piece.now))) }
+        ensures none { IfOk result (λ found. IfNone found (entries.new ≡ entries.old)) }
+
+        // The bytes have this fault, and no entry more before it.
+        ensures refuses { self.old.refused ≡ None → IfErr result (MayRefuse self.old (drop from piece.now)) }
+        ensures err { IfErr result (λ _. entries.new ≡ entries.old) }
+
+        // Where the very first byte is late, or one too many, that is answered, without a request for memory.
+        ensures at_once { (fault : StreamFault) → RefusesFirst self.old (drop from piece.now) fault → result ≡ Err fault }
+
+        // A refusal is kept, and answered to every call.
+        ensures kept { IfErr result (λ fault. self.new ≡ refused_with fault self.old) }
+        ensures again { (fault : StreamFault) → self.old.refused ≡ Some fault → result ≡ Err fault }
+        ensures reads_nothing { IfErr result (λ fault. fault ≢ Read) }
+    {
         if let Some(fault) = self.refused {
             return Err(fault);
         }
-        match self.progress.advance(piece, from) {
-            Ok(Step::Found { entry, upto }) => {
+        match self.progress.advance(piece, from, entries) {
+            Ok(Some(upto)) => {
                 self.history = History::then(&self.history, &piece[from..upto]);
-                Ok(Step::Found { entry, upto })
+                Ok(Some(upto))
             }
-            Ok(Step::More) => {
+            Ok(None) => {
                 self.history = History::then(&self.history, &piece[from..]);
-                Ok(Step::More)
+                Ok(None)
             }
             Err(fault) => {
                 self.refused = Some(fault);

@@ -1,7 +1,7 @@
 //! A scan over the pieces of a stream: its entries, or its fault and the entries before it.
 use redo_given::{cut_into_reads, cuts, entry_text};
-use redo_line::{Entry, Scan, Step, StreamFault, TargetName};
-use redo_logs::EntryRef;
+use redo_line::{Entries, Entry, Scan, Step, StreamFault, TargetName};
+use redo_logs::{EntryRef, LogState, LogTable};
 use std::alloc::{AllocError, Global};
 use std::process::Abort;
 use std::test::Fail;
@@ -62,6 +62,80 @@ fn scan(alloc: Global, target: &str, max_bytes: u64, pieces: &[Vec<u8>]) -> Resu
     Ok(scanned)
 }
 
+/// Takes a piece, up to its end or to a fault, whose entries go into the log of a table together.
+fn take_together(
+    alloc: Global,
+    scan: &mut Scan,
+    piece: &[u8],
+    table: &mut LogTable,
+) -> Result<Option<StreamFault>, Fail> {
+    let mut read = Entries::new(alloc);
+    let fault = step_through(scan, piece, &mut read)?;
+    if table.len() == 0 {
+        return Err("no log".into());
+    }
+    match table.state(0) {
+        LogState::Running => table.add_all(0, &read)?,
+        _ => return Err("the log doesn't run".into()),
+    }
+    Ok(fault)
+}
+
+/// Puts the entries of the lines that end in a piece behind others. Each has to end behind the one before.
+fn step_through(
+    scan: &mut Scan,
+    piece: &[u8],
+    read: &mut Entries,
+) -> Result<Option<StreamFault>, Fail> {
+    let mut from = 0;
+    for _ in 0..piece.len() + 1 {
+        if from > piece.len() {
+            return Err("a place past the piece".into());
+        }
+        match scan.step_into(piece, from, read) {
+            Ok(Some(upto)) => from = upto,
+            Ok(None) => return Ok(None),
+            Err(fault) => return Ok(Some(fault)),
+        }
+    }
+    Err("more entries than bytes".into())
+}
+
+/// What a scan of these pieces finds, whose entries go into a table, those of a piece together.
+fn scan_together(
+    alloc: Global,
+    target: &str,
+    max_bytes: u64,
+    pieces: &[Vec<u8>],
+) -> Result<Scanned, Fail> {
+    if max_bytes < 1 || max_bytes > 1 << 40 {
+        return Err("no such limit".into());
+    }
+    let target = TargetName::resolve(alloc, None, target.as_bytes())?;
+    let mut table = LogTable::new(alloc);
+    table.enter(target.copy(alloc)?)?;
+    let mut scan = Scan::new(alloc, target, max_bytes);
+    let mut fault = None;
+    for piece in pieces {
+        let met = take_together(alloc, &mut scan, piece, &mut table)?;
+        fault = fault.or(met);
+    }
+    let mut entries = String::new(alloc);
+    for place in 0..usize::MAX {
+        let Some(entry) = table.entry(0, place) else {
+            break;
+        };
+        entries.push_str(&entry_text(alloc, entry)?)?;
+        entries.push_str("\n")?;
+    }
+    match scan.finish() {
+        Ok(Some(last)) => add(alloc, &mut entries, &last)?,
+        Ok(None) => {}
+        Err(last) => fault = Some(last),
+    }
+    Ok(Scanned { entries, fault })
+}
+
 /// However the stream is cut into pieces, these are its entries, and this is its fault.
 fn expect(
     rt: &(impl Abort + AllocGlobal),
@@ -76,6 +150,8 @@ fn expect(
         let pieces = cut_into_reads(alloc, stream.as_bytes(), *cut)?;
         let scanned = scan(alloc, target, max_bytes, &pieces)?;
         expect_scanned(rt, &scanned, entries, fault, stream);
+        let together = scan_together(alloc, target, max_bytes, &pieces)?;
+        expect_scanned(rt, &together, entries, fault, stream);
     }
     Ok(())
 }

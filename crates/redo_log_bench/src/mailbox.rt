@@ -1,7 +1,7 @@
 //! Items through the mailbox alone: what senders post is made before, and what is taken is kept.
 use crate::inputs::TEXT;
 use redo_given::line;
-use redo_line::Entry;
+use redo_line::{Entries, Entry};
 use redo_wire::{Item, What};
 use redo_wire_tests::traffic::{Posts, exchange};
 use std::alloc::{AllocError, Global};
@@ -127,7 +127,7 @@ fn what_of(alloc: Global, at_once: usize) -> Result<What, Fail> {
     if at_once == 1 {
         return Ok(What::Line(entry(alloc)?));
     }
-    let mut entries = Vec::with_capacity(alloc, at_once)?;
+    let mut entries = Entries::new(alloc);
     for _ in 0..at_once {
         entries.push(entry(alloc)?)?;
     }

@@ -3,7 +3,7 @@ ghost use Rattle.std.specs.Prelude.{◌≡◌};
 
 use crate::gather::MAX_BYTES;
 use redo_gather::{Free, Plan, Share, send};
-use redo_line::{Entry, Pieces, TargetName};
+use redo_line::{Entries, Entry, EntryAt, Layout, Pieces, TargetName};
 use redo_wire::{Item, PostEnd, What};
 use redo_wire_tests::traffic::{Posting, exchange};
 use std::alloc::{AllocError, Global};
@@ -111,11 +111,30 @@ fn tell_item(rt: &impl Print, item: &Item) -> io::Result<()> {
     }
 }
 
-fn tell_entries(rt: &impl Print, item: &Item, entries: &[Entry]) -> io::Result<()> {
-    for entry in entries {
-        tell_entry(rt, item, entry)?;
+fn tell_entries(rt: &impl Print, item: &Item, entries: &Entries) -> io::Result<()> {
+    let layout = entries.layout();
+    for place in layout.places {
+        tell_place(rt, item, &layout, *place)?;
     }
     Ok(())
+}
+
+/// Prints one of several entries as it is printed where it is the only one.
+fn tell_place(rt: &impl Print, item: &Item, layout: &Layout<'_>, place: EntryAt) -> io::Result<()> {
+    let Item { sender, stream, .. } = item;
+    match place {
+        EntryAt::Text { start, end } => {
+            let line = layout.bytes.get(start..end).unwrap_or(b"".as_slice());
+            println!(rt; "sender {sender}, stream {stream}: Text(LineText {{ bytes: {line:?} }})")
+        }
+        EntryAt::Mention { how, start, end } => {
+            let name = layout.names.get(start..end).unwrap_or(b"".as_slice());
+            println!(rt;
+                "sender {sender}, stream {stream}: Mention {{ how: {how:?}, name: TargetName {{ bytes: {name:?} }} }}"
+            )
+        }
+        other => println!(rt; "sender {sender}, stream {stream}: {other:?}"),
+    }
 }
 
 fn tell_entry(rt: &impl Print, item: &Item, entry: &Entry) -> io::Result<()> {

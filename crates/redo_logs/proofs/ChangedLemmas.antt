@@ -3,7 +3,7 @@ use Rattle.std.proofs.Common.{◌≡◌, ℕ, zero, suc, nat_eq, List, [], ◌�
 use Rattle.std.specs.Cmp.Lexicographic.{pointwise}
 use Rattle.std.specs.List.{IsDistinct}
 use Rattle.redo_line.specs.declared.entry.Entry.{Entry}
-use Rattle.redo_logs.specs.Logs.{Log, IsTable, changed, targets_of, states_of, with_entry}
+use Rattle.redo_logs.specs.Logs.{Log, IsTable, changed, targets_of, states_of, with_entries, with_entry}
 
 -- the log behind the first ones is the one of their number
 pub changed-here : (first : List Log) (log : Log) (others : List Log) (change : Log → Log) → changed (length first) change (first ++ log ∷ others) ≡ first ++ change log ∷ others
@@ -36,6 +36,12 @@ module _ (change : Log → Log) (keeps : (log : Log) → (change log).target ≡
         size = let size = table.size in omega (arith, length-changed number change logs);
         targets_differ = subst (IsDistinct (pointwise nat_eq)) (sym (targets-changed number logs)) table.targets_differ;
       }
+
+-- more entries of a log keep the states
+pub states-with_entries : (number : ℕ) (entries : List Entry) (logs : List Log) → states_of (changed number (with_entries entries) logs) ≡ states_of logs
+states-with_entries number entries [] = refl
+states-with_entries zero entries (log ∷ logs) = refl
+states-with_entries (suc number) entries (log ∷ logs) = ap (λ states. log.state ∷ states) (states-with_entries number entries logs)
 
 -- one more entry of a log keeps the states
 pub states-with_entry : (number : ℕ) (entry : Entry) (logs : List Log) → states_of (changed number (with_entry entry) logs) ≡ states_of logs

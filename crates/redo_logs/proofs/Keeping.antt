@@ -4,6 +4,8 @@ use Rattle.std.specs.Cmp.Lexicographic.{pointwise, same_text}
 use Rattle.std.specs.List.{AllByRecursion, IsDistinct, list_any}
 use Rattle.std.proofs.lemmas.List.{drop-append-le, take-append-le, get_or_append_left, length-append, length-drop, take_all, append_assoc, append-nil}
 use Rattle.std.proofs.Math.Seq.{drop-append_seam}
+use Rattle.std.proofs.lemmas.Bool.{or_parts}
+use Rattle.std.proofs.lemmas.List.Folds.{list_any-append}
 use Rattle.std.proofs.lemmas.Cmp.{nat_list_eq_equiv}
 use Rattle.std.proofs.lemmas.Map.Keys.{IsDistinct-push}
 use Rattle.std.proofs.lemmas.Option.{slice_get_within, get_or_from_slice_get}
@@ -112,6 +114,36 @@ names_none names = record { front = record { more = []; is = sym (append-nil nam
 pub grows_none : (parts : Parts) → Grows parts parts
 grows_none parts = record { bytes = front_none parts.bytes; notes = front_none parts.notes; names = names_none parts.names }
 
+-- what is not in all is not in a front of it
+none_in_front : (p : List ℕ → Bool) (front more : List (List ℕ)) → list_any p (front ++ more) ≡ false → list_any p front ≡ false
+none_in_front p front more none = (or_parts (list_any p front) (list_any p more) (sym (list_any-append p front more) ∙ none)).0
+
+all_differ : (old mid first second : List (List ℕ)) → mid ≡ old ++ first → AllByRecursion (λ name. list_any (pointwise nat_eq name) old ≡ false) first
+    → AllByRecursion (λ name. list_any (pointwise nat_eq name) mid ≡ false) second → AllByRecursion (λ name. list_any (pointwise nat_eq name) old ≡ false) (first ++ second)
+all_differ old mid first second is one two = by first one
+  where
+    later : (names : List (List ℕ)) → AllByRecursion (λ name. list_any (pointwise nat_eq name) mid ≡ false) names → AllByRecursion (λ name. list_any (pointwise nat_eq name) old ≡ false) names
+    later [] all = all
+    later (name ∷ names) all =
+        (none_in_front (pointwise nat_eq name) old first (ap (list_any (pointwise nat_eq name)) (sym is) ∙ all.0), later names all.1)
+
+    by : (names : List (List ℕ)) → AllByRecursion (λ name. list_any (pointwise nat_eq name) old ≡ false) names → AllByRecursion (λ name. list_any (pointwise nat_eq name) old ≡ false) (names ++ second)
+    by [] all = later second two
+    by (name ∷ names) all = (all.0, by names all.1)
+
+-- more, and then more again
+pub grows_more : (old mid new : Parts) → Grows old mid → Grows mid new → Grows old new
+unfolding front_front
+grows_more old mid new first second = record {
+  bytes = front_front old.bytes mid.bytes new.bytes first.bytes second.bytes;
+  notes = front_front old.notes mid.notes new.notes first.notes second.notes;
+  names = record {
+    front = front_front old.names mid.names new.names first.names.front second.names.front;
+    differ = all_differ old.names mid.names first.names.front.more second.names.front.more first.names.front.is first.names.differ second.names.differ;
+    distinct = λ distinct. second.names.distinct (first.names.distinct distinct);
+  };
+}
+
 -- a name is kept
 pub names_grow : (names : List (List ℕ)) (name : List ℕ) (new : List (List ℕ)) → new ≡ (if list_any (pointwise nat_eq name) names then names else names ++ name ∷ []) → NamesGrow names new
 names_grow names name new is = by (list_any (pointwise nat_eq name) names) refl is
@@ -173,16 +205,17 @@ get_put : {A : Type 0} (xs : List A) (x : A) → slice_get (xs ++ x ∷ []) (len
 get_put [] x = refl
 get_put (y ∷ xs) x = get_put xs x
 
--- a note that was put behind the others
-pub note_kept : (bytes kind text first second : List ℕ) (notes new : List NoteAt)
-    → first ≡ bytes ++ kind → second ≡ first ++ text
-    → new ≡ notes ++ record { start = length bytes; middle = length first; end = length second } ∷ []
-    → note_seen second (slice_get new (length notes)) ≡ entry.Note kind text
-note_kept bytes kind text first second notes new first_is second_is new_is =
-    ap (λ (ns : List NoteAt). note_seen second (slice_get ns (length notes))) new_is
-    ∙ ap (note_seen second) (get_put notes (record { start = length bytes; middle = length first; end = length second }))
-    ∙ (λ i. note_seen (second_is i) (Some (record { start = length bytes; middle = length first; end = length (second_is i) })))
-    ∙ (λ i. note_seen (first_is i ++ text) (Some (record { start = length bytes; middle = length (first_is i); end = length (first_is i ++ text) })))
+pub get_last : {A : Type 0} (xs : List A) (x : A) (ys : List A) (at : ℕ) → ys ≡ xs ++ x ∷ [] → at ≡ length xs → slice_get ys at ≡ Some x
+get_last xs x ys at is place = (λ i. slice_get (is i) (place i)) ∙ get_put xs x
+
+-- a note whose texts were put behind the others
+pub note_put : (bytes kind text first second : List ℕ) → first ≡ bytes ++ kind → second ≡ first ++ text
+    → (start middle end : ℕ) → start ≡ length bytes → middle ≡ length first → end ≡ length second
+    → entry.Note (slice_range second start middle) (slice_range second middle end) ≡ entry.Note kind text
+note_put bytes kind text first second first_is second_is start middle end start_is middle_is end_is =
+    (λ i. entry.Note (slice_range second (start_is i) (middle_is i)) (slice_range second (middle_is i) (end_is i)))
+    ∙ (λ i. entry.Note (slice_range (second_is i) (length bytes) (length first)) (slice_range (second_is i) (length first) (length (second_is i))))
+    ∙ (λ i. entry.Note (slice_range (first_is i ++ text) (length bytes) (length (first_is i))) (slice_range (first_is i ++ text) (length (first_is i)) (length (first_is i ++ text))))
     ∙ (λ i. entry.Note (range_put bytes kind text i) (range_last (bytes ++ kind) text i))
   where
     range_last : (xs ys : List ℕ) → slice_range (xs ++ ys) (length xs) (length (xs ++ ys)) ≡ ys

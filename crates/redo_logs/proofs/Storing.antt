@@ -3,7 +3,7 @@ use Rattle.std.proofs.Common.{◌≡◌, ℕ, zero, suc, ◌≤◌, ◌<◌, nat
 use Rattle.std.specs.Cmp.Lexicographic.{pointwise}
 use Rattle.std.specs.List.{AllByRecursion, list_all, list_any}
 use Rattle.std.proofs.lemmas.Bool.{ltb-true, ltb-false}
-use Rattle.std.proofs.lemmas.List.{length-map, map_push, get_or_past, get_or-append_right, length-append}
+use Rattle.std.proofs.lemmas.List.{length-map, map-append, map_push, get_or_past, get_or-append_right, length-append}
 use Rattle.std.proofs.lemmas.List.Folds.{list_any_at}
 use Rattle.std.proofs.lemmas.Option.{same_Some, slice_get_within}
 use Rattle.redo_line.proofs.PlaceLemmas.{some_place}
@@ -11,7 +11,7 @@ use Rattle.redo_line.specs.declared.entry.Entry.{Entry}
 use Rattle.redo_logs.specs.declared.log_table.Log.{Log as Stored}
 use Rattle.redo_logs.specs.declared.log_state.LogState.{LogState}
 use Rattle.redo_logs.specs.declared.kept.Record.{Record}
-use Rattle.redo_logs.specs.Logs.{Log, IsTable, changed, with_entry, targets_of, states_of, place_of, ends, has_ended}
+use Rattle.redo_logs.specs.Logs.{Log, IsTable, changed, with_entries, with_entry, targets_of, states_of, place_of, ends, has_ended}
 use Rattle.redo_logs.specs.Numbering.{name_at}
 use Rattle.redo_logs.specs.Private.Kept.{Parts, Grows, NamesGrow, Within, seen}
 use Rattle.redo_logs.specs.Private.Stored.{IsLogWithin, IsStored, log_of, logs_of}
@@ -91,6 +91,23 @@ module _ (parts : Parts) (old new : Stored) (name_is : new.name ≡ old.name) wh
         push : (records : List Record) → AllByRecursion (Within parts) records → AllByRecursion (Within parts) (records ++ one ∷ [])
         push [] all = (there, tt)
         push (r ∷ records) all = (all.0, push records all.1)
+
+  -- with several records more
+  module _ (records : List Record) (more : new.records.items ≡ old.records.items ++ records) where
+    pub entries_log : (entries : List Entry) → map (seen parts) records ≡ entries → new.state ≡ old.state → log_of parts new ≡ with_entries entries (log_of parts old)
+    entries_log entries are state =
+        let all = ap (map (seen parts)) more ∙ map-append (seen parts) old.records.items records ∙ ap (λ es. map (seen parts) old.records.items ++ es) are in
+        λ i. record { target = name_at parts.names (name_is i); entries = all i; state = state i }
+
+    pub entries_log_within : AllByRecursion (Within parts) records → IsLogWithin parts old → IsLogWithin parts new
+    entries_log_within there within = record {
+      name = subst (λ n. n < length parts.names) (sym name_is) within.name;
+      records = subst (AllByRecursion (Within parts)) (sym more) (both old.records.items within.records);
+    }
+      where
+        both : (first : List Record) → AllByRecursion (Within parts) first → AllByRecursion (Within parts) (first ++ records)
+        both [] all = there
+        both (r ∷ first) all = (all.0, both first all.1)
 
 -- a log that has a state is there
 pub has_state : (parts : Parts) (logs : List Stored) (table : List Log) (number : ℕ) (state : LogState) → logs_of parts logs ≡ table → slice_get (states_of table) number ≡ Some state → number < length logs

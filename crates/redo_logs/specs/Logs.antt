@@ -36,6 +36,9 @@ new_log target = record { target = target; entries = []; state = Running }
 abbrev pub with_entry : Entry → Log → Log
 with_entry entry log = record { target = log.target; entries = log.entries ++ entry ∷ []; state = log.state }
 
+abbrev pub with_entries : List Entry → Log → Log
+with_entries entries log = record { target = log.target; entries = log.entries ++ entries; state = log.state }
+
 abbrev pub with_state : LogState → Log → Log
 with_state state log = record { target = log.target; entries = log.entries; state = state }
 

@@ -1,16 +1,18 @@
 //! What the entries of all logs are kept in: their texts one behind the other, and their names, each once.
-ghost use Rattle.std.specs.Prelude.{◌≡◌, ◌+◌, ◌<◌, ◌++◌, [], nat_eq, length, position, slice_get, IfOk};
+ghost use Rattle.std.specs.Prelude.{◌≡◌, ◌+◌, ◌<◌, ◌^◌, ◌++◌, [], Some, nat_eq, length, map, position, slice_get, IfOk};
 ghost use Rattle.std.specs.List.{AllByRecursion};
 ghost use Rattle.std.specs.Cmp.Lexicographic.{pointwise};
+ghost use Rattle.redo_line.specs.Entries.{IsWithin, entry_at};
+ghost use Rattle.redo_line.specs.Names.{IsNormal};
 ghost use Rattle.redo_line.specs.declared.entry.Entry.TheVariants.{Note, Text};
 ghost use Rattle.redo_logs.specs.EntryRef.{entry_seen};
 ghost use Rattle.redo_logs.specs.Numbering.{IsNumbered, numbered_seen};
-ghost use Rattle.redo_logs.specs.Private.Kept.{AreLinesOf, Grows, IsNamed, IsTextRecord, Within, no_parts, seen};
+ghost use Rattle.redo_logs.specs.Private.Kept.{AreLinesOf, Grows, IsNamed, IsNoteWithin, IsTextRecord, StandBehind, Within, no_parts, note_seen, seen};
 
 use crate::entry_ref::EntryRef;
 use crate::numbered::NumberedEntry;
-use indexmap::IndexSet;
-use redo_line::{Entry, How, TargetName};
+use indexmap::{Equivalent, IndexSet};
+use redo_line::{Entries, Entry, EntryAt, How, Layout, TargetName};
 use std::alloc::{AllocError, Global};
 use std::marker::Model;
 
@@ -33,6 +35,28 @@ pub struct NoteAt {
     start: usize,
     middle: usize,
     end: usize,
+}
+
+// The bytes of a name, by which it is looked up.
+#[derive(Clone, Copy, PartialEq, Eq, Hash)]
+struct NameBytes<'a> {
+    bytes: &'a [u8],
+}
+
+impl<'a> Equivalent<TargetName> for NameBytes<'a> {
+    ghost use Rattle.std.proofs.Common.{ap, sym};
+    ghost use Rattle.std.specs.Cmp.Lexicographic.{nat_list_eq_equiv, same_text};
+    ghost use Rattle.std.specs.Hash as fed;
+
+    ghost equivalent = { λ query name. pointwise nat_eq query.bytes.now name };
+
+    ghost respects_hash = { λ query name is. ap (fed.slice fed.u8) (same_text query.bytes.now name (sym is)) };
+
+    ghost respects_eq = { λ query one other. nat_list_eq_equiv.congr query.bytes.now one other };
+
+    fn equivalent(&self, name: &TargetName) -> bool {
+        self.bytes == name.bytes()
+    }
 }
 
 #[derive(Debug, Drop)]
@@ -83,6 +107,63 @@ impl Kept {
         }
     }
 
+    /// Keeps entries. What was kept before stays, and where this is refused, nobody sees what else is kept.
+    pub fn keep_all(&mut self, alloc: Global, entries: &Entries) -> Result<Vec<Record>, AllocError>
+        ensures grows { Grows self.old self.new }
+        ensures within { IfOk result (λ records. AllByRecursion (Within self.new) records.items) }
+        ensures seen { IfOk result (λ records. map (seen self.new) records.items ≡ entries.now) }
+    {
+        let layout = entries.layout();
+        let (shift, _) = self.put(layout.bytes)?;
+        let mut records = Vec::with_capacity(alloc, layout.places.len())?;
+        for place in layout.places {
+            let record = self.keep_place(alloc, &layout, shift, *place)?;
+            records.push(record)?;
+        }
+        Ok(records)
+    }
+
+    // Keeps one of several entries, whose texts and kinds stand behind so many bytes.
+    fn keep_place(
+        &mut self,
+        alloc: Global,
+        layout: &Layout<'_>,
+        shift: usize,
+        place: EntryAt,
+    ) -> Result<Record, AllocError>
+        requires within { IsWithin layout.now.bytes.now layout.now.names.now place }
+        requires stand { StandBehind shift layout.now.bytes.now self.old.bytes }
+        requires fits { length self.old.bytes < 2 ^ 64 }
+        ensures grows { Grows self.old self.new }
+        ensures bytes { self.new.bytes ≡ self.old.bytes }
+        ensures within { IfOk result (Within self.new) }
+        ensures seen { IfOk result (λ kept. seen self.new kept ≡ entry_at layout.now.bytes.now layout.now.names.now place) }
+    {
+        match place {
+            EntryAt::Text { start, end } => Ok(Record::Text {
+                start: shift + start,
+                end: shift + end,
+            }),
+            EntryAt::Mention { how, start, end } => {
+                let number = self.number_of_bytes(alloc, &layout.names[start..end])?;
+                Ok(Record::Mention { how, name: number })
+            }
+            EntryAt::Done { status, start, end } => {
+                let number = self.number_of_bytes(alloc, &layout.names[start..end])?;
+                Ok(Record::Done {
+                    status,
+                    name: number,
+                })
+            }
+            EntryAt::Closing { status } => Ok(Record::Closing { status }),
+            EntryAt::Note { start, middle, end } => self.note_at(NoteAt {
+                start: shift + start,
+                middle: shift + middle,
+                end: shift + end,
+            }),
+        }
+    }
+
     // Puts a text behind the others, and answers where it begins and ends.
     fn put(&mut self, text: &[u8]) -> Result<(usize, usize), AllocError>
         ensures grows { Grows self.old self.new }
@@ -90,6 +171,7 @@ impl Kept {
         ensures start { IfOk result (λ span. span.0 ≡ length self.old.bytes) }
         ensures end { IfOk result (λ span. span.1 ≡ length self.old.bytes + length text.now) }
         ensures bytes { IfOk result (λ span. self.new.bytes ≡ self.old.bytes ++ text.now) }
+        ensures fits { IfOk result (λ _. length self.new.bytes < 2 ^ 64) }
     {
         let start = self.bytes.len();
         self.bytes.extend_from_slice(text)?;
@@ -114,18 +196,44 @@ impl Kept {
     {
         let (start, middle) = self.put(kind)?;
         let (_, end) = self.put(text)?;
+        self.note_at(NoteAt { start, middle, end })
+    }
+
+    // A note whose kind and text are kept.
+    fn note_at(&mut self, at: NoteAt) -> Result<Record, AllocError>
+        requires { IsNoteWithin self.old.bytes (Some at) }
+        ensures grows { Grows self.old self.new }
+        ensures bytes { self.new.bytes ≡ self.old.bytes }
+        ensures within { IfOk result (Within self.new) }
+        ensures seen { IfOk result (λ kept. seen self.new kept ≡ note_seen self.old.bytes (Some at)) }
+    {
         let note = self.notes.len();
-        self.notes.push(NoteAt { start, middle, end })?;
+        self.notes.push(at)?;
         Ok(Record::Note { note })
     }
 
     /// The number of a name, which is among the names from now on.
     pub fn number_of(&mut self, name: TargetName) -> Result<usize, AllocError>
         ensures grows { Grows self.old self.new }
+        ensures bytes { self.new.bytes ≡ self.old.bytes }
         ensures is { IfOk result (λ number. IsNamed self.new.names number name) }
     {
         let (number, _) = self.names.insert_full(name)?;
         Ok(number)
+    }
+
+    // The same for a normal form. A name that is there already is not copied.
+    fn number_of_bytes(&mut self, alloc: Global, name: &[u8]) -> Result<usize, AllocError>
+        requires { IsNormal name.now }
+        ensures grows { Grows self.old self.new }
+        ensures bytes { self.new.bytes ≡ self.old.bytes }
+        ensures is { IfOk result (λ number. IsNamed self.new.names number name.now) }
+    {
+        if let Some(number) = self.names.get_index_of(NameBytes { bytes: name }) {
+            return Ok(number);
+        }
+        let name = TargetName::of_normal(alloc, name)?;
+        self.number_of(name)
     }
 
     /// The number of a name, if it is among the names. The look-up is by hash.

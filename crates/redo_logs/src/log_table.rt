@@ -4,7 +4,7 @@ ghost use Rattle.std.specs.List.{list_all};
 ghost use Rattle.std.specs.Option.{option_map};
 ghost use Rattle.redo_logs.specs.declared.log_state.LogState.TheVariants.{Running, Ended, Failed};
 ghost use Rattle.redo_logs.specs.EntryRef.{entry_seen};
-ghost use Rattle.redo_logs.specs.Logs.{IsTable, most, new_log, with_entry, with_state, changed};
+ghost use Rattle.redo_logs.specs.Logs.{IsTable, most, new_log, with_entries, with_entry, with_state, changed};
 ghost use Rattle.redo_logs.specs.Logs.{targets_of, states_of, place_of, entry_at, first_failed, has_ended};
 
 use crate::entry_ref::EntryRef;
@@ -12,7 +12,7 @@ use crate::kept::{Kept, Record};
 use crate::log_state::LogState;
 use crate::numbered::Numbered;
 use crate::table_fault::TableFault;
-use redo_line::{Entry, StreamFault, TargetName};
+use redo_line::{Entries, Entry, StreamFault, TargetName};
 use std::alloc::{AllocError, Global};
 use std::marker::Model;
 
@@ -100,6 +100,19 @@ impl LogTable {
     {
         let record = self.kept.keep(entry)?;
         self.logs[stream as usize].records.push(record)?;
+        Ok(())
+    }
+
+    /// Adds entries to a log, which has to be running. A refusal changes nothing.
+    pub fn add_all(&mut self, stream: u32, entries: &Entries) -> Result<(), AllocError>
+        requires running { slice_get (states_of self.old) stream ≡ Some Running }
+        ensures added { OnOk result (self.new ≡ changed stream (with_entries entries.now) self.old) }
+        ensures err { OnErr result (self.new ≡ self.old) }
+    {
+        let records = self.kept.keep_all(self.alloc, entries)?;
+        self.logs[stream as usize]
+            .records
+            .extend_from_slice(&records)?;
         Ok(())
     }
 

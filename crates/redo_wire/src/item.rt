@@ -1,4 +1,4 @@
-use redo_line::{Entry, StreamFault};
+use redo_line::{Entries, Entry, StreamFault};
 
 /// What a sender posts of a stream.
 #[derive(Debug, Drop)]
@@ -16,7 +16,7 @@ pub enum What {
     /// One entry more.
     Line(Entry),
     /// Several entries more, in order.
-    Lines(Vec<Entry>),
+    Lines(Entries),
     /// That no entry comes any more: its log is whole.
     End,
     /// Why its log can't be had.

@@ -1,5 +1,5 @@
 //! How a test writes an item.
-use redo_line::Entry;
+use redo_line::{Entries, Entry, EntryAt};
 use redo_wire::{Item, What};
 use std::alloc::{AllocError, Global};
 use std::str;
@@ -15,18 +15,32 @@ pub fn item_text(alloc: Global, item: &Item) -> Result<String, AllocError> {
     }
 }
 
-fn lines_text(alloc: Global, head: &str, entries: &[Entry]) -> Result<String, AllocError> {
+fn lines_text(alloc: Global, head: &str, entries: &Entries) -> Result<String, AllocError> {
+    let layout = entries.layout();
     let mut text = format!(in alloc; "{head}")?;
-    for entry in entries {
+    for place in layout.places {
         text.push_str(" ")?;
-        text.push_str(text_of(entry))?;
+        text.push_str(text_at(layout.bytes, *place))?;
     }
     Ok(text)
 }
 
-fn text_of(entry: &Entry) -> &str {
-    match entry {
-        Entry::Text(line) => str::from_utf8(line.bytes()).unwrap_or("no text"),
+fn text_at(bytes: &[u8], place: EntryAt) -> &str {
+    match place {
+        EntryAt::Text { start, end } => shown(
+            bytes.get(start..end).unwrap_or(b"no text".as_slice()),
+        ),
         _ => "no text",
     }
+}
+
+fn text_of(entry: &Entry) -> &str {
+    match entry {
+        Entry::Text(line) => shown(line.bytes()),
+        _ => "no text",
+    }
+}
+
+fn shown(line: &[u8]) -> &str {
+    str::from_utf8(line).unwrap_or("no text")
 }

@@ -5,7 +5,7 @@ use crate::items::item_text;
 use crate::pair::{Two, two_ended};
 use crate::traffic::{Posts, exchange, rest};
 use redo_given::line;
-use redo_line::Entry;
+use redo_line::{Entries, Entry};
 use redo_wire::{Item, PostEnd, What};
 use std::alloc::{AllocError, Global};
 use std::process::Abort;
@@ -150,18 +150,23 @@ fn stream_of(sender: u32) -> u32 {
     sender.saturating_add(100)
 }
 
+/// A number as a line.
+fn numbered(alloc: Global, number: u32) -> Result<Entry, Fail> {
+    entry(alloc, &format!(in alloc; "{number}")?)
+}
+
 /// These numbers as lines: one line, or several.
 fn what_of(alloc: Global, first: u32, upto: u32) -> Result<What, Fail> {
-    let mut entries = Vec::new(alloc);
-    for number in first..upto {
-        entries.push(entry(alloc, &format!(in alloc; "{number}")?)?)?;
-    }
-    if entries.len() > 1 {
-        return Ok(What::Lines(entries));
-    }
-    match entries.pop() {
-        Some(entry) => Ok(What::Line(entry)),
-        None => Ok(What::End),
+    match upto.saturating_sub(first) {
+        0 => Ok(What::End),
+        1 => Ok(What::Line(numbered(alloc, first)?)),
+        _ => {
+            let mut entries = Entries::new(alloc);
+            for number in first..upto {
+                entries.push(numbered(alloc, number)?)?;
+            }
+            Ok(What::Lines(entries))
+        }
     }
 }
 

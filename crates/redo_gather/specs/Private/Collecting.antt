@@ -5,7 +5,7 @@ use Rattle.redo_line.specs.declared.stream_fault.StreamFault.TheVariants.{OutOfM
 use Rattle.redo_line.specs.Feed.{Stream}
 use Rattle.redo_logs.specs.declared.log_state.LogState.{LogState}
 use Rattle.redo_logs.specs.declared.log_state.LogState.TheVariants.{Ended, Failed, Running}
-use Rattle.redo_logs.specs.Logs.{Log, changed, has_ended, new_log, targets_of, with_entry, with_state}
+use Rattle.redo_logs.specs.Logs.{Log, changed, has_ended, new_log, targets_of, with_entries, with_entry, with_state}
 use Rattle.redo_wire.specs.declared.item.Item.{Item}
 use Rattle.redo_wire.specs.declared.item.What.{What}
 use Rattle.redo_wire.specs.declared.item.What.TheVariants.{End, Fail, Line, Lines}
@@ -15,14 +15,13 @@ use Rattle.redo_gather.specs.declared.gather_fault.GatherFault.{GatherFault}
 use Rattle.redo_gather.specs.GatherFault.{IfStreamFault}
 use Rattle.redo_gather.specs.Owed.{Given}
 use Rattle.redo_gather.specs.Private.Dealing.{AreReady, share_from}
-use Rattle.redo_gather.specs.Private.Storing.{with_entries}
 use Rattle.redo_gather.specs.Sending.{AreOwed, singles}
 use Rattle.redo_gather.specs.Streams.{AreLogs, IsFault}
 
 -- what an item makes of a log that is in this state: a log that has ended takes nothing any more
 abbrev pub changed_by : LogState → What → Log → Log
 changed_by Running (Line entry) log = with_entry entry log
-changed_by Running (Lines entries) log = with_entries entries.items log
+changed_by Running (Lines entries) log = with_entries entries log
 changed_by Running End log = with_state Ended log
 changed_by Running (Fail fault) log = with_state (Failed fault) log
 changed_by Ended what log = log

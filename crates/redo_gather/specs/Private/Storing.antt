@@ -4,11 +4,7 @@ use Rattle.redo_line.specs.declared.entry.Entry.{Entry}
 use Rattle.redo_line.specs.declared.stream_fault.StreamFault.{StreamFault}
 use Rattle.redo_logs.specs.declared.log_state.LogState.{LogState}
 use Rattle.redo_logs.specs.declared.log_state.LogState.TheVariants.{Ended, Failed}
-use Rattle.redo_logs.specs.Logs.{Log, with_state}
-
--- a log with these entries behind its own
-abbrev pub with_entries : List Entry → Log → Log
-with_entries entries log = record { target = log.target; entries = log.entries ++ entries; state = log.state }
+use Rattle.redo_logs.specs.Logs.{Log, with_entries, with_state}
 
 -- how a log is left behind its last entry
 abbrev pub state_after : Option StreamFault → LogState

@@ -36,6 +36,12 @@ pub record Finds (old new : Progress) (before bytes : List ℕ) (entry : Entry) 
   pub after : IsAfter new (before ++ bytes)
   pub ends : EndsLine old.target old.max_bytes before bytes entry
 
+-- ..whose entry was put behind others
+pub record FindsMore (old new : Progress) (before bytes : List ℕ) (first all : List Entry) : Type 0 where
+  pub entry : Entry
+  pub finds : Finds old new before bytes entry
+  pub put : all ≡ first ++ entry ∷ []
+
 -- these bytes were taken, and end no line
 pub record TakesAll (old new : Progress) (before bytes : List ℕ) : Type 0 where
   pub after : IsAfter new (before ++ bytes)

@@ -64,6 +64,13 @@ Within parts (Done status name) = name < length parts.names
 Within parts (Closing status) = ⊤
 Within parts (Note note) = IsNoteWithin parts.bytes (slice_get parts.notes note)
 
+-- bytes stand behind so many others
+pub record StandBehind (count : ℕ) (bytes whole : List ℕ) : Type 0 where
+  pub before : List ℕ
+  pub behind : List ℕ
+  pub is : whole ≡ before ++ (bytes ++ behind)
+  pub count_is : length before ≡ count
+
 -- the entries of these records, as far as they go, are these texts
 abbrev pub SeenAsTexts : Parts → List Record → List (List ℕ) → Type 0
 SeenAsTexts parts records [] = ⊤

@@ -8,7 +8,7 @@ invariant-reads g l =
     goal.B-IsAlwaysCallable g l.before_read
     × (length l.buf ≡ length l.initial.buf)
     × IsFor l.fn.scan.target l.fn.scan.max_bytes l.scan
-    × Reading (g.R.Feed.tells l.initial.reader) (g.R.Feed.tells l.reader) l.scan l.entries.items
+    × Reading (g.R.Feed.tells l.initial.reader) (g.R.Feed.tells l.reader) l.scan l.entries
     × (l.turn ≤ length l.scan.bytes)
 
 -- each turn is a read, and takes bytes of those that are within the limit, or is the last one

@@ -33,7 +33,7 @@ returns-in-Some-fault-clause-fault g c =
     (λ other.
     fault_read g.R.Feed.tells _ _ _ _ _ _ _ c.loop-reader.invariant.1 c.requires.readers _ _ c.in-Some.ensures.steps.0 _ c.name.ensures fault
     (subst (λ (target : List ℕ). SomeStream told (λ stream. fault_of target max_bytes stream ≡ Some fault)) c.in_ok-target.ensures
-    (is_fault max_bytes (c.in_ok-target.target, told) log.entries.items log.fault c.read_stream-log.ensures.owed fault c.in-Some-fault.is other)))
+    (is_fault max_bytes (c.in_ok-target.target, told) log.entries log.fault c.read_stream-log.ensures.owed fault c.in-Some-fault.is other)))
     c.of.result c.of.ensures
 
 pub returns-in-Some-fault-clause-number : goal.returns-in-Some-fault-clause-number
@@ -54,12 +54,12 @@ loop-reader-preserved g c =
     let log = c.read_stream-log.result in
     let none = no_fault_left log.fault c.in_default.not-Some in (
       omega (arith, c.read_stream-log.ensures.buf, c.loop-reader.invariant.0),
-      one_more_read g.R.Feed.tells _ _ _ _ _ _ _ c.loop-reader.invariant.1 c.requires.readers _ _ c.in-Some.ensures.steps.0 _ c.name.ensures log.entries.items c.store.new.table
+      one_more_read g.R.Feed.tells _ _ _ _ _ _ _ c.loop-reader.invariant.1 c.requires.readers _ _ c.in-Some.ensures.steps.0 _ c.name.ensures log.entries c.store.new.table
           (record {
             entries_are =
-                subst (λ (target : List ℕ). SomeStream told (λ stream. log_of target c.args.max_bytes stream ≡ Some log.entries.items)) c.in_ok-target.ensures
-                (is_log c.args.max_bytes (c.in_ok-target.target, told) log.entries.items log.fault c.read_stream-log.ensures.owed none);
-            table_is = c.in_ok-store.ensures.stored ∙ ap (λ fault. changed c.loop-reader.number (completed log.entries.items fault) c.loop-reader.table) none;
+                subst (λ (target : List ℕ). SomeStream told (λ stream. log_of target c.args.max_bytes stream ≡ Some log.entries)) c.in_ok-target.ensures
+                (is_log c.args.max_bytes (c.in_ok-target.target, told) log.entries log.fault c.read_stream-log.ensures.owed none);
+            table_is = c.in_ok-store.ensures.stored ∙ ap (λ fault. changed c.loop-reader.number (completed log.entries fault) c.loop-reader.table) none;
           }),
     )
 

@@ -1,21 +1,23 @@
-use Rattle.std.proofs.Common.{◌≡◌, ◌++◌, length, take, arith, ap, ◌∙◌, subst}
+use Rattle.std.proofs.Common.{◌≡◌, ◌++◌, length, map, take, arith, inr, refl, sym, ap, ◌∙◌, subst}
 use Rattle.std.proofs.lemmas.List.{append_assoc}
 use Rattle.std.proofs.lemmas.Result.{err_from_is_err_and}
 use Rattle.std.proofs.Math.Seq.{take-length}
 use Rattle.redo_line.specs.Scan.{took}
 use Rattle.redo_gather.specs.Private.Reading.{IsRead, IsRefused}
+use Rattle.redo_gather.specs.Sending.{HasPosted, line_of}
 use Rattle.redo_gather.proofs.PostedLemmas.{lines_posted}
+use Rattle.redo_gather.proofs.ReadingLemmas.{cut_in}
 use Rattle.redo_gather.proofs.sending.send_piece.Goals as goal
 
 pub runs-preserved : goal.runs-preserved
 runs-preserved g c =
     let so_far = c.runs.invariant.1 in
-    let run = c.read_run-answer.new.run.items in
+    let run = c.read_run-answer.new.run in
     let entries = so_far.0 ++ run in (
       c.in_ok-from.ensures.place.1,
       (
         entries,
-        lines_posted c.args.stream c.args.end.now c.runs.end c.post_run.new.end so_far.0 run so_far.1 c.post_run.ensures,
+        lines_posted c.args.stream c.args.end.now c.runs.end c.post_run.new.end so_far.0 run so_far.1 c.in_ok-post_run.ensures.posted,
         λ first read.
             let now = c.in_ok-from.ensures.read c.args.scan.now (first ++ so_far.0) (so_far.2 first read) in
             (now.0, subst (IsRead c.read_run-answer.new.scan) (append_assoc first so_far.0 run) now.1),
@@ -25,16 +27,30 @@ runs-preserved g c =
 pub returns-in_err-from-clause-posted : goal.returns-in_err-from-clause-posted
 returns-in_err-from-clause-posted g c =
     let so_far = c.runs.invariant.1 in
-    let run = c.read_run-answer.new.run.items in
-    let given = err_from_is_err_and c.from_residual.result c.from_residual.ensures.1 in
+    let run = c.read_run-answer.new.run in
+    let given = err_from_is_err_and c.from_residual-in_err-from.result c.from_residual-in_err-from.ensures.1 in
     rw (given.1, given.2)
     (record {
       entries = so_far.0 ++ run;
-      posted = lines_posted c.args.stream c.args.end.now c.runs.end c.post_run.new.end so_far.0 run so_far.1 c.post_run.ensures;
+      posted = lines_posted c.args.stream c.args.end.now c.runs.end c.post_run.new.end so_far.0 run so_far.1 c.in_ok-post_run.ensures.posted;
       read = λ first read. tt;
       refused = λ first read.
           subst (λ es. IsRefused c.args.scan.now c.args.piece.now es c.in_err-from.field-0.0) (append_assoc first so_far.0 run)
           (c.in_err-from.ensures.refused c.args.scan.now (first ++ so_far.0) (so_far.2 first read));
+    })
+
+pub returns-in_err-post_run-clause-posted : goal.returns-in_err-post_run-clause-posted
+returns-in_err-post_run-clause-posted g c =
+    let so_far = c.runs.invariant.1 in
+    let given = err_from_is_err_and c.from_residual.result c.from_residual.ensures.1 in
+    rw (given.1, given.2, c.in_err-post_run.ensures.no_memory)
+    (record {
+      entries = so_far.0;
+      posted = subst (λ end. HasPosted c.args.end.now end (map (line_of c.args.end.now.number c.args.stream) so_far.0)) (sym c.in_err-post_run.ensures.err) so_far.1;
+      read = λ first read. tt;
+      refused = λ first read.
+          let now = so_far.2 first read in
+          inr (cut_in c.args.scan.now c.args.piece.now c.runs.scan c.runs.from now.0 (first ++ so_far.0) now.1, refl);
     })
 
 pub returns-clause-posted : goal.returns-clause-posted

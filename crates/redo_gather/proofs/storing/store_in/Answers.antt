@@ -1,9 +1,8 @@
 use Rattle.std.proofs.Common.{refl, sym, ap, ◌∙◌}
 use Rattle.redo_logs.specs.declared.log_state.LogState.TheVariants.{Ended, Failed}
-use Rattle.redo_logs.specs.Logs.{changed, with_entry, with_state}
+use Rattle.redo_logs.specs.Logs.{changed, with_entries, with_entry, with_state}
 use Rattle.redo_wire.specs.declared.item.What.TheVariants.{End, Fail, Line, Lines}
 use Rattle.redo_gather.specs.Private.Collecting.{step}
-use Rattle.redo_gather.specs.Private.Storing.{with_entries}
 use Rattle.redo_gather.proofs.RunningLemmas.{of_running}
 use Rattle.redo_gather.proofs.storing.store_in.Goals as goal
 
@@ -14,7 +13,7 @@ returns-in_ok-add-in-Line c =
 
 pub returns-in_ok-add_all-in-Lines : goal.returns-in_ok-add_all-in-Lines
 returns-in_ok-add_all-in-Lines c =
-    c.in_ok-add_all-in-Lines.ensures.added ∙ of_running c.args.stream (Lines c.in-Lines.entries) (with_entries c.in-Lines.entries.items) c.args.table.now (λ log. refl) c.requires
+    c.in_ok-add_all-in-Lines.ensures.added ∙ of_running c.args.stream (Lines c.in-Lines.entries) (with_entries c.in-Lines.entries) c.args.table.now (λ log. refl) c.requires
     ∙ ap (λ what. changed c.args.stream (step what) c.args.table.now) (sym c.in-Lines.is)
 
 pub returns-in-End : goal.returns-in-End

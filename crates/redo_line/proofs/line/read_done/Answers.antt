@@ -1,12 +1,13 @@
-use Rattle.std.proofs.Common.{sym, subst}
+use Rattle.std.proofs.Common.{refl, sym, subst}
 use Rattle.redo_line.specs.Entry.{done}
-use Rattle.redo_line.specs.Private.Line.{Reads}
-use Rattle.redo_line.proofs.ReadingLemmas.{bad_name_read, done_by_parts}
+use Rattle.redo_line.specs.Private.Line.{ReadsInto}
+use Rattle.redo_line.proofs.ReadingLemmas.{done_by_parts, refused_into, refused_name}
 use Rattle.redo_line.proofs.line.read_done.Goals as goal
 
-pub returns-in_err-name : goal.returns-in_err-name
-returns-in_err-name c =
-    let parts = done_by_parts c.args.target.now _ c.in-Some.status.now c.in-Some.name.now c.in-Some-read_status.status c.in-Some.ensures.some (sym c.in-Some-read_status.ensures) in
-    subst (Reads c.from_residual.result) (sym parts)
-    (bad_name_read (λ mentioned. done c.args.target.now c.in-Some-read_status.status mentioned) c.args.target.now c.in-Some.name.now c.in_err-name.field-0.0 c.from_residual.result
-    c.in_err-name.ensures.empty c.from_residual.ensures)
+pub returns-in_err-resolve_to : goal.returns-in_err-resolve_to
+returns-in_err-resolve_to c =
+    let target = c.args.target.now in let name = c.in-Some.name.now in
+    let parts = done_by_parts target _ c.in-Some.status.now name c.in-Some-read_status.status c.in-Some.ensures.some (sym c.in-Some-read_status.ensures) in
+    subst (λ read. ReadsInto c.from_residual.result read c.args.entries.now c.args.entries.now) (sym parts)
+    (refused_into c.from_residual.result _ _ _ _ c.from_residual.ensures
+    (refused_name (λ mentioned. done target c.in-Some-read_status.status mentioned) target name c.in_err-resolve_to.field-0.0 c.in_err-resolve_to.ensures.empty) refl)

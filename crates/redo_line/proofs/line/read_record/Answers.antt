@@ -1,49 +1,48 @@
-use Rattle.std.proofs.Common.{◌≡◌, ◌-◌, ◌≤◌, ℕ, List, Some, length, drop, sym, ap, ◌∙◌, subst}
+use Rattle.std.proofs.Common.{[], ◌∷◌, ◌++◌, Some, refl, sym, ap, subst, ◌∙◌}
 use Rattle.redo_line.specs.declared.entry.Entry.TheVariants.{Mention, Note}
-use Rattle.redo_line.specs.Private.Line.{Reads}
-use Rattle.redo_line.proofs.ReadingLemmas.{bad_name_read, named_read, no_memory_read, behind_line, what_it_says, what_none_says, text_ends, end_fits, end_is}
+use Rattle.redo_line.specs.Private.Line.{ReadsInto}
+use Rattle.redo_line.proofs.ReadingLemmas.{behind_line, named_read, no_memory, refused_into, refused_name, what_it_says, what_none_says}
 use Rattle.redo_line.proofs.line.read_record.Goals as goal
 
 pub returns-in_default : goal.returns-in_default
-returns-in_default c = what_none_says c.args.target.now c.args.line _ c.requires (behind_line c.bytes.result.now c.args.line c.bytes.ensures) c.in_default.ensures.none
+returns-in_default c = (what_none_says c.args.target.now c.args.line.now _ c.requires (behind_line c.args.line.now c.args.line.now refl) c.in_default.ensures.none, refl)
 
-pub overflow_sub-text_from : goal.overflow_sub-text_from
-overflow_sub-text_from c =
-    let ends = text_ends c.args.line _ c.in-Some.fields.kind.now c.in-Some.fields.text.now (behind_line c.bytes.result.now c.args.line c.bytes.ensures) c.in-Some.ensures.some in
-    subst (λ (l : List ℕ). length c.in-Some.fields.text.now ≤ length l) (sym c.bytes-in-Note.ensures) (end_fits c.args.line c.in-Some.fields.text.now ends)
+pub returns-in_err-resolve_to-in-Mention : goal.returns-in_err-resolve_to-in-Mention
+returns-in_err-resolve_to-in-Mention c =
+    let target = c.args.target.now in let line = c.args.line.now in let kind = c.in-Some.fields.kind.now in let text = c.in-Some.fields.text.now in
+    let says = what_it_says target line line kind text _ c.requires refl c.in-Some.ensures.some c.in-Mention.ensures in
+    subst (λ read. ReadsInto c.from_residual.result read c.args.entries.now c.args.entries.now) (sym says)
+    (refused_into c.from_residual.result _ _ _ _ c.from_residual.ensures
+    (refused_name (λ mentioned. Mention c.in-Mention.how mentioned) target text c.in_err-resolve_to-in-Mention.field-0.0 c.in_err-resolve_to-in-Mention.ensures.empty) refl)
 
-pub returns-in_err-name-in-Mention : goal.returns-in_err-name-in-Mention
-returns-in_err-name-in-Mention c =
-    let target = c.args.target.now in let kind = c.in-Some.fields.kind.now in let text = c.in-Some.fields.text.now in
-    let says = what_it_says target c.args.line c.bytes.result.now kind text _ c.requires c.bytes.ensures c.in-Some.ensures.some c.in-Mention.ensures in
-    subst (Reads c.from_residual.result) (sym says)
-    (bad_name_read (λ mentioned. Mention c.in-Mention.how mentioned) target text c.in_err-name-in-Mention.field-0.0 c.from_residual.result c.in_err-name-in-Mention.ensures.empty c.from_residual.ensures)
+pub returns-in_err-push_mention-in-Mention : goal.returns-in_err-push_mention-in-Mention
+returns-in_err-push_mention-in-Mention c =
+    let target = c.args.target.now in let line = c.args.line.now in let kind = c.in-Some.fields.kind.now in let text = c.in-Some.fields.text.now in
+    let says = what_it_says target line line kind text _ c.requires refl c.in-Some.ensures.some c.in-Mention.ensures in
+    let named = says ∙ named_read (λ mentioned. Mention c.in-Mention.how mentioned) target text c.resolve_to.new.path.items c.in_ok-resolve_to-in-Mention.ensures.ok in
+    refused_into c.from_residual-in_err-push_mention-in-Mention.result _ _ _ _ c.from_residual-in_err-push_mention-in-Mention.ensures (no_memory _ _ named) c.in_err-push_mention-in-Mention.ensures.err
 
-pub returns-in_ok-name-in-Mention : goal.returns-in_ok-name-in-Mention
-returns-in_ok-name-in-Mention c =
-    let target = c.args.target.now in let kind = c.in-Some.fields.kind.now in let text = c.in-Some.fields.text.now in
-    let says = what_it_says target c.args.line c.bytes.result.now kind text _ c.requires c.bytes.ensures c.in-Some.ensures.some c.in-Mention.ensures in
-    says ∙ named_read (λ mentioned. Mention c.in-Mention.how mentioned) target text c.in_ok-name-in-Mention.name c.in_ok-name-in-Mention.ensures.ok
+pub returns-in_ok-push_mention-in-Mention : goal.returns-in_ok-push_mention-in-Mention
+returns-in_ok-push_mention-in-Mention c =
+    let target = c.args.target.now in let line = c.args.line.now in let kind = c.in-Some.fields.kind.now in let text = c.in-Some.fields.text.now in
+    let says = what_it_says target line line kind text _ c.requires refl c.in-Some.ensures.some c.in-Mention.ensures in
+    let named = says ∙ named_read (λ mentioned. Mention c.in-Mention.how mentioned) target text c.resolve_to.new.path.items c.in_ok-resolve_to-in-Mention.ensures.ok in
+    record { entry = Mention c.in-Mention.how c.resolve_to.new.path.items; is = named; put = c.in_ok-push_mention-in-Mention.ensures.pushed ∙ ap (λ name. c.args.entries.now ++ Mention c.in-Mention.how name ∷ []) c.deref.ensures.value; closing_is = refl }
 
 pub returns-in-Done : goal.returns-in-Done
 returns-in-Done c =
-    let target = c.args.target.now in let kind = c.in-Some.fields.kind.now in let text = c.in-Some.fields.text.now in
-    let says = what_it_says target c.args.line c.bytes.result.now kind text _ c.requires c.bytes.ensures c.in-Some.ensures.some c.in-Done.ensures in
-    subst (Reads c.read_done.result) (sym says) c.read_done.ensures
+    let target = c.args.target.now in let line = c.args.line.now in let kind = c.in-Some.fields.kind.now in let text = c.in-Some.fields.text.now in
+    let says = what_it_says target line line kind text _ c.requires refl c.in-Some.ensures.some c.in-Done.ensures in
+    subst (λ read. ReadsInto c.read_done.result read c.args.entries.now c.read_done.new.entries) (sym says) c.read_done.ensures
 
-pub returns-in_err-kind-in-Note : goal.returns-in_err-kind-in-Note
-returns-in_err-kind-in-Note c =
-    let target = c.args.target.now in let kind = c.in-Some.fields.kind.now in let text = c.in-Some.fields.text.now in
-    let says = what_it_says target c.args.line c.bytes.result.now kind text _ c.requires c.bytes.ensures c.in-Some.ensures.some c.in-Note.ensures in
-    subst (Reads c.from_residual-in_err-kind-in-Note.result) (sym says)
-    (no_memory_read c.from_residual-in_err-kind-in-Note.result (Note kind text) c.from_residual-in_err-kind-in-Note.ensures)
+pub returns-in_err-push_note-in-Note : goal.returns-in_err-push_note-in-Note
+returns-in_err-push_note-in-Note c =
+    let target = c.args.target.now in let line = c.args.line.now in let kind = c.in-Some.fields.kind.now in let text = c.in-Some.fields.text.now in
+    let says = what_it_says target line line kind text _ c.requires refl c.in-Some.ensures.some c.in-Note.ensures in
+    refused_into c.from_residual-in_err-push_note-in-Note.result _ _ _ _ c.from_residual-in_err-push_note-in-Note.ensures (no_memory _ (Note kind text) says) c.in_err-push_note-in-Note.ensures.err
 
-pub returns-in_ok-kind-in-Note : goal.returns-in_ok-kind-in-Note
-returns-in_ok-kind-in-Note c =
-    let target = c.args.target.now in let kind = c.in-Some.fields.kind.now in let text = c.in-Some.fields.text.now in
-    let says = what_it_says target c.args.line c.bytes.result.now kind text _ c.requires c.bytes.ensures c.in-Some.ensures.some c.in-Note.ensures in
-    let ends = text_ends c.args.line _ kind text (behind_line c.bytes.result.now c.args.line c.bytes.ensures) c.in-Some.ensures.some in
-    let text_is : c.behind.result ≡ text =
-    c.behind.ensures ∙ ap (λ (l : List ℕ). drop (length l - length text) c.args.line) c.bytes-in-Note.ensures ∙ end_is c.args.line text ends in
-    says ∙ ap (λ (k : List ℕ). Some (Note k text)) (sym c.in_ok-kind-in-Note.ensures)
-    ∙ ap (λ (t : List ℕ). Some (Note c.in_ok-kind-in-Note.kind t)) (sym text_is)
+pub returns-in_ok-push_note-in-Note : goal.returns-in_ok-push_note-in-Note
+returns-in_ok-push_note-in-Note c =
+    let target = c.args.target.now in let line = c.args.line.now in let kind = c.in-Some.fields.kind.now in let text = c.in-Some.fields.text.now in
+    let says = what_it_says target line line kind text _ c.requires refl c.in-Some.ensures.some c.in-Note.ensures in
+    record { entry = Note kind text; is = says; put = c.in_ok-push_note-in-Note.ensures.pushed; closing_is = refl }

@@ -6,10 +6,9 @@ use Rattle.redo_line.specs.Names.{segments}
 use Rattle.redo_line.specs.Private.Path.{Adds}
 use Rattle.redo_line.proofs.DirectoryLemmas.{normal_is_path, normal_is_single}
 use Rattle.redo_line.proofs.name.normal_form.Goals as goal
-use Rattle.redo_line.proofs.name.normal_form.Goals.{then-is_empty+in_ok-push, else-is_empty}
 
-pub returns : goal.returns
-returns c =
+pub returns-in_ok-push : goal.returns-in_ok-push
+returns-in_ok-push c =
     let of = option_copied c.args.of in
     let name = c.args.name.now in
     let found = c.directory-absolute in
@@ -17,16 +16,22 @@ returns c =
     let directory = found.result.1.now in
     let first = c.add_segments.new.path.items in
     let path = c.add_segments-2.new.path.items in
-    let adds = subst (λ (p : List ℕ). Adds absolute p (segments directory) first) c.in_ok-path.ensures.items c.in_ok-add_segments.ensures in
-    elim c.if-is_empty.branch [
-      | then-is_empty+in_ok-push w ↦
-          let size = eqb-true (vec_len c.add_segments-2.new.path) 0 (sym c.is_empty.ensures ∙ w.if-is_empty.true) in
-          let none : path ≡ [] = nil_from_length path (omega (arith, c.add_segments-2.new.path.ok.0)) in
-          normal_is_single of name directory first path absolute c.requires.some found.ensures.absolute found.ensures.segments adds c.in_ok-add_segments-2.ensures none
-          ∙ ap Some (ap (λ (byte : ℕ). byte ∷ []) (sym w.own_name.ensures) ∙ ap (λ (p : List ℕ). p ++ w.own_name.result ∷ []) (sym none) ∙ sym w.in_ok-push.ensures.items ∙ ap (λ v. v.items) (sym w.path-is))
-      | else-is_empty w ↦
-          let size = eqb-false (vec_len c.add_segments-2.new.path) 0 (sym c.is_empty.ensures ∙ w.if-is_empty.false) in
-          let some : 0 < length path = omega (arith, size, c.add_segments-2.new.path.ok.0) in
-          normal_is_path of name directory first path absolute c.requires.some found.ensures.absolute found.ensures.segments adds c.in_ok-add_segments-2.ensures some
-          ∙ ap Some (ap (λ v. v.items) (sym w.path-is))
-    ]
+    let adds = subst (λ (p : List ℕ). Adds absolute p (segments directory) first) (c.in_ok-reserve.ensures.items ∙ c.clear.ensures.items) c.in_ok-add_segments.ensures in
+    let size = eqb-true (vec_len c.add_segments-2.new.path) 0 (sym c.if-is_empty.ensures) in
+    let none : path ≡ [] = nil_from_length path (omega (arith, size, c.add_segments-2.new.path.ok.0)) in
+    normal_is_single of name directory first path absolute c.requires.some found.ensures.absolute found.ensures.segments adds c.in_ok-add_segments-2.ensures none
+    ∙ ap Some (ap (λ (byte : ℕ). byte ∷ []) (sym c.own_name.ensures) ∙ ap (λ (p : List ℕ). p ++ c.own_name.result ∷ []) (sym none) ∙ sym c.in_ok-push.ensures.items)
+
+pub returns-else-is_empty : goal.returns-else-is_empty
+returns-else-is_empty c =
+    let of = option_copied c.args.of in
+    let name = c.args.name.now in
+    let found = c.directory-absolute in
+    let absolute = found.result.0 in
+    let directory = found.result.1.now in
+    let first = c.add_segments.new.path.items in
+    let path = c.add_segments-2.new.path.items in
+    let adds = subst (λ (p : List ℕ). Adds absolute p (segments directory) first) (c.in_ok-reserve.ensures.items ∙ c.clear.ensures.items) c.in_ok-add_segments.ensures in
+    let size = eqb-false (vec_len c.add_segments-2.new.path) 0 (sym c.if-is_empty.ensures) in
+    let some : 0 < length path = omega (arith, size, c.add_segments-2.new.path.ok.0) in
+    normal_is_path of name directory first path absolute c.requires.some found.ensures.absolute found.ensures.segments adds c.in_ok-add_segments-2.ensures some

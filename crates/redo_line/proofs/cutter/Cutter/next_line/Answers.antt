@@ -1,0 +1,14 @@
+use Rattle.std.proofs.Common.{◌++◌, ap, ◌∙◌}
+use Rattle.redo_line.proofs.CutLemmas.{line_in, no_feed, none_in}
+use Rattle.redo_line.proofs.cutter.Cutter.next_line.Goals as goal
+
+pub returns-in_ok-line-in-Some-clause-line : goal.returns-in_ok-line-in-Some-clause-line
+returns-in_ok-line-in-Some-clause-line c = line_in c.args.self.now _ c.args.piece.now c.in-Some.at c.in-Some.ensures c.in_ok-line-in-Some.ensures.line
+
+pub returns-in_ok-extend_from_slice-in-None-clause-found : goal.returns-in_ok-extend_from_slice-in-None-clause-found
+returns-in_ok-extend_from_slice-in-None-clause-found c = (λ is. cc, λ there. absurd (no_feed c.args.piece.now c.in-None.ensures there))
+
+pub returns-in_ok-extend_from_slice-in-None-clause-more : goal.returns-in_ok-extend_from_slice-in-None-clause-more
+returns-in_ok-extend_from_slice-in-None-clause-more c =
+    none_in c.args.self.now c.extend_from_slice.new.self.items c.args.piece.now c.in-None.ensures
+    (c.in_ok-extend_from_slice-in-None.ensures.items ∙ ap (λ kept. kept ++ c.args.piece.now) c.self.view_is)

@@ -1,0 +1,40 @@
+use Rattle.std.proofs.Common.{ℕ, ◌≤◌, ◌^◌, sym, subst}
+use Rattle.std.proofs.lemmas.Option.{same_Some}
+use Rattle.redo_line.specs.declared.stream_fault.StreamFault.TheVariants.{Read}
+use Rattle.redo_line.proofs.FirstByteLemmas.{known_of}
+use Rattle.redo_line.proofs.ScanEnds.{not_read}
+use Rattle.redo_line.proofs.scan.Scan.step_into.Goals as goal
+
+pub returns-in-Err-clause-reads_nothing : goal.returns-in-Err-clause-reads_nothing
+returns-in-Err-clause-reads_nothing c =
+    let after = c.self.invariant.after c.in_default.is in
+    not_read c.self.inside.progress c.self.inside.history.bytes _ c.in-Err.fault (c.in-Err.ensures.refuses c.self.inside.history.bytes after)
+
+pub invariant_of-self-in-Err : goal.invariant_of-self-in-Err
+invariant_of-self-in-Err c =
+    let after = c.self.invariant.after c.in_default.is in
+    record {
+      limit = subst (λ (n : ℕ). n ≤ 2 ^ 40) (sym c.in-Err.ensures.max_bytes) c.self.invariant.limit;
+      after = λ none. absurd (cc);
+      reads_nothing =
+          λ is. not_read c.self.inside.progress c.self.inside.history.bytes _ c.in-Err.fault (c.in-Err.ensures.refuses c.self.inside.history.bytes after)
+          (same_Some c.in-Err.fault Read is);
+    }
+
+pub returns-in-Err-clause-at_once : goal.returns-in-Err-clause-at_once
+returns-in-Err-clause-at_once c fault first =
+    let known = known_of c.self.inside.progress c.self.inside.history.bytes _ c.self.inside.refused c.args.self.now fault c.self.view_is (c.self.invariant.after c.in_default.is) first in
+    let told = c.in-Err.ensures.at_once fault known in
+    told
+
+pub returns-in-Ok-Some-clause-at_once : goal.returns-in-Ok-Some-clause-at_once
+returns-in-Ok-Some-clause-at_once c fault first =
+    let known = known_of c.self.inside.progress c.self.inside.history.bytes _ c.self.inside.refused c.args.self.now fault c.self.view_is (c.self.invariant.after c.in_default.is) first in
+    let told = c.in-Ok-Some.ensures.at_once fault known in
+    absurd (cc)
+
+pub returns-in-Ok-None-clause-at_once : goal.returns-in-Ok-None-clause-at_once
+returns-in-Ok-None-clause-at_once c fault first =
+    let known = known_of c.self.inside.progress c.self.inside.history.bytes _ c.self.inside.refused c.args.self.now fault c.self.view_is (c.self.invariant.after c.in_default.is) first in
+    let told = c.in-Ok-None.ensures.at_once fault known in
+    absurd (cc)

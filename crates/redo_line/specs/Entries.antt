@@ -1,0 +1,41 @@
+-- Entries in few pieces of memory: where the texts of each stand, or its name.
+use Rattle.std.specs.Prelude.{◌≡◌, ℕ, ◌≤◌, List, Some, ⊤, length, map, slice_get, slice_range}
+use Rattle.std.specs.List.{AllByRecursion}
+use Rattle.redo_line.specs.declared.entries.EntryAt.{EntryAt}
+use Rattle.redo_line.specs.declared.entries.EntryAt.TheVariants.{Text, Mention, Done, Closing, Note}
+use Rattle.redo_line.specs.declared.entries.Layout.{Layout}
+use Rattle.redo_line.specs.declared.entry.Entry.{Entry}
+use Rattle.redo_line.specs.declared.entry.Entry.TheVariants as entry
+use Rattle.redo_line.specs.Lines.{line_feed}
+use Rattle.redo_line.specs.Names.{IsNormal}
+
+module _ (bytes names : List ℕ) where
+  -- the entry that stands there
+  abbrev pub entry_at : EntryAt → Entry
+  entry_at (Text start end) = entry.Text (slice_range bytes start end)
+  entry_at (Mention how start end) = entry.Mention how (slice_range names start end)
+  entry_at (Done status start end) = entry.Done status (slice_range names start end)
+  entry_at (Closing status) = entry.Closing status
+  entry_at (Note start middle end) = entry.Note (slice_range bytes start middle) (slice_range bytes middle end)
+
+  abbrev pub IsNameAt : ℕ → ℕ → Type 0
+  IsNameAt start end = (start ≤ end) × (end ≤ length names) × IsNormal (slice_range names start end)
+
+  -- its texts are there, behind a line stands a line feed, and a name is a normal form
+  abbrev pub IsWithin : EntryAt → Type 0
+  IsWithin (Text start end) = (start ≤ end) × (slice_get bytes end ≡ Some line_feed)
+  IsWithin (Mention how start end) = IsNameAt start end
+  IsWithin (Done status start end) = IsNameAt start end
+  IsWithin (Closing status) = ⊤
+  IsWithin (Note start middle end) = (start ≤ middle) × (middle ≤ end) × (end ≤ length bytes)
+
+  abbrev pub entries_at : List EntryAt → List Entry
+  entries_at places = map entry_at places
+
+  abbrev pub AreWithin : List EntryAt → Type 0
+  AreWithin places = AllByRecursion IsWithin places
+
+-- these entries stand there
+pub record IsLayout (layout : Layout) (entries : List Entry) : Type 0 where
+  pub are : entries_at layout.bytes.now layout.names.now layout.places.now ≡ entries
+  pub within : AreWithin layout.bytes.now layout.names.now layout.places.now

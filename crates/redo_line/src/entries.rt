@@ -1,0 +1,237 @@
+//! Entries in few pieces of memory.
+ghost use Rattle.std.specs.Prelude.{◌≡◌, ◌+◌, [], ◌∷◌, ◌++◌, length, IfOk, OnOk, OnErr};
+ghost use Rattle.redo_line.specs.Entries.{IsLayout};
+ghost use Rattle.redo_line.specs.Names.{IsNormal};
+ghost use Rattle.redo_line.specs.Private.CutLine.{line_bytes};
+ghost use Rattle.redo_line.specs.declared.entry.Entry.TheVariants.{Text, Mention, Done, Closing, Note};
+
+use crate::cutter::Line;
+use crate::entry::{Entry, How};
+use crate::line_text::LineText;
+use crate::name::TargetName;
+use std::alloc::{AllocError, Global};
+use std::marker::Model;
+
+/// Where the texts of an entry stand, or its name. Its cases are those of [`Entry`].
+#[derive(Clone, Copy, Debug)]
+pub enum EntryAt {
+    /// A line feed stands behind it.
+    Text {
+        start: usize,
+        end: usize,
+    },
+    Mention {
+        how: How,
+        start: usize,
+        end: usize,
+    },
+    Done {
+        status: i32,
+        start: usize,
+        end: usize,
+    },
+    Closing {
+        status: i32,
+    },
+    /// The text stands behind the kind.
+    Note {
+        start: usize,
+        middle: usize,
+        end: usize,
+    },
+}
+
+/// Entries of a log, one behind the other, in few pieces of memory. They are seen as their list.
+#[derive(Debug, Drop)]
+pub struct Entries {
+    // Texts and kinds.
+    bytes: Vec<u8>,
+    names: Vec<u8>,
+    places: Vec<EntryAt>,
+}
+
+/// What entries are made of.
+#[derive(Clone, Copy, Debug)]
+pub struct Layout<'a> {
+    /// Their texts and kinds, one behind the other.
+    pub bytes: &'a [u8],
+    /// Their names, one behind the other.
+    pub names: &'a [u8],
+    /// Of each entry, where its texts stand, or its name.
+    pub places: &'a [EntryAt],
+}
+
+impl Model for Entries {
+    ghost use Rattle.std.specs.Prelude.{List};
+    ghost use Rattle.redo_line.specs.declared.entry.Entry as spec;
+    ghost use Rattle.redo_line.specs.Entries.{AreWithin, entries_at};
+
+    ghost Value = { List spec.Entry };
+
+    ghost view = { λ run. entries_at run.bytes.items run.names.items run.places.items };
+
+    ghost invariant = { λ run. AreWithin run.bytes.items run.names.items run.places.items };
+}
+
+impl Entries {
+    /// No entries. It asks for no memory.
+    pub fn new(alloc: Global) -> Entries
+        ensures { result ≡ [] }
+    {
+        Entries {
+            bytes: Vec::new(alloc),
+            names: Vec::new(alloc),
+            places: Vec::new(alloc),
+        }
+    }
+
+    /// How many there are.
+    pub fn len(&self) -> usize
+        ensures { result ≡ length self.now }
+    {
+        self.places.len()
+    }
+
+    /// What they are made of.
+    pub fn layout(&self) -> Layout<'_>
+        ensures { IsLayout result self.now }
+    {
+        Layout {
+            bytes: &self.bytes,
+            names: &self.names,
+            places: &self.places,
+        }
+    }
+
+    /// The only one, with memory of its own. There has to be one.
+    pub fn into_entry(self, alloc: Global) -> Result<Entry, AllocError>
+        requires { length self ≡ 1 }
+        ensures { IfOk result (λ entry. self ≡ entry ∷ []) }
+    {
+        let Entries {
+            mut bytes,
+            names,
+            places,
+        } = self;
+        match places[0] {
+            EntryAt::Text { start, end } => {
+                bytes.truncate(end);
+                Ok(Entry::Text(LineText::from_vec(bytes).behind(start)))
+            }
+            EntryAt::Mention { how, start, end } => {
+                let name = TargetName::of_normal(alloc, &names[start..end])?;
+                Ok(Entry::Mention { how, name })
+            }
+            EntryAt::Done { status, start, end } => {
+                let name = TargetName::of_normal(alloc, &names[start..end])?;
+                Ok(Entry::Done { status, name })
+            }
+            EntryAt::Closing { status } => Ok(Entry::Closing { status }),
+            EntryAt::Note { start, middle, end } => {
+                let kind = LineText::copy_of(alloc, &bytes[start..middle])?;
+                let text = LineText::copy_of(alloc, &bytes[middle..end])?;
+                Ok(Entry::Note { kind, text })
+            }
+        }
+    }
+
+    /// Puts an entry behind them. A refusal changes nothing.
+    pub fn push(&mut self, entry: Entry) -> Result<(), AllocError>
+        ensures pushed { OnOk result (self.new ≡ self.old ++ entry ∷ []) }
+        ensures err { OnErr result (self.new ≡ self.old) }
+    {
+        match entry {
+            Entry::Text(line) => self.push_joined(line.into_vec()),
+            Entry::Mention { how, name } => self.push_mention(how, name.bytes()),
+            Entry::Done { status, name } => self.push_done(status, name.bytes()),
+            Entry::Closing { status } => self.push_closing(status),
+            Entry::Note { kind, text } => self.push_note(kind.bytes(), text.bytes()),
+        }
+    }
+
+    // Puts a line behind them, as text. A refusal changes nothing.
+    pub(crate) fn push_line(&mut self, line: Line<'_>) -> Result<(), AllocError>
+        ensures pushed { OnOk result (self.new ≡ self.old ++ Text (line_bytes line.entry) ∷ []) }
+        ensures err { OnErr result (self.new ≡ self.old) }
+    {
+        match line {
+            Line::Within(bytes) => self.push_text(bytes),
+            Line::Joined(bytes) => self.push_joined(bytes),
+        }
+    }
+
+    fn push_text(&mut self, line: &[u8]) -> Result<(), AllocError>
+        ensures pushed { OnOk result (self.new ≡ self.old ++ Text line.now ∷ []) }
+        ensures err { OnErr result (self.new ≡ self.old) }
+    {
+        let (start, end) = put(&mut self.bytes, line)?;
+        self.bytes.push(b'\n')?;
+        self.places.push(EntryAt::Text { start, end })?;
+        Ok(())
+    }
+
+    // The first text brings its memory.
+    fn push_joined(&mut self, line: Vec<u8>) -> Result<(), AllocError>
+        ensures pushed { OnOk result (self.new ≡ self.old ++ Text line.items ∷ []) }
+        ensures err { OnErr result (self.new ≡ self.old) }
+    {
+        if !self.bytes.is_empty() {
+            return self.push_text(&line);
+        }
+        let end = line.len();
+        self.bytes = line;
+        self.bytes.push(b'\n')?;
+        self.places.push(EntryAt::Text { start: 0, end })?;
+        Ok(())
+    }
+
+    pub(crate) fn push_mention(&mut self, how: How, name: &[u8]) -> Result<(), AllocError>
+        requires { IsNormal name.now }
+        ensures pushed { OnOk result (self.new ≡ self.old ++ Mention how name.now ∷ []) }
+        ensures err { OnErr result (self.new ≡ self.old) }
+    {
+        let (start, end) = put(&mut self.names, name)?;
+        self.places.push(EntryAt::Mention { how, start, end })?;
+        Ok(())
+    }
+
+    pub(crate) fn push_done(&mut self, status: i32, name: &[u8]) -> Result<(), AllocError>
+        requires { IsNormal name.now }
+        ensures pushed { OnOk result (self.new ≡ self.old ++ Done status name.now ∷ []) }
+        ensures err { OnErr result (self.new ≡ self.old) }
+    {
+        let (start, end) = put(&mut self.names, name)?;
+        self.places.push(EntryAt::Done { status, start, end })?;
+        Ok(())
+    }
+
+    pub(crate) fn push_closing(&mut self, status: i32) -> Result<(), AllocError>
+        ensures pushed { OnOk result (self.new ≡ self.old ++ Closing status ∷ []) }
+        ensures err { OnErr result (self.new ≡ self.old) }
+    {
+        self.places.push(EntryAt::Closing { status })?;
+        Ok(())
+    }
+
+    pub(crate) fn push_note(&mut self, kind: &[u8], text: &[u8]) -> Result<(), AllocError>
+        ensures pushed { OnOk result (self.new ≡ self.old ++ Note kind.now text.now ∷ []) }
+        ensures err { OnErr result (self.new ≡ self.old) }
+    {
+        let (start, middle) = put(&mut self.bytes, kind)?;
+        let (_, end) = put(&mut self.bytes, text)?;
+        self.places.push(EntryAt::Note { start, middle, end })?;
+        Ok(())
+    }
+}
+
+// Puts bytes behind others, and answers where they begin and end.
+fn put(bytes: &mut Vec<u8>, more: &[u8]) -> Result<(usize, usize), AllocError>
+    ensures start { IfOk result (λ span. span.0 ≡ length bytes.old.items) }
+    ensures end { IfOk result (λ span. span.1 ≡ length bytes.old.items + length more.now) }
+    ensures put { OnOk result (bytes.new.items ≡ bytes.old.items ++ more.now) }
+    ensures err { OnErr result (bytes.new.items ≡ bytes.old.items) }
+{
+    let start = bytes.len();
+    bytes.extend_from_slice(more)?;
+    Ok((start, bytes.len()))
+}
