@@ -153,12 +153,17 @@ impl Collector {
     fn tell<T: Wait, G: Gate>(&mut self, rt: &T, gate: &G, stream: u32, lines: usize)
         ensures { (self.new.mailbox ≡ self.old.mailbox) × (self.new.table ≡ self.old.table) × (self.new.refused ≡ self.old.refused) }
     {
-        for _ in 0..lines {
-            if let Some(count) = self.counts.get_mut(stream as usize) {
-                *count = count.wrapping_add(1);
-                gate.taken(rt, stream, *count);
-            }
+        if let Some(count) = self.counts.get_mut(stream as usize) {
+            tell_each(rt, gate, stream, count, lines);
         }
+    }
+}
+
+// Counts so many entries more of a stream, and tells the gate of each.
+fn tell_each<T: Wait, G: Gate>(rt: &T, gate: &G, stream: u32, count: &mut u64, lines: usize) {
+    for _ in 0..lines {
+        *count = count.wrapping_add(1);
+        gate.taken(rt, stream, *count);
     }
 }
 

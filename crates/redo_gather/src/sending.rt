@@ -9,7 +9,7 @@ ghost use Rattle.redo_gather.specs.Sending.{HasPosted, HasSent, IsFilled, last_o
 use crate::gate::Gate;
 use redo_line::{Broken, Entries, Feed, Scan, StreamFault, TargetName};
 use redo_wire::{Item, PostEnd, What};
-use std::alloc::Global;
+use std::alloc::{AllocError, Global};
 use std::sync::Wait;
 
 // How much is read at once.
@@ -155,12 +155,20 @@ fn send_piece<T: Wait>(
 {
     let mut from = 0;
     'runs: while from < piece.len() {
-        let mut run = Entries::new(alloc);
+        let mut run = room_for_run(alloc, piece.len() - from)?;
         let answer = read_run(&mut run, scan, piece, from);
         post_run(rt, alloc, end, stream, run)?;
         from = answer?;
     }
     Ok(())
+}
+
+// Room for the entries of so many bytes, of which lines are seldom shorter than 16.
+fn room_for_run(alloc: Global, bytes: usize) -> Result<Entries, AllocError>
+    ensures { IfOk result (λ run. run ≡ []) }
+{
+    let entries = MOST_ENTRIES.min(bytes / 16 + 1);
+    Entries::with_room(alloc, entries, bytes)
 }
 
 // Reads on in a piece, until a run is as long as an item may be, or has enough bytes. Answers how far it came.

@@ -1,6 +1,6 @@
 -- What a cutter's next bytes add to the lines of those that it took.
-use Rattle.std.proofs.Common.{◌≡◌, ◌≢◌, ℕ, ◌+◌, ◌-◌, ◌<◌, List, [], ◌∷◌, ◌++◌, length, get_or, take, drop, sym, ◌∙◌, ap, subst, arith, le_refl, zero-le}
-use Rattle.std.specs.List.{slice_range, Contains}
+use Rattle.std.proofs.Common.{◌≡◌, ◌≢◌, ℕ, ◌+◌, ◌<◌, List, [], ◌∷◌, ◌++◌, length, get_or, take, sym, ◌∙◌, ap, subst, arith, le_refl, zero-le}
+use Rattle.std.specs.List.{Contains}
 use Rattle.std.proofs.lemmas.Bool.{eq-eqb, eqb-true}
 use Rattle.std.proofs.lemmas.List.{append_assoc, length-take, get_or-take, get_or_default, take_more, take_all}
 use Rattle.std.proofs.lemmas.List.Elements.{recursion_from_All}

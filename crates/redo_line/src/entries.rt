@@ -1,5 +1,5 @@
 //! Entries in few pieces of memory.
-ghost use Rattle.std.specs.Prelude.{◌≡◌, ◌+◌, [], ◌∷◌, ◌++◌, length, IfOk, OnOk, OnErr};
+ghost use Rattle.std.specs.Prelude.{◌≡◌, ◌+◌, true, [], ◌∷◌, ◌++◌, length, IfOk, OnOk, OnErr};
 ghost use Rattle.redo_line.specs.Entries.{IsLayout};
 ghost use Rattle.redo_line.specs.Names.{IsNormal};
 ghost use Rattle.redo_line.specs.Private.CutLine.{line_bytes};
@@ -48,6 +48,8 @@ pub struct Entries {
     bytes: Vec<u8>,
     names: Vec<u8>,
     places: Vec<EntryAt>,
+    // How many bytes the first text asks room for.
+    room: usize,
 }
 
 /// What entries are made of.
@@ -82,7 +84,20 @@ impl Entries {
             bytes: Vec::new(alloc),
             names: Vec::new(alloc),
             places: Vec::new(alloc),
+            room: 0,
         }
+    }
+
+    /// No entries, with room for so many. Their first text asks for room for so many bytes.
+    pub fn with_room(alloc: Global, entries: usize, bytes: usize) -> Result<Entries, AllocError>
+        ensures { IfOk result (λ run. run ≡ []) }
+    {
+        Ok(Entries {
+            bytes: Vec::new(alloc),
+            names: Vec::new(alloc),
+            places: Vec::with_capacity(alloc, entries)?,
+            room: bytes,
+        })
     }
 
     /// How many there are.
@@ -112,6 +127,7 @@ impl Entries {
             mut bytes,
             names,
             places,
+            ..
         } = self;
         match places[0] {
             EntryAt::Text { start, end } => {
@@ -164,18 +180,18 @@ impl Entries {
         ensures pushed { OnOk result (self.new ≡ self.old ++ Text line.now ∷ []) }
         ensures err { OnErr result (self.new ≡ self.old) }
     {
-        let (start, end) = put(&mut self.bytes, line)?;
+        let (start, end) = put_with_room(&mut self.bytes, self.room, line)?;
         self.bytes.push(b'\n')?;
         self.places.push(EntryAt::Text { start, end })?;
         Ok(())
     }
 
-    // The first text brings its memory.
+    // The first text brings its memory, where there is no room for it.
     fn push_joined(&mut self, line: Vec<u8>) -> Result<(), AllocError>
         ensures pushed { OnOk result (self.new ≡ self.old ++ Text line.items ∷ []) }
         ensures err { OnErr result (self.new ≡ self.old) }
     {
-        if !self.bytes.is_empty() {
+        if !is_first_beyond(&self.bytes, self.room, line.len()) {
             return self.push_text(&line);
         }
         let end = line.len();
@@ -222,6 +238,30 @@ impl Entries {
         self.places.push(EntryAt::Note { start, middle, end })?;
         Ok(())
     }
+}
+
+// Whether there are no bytes yet, and these are too many for the room that they would ask for.
+fn is_first_beyond(bytes: &Vec<u8>, room: usize, count: usize) -> bool
+    ensures { result ≡ true → bytes.now.items ≡ [] }
+{
+    bytes.is_empty() && room <= count
+}
+
+// Puts bytes behind others, of which the first ask for room, and answers where they begin and end.
+fn put_with_room(
+    bytes: &mut Vec<u8>,
+    room: usize,
+    more: &[u8],
+) -> Result<(usize, usize), AllocError>
+    ensures start { IfOk result (λ span. span.0 ≡ length bytes.old.items) }
+    ensures end { IfOk result (λ span. span.1 ≡ length bytes.old.items + length more.now) }
+    ensures put { OnOk result (bytes.new.items ≡ bytes.old.items ++ more.now) }
+    ensures err { OnErr result (bytes.new.items ≡ bytes.old.items) }
+{
+    if bytes.is_empty() {
+        bytes.reserve(room)?;
+    }
+    put(bytes, more)
 }
 
 // Puts bytes behind others, and answers where they begin and end.

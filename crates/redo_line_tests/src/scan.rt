@@ -40,13 +40,27 @@ fn take(alloc: Global, scan: &mut Scan, piece: &[u8], scanned: &mut Scanned) -> 
     Err("more entries than bytes".into())
 }
 
-/// What a scan of these pieces in the log of a target finds.
-fn scan(alloc: Global, target: &str, max_bytes: u64, pieces: &[Vec<u8>]) -> Result<Scanned, Fail> {
+/// A scan of the log of a target, within a limit.
+fn new_scan(alloc: Global, target: &str, max_bytes: u64) -> Result<Scan, Fail> {
     if max_bytes < 1 || max_bytes > 1 << 40 {
         return Err("no such limit".into());
     }
     let target = TargetName::resolve(alloc, None, target.as_bytes())?;
-    let mut scan = Scan::new(alloc, target, max_bytes);
+    Ok(Scan::new(alloc, target, max_bytes))
+}
+
+/// Adds the unended line, or the fault.
+fn finish(alloc: Global, scan: Scan, scanned: &mut Scanned) -> Result<(), AllocError> {
+    match scan.finish() {
+        Ok(Some(last)) => add(alloc, &mut scanned.entries, &last)?,
+        Ok(None) => {}
+        Err(fault) => scanned.fault = Some(fault),
+    }
+    Ok(())
+}
+
+/// What a scan of these pieces finds.
+fn scan(alloc: Global, mut scan: Scan, pieces: &[Vec<u8>]) -> Result<Scanned, Fail> {
     let mut scanned = Scanned {
         entries: String::new(alloc),
         fault: None,
@@ -54,11 +68,7 @@ fn scan(alloc: Global, target: &str, max_bytes: u64, pieces: &[Vec<u8>]) -> Resu
     for piece in pieces {
         take(alloc, &mut scan, piece, &mut scanned)?;
     }
-    match scan.finish() {
-        Ok(Some(last)) => add(alloc, &mut scanned.entries, &last)?,
-        Ok(None) => {}
-        Err(fault) => scanned.fault = Some(fault),
-    }
+    finish(alloc, scan, &mut scanned)?;
     Ok(scanned)
 }
 
@@ -102,24 +112,38 @@ fn step_through(
 }
 
 /// What a scan of these pieces finds, whose entries go into a table, those of a piece together.
-fn scan_together(
-    alloc: Global,
-    target: &str,
-    max_bytes: u64,
-    pieces: &[Vec<u8>],
-) -> Result<Scanned, Fail> {
-    if max_bytes < 1 || max_bytes > 1 << 40 {
-        return Err("no such limit".into());
-    }
-    let target = TargetName::resolve(alloc, None, target.as_bytes())?;
+fn scan_together(alloc: Global, mut scan: Scan, pieces: &[Vec<u8>]) -> Result<Scanned, Fail> {
+    let mut table = table_of_one(alloc)?;
+    let fault = take_all_together(alloc, &mut scan, pieces, &mut table)?;
+    let entries = first_entries(alloc, &table)?;
+    let mut scanned = Scanned { entries, fault };
+    finish(alloc, scan, &mut scanned)?;
+    Ok(scanned)
+}
+
+fn table_of_one(alloc: Global) -> Result<LogTable, Fail> {
     let mut table = LogTable::new(alloc);
-    table.enter(target.copy(alloc)?)?;
-    let mut scan = Scan::new(alloc, target, max_bytes);
+    table.enter(TargetName::resolve(alloc, None, b"one")?)?;
+    Ok(table)
+}
+
+/// Takes pieces, and answers the first fault.
+fn take_all_together(
+    alloc: Global,
+    scan: &mut Scan,
+    pieces: &[Vec<u8>],
+    table: &mut LogTable,
+) -> Result<Option<StreamFault>, Fail> {
     let mut fault = None;
     for piece in pieces {
-        let met = take_together(alloc, &mut scan, piece, &mut table)?;
+        let met = take_together(alloc, scan, piece, table)?;
         fault = fault.or(met);
     }
+    Ok(fault)
+}
+
+/// The entries of the first log, each with a line feed.
+fn first_entries(alloc: Global, table: &LogTable) -> Result<String, AllocError> {
     let mut entries = String::new(alloc);
     for place in 0..usize::MAX {
         let Some(entry) = table.entry(0, place) else {
@@ -128,12 +152,7 @@ fn scan_together(
         entries.push_str(&entry_text(alloc, entry)?)?;
         entries.push_str("\n")?;
     }
-    match scan.finish() {
-        Ok(Some(last)) => add(alloc, &mut entries, &last)?,
-        Ok(None) => {}
-        Err(last) => fault = Some(last),
-    }
-    Ok(Scanned { entries, fault })
+    Ok(entries)
 }
 
 /// However the stream is cut into pieces, these are its entries, and this is its fault.
@@ -148,9 +167,9 @@ fn expect(
     let alloc = rt.alloc();
     for cut in &cuts(alloc, &[("", stream, false)])? {
         let pieces = cut_into_reads(alloc, stream.as_bytes(), *cut)?;
-        let scanned = scan(alloc, target, max_bytes, &pieces)?;
+        let scanned = scan(alloc, new_scan(alloc, target, max_bytes)?, &pieces)?;
         expect_scanned(rt, &scanned, entries, fault, stream);
-        let together = scan_together(alloc, target, max_bytes, &pieces)?;
+        let together = scan_together(alloc, new_scan(alloc, target, max_bytes)?, &pieces)?;
         expect_scanned(rt, &together, entries, fault, stream);
     }
     Ok(())

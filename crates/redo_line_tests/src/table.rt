@@ -69,6 +69,16 @@ fn expect_ends(
     assert_eq!(rt; table.all_ended(), all_ended);
 }
 
+fn expect_entered(
+    rt: &(impl Abort + AllocGlobal),
+    table: &mut LogTable,
+    text: &str,
+    answer: Result<u32, TableFault>,
+) -> Result<(), Fail> {
+    assert_eq!(rt; table.enter(name(rt.alloc(), text)?), answer);
+    Ok(())
+}
+
 fn expect_found(
     rt: &(impl Abort + AllocGlobal),
     table: &LogTable,
@@ -81,17 +91,12 @@ fn expect_found(
 
 #[test]
 fn logs_are_entered_in_order(rt: HostRuntime) -> Result<(), Fail> {
-    let alloc = rt.alloc();
-    let mut table = LogTable::new(alloc);
+    let mut table = LogTable::new(rt.alloc());
     assert_eq!(rt; table.len(), 0);
-    for (text, want) in [
-        ("a", Ok(0)),
-        ("b", Ok(1)),
-        ("a", Err(TableFault::Twice)),
-        ("x/../b", Err(TableFault::Twice)),
-    ] {
-        assert_eq!(rt; table.enter(name(alloc, text)?), want);
-    }
+    expect_entered(&rt, &mut table, "a", Ok(0))?;
+    expect_entered(&rt, &mut table, "b", Ok(1))?;
+    expect_entered(&rt, &mut table, "a", Err(TableFault::Twice))?;
+    expect_entered(&rt, &mut table, "x/../b", Err(TableFault::Twice))?;
     assert_eq!(rt; table.len(), 2);
     expect_found(&rt, &table, "a", Some(0))?;
     expect_found(&rt, &table, "b", Some(1))?;

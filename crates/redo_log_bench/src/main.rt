@@ -1,183 +1,133 @@
-//! Measures the calls of the libraries: scans of bytes, the table of logs, a gathering on one thread
-//! and a view; bench/README.md has what each row is. With the argument `measure` it prints a table of
-//! times. Else it goes over less, prints what was found, and no time. Where ways find different
-//! numbers the status is 1.
+//! Measures the mailbox alone: what senders post is made before, and what is taken is kept. With the argument
+//! `measure` it prints items a second. Else it passes few items, and prints how many came.
 #![tactic(auto)]
 
-mod inputs;
-mod logs;
-mod mailbox;
-mod scans;
-mod tables;
-
-use inputs::{INPUTS, build, repeated};
-use logs::{gather, view};
-use mailbox::{print_found, print_rates};
-use scans::{cutter, scan, search};
-use std::alloc::{AllocError, Global};
+use redo_given::line;
+use redo_line::{Entries, Entry};
+use redo_wire::What;
+use redo_wire_tests::traffic::{Posts, exchange};
+use std::alloc::Global;
 use std::env;
 use std::num::nearest_usize_to_f64;
 use std::rt::Clock;
+use std::sync::Wait;
 use std::test::Fail;
-use std::time::Duration;
-use tables::{add, enter, find};
+use std::thread::Threads;
+use std::time::{Duration, Instant};
 
-/// What was found, and how long it took.
+/// How many send.
+const SENDERS: [usize; 4] = [1, 2, 4, 8];
+
+/// How many lines make an item.
+const AT_ONCE: [usize; 4] = [1, 16, 256, 1024];
+
+const CAPACITIES: [u32; 3] = [1, 64, 1024];
+
+/// How often items are passed; the least time counts.
+const ROUNDS: u32 = 3;
+
+/// How many items came, and in what time.
 #[derive(Clone, Copy)]
-pub struct Taken {
-    pub found: usize,
-    pub time: Duration,
-}
-
-/// A call that is measured, or what stands beside it.
-#[derive(Clone, Copy, Debug)]
-enum Way {
-    Search,
-    Cutter,
-    Scan,
-    Add { logs: usize },
-    Gather,
-    Enter,
-    Find,
-    View,
-}
-
-/// What is done with bytes; the first one stands beside those that follow.
-const OF_BYTES: [Way; 7] = [
-    Way::Search,
-    Way::Cutter,
-    Way::Scan,
-    Way::Add { logs: 1 },
-    Way::Add { logs: 8 },
-    Way::Add { logs: 1000 },
-    Way::Gather,
-];
-
-/// What the ways go over, in so many rounds: each takes of it what it needs.
-#[derive(Drop)]
-struct Given {
-    rounds: u32,
-    bytes: Vec<u8>,
-    streams: Vec<Vec<u8>>,
-    targets: usize,
+struct Passed {
+    items: usize,
+    time: Duration,
 }
 
 fn main(rt: HostRuntime) -> Result<(), Fail> {
-    match argument(&rt).as_deref() {
-        Some("measure") => {
-            print_all(&rt, 64, 5)?;
-            print_rates(&rt, 3)
-        }
-        Some("mailbox") => print_rates(&rt, 3),
-        _ => {
-            print_all(&rt, 1, 0)?;
-            print_found(&rt)
-        }
+    if env::args(&rt).is_ok_and(|mut words| words.nth(1).as_deref() == Some("measure")) {
+        return print_rates(&rt);
     }
-}
-
-/// The argument, if there is one.
-fn argument(rt: &HostRuntime) -> Option<String> {
-    env::args(rt).ok()?.nth(1)
-}
-
-/// Goes over `scale` MiB, over 1,000 times as many targets, and over a build of 16 times as many. The
-/// times are those of so many rounds; where there is none, no time is printed.
-fn print_all(rt: &(impl Clock + Print + AllocGlobal), scale: u32, rounds: u32) -> Result<(), Fail> {
-    if rounds > 0 {
-        println!(rt;
-            "| input | way | found | seconds | ns each | time, first = 1 |\n|---|---|---|---|---|---|"
-        )?;
-    }
-    let build = given_build(rt.alloc(), scale, rounds)?;
-    print_rows(rt, "targets", &[Way::Enter, Way::Find], &build)?;
-    print_rows(rt, "a build", &[Way::Gather, Way::View], &build)?;
-    for (name, line) in INPUTS {
-        let bytes = given_bytes(rt.alloc(), line, scale, rounds)?;
-        print_rows(rt, name, &OF_BYTES, &bytes)?;
+    for at_once in AT_ONCE {
+        let passed = pass(&rt, 2, 64, at_once, 4096)?;
+        println!(&rt; "items of {at_once}: {}", passed.items)?;
     }
     Ok(())
 }
 
-/// Targets and a build.
-fn given_build(alloc: Global, scale: u32, rounds: u32) -> Result<Given, AllocError> {
-    Ok(Given {
-        rounds,
-        bytes: Vec::new(alloc),
-        streams: build(alloc, scale.saturating_mul(16), 999)?,
-        targets: scale.saturating_mul(1000) as usize,
+fn print_rates<T: AllocGlobal + Clock + Print + Threads + Wait + Sync>(rt: &T) -> Result<(), Fail> {
+    println!(rt; "| senders | lines an item | capacity 1 | 64 | 1,024 |\n|---|---|---|---|---|")?;
+    for at_once in AT_ONCE {
+        for senders in SENDERS {
+            print!(rt; "| {senders} | {at_once} |")?;
+            for capacity in CAPACITIES {
+                let rate = rate(rt, senders, capacity, at_once)?;
+                print!(rt; " {rate:.2} |")?;
+            }
+            println!(rt)?;
+        }
+    }
+    Ok(())
+}
+
+/// Millions of items a second.
+fn rate<T: AllocGlobal + Clock + Threads + Wait + Sync>(
+    rt: &T,
+    senders: usize,
+    capacity: u32,
+    at_once: usize,
+) -> Result<f64, Fail> {
+    let lines = if at_once == 1 { 400_000 } else { 2_000_000 };
+    let mut best = pass(rt, senders, capacity, at_once, lines)?;
+    for _ in 1..ROUNDS {
+        let passed = pass(rt, senders, capacity, at_once, lines)?;
+        if passed.time < best.time {
+            best = passed;
+        }
+    }
+    Ok(nearest_usize_to_f64(best.items) / best.time.as_secs_f64() / 1e6)
+}
+
+/// Posts so many lines in all.
+fn pass<T: AllocGlobal + Clock + Threads + Wait + Sync>(
+    rt: &T,
+    senders: usize,
+    capacity: u32,
+    at_once: usize,
+    lines: usize,
+) -> Result<Passed, Fail> {
+    let mut posts = Vec::new(rt.alloc());
+    let mut most_items = 0usize;
+    for _ in 0..senders {
+        let items = posts_of(rt.alloc(), lines / senders.max(1), at_once)?;
+        most_items = most_items.saturating_add(items.len());
+        posts.push(items)?;
+    }
+    let start = Instant::now(rt)?;
+    let taken = exchange(rt, capacity, posts, most_items)?;
+    let time = start.elapsed(rt)?;
+    Ok(Passed {
+        items: taken.len(),
+        time,
     })
 }
 
-/// A line again and again.
-fn given_bytes(alloc: Global, line: &[u8], scale: u32, rounds: u32) -> Result<Given, AllocError> {
-    let (bytes, streams) = repeated(alloc, line, scale)?;
-    Ok(Given {
-        rounds,
-        bytes,
-        streams,
-        targets: 0,
-    })
-}
-
-/// What a way finds, and how long it takes.
-fn measured(rt: &(impl Clock + AllocGlobal), way: Way, given: &Given) -> Result<Taken, Fail> {
-    match way {
-        Way::Search => search(rt, &given.bytes),
-        Way::Cutter => cutter(rt, &given.bytes),
-        Way::Scan => scan(rt, &given.bytes),
-        Way::Add { logs } => add(rt, &given.bytes, logs),
-        Way::Gather => gather(rt, &given.streams),
-        Way::Enter => enter(rt, given.targets),
-        Way::Find => find(rt, given.targets),
-        Way::View => view(rt, &given.streams),
+/// So many lines, so many of which make an item.
+fn posts_of(alloc: Global, lines: usize, at_once: usize) -> Result<Posts, Fail> {
+    let mut posts = Vec::new(alloc);
+    for _ in 0..lines / at_once.max(1) {
+        posts.push((0, what_of(alloc, at_once)?))?;
     }
+    posts.push((0, What::End))?;
+    Ok(posts)
 }
 
-/// A row for each way, which has to find what the first one found.
-fn print_rows(
-    rt: &(impl Clock + Print + AllocGlobal),
-    name: &str,
-    ways: &[Way],
-    given: &Given,
-) -> Result<(), Fail> {
-    let mut first = None;
-    for way in ways {
-        let least = least(rt, *way, given)?;
-        let peer = first.unwrap_or(least);
-        if least.found != peer.found {
-            return Err(Fail::new("two ways found different numbers"));
-        }
-        match given.rounds {
-            0 => println!(rt; "{name}, {way:?}: {}", least.found)?,
-            _ => print_times(rt, name, *way, least, peer)?,
-        }
-        first = Some(peer);
+fn what_of(alloc: Global, at_once: usize) -> Result<What, Fail> {
+    if at_once == 1 {
+        return Ok(What::Line(entry(alloc)?));
     }
-    Ok(())
-}
-
-/// The least time of the rounds, after one that does not count.
-fn least(rt: &(impl Clock + AllocGlobal), way: Way, given: &Given) -> Result<Taken, Fail> {
-    let mut least = measured(rt, way, given)?;
-    least.time = Duration::MAX;
-    for _ in 0..given.rounds {
-        least.time = least.time.min(measured(rt, way, given)?.time);
+    let mut entries = Entries::new(alloc);
+    for _ in 0..at_once {
+        entries.push(entry(alloc)?)?;
     }
-    Ok(least)
+    Ok(What::Lines(entries))
 }
 
-fn print_times(
-    rt: &impl Print,
-    name: &str,
-    way: Way,
-    least: Taken,
-    peer: Taken,
-) -> Result<(), Fail> {
-    let found = least.found;
-    let seconds = least.time.as_secs_f64();
-    let each = seconds * 1e9 / nearest_usize_to_f64(found);
-    let ratio = least.time.div_duration_f64(peer.time);
-    println!(rt; "| {name} | {way:?} | {found} | {seconds:.4} | {each:.1} | {ratio:.2} |")?;
-    Ok(())
+fn entry(alloc: Global) -> Result<Entry, Fail> {
+    match line(
+        alloc,
+        "cc -O2 -Wall -Wextra -c -o build/lexer.o source/front/lex.c",
+    )? {
+        Some(line) => Ok(Entry::Text(line)),
+        None => Err(Fail::new("no line")),
+    }
 }

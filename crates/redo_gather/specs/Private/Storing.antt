@@ -1,5 +1,5 @@
 -- How what was read of a stream goes into a table.
-use Rattle.std.specs.Prelude.{List, ◌++◌, Option, None, Some}
+use Rattle.std.specs.Prelude.{List, Option, None, Some}
 use Rattle.redo_line.specs.declared.entry.Entry.{Entry}
 use Rattle.redo_line.specs.declared.stream_fault.StreamFault.{StreamFault}
 use Rattle.redo_logs.specs.declared.log_state.LogState.{LogState}

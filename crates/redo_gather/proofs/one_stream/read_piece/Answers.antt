@@ -1,4 +1,4 @@
-use Rattle.std.proofs.Common.{◌≤◌, arith, refl, sym, subst, zero-le}
+use Rattle.std.proofs.Common.{◌≤◌, arith, sym, subst, zero-le}
 use Rattle.std.proofs.lemmas.Result.{err_from_is_err_and}
 use Rattle.redo_gather.specs.Private.Reading.{IsRead, IsRefused}
 use Rattle.redo_gather.proofs.ReadingLemmas.{if_none, no_line, one_line, refused_behind, took_nothing, took_rest, took_to}

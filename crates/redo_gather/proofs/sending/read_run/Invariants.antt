@@ -1,4 +1,4 @@
-use Rattle.std.proofs.Common.{◌<◌, ◌≤◌, ◌-◌, ◌+◌, List, ◌++◌, length}
+use Rattle.std.proofs.Common.{◌<◌, ◌≤◌, ◌-◌, List, ◌++◌, length}
 use Rattle.redo_line.specs.declared.entry.Entry.{Entry}
 use Rattle.redo_line.specs.Scan.{Scanned}
 use Rattle.redo_gather.specs.Private.Reading.{IsReadTo}

@@ -39,10 +39,24 @@ returns-in_err-from-clause-posted g c =
           (c.in_err-from.ensures.refused c.args.scan.now (first ++ so_far.0) (so_far.2 first read));
     })
 
+pub returns-in_err-run-clause-posted : goal.returns-in_err-run-clause-posted
+returns-in_err-run-clause-posted g c =
+    let so_far = c.runs.invariant.1 in
+    let given = err_from_is_err_and c.from_residual.result c.from_residual.ensures.1 in
+    rw (given.1, given.2)
+    (record {
+      entries = so_far.0;
+      posted = so_far.1;
+      read = λ first read. tt;
+      refused = λ first read.
+          let now = so_far.2 first read in
+          inr (cut_in c.args.scan.now c.args.piece.now c.runs.scan c.runs.from now.0 (first ++ so_far.0) now.1, refl);
+    })
+
 pub returns-in_err-post_run-clause-posted : goal.returns-in_err-post_run-clause-posted
 returns-in_err-post_run-clause-posted g c =
     let so_far = c.runs.invariant.1 in
-    let given = err_from_is_err_and c.from_residual.result c.from_residual.ensures.1 in
+    let given = err_from_is_err_and c.from_residual-in_err-post_run.result c.from_residual-in_err-post_run.ensures.1 in
     rw (given.1, given.2, c.in_err-post_run.ensures.no_memory)
     (record {
       entries = so_far.0;

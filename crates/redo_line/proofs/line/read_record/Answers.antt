@@ -1,4 +1,4 @@
-use Rattle.std.proofs.Common.{[], ◌∷◌, ◌++◌, Some, refl, sym, ap, subst, ◌∙◌}
+use Rattle.std.proofs.Common.{[], ◌∷◌, ◌++◌, refl, sym, ap, subst, ◌∙◌}
 use Rattle.redo_line.specs.declared.entry.Entry.TheVariants.{Mention, Note}
 use Rattle.redo_line.specs.Private.Line.{ReadsInto}
 use Rattle.redo_line.proofs.ReadingLemmas.{behind_line, named_read, no_memory, refused_into, refused_name, what_it_says, what_none_says}

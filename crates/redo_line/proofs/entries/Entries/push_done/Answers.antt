@@ -1,6 +1,5 @@
-use Rattle.std.proofs.Common.{w32, to_z, of_z, ◌≡◌, rules, sym, ◌∙◌, ap, refl, subst, arith}
+use Rattle.std.proofs.Common.{w32, to_z, of_z, ◌≡◌, rules, refl}
 use Rattle.std.proofs.lemmas.Result.{MatchResult-from_err}
-use Rattle.redo_line.specs.Names.{IsNormal}
 use Rattle.redo_line.specs.declared.entry.Entry.TheVariants as entry
 use Rattle.redo_line.proofs.EntriesLemmas.{front_put, front_same, name_within, one_seen, one_within, range_put, same_seen, same_within}
 use Rattle.redo_line.proofs.entries.Entries.push_done.Goals as goal

@@ -1,7 +1,6 @@
-use Rattle.std.proofs.Common.{◌≡◌, ◌⊎◌, inr, ◌+◌, ◌<◌, ◌≤◌, [], ◌∷◌, length, take, drop, refl, sym, ◌∙◌}
+use Rattle.std.proofs.Common.{◌≡◌, ◌⊎◌, inr, ◌+◌, drop, refl, sym, ◌∙◌}
 use Rattle.std.proofs.lemmas.List.{take_rest}
 use Rattle.redo_line.specs.declared.stream_fault.StreamFault.TheVariants.{OutOfMemory}
-use Rattle.redo_line.specs.Cut.{Cuts}
 use Rattle.redo_line.specs.Private.CutLine.{line_bytes}
 use Rattle.redo_line.specs.Private.Progress.{Refuses}
 use Rattle.redo_line.proofs.ScanLemmas.{next_line_fits}

@@ -1,4 +1,3 @@
-use Rattle.std.proofs.Common.{sym, ap, ◌∙◌}
 use Rattle.redo_logs.proofs.Keeping.{end_of, note_put}
 use Rattle.redo_logs.proofs.Shifting.{note_then}
 use Rattle.redo_logs.proofs.kept.Kept.keep_note.Goals as goal

@@ -1,9 +1,8 @@
-use Rattle.std.proofs.Common.{◌≡◌, ◌+◌, ◌<◌, ◌≤◌, Some, length, slice_get, slice_range, arith, refl, sym, ap, ◌∙◌, subst}
+use Rattle.std.proofs.Common.{◌≤◌, length, arith, sym, ap, ◌∙◌, subst}
 use Rattle.std.proofs.lemmas.Option.{slice_get_within}
 use Rattle.redo_line.specs.Entries.{IsWithin, entry_at}
 use Rattle.redo_line.specs.Lines.{line_feed}
 use Rattle.redo_line.specs.declared.entry.Entry.TheVariants as entry
-use Rattle.redo_logs.specs.Private.Kept.{Parts}
 use Rattle.redo_logs.proofs.Keeping.{grows_none}
 use Rattle.redo_logs.proofs.Shifting.{get_shifted, note_then, range_shifted, shifted_within}
 use Rattle.redo_logs.proofs.kept.Kept.keep_place.Goals as goal

@@ -1,4 +1,4 @@
-use Rattle.std.proofs.Common.{◌≡◌, [], ◌∷◌, ◌++◌, rules, refl, sym, ap, subst, ◌∙◌, Some, length, slice_get}
+use Rattle.std.proofs.Common.{◌≡◌, [], ◌∷◌, ◌++◌, rules, sym, ap, subst, ◌∙◌, Some, length}
 use Rattle.redo_logs.specs.Private.Kept.{IsNoteWithin, Parts, note_seen}
 use Rattle.redo_logs.proofs.Keeping.{bytes_grow, front_same, get_last, note_grows}
 use Rattle.redo_logs.proofs.kept.Kept.note_at.Goals as goal
