@@ -163,12 +163,12 @@ fn send_piece<T: Wait>(
     Ok(())
 }
 
-// Room for the entries of so many bytes, of which lines are seldom shorter than 16.
+// Room for the entries of so many bytes, of which lines are seldom shorter than 16, and of a line that began before.
 fn room_for_run(alloc: Global, bytes: usize) -> Result<Entries, AllocError>
     ensures { IfOk result (λ run. run ≡ []) }
 {
     let entries = MOST_ENTRIES.min(bytes / 16 + 1);
-    Entries::with_room(alloc, entries, bytes)
+    Entries::with_room(alloc, entries, bytes.saturating_add(bytes / 16))
 }
 
 // Reads on in a piece, until a run is as long as an item may be, or has enough bytes. Answers how far it came.

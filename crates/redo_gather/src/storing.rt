@@ -43,7 +43,7 @@ pub fn store(table: &mut LogTable, number: u32, log: StreamLog) -> Result<(), Al
         return Err(AllocError);
     }
     let StreamLog { entries, fault } = log;
-    table.add_all(number, &entries)?;
+    table.add_all(number, entries)?;
     match fault {
         None => table.end(number),
         Some(fault) => table.fail(number, fault),
@@ -83,7 +83,7 @@ fn store_in(table: &mut LogTable, stream: u32, what: What) -> Result<(), AllocEr
 {
     match what {
         What::Line(entry) => table.add(stream, entry)?,
-        What::Lines(entries) => table.add_all(stream, &entries)?,
+        What::Lines(entries) => table.add_all(stream, entries)?,
         What::End => table.end(stream),
         What::Fail(fault) => table.fail(stream, fault),
     }

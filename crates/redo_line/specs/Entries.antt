@@ -36,6 +36,10 @@ module _ (bytes names : List ℕ) where
   AreWithin places = AllByRecursion IsWithin places
 
 -- these entries stand there
-pub record IsLayout (layout : Layout) (entries : List Entry) : Type 0 where
-  pub are : entries_at layout.bytes.now layout.names.now layout.places.now ≡ entries
-  pub within : AreWithin layout.bytes.now layout.names.now layout.places.now
+pub record AreAt (bytes names : List ℕ) (places : List EntryAt) (entries : List Entry) : Type 0 where
+  pub are : entries_at bytes names places ≡ entries
+  pub within : AreWithin bytes names places
+
+-- they are laid out so
+abbrev pub IsLayout : Layout → List Entry → Type 0
+IsLayout layout entries = AreAt layout.bytes.now layout.names.now layout.places.now entries

@@ -1,6 +1,6 @@
 //! Entries in few pieces of memory.
 ghost use Rattle.std.specs.Prelude.{◌≡◌, ◌+◌, true, [], ◌∷◌, ◌++◌, length, IfOk, OnOk, OnErr};
-ghost use Rattle.redo_line.specs.Entries.{IsLayout};
+ghost use Rattle.redo_line.specs.Entries.{AreAt, IsLayout};
 ghost use Rattle.redo_line.specs.Names.{IsNormal};
 ghost use Rattle.redo_line.specs.Private.CutLine.{line_bytes};
 ghost use Rattle.redo_line.specs.declared.entry.Entry.TheVariants.{Text, Mention, Done, Closing, Note};
@@ -116,6 +116,13 @@ impl Entries {
             names: &self.names,
             places: &self.places,
         }
+    }
+
+    /// The pieces of memory: their texts and kinds, their names, and of each entry, where it stands.
+    pub fn into_pieces(self) -> (Vec<u8>, Vec<u8>, Vec<EntryAt>)
+        ensures { AreAt result.0.items result.1.items result.2.items self }
+    {
+        (self.bytes, self.names, self.places)
     }
 
     /// The only one, with memory of its own. There has to be one.

@@ -85,7 +85,7 @@ fn take_together(
         return Err("no log".into());
     }
     match table.state(0) {
-        LogState::Running => table.add_all(0, &read)?,
+        LogState::Running => table.add_all(0, read)?,
         _ => return Err("the log doesn't run".into()),
     }
     Ok(fault)

@@ -1,8 +1,8 @@
 -- What is kept stays where it is, when more is kept.
-use Rattle.std.proofs.Common.{◌≡◌, ℕ, zero, suc, ◌+◌, ◌-◌, ◌≤◌, ◌<◌, Bool, true, false, if◌then◌else◌, List, [], ◌∷◌, ◌++◌, Option, None, Some, nat_eq, length, map, take, drop, slice_get, slice_range, refl, sym, ap, ◌∙◌, subst, arith}
+use Rattle.std.proofs.Common.{◌≡◌, ◌≢◌, ℕ, zero, suc, ◌+◌, ◌-◌, ◌≤◌, ◌<◌, Bool, true, false, if◌then◌else◌, List, [], ◌∷◌, ◌++◌, Option, None, Some, nat_eq, length, map, take, drop, get_or, slice_get, slice_range, Vec, Global, refl, sym, ap, ◌∙◌, subst, arith}
 use Rattle.std.specs.Cmp.Lexicographic.{pointwise, same_text}
 use Rattle.std.specs.List.{AllByRecursion, IsDistinct, list_any}
-use Rattle.std.proofs.lemmas.List.{drop-append-le, take-append-le, get_or_append_left, length-append, length-drop, take_all, append_assoc, append-nil}
+use Rattle.std.proofs.lemmas.List.{drop-append-le, take-append-le, get_or_append_left, get_or-map, length-append, length-map, length-drop, take_all, append_assoc, append-nil}
 use Rattle.std.proofs.Math.Seq.{drop-append_seam}
 use Rattle.std.proofs.lemmas.Bool.{or_parts}
 use Rattle.std.proofs.lemmas.List.Folds.{list_any-append}
@@ -15,7 +15,7 @@ use Rattle.redo_logs.specs.declared.kept.NoteAt.{NoteAt}
 use Rattle.redo_logs.specs.declared.kept.Record.{Record}
 use Rattle.redo_logs.specs.declared.kept.Record.TheVariants.{Text, Mention, Done, Closing, Note}
 use Rattle.redo_logs.specs.Numbering.{name_at}
-use Rattle.redo_logs.specs.Private.Kept.{Parts, IsFront, NamesGrow, Grows, IsNamed, note_seen, seen, IsNoteWithin, Within}
+use Rattle.redo_logs.specs.Private.Kept.{Parts, IsFront, NamesGrow, Grows, IsNamed, block_of, note_seen, seen, IsNoteWithin, Within}
 
 -- ---- growing
 
@@ -54,48 +54,69 @@ get_front (x ∷ xs) more (suc number) within = get_front xs more number (omega 
 pub name_grown : (old new : List (List ℕ)) (number : ℕ) → NamesGrow old new → number < length old → name_at new number ≡ name_at old number
 name_grown old new number grows within = ap (λ names. name_at names number) grows.front.is ∙ get_or_append_left old grows.front.more [] number within
 
-note_grown : (old new : List ℕ) (at : Option NoteAt) → IsFront old new → IsNoteWithin old at → note_seen new at ≡ note_seen old at
-note_grown old new None front within = absurd within
-note_grown old new (Some at) front within =
-    let kind = range_grown old new at.start at.middle front within.0 (omega (arith, within.1, within.2)) in
-    let text = range_grown old new at.middle at.end front within.1 within.2 in
+-- a block stays the front of what stands in it
+block_grown : (old new : Parts) (number : ℕ) → Grows old new → IsFront (block_of old number) (block_of new number)
+block_grown old new zero grows = grows.bytes
+block_grown old new (suc number) grows = subst (λ (blocks : List (List ℕ)). IsFront (get_or old.taken number []) (get_or blocks number [])) (sym grows.taken.is) (by old.taken number)
+  where
+    by : (blocks : List (List ℕ)) (number : ℕ) → IsFront (get_or blocks number []) (get_or (blocks ++ grows.taken.more) number [])
+    by [] number = record { more = get_or grows.taken.more number []; is = refl }
+    by (block ∷ blocks) zero = front_none block
+    by (block ∷ blocks) (suc number) = by blocks number
+
+-- and is still there
+block_there : (old new : Parts) (number : ℕ) → Grows old new → number ≤ length old.taken → number ≤ length new.taken
+block_there old new number grows there = omega (arith, there, front_length old.taken new.taken grows.taken)
+
+note_grown : (old new : Parts) (at : Option NoteAt) → Grows old new → IsNoteWithin old at → note_seen new at ≡ note_seen old at
+note_grown old new None grows within = absurd within
+note_grown old new (Some at) grows within =
+    let front = block_grown old new at.block grows in
+    let kind = range_grown (block_of old at.block) (block_of new at.block) at.start at.middle front within.0 (omega (arith, within.1, within.2)) in
+    let text = range_grown (block_of old at.block) (block_of new at.block) at.middle at.end front within.1 within.2 in
     λ i. entry.Note (kind i) (text i)
 
-note_at_grown : (old new : List NoteAt) (bytes : List ℕ) (note : ℕ) → IsFront old new → IsNoteWithin bytes (slice_get old note) → slice_get new note ≡ slice_get old note
-note_at_grown old new bytes note front within =
+note_at_grown : (old new : List NoteAt) (parts : Parts) (note : ℕ) → IsFront old new → IsNoteWithin parts (slice_get old note) → slice_get new note ≡ slice_get old note
+note_at_grown old new parts note front within =
     ap (λ notes. slice_get notes note) front.is ∙ get_front old front.more note (there (slice_get old note) refl within)
   where
-    there : (at : Option NoteAt) → slice_get old note ≡ at → IsNoteWithin bytes at → note < length old
+    there : (at : Option NoteAt) → slice_get old note ≡ at → IsNoteWithin parts at → note < length old
     there None is within = absurd within
     there (Some at) is within = slice_get_within old note at is
 
 -- an entry stays what it is seen as
 pub seen_grown : (old new : Parts) (record' : Record) → Grows old new → Within old record' → seen new record' ≡ seen old record'
-seen_grown old new (Text start end) grows within =
-    let end_there : end ≤ length old.bytes = let below = slice_get_within old.bytes end line_feed within.1 in omega (arith, below) in
-    ap entry.Text (range_grown old.bytes new.bytes start end grows.bytes within.0 end_there)
+seen_grown old new (Text block start end) grows within =
+    let end_there : end ≤ length (block_of old block) = let below = slice_get_within (block_of old block) end line_feed within.1 in omega (arith, below) in
+    ap entry.Text (range_grown (block_of old block) (block_of new block) start end (block_grown old new block grows) within.0 end_there)
 seen_grown old new (Mention how name) grows within = ap (entry.Mention how) (name_grown old.names new.names name grows.names within)
 seen_grown old new (Done status name) grows within = ap (entry.Done status) (name_grown old.names new.names name grows.names within)
 seen_grown old new (Closing status) grows within = refl
 seen_grown old new (Note note) grows within =
-    ap (note_seen new.bytes) (note_at_grown old.notes new.notes old.bytes note grows.notes within)
-    ∙ note_grown old.bytes new.bytes (slice_get old.notes note) grows.bytes within
+    ap (note_seen new) (note_at_grown old.notes new.notes old note grows.notes within)
+    ∙ note_grown old new (slice_get old.notes note) grows within
 
 -- and is still there
 pub within_grown : (old new : Parts) (record' : Record) → Grows old new → Within old record' → Within new record'
-within_grown old new (Text start end) grows within = (
-  within.0,
-  ap (λ bytes. slice_get bytes end) grows.bytes.is ∙ get_front old.bytes grows.bytes.more end (slice_get_within old.bytes end line_feed within.1) ∙ within.1,
-)
+within_grown old new (Text block start end) grows within =
+    let front = block_grown old new block grows in (
+      within.0,
+      ap (λ bytes. slice_get bytes end) front.is ∙ get_front (block_of old block) front.more end (slice_get_within (block_of old block) end line_feed within.1) ∙ within.1,
+    )
 within_grown old new (Mention how name) grows within = omega (arith, within, front_length old.names new.names grows.names.front)
 within_grown old new (Done status name) grows within = omega (arith, within, front_length old.names new.names grows.names.front)
 within_grown old new (Closing status) grows within = within
 within_grown old new (Note note) grows within =
-    subst (IsNoteWithin new.bytes) (sym (note_at_grown old.notes new.notes old.bytes note grows.notes within)) (more (slice_get old.notes note) within)
+    subst (IsNoteWithin new) (sym (note_at_grown old.notes new.notes old note grows.notes within)) (more (slice_get old.notes note) within)
   where
-    more : (at : Option NoteAt) → IsNoteWithin old.bytes at → IsNoteWithin new.bytes at
+    more : (at : Option NoteAt) → IsNoteWithin old at → IsNoteWithin new at
     more None within = within
-    more (Some at) within = (within.0, within.1, omega (arith, within.2, front_length old.bytes new.bytes grows.bytes))
+    more (Some at) within = (
+      within.0,
+      within.1,
+      omega (arith, within.2, front_length (block_of old at.block) (block_of new at.block) (block_grown old new at.block grows)),
+      block_there old new at.block grows within.3,
+    )
 
 pub all_seen_grown : (old new : Parts) (records : List Record) → Grows old new → AllByRecursion (Within old) records → map (seen new) records ≡ map (seen old) records
 all_seen_grown old new [] grows within = refl
@@ -112,7 +133,7 @@ names_none names = record { front = record { more = []; is = sym (append-nil nam
 
 -- nothing more is kept
 pub grows_none : (parts : Parts) → Grows parts parts
-grows_none parts = record { bytes = front_none parts.bytes; notes = front_none parts.notes; names = names_none parts.names }
+grows_none parts = record { bytes = front_none parts.bytes; taken = front_none parts.taken; notes = front_none parts.notes; names = names_none parts.names }
 
 -- what is not in all is not in a front of it
 none_in_front : (p : List ℕ → Bool) (front more : List (List ℕ)) → list_any p (front ++ more) ≡ false → list_any p front ≡ false
@@ -136,6 +157,7 @@ pub grows_more : (old mid new : Parts) → Grows old mid → Grows mid new → G
 unfolding front_front
 grows_more old mid new first second = record {
   bytes = front_front old.bytes mid.bytes new.bytes first.bytes second.bytes;
+  taken = front_front old.taken mid.taken new.taken first.taken second.taken;
   notes = front_front old.notes mid.notes new.notes first.notes second.notes;
   names = record {
     front = front_front old.names mid.names new.names first.names.front second.names.front;
@@ -159,29 +181,47 @@ names_grow names name new is = by (list_any (pointwise nat_eq name) names) refl 
     }
 
 -- texts alone are kept
-pub bytes_grow : (old new : Parts) → IsFront old.bytes new.bytes → new.notes ≡ old.notes → new.names ≡ old.names → Grows old new
-bytes_grow old new front notes names = record {
+pub bytes_grow : (old new : Parts) → IsFront old.bytes new.bytes → IsFront old.taken new.taken → new.notes ≡ old.notes → new.names ≡ old.names → Grows old new
+bytes_grow old new front taken notes names = record {
   bytes = front;
+  taken = taken;
   notes = subst (IsFront old.notes) (sym notes) (front_none old.notes);
   names = subst (NamesGrow old.names) (sym names) (names_none old.names);
 }
 
 -- a note and its texts are kept
-pub note_grows : (old new : Parts) (at : NoteAt) → IsFront old.bytes new.bytes → new.notes ≡ old.notes ++ at ∷ [] → new.names ≡ old.names → Grows old new
-note_grows old new at front notes names = record {
+pub note_grows : (old new : Parts) (at : NoteAt) → IsFront old.bytes new.bytes → IsFront old.taken new.taken → new.notes ≡ old.notes ++ at ∷ [] → new.names ≡ old.names → Grows old new
+note_grows old new at front taken notes names = record {
   bytes = front;
+  taken = taken;
   notes = record { more = at ∷ []; is = notes };
   names = subst (NamesGrow old.names) (sym names) (names_none old.names);
 }
 
 -- a name is kept
-pub name_grows : (old new : Parts) (name : List ℕ) → new.bytes ≡ old.bytes → new.notes ≡ old.notes
+pub name_grows : (old new : Parts) (name : List ℕ) → new.bytes ≡ old.bytes → new.taken ≡ old.taken → new.notes ≡ old.notes
     → new.names ≡ (if list_any (pointwise nat_eq name) old.names then old.names else old.names ++ name ∷ []) → Grows old new
-name_grows old new name bytes notes names = record {
+name_grows old new name bytes taken notes names = record {
   bytes = subst (IsFront old.bytes) (sym bytes) (front_none old.bytes);
+  taken = subst (IsFront old.taken) (sym taken) (front_none old.taken);
   notes = subst (IsFront old.notes) (sym notes) (front_none old.notes);
   names = names_grow old.names name new.names names;
 }
+
+-- a block that was taken over
+pub block_taken : (parts : Parts) (taken : List (Vec ℕ Global)) (number : ℕ) (there : Vec ℕ Global) → map (λ block. block.items) taken ≡ parts.taken → number ≤ length parts.taken → number ≢ 0
+    → there ≡ get_or taken (number - 1) there → there.items ≡ block_of parts number
+block_taken parts taken zero there are within differs is = absurd (differs refl)
+block_taken parts taken (suc number) there are within differs is =
+    let before : suc number - 1 ≡ number = omega arith in
+    ap (λ (block : Vec ℕ Global). block.items) (is ∙ ap (λ n. get_or taken n there) before)
+    ∙ sym (get_or-map (λ (block : Vec ℕ Global). block.items) taken number there [] (omega (arith, within, ap length are, length-map taken (λ (block : Vec ℕ Global). block.items))))
+    ∙ ap (λ (blocks : List (List ℕ)). get_or blocks number []) are
+
+-- the blocks are the same
+pub block_same : (old new : Parts) (number : ℕ) → (new.bytes ≡ old.bytes) × (new.taken ≡ old.taken) → block_of new number ≡ block_of old number
+block_same old new zero same = same.0
+block_same old new (suc number) same = ap (λ (blocks : List (List ℕ)). get_or blocks number []) same.1
 
 pub front_same : {A : Type 0} (old new : List A) → new ≡ old → IsFront old new
 front_same old new same = record { more = []; is = same ∙ sym (append-nil old) }
@@ -207,6 +247,19 @@ get_put (y ∷ xs) x = get_put xs x
 
 pub get_last : {A : Type 0} (xs : List A) (x : A) (ys : List A) (at : ℕ) → ys ≡ xs ++ x ∷ [] → at ≡ length xs → slice_get ys at ≡ Some x
 get_last xs x ys at is place = (λ i. slice_get (is i) (place i)) ∙ get_put xs x
+
+module _ (old new : Parts) (note : ℕ) (at : NoteAt) (last : slice_get new.notes note ≡ Some at) (same : (new.bytes ≡ old.bytes) × (new.taken ≡ old.taken)) where
+  -- a note that was put last is within what was there before
+  pub note_last_within : IsNoteWithin old (Some at) → IsNoteWithin new (slice_get new.notes note)
+  note_last_within within =
+      subst (IsNoteWithin new) (sym last)
+      (within.0, within.1, subst (λ (b : List ℕ). at.end ≤ length b) (sym (block_same old new at.block same)) within.2, subst (λ (blocks : List (List ℕ)). at.block ≤ length blocks) (sym same.1) within.3)
+
+  -- and is seen there
+  pub note_last_seen : note_seen new (slice_get new.notes note) ≡ note_seen old (Some at)
+  note_last_seen =
+      let block = block_same old new at.block same in
+      ap (note_seen new) last ∙ (λ i. entry.Note (slice_range (block i) at.start at.middle) (slice_range (block i) at.middle at.end))
 
 -- a note whose texts were put behind the others
 pub note_put : (bytes kind text first second : List ℕ) → first ≡ bytes ++ kind → second ≡ first ++ text

@@ -1,53 +1,73 @@
 -- Entries that are kept one behind the other, their texts first.
-use Rattle.std.proofs.Common.{◌≡◌, ℕ, ◌+◌, ◌<◌, ◌≤◌, ◌^◌, List, [], ◌∷◌, ◌++◌, length, map, take, get_or, refl, sym, ap, ◌∙◌, subst}
+use Rattle.std.proofs.Common.{◌≡◌, ℕ, zero, suc, ◌+◌, ◌<◌, ◌≤◌, ◌^◌, List, [], ◌∷◌, ◌++◌, length, map, take, drop, get_or, refl, sym, ap, ◌∙◌, subst, arith}
 use Rattle.std.specs.List.{AllByRecursion}
-use Rattle.std.proofs.lemmas.List.{append-nil, map_push, take_all, take_more}
+use Rattle.std.proofs.lemmas.List.{map_push, take_all, take_more}
 use Rattle.redo_line.specs.declared.entries.EntryAt.{EntryAt}
-use Rattle.redo_line.specs.declared.entries.Layout.{Layout}
-use Rattle.redo_line.specs.Entries.{entries_at, entry_at}
+use Rattle.redo_line.specs.declared.entry.Entry.{Entry}
+use Rattle.redo_line.specs.Entries.{AreAt, IsWithin, entries_at, entry_at}
 use Rattle.redo_logs.specs.declared.kept.Record.{Record}
-use Rattle.redo_logs.specs.Private.Kept.{Grows, Parts, StandBehind, Within, seen}
-use Rattle.redo_logs.proofs.Keeping.{all_seen_grown, all_within_grown, grows_more}
+use Rattle.redo_logs.specs.Private.Kept.{Grows, Parts, Within, block_of, seen}
+use Rattle.redo_logs.proofs.Keeping.{all_seen_grown, all_within_grown, block_same, grows_more}
 
--- of the entries of a layout the first ones are kept, and the texts of all
-pub record Keeps (begun now : Parts) (layout : Layout) (shift : ℕ) (records : List Record) (done : ℕ) : Type 0 where
-  pub grows : Grows begun now
-  pub stand : StandBehind shift layout.bytes.now now.bytes
-  pub fits : length now.bytes < 2 ^ 64
-  pub within : AllByRecursion (Within now) records
-  pub seen_are : map (seen now) records ≡ entries_at layout.bytes.now layout.names.now (take done layout.places.now)
+module _ (begun : Parts) (entries : List Entry) (names : List ℕ) (places : List EntryAt) (block shift : ℕ) where
+  -- the texts of all are kept, and the first entries
+  pub record Keeps (now : Parts) (records : List Record) (done : ℕ) : Type 0 where
+    pub grows : Grows begun now
+    pub there : block ≤ length now.taken
+    pub behind : shift ≤ length (block_of now block)
+    pub fits : length (block_of now block) < 2 ^ 64
+    pub all : AreAt (drop shift (block_of now block)) names places entries
+    pub within : AllByRecursion (Within now) records
+    pub seen_are : map (seen now) records ≡ entries_at (drop shift (block_of now block)) names (take done places)
 
-module _ (begun : Parts) (layout : Layout) (shift : ℕ) where
-  pub none_kept : (now : Parts) → Grows begun now → now.bytes ≡ begun.bytes ++ layout.bytes.now → shift ≡ length begun.bytes → length now.bytes < 2 ^ 64 → Keeps begun now layout shift [] 0
-  none_kept now grows bytes shift_is fits = record {
+  pub none_kept : (texts : List ℕ) (now : Parts) → AreAt texts names places entries → Grows begun now → block ≤ length now.taken → shift ≤ length (block_of now block)
+      → drop shift (block_of now block) ≡ texts → length (block_of now block) < 2 ^ 64 → Keeps now [] 0
+  none_kept texts now all grows there behind are fits = record {
     grows = grows;
-    stand = record { before = begun.bytes; behind = []; is = bytes ∙ ap (λ b. begun.bytes ++ b) (sym (append-nil layout.bytes.now)); count_is = sym shift_is };
+    there = there;
+    behind = behind;
     fits = fits;
+    all = subst (λ (t : List ℕ). AreAt t names places entries) (sym are) all;
     within = tt;
     seen_are = refl;
   }
 
-  module _ (now : Parts) (records : List Record) (done : ℕ) (keeps : Keeps begun now layout shift records done) where
+  module _ (now : Parts) (records : List Record) (done : ℕ) (keeps : Keeps now records done) where
     push_within : (parts : Parts) (rs : List Record) (r : Record) → AllByRecursion (Within parts) rs → Within parts r → AllByRecursion (Within parts) (rs ++ r ∷ [])
     push_within parts [] r all one = (one, tt)
     push_within parts (first ∷ rs) r all one = (all.0, push_within parts rs r all.1 one)
 
+    -- the next one's texts are there
+    pub next_within : (place : EntryAt) → done < length places → get_or places done place ≡ place → IsWithin (drop shift (block_of now block)) names place
+    next_within place below is = subst (IsWithin (drop shift (block_of now block)) names) is (at places done keeps.all.within below)
+      where
+        at : (ps : List EntryAt) (n : ℕ) → AllByRecursion (IsWithin (drop shift (block_of now block)) names) ps → n < length ps → IsWithin (drop shift (block_of now block)) names (get_or ps n place)
+        at [] n all below = absurd (omega (arith, below))
+        at (p ∷ ps) zero all below = all.0
+        at (p ∷ ps) (suc n) all below = at ps n all.1 (omega (arith, below))
+
     -- one more was kept, and no text with it
-    pub one_kept : (new : Parts) (more : List Record) (record' : Record) (place : EntryAt) → Grows now new → new.bytes ≡ now.bytes → Within new record'
-        → seen new record' ≡ entry_at layout.bytes.now layout.names.now place → more ≡ records ++ record' ∷ [] → done < length layout.places.now → get_or layout.places.now done place ≡ place
-        → Keeps begun new layout shift more (done + 1)
-    one_kept new more record' place grows bytes within seen_is more_are below place_is = record {
-      grows = grows_more begun now new keeps.grows grows;
-      stand = subst (StandBehind shift layout.bytes.now) (sym bytes) keeps.stand;
-      fits = subst (λ (b : List ℕ). length b < 2 ^ 64) (sym bytes) keeps.fits;
-      within = subst (AllByRecursion (Within new)) (sym more_are) (push_within new records record' (all_within_grown now new records grows keeps.within) within);
-      seen_are =
-          ap (map (seen new)) more_are ∙ map_push (seen new) records record' ∙ (λ i. (all_seen_grown now new records grows keeps.within ∙ keeps.seen_are) i ++ seen_is i ∷ [])
-          ∙ sym (map_push (entry_at layout.bytes.now layout.names.now) (take done layout.places.now) place)
-          ∙ ap (λ p. entries_at layout.bytes.now layout.names.now (take done layout.places.now ++ p ∷ [])) (sym place_is)
-          ∙ ap (entries_at layout.bytes.now layout.names.now) (sym (take_more layout.places.now done place below));
-    }
+    pub one_kept : (new : Parts) (more : List Record) (record' : Record) (place : EntryAt) (shown : List ℕ) → Grows now new → (new.bytes ≡ now.bytes) × (new.taken ≡ now.taken) → Within new record'
+        → shown ≡ names → seen new record' ≡ entry_at (drop shift (block_of now block)) shown place → more ≡ records ++ record' ∷ [] → done < length places → get_or places done place ≡ place
+        → Keeps new more (done + 1)
+    one_kept new more record' place shown grows same within shown_is seen_is more_are below place_is =
+        let block_is = block_same now new block same in
+        let texts = drop shift (block_of now block) in
+        record {
+          grows = grows_more begun now new keeps.grows grows;
+          there = subst (λ (blocks : List (List ℕ)). block ≤ length blocks) (sym same.1) keeps.there;
+          behind = subst (λ (b : List ℕ). shift ≤ length b) (sym block_is) keeps.behind;
+          fits = subst (λ (b : List ℕ). length b < 2 ^ 64) (sym block_is) keeps.fits;
+          all = subst (λ (b : List ℕ). AreAt (drop shift b) names places entries) (sym block_is) keeps.all;
+          within = subst (AllByRecursion (Within new)) (sym more_are) (push_within new records record' (all_within_grown now new records grows keeps.within) within);
+          seen_are =
+              ap (map (seen new)) more_are ∙ map_push (seen new) records record' ∙ (λ i. (all_seen_grown now new records grows keeps.within ∙ keeps.seen_are) i ++ (seen_is ∙ ap (λ (ns : List ℕ). entry_at texts ns place) shown_is) i ∷ [])
+              ∙ sym (map_push (entry_at texts names) (take done places) place)
+              ∙ ap (λ p. entries_at texts names (take done places ++ p ∷ [])) (sym place_is)
+              ∙ ap (entries_at texts names) (sym (take_more places done place below))
+              ∙ ap (λ (b : List ℕ). entries_at (drop shift b) names (take (done + 1) places)) (sym block_is);
+        }
 
     -- all are
-    pub all_kept : length layout.places.now ≤ done → map (seen now) records ≡ entries_at layout.bytes.now layout.names.now layout.places.now
-    all_kept end = keeps.seen_are ∙ ap (entries_at layout.bytes.now layout.names.now) (take_all done layout.places.now end)
+    pub all_kept : length places ≤ done → map (seen now) records ≡ entries
+    all_kept end = keeps.seen_are ∙ ap (entries_at (drop shift (block_of now block)) names) (take_all done places end) ∙ keeps.all.are

@@ -1,36 +1,43 @@
--- Entries whose bytes stand behind others.
-use Rattle.std.proofs.Common.{◌≡◌, ℕ, suc, ◌+◌, ◌-◌, ◌<◌, ◌≤◌, List, [], ◌∷◌, ◌++◌, Result, Ok, Err, IfOk, length, take, drop, slice_get, slice_range, refl, sym, ap, ◌∙◌, arith}
-use Rattle.std.proofs.Math.Seq.{drop-append-add}
-use Rattle.std.proofs.lemmas.List.{length-append}
-use Rattle.redo_line.proofs.EntriesLemmas.{get_front, range_grown}
+-- Entries whose texts stand behind others.
+use Rattle.std.proofs.Common.{◌≡◌, ℕ, zero, suc, ◌+◌, ◌-◌, ◌<◌, List, [], ◌∷◌, Result, Ok, Err, IfOk, Some, length, take, drop, slice_get, slice_range, refl, sym, ap, ◌∙◌, arith}
+use Rattle.std.proofs.lemmas.List.{length-drop}
+use Rattle.std.proofs.lemmas.Option.{slice_get_within}
+use Rattle.redo_line.specs.Lines.{line_feed}
 use Rattle.redo_line.specs.declared.entry.Entry.{Entry}
 use Rattle.redo_logs.specs.declared.kept.Record.{Record}
-use Rattle.redo_logs.specs.Private.Kept.{Parts, StandBehind, seen}
+use Rattle.redo_logs.specs.Private.Kept.{Parts, seen}
 
-get_add : (front xs : List ℕ) (at : ℕ) → slice_get (front ++ xs) (length front + at) ≡ slice_get xs at
-get_add [] xs at = let none : length {A = ℕ} [] + at ≡ at = omega arith in ap (slice_get xs) none
-get_add (x ∷ front) xs at = let next : length (x ∷ front) + at ≡ suc (length front + at) = omega arith in ap (slice_get (x ∷ (front ++ xs))) next ∙ get_add front xs at
+module _ (shift : ℕ) where
+  -- a place behind so many bytes
+  pub get_shifted : (whole : List ℕ) (at : ℕ) → slice_get whole (shift + at) ≡ slice_get (drop shift whole) at
+  get_shifted whole at = by shift whole
+    where
+      by : (count : ℕ) (xs : List ℕ) → slice_get xs (count + at) ≡ slice_get (drop count xs) at
+      by zero xs = let none : 0 + at ≡ at = omega arith in ap (slice_get xs) none
+      by (suc count) [] = refl
+      by (suc count) (x ∷ xs) = let next : suc count + at ≡ suc (count + at) = omega arith in ap (slice_get (x ∷ xs)) next ∙ by count xs
 
-module _ (shift : ℕ) (bytes whole : List ℕ) (stand : StandBehind shift bytes whole) where
-  -- a place of theirs
-  pub get_shifted : (at : ℕ) → at < length bytes → slice_get whole (shift + at) ≡ slice_get bytes at
-  get_shifted at within =
-      ap (λ (w : List ℕ). slice_get w (shift + at)) stand.is ∙ ap (λ n. slice_get (stand.before ++ (bytes ++ stand.behind)) (n + at)) (sym stand.count_is)
-      ∙ get_add stand.before (bytes ++ stand.behind) at ∙ get_front bytes stand.behind at within
+  drop_twice : (whole : List ℕ) (start : ℕ) → drop (shift + start) whole ≡ drop start (drop shift whole)
+  drop_twice whole start = by shift whole
+    where
+      none : (count : ℕ) → drop {A = ℕ} count [] ≡ []
+      none zero = refl
+      none (suc count) = refl
 
-  -- a range of them
-  pub range_shifted : (start end : ℕ) → start ≤ end → end ≤ length bytes → slice_range whole (shift + start) (shift + end) ≡ slice_range bytes start end
-  range_shifted start end order within =
+      by : (count : ℕ) (xs : List ℕ) → drop (count + start) xs ≡ drop start (drop count xs)
+      by zero xs = let same : 0 + start ≡ start = omega arith in ap (λ n. drop n xs) same
+      by (suc count) [] = none (suc count + start) ∙ sym (none start)
+      by (suc count) (x ∷ xs) = let next : suc count + start ≡ suc (count + start) = omega arith in ap (λ n. drop n (x ∷ xs)) next ∙ by count xs
+
+  -- a range behind them
+  pub range_shifted : (whole : List ℕ) (start end : ℕ) → slice_range whole (shift + start) (shift + end) ≡ slice_range (drop shift whole) start end
+  range_shifted whole start end =
       let count : shift + end - (shift + start) ≡ end - start = omega arith in
-      ap (λ n. take n (drop (shift + start) whole)) count
-      ∙ ap (take (end - start))
-      (ap (drop (shift + start)) stand.is ∙ ap (λ n. drop (n + start) (stand.before ++ (bytes ++ stand.behind))) (sym stand.count_is) ∙ drop-append-add stand.before (bytes ++ stand.behind) start)
-      ∙ range_grown bytes (bytes ++ stand.behind) start end (stand.behind, refl) order within
+      ap (λ n. take n (drop (shift + start) whole)) count ∙ ap (take (end - start)) (drop_twice whole start)
 
-  -- where they end is within all
-  pub shifted_within : (end : ℕ) → end ≤ length bytes → shift + end ≤ length whole
-  shifted_within end within =
-      omega (arith, within, stand.count_is, ap length stand.is, length-append stand.before (bytes ++ stand.behind), length-append bytes stand.behind)
+  -- where a line ends is within all
+  pub line_shifted : (whole : List ℕ) (end : ℕ) → slice_get (drop shift whole) end ≡ Some line_feed → shift + end < length whole
+  line_shifted whole end at = omega (arith, slice_get_within (drop shift whole) end line_feed at, length-drop shift whole)
 
 -- what is kept is seen as the same
 pub note_then : {E : Type 0} (result : Result Record E) (parts : Parts) (first second : Entry) → IfOk result (λ kept. seen parts kept ≡ first) → first ≡ second → IfOk result (λ kept. seen parts kept ≡ second)

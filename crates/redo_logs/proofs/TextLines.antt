@@ -16,7 +16,7 @@ use Rattle.redo_logs.specs.declared.kept.Record.TheVariants.{Closing, Done, Ment
 use Rattle.redo_logs.specs.declared.log_table.Log.{Log as Stored}
 use Rattle.redo_logs.specs.Logs.{Log, entry_at}
 use Rattle.redo_logs.specs.Numbering.{AreLinesAt, AreTexts, HasText}
-use Rattle.redo_logs.specs.Private.Kept.{AreLinesOf, IsTextRecord, Parts, SeenAsTexts, Within, note_seen, seen}
+use Rattle.redo_logs.specs.Private.Kept.{AreLinesOf, IsTextRecord, Parts, SeenAsTexts, Within, block_of, note_seen, seen}
 use Rattle.redo_logs.specs.Private.Stored.{log_of, logs_of}
 
 -- ---- ranges
@@ -55,6 +55,16 @@ drop_there k xs x at = drop_more xs k x (slice_get_within xs k x at) ∙ ap (λ 
 
 -- ---- records of texts
 
+-- a block in which something stands is there
+pub block_with : (parts : Parts) (block at x : ℕ) → slice_get (block_of parts block) at ≡ Some x → block ≤ length parts.taken
+block_with parts zero at x is = omega arith
+block_with parts (suc number) at x is = by parts.taken number is
+  where
+    by : (blocks : List (List ℕ)) (number : ℕ) → slice_get (get_or blocks number []) at ≡ Some x → suc number ≤ length blocks
+    by [] number is = absurd (none-some x is)
+    by (block ∷ blocks) zero is = omega arith
+    by (block ∷ blocks) (suc number) is = omega (arith, by blocks number is)
+
 module _ (parts : Parts) where
   texts_push : (records : List Record) (texts : List (List ℕ)) (one : Record) (text : List ℕ) → SeenAsTexts parts records texts → slice_get records (length texts) ≡ Some one → seen parts one ≡ entry.Text text
       → SeenAsTexts parts records (texts ++ text ∷ [])
@@ -68,51 +78,55 @@ module _ (parts : Parts) where
   all_within (first ∷ records) zero one within at = subst (Within parts) (same_Some first one at) within.0
   all_within (first ∷ records) (suc number) one within at = all_within records number one within.1 at
 
-  -- the first texts of some records stand from `first` to `last`
-  pub record Lined (records : List Record) (first last count : ℕ) : Type 0 where
+  -- the first texts of some records stand in a block, from `first` to `last`
+  pub record Lined (records : List Record) (block first last count : ℕ) : Type 0 where
     pub texts : List (List ℕ)
     pub are : SeenAsTexts parts records texts
     pub count_is : length texts ≡ count
     pub order : first ≤ last
-    pub within : last ≤ length parts.bytes
-    pub bytes_are : slice_range parts.bytes first last ≡ flat_map with_line_feed texts
+    pub within : last ≤ length (block_of parts block)
+    pub bytes_are : slice_range (block_of parts block) first last ≡ flat_map with_line_feed texts
 
   module _ (records : List Record) (all : AllByRecursion (Within parts) records) where
-    -- a text ends before the bytes do
-    pub ends_within : (number start end : ℕ) → slice_get records number ≡ Some (Text start end) → end < length parts.bytes
-    ends_within number start end at = slice_get_within parts.bytes end line_feed (all_within records number (Text start end) all at).1
+    -- a text ends before its block does
+    pub ends_within : (number block start end : ℕ) → slice_get records number ≡ Some (Text block start end) → end < length (block_of parts block)
+    ends_within number block start end at = slice_get_within (block_of parts block) end line_feed (all_within records number (Text block start end) all at).1
 
-    pub lined_one : (start end : ℕ) → slice_get records 0 ≡ Some (Text start end) → Lined records start (end + 1) 1
-    lined_one start end at =
-        let there = all_within records 0 (Text start end) all at in
-        let below = slice_get_within parts.bytes end line_feed there.1 in
+    -- its block is there
+    pub text_there : (number block start end : ℕ) → slice_get records number ≡ Some (Text block start end) → block ≤ length parts.taken
+    text_there number block start end at = block_with parts block end line_feed (all_within records number (Text block start end) all at).1
+
+    pub lined_one : (block start end : ℕ) → slice_get records 0 ≡ Some (Text block start end) → Lined records block start (end + 1) 1
+    lined_one block start end at =
+        let there = all_within records 0 (Text block start end) all at in
+        let below = slice_get_within (block_of parts block) end line_feed there.1 in
         record {
-          texts = slice_range parts.bytes start end ∷ [];
-          are = texts_push records [] (Text start end) (slice_range parts.bytes start end) (none records) at refl;
+          texts = slice_range (block_of parts block) start end ∷ [];
+          are = texts_push records [] (Text block start end) (slice_range (block_of parts block) start end) (none records) at refl;
           count_is = refl;
           order = let order = there.0 in omega (arith, order);
           within = omega (arith, below);
-          bytes_are = range_line parts.bytes start end there.0 there.1 ∙ sym (append-nil (with_line_feed (slice_range parts.bytes start end)));
+          bytes_are = range_line (block_of parts block) start end there.0 there.1 ∙ sym (append-nil (with_line_feed (slice_range (block_of parts block) start end)));
         }
       where
         none : (records : List Record) → SeenAsTexts parts records []
         none [] = tt
         none (one ∷ records) = tt
 
-    pub lined_more : (first last count end : ℕ) → Lined records first last count → slice_get records count ≡ Some (Text last end) → Lined records first (end + 1) (count + 1)
-    lined_more first last count end lined at =
-        let there = all_within records count (Text last end) all at in
-        let below = slice_get_within parts.bytes end line_feed there.1 in
-        let text = slice_range parts.bytes last end in
+    pub lined_more : (block first last count end : ℕ) → Lined records block first last count → slice_get records count ≡ Some (Text block last end) → Lined records block first (end + 1) (count + 1)
+    lined_more block first last count end lined at =
+        let there = all_within records count (Text block last end) all at in
+        let below = slice_get_within (block_of parts block) end line_feed there.1 in
+        let text = slice_range (block_of parts block) last end in
         record {
           texts = lined.texts ++ text ∷ [];
-          are = texts_push records lined.texts (Text last end) text lined.are (ap (slice_get records) lined.count_is ∙ at) refl;
+          are = texts_push records lined.texts (Text block last end) text lined.are (ap (slice_get records) lined.count_is ∙ at) refl;
           count_is = length-append lined.texts (text ∷ []) ∙ ap (λ (n : ℕ). n + 1) lined.count_is;
           order = let order = lined.order in let more = there.0 in omega (arith, order, more);
           within = omega (arith, below);
           bytes_are =
-              range_join parts.bytes first last (end + 1) lined.order (let more = there.0 in omega (arith, more)) lined.within
-              ∙ (λ i. lined.bytes_are i ++ range_line parts.bytes last end there.0 there.1 i)
+              range_join (block_of parts block) first last (end + 1) lined.order (let more = there.0 in omega (arith, more)) lined.within
+              ∙ (λ i. lined.bytes_are i ++ range_line (block_of parts block) last end there.0 there.1 i)
               ∙ ap (λ line. flat_map with_line_feed lined.texts ++ line) (sym (append-nil (with_line_feed text)))
               ∙ sym (flat_map-append with_line_feed lined.texts (text ∷ []));
         }
@@ -155,13 +169,13 @@ module _ (parts : Parts) where
 
   -- what is seen as a text is a record of one
   text_record : (one : Record) (text : List ℕ) → seen parts one ≡ entry.Text text → IsTextRecord (Some one)
-  text_record (Text start end) text is = tt
+  text_record (Text block start end) text is = tt
   text_record (Mention how name) text is = absurd (cc)
   text_record (Done status name) text is = absurd (cc)
   text_record (Closing status) text is = absurd (cc)
   text_record (Note note) text is = absurd (no_text (slice_get parts.notes note) is)
     where
-      no_text : (at : Option NoteAt) → note_seen parts.bytes at ≡ entry.Text text → ⊥
+      no_text : (at : Option NoteAt) → note_seen parts at ≡ entry.Text text → ⊥
       no_text None is = cc
       no_text (Some at) is = cc
 

@@ -1,5 +1,5 @@
-//! What the entries of all logs are kept in: their texts one behind the other, and their names, each once.
-ghost use Rattle.std.specs.Prelude.{◌≡◌, ◌+◌, ◌<◌, ◌^◌, ◌++◌, [], Some, nat_eq, length, map, position, slice_get, IfOk};
+//! What the entries of all logs are kept in: their texts, one behind the other, and their names, each once.
+ghost use Rattle.std.specs.Prelude.{◌≡◌, ◌+◌, ◌<◌, ◌≤◌, ◌^◌, ◌++◌, [], Some, nat_eq, length, map, drop, position, slice_get, IfOk};
 ghost use Rattle.std.specs.List.{AllByRecursion};
 ghost use Rattle.std.specs.Cmp.Lexicographic.{pointwise};
 ghost use Rattle.redo_line.specs.Entries.{IsWithin, entry_at};
@@ -7,19 +7,19 @@ ghost use Rattle.redo_line.specs.Names.{IsNormal};
 ghost use Rattle.redo_line.specs.declared.entry.Entry.TheVariants.{Note, Text};
 ghost use Rattle.redo_logs.specs.EntryRef.{entry_seen};
 ghost use Rattle.redo_logs.specs.Numbering.{IsNumbered, numbered_seen};
-ghost use Rattle.redo_logs.specs.Private.Kept.{AreLinesOf, Grows, IsNamed, IsNoteWithin, IsTextRecord, StandBehind, Within, no_parts, note_seen, seen};
+ghost use Rattle.redo_logs.specs.Private.Kept.{AreLinesOf, Grows, IsNamed, IsNoteWithin, IsTextRecord, Within, block_of, no_parts, note_seen, seen};
 
 use crate::entry_ref::EntryRef;
 use crate::numbered::NumberedEntry;
 use indexmap::{Equivalent, IndexSet};
-use redo_line::{Entries, Entry, EntryAt, How, Layout, TargetName};
+use redo_line::{Entries, Entry, EntryAt, How, TargetName};
 use std::alloc::{AllocError, Global};
 use std::marker::Model;
 
 /// An entry as a log keeps it: where its texts are, and which names it has.
 #[derive(Clone, Copy, Debug)]
 pub enum Record {
-    Text { start: usize, end: usize },
+    Text { block: u32, start: usize, end: usize },
     Mention { how: How, name: usize },
     Done { status: i32, name: usize },
     Closing { status: i32 },
@@ -32,10 +32,14 @@ const _: () = prove!(std::mem::size_of::<Record>() == 24);
 /// Where a note's kind and its text are, one behind the other.
 #[derive(Clone, Copy, Debug)]
 pub struct NoteAt {
+    block: u32,
     start: usize,
     middle: usize,
     end: usize,
 }
+
+// How many blocks may be taken over: their numbers are `u32`.
+const MOST_TAKEN: usize = 4_294_967_295;
 
 // The bytes of a name, by which it is looked up.
 #[derive(Clone, Copy, PartialEq, Eq, Hash)]
@@ -59,20 +63,29 @@ impl<'a> Equivalent<TargetName> for NameBytes<'a> {
     }
 }
 
+/// Texts and kinds stand in blocks, numbered from 0.
 #[derive(Debug, Drop)]
 pub struct Kept {
-    // All texts and kinds.
+    // The first block.
     bytes: Vec<u8>,
+    // The others: what came in memory of its own, and fills it.
+    taken: Vec<Vec<u8>>,
     notes: Vec<NoteAt>,
     names: IndexSet<TargetName>,
 }
 
 impl Model for Kept {
+    ghost use Rattle.std.specs.Prelude.{map};
     ghost use Rattle.redo_logs.specs.Private.Kept.{Parts};
 
     ghost Value = { Parts };
 
-    ghost view = { λ kept. record { bytes = kept.bytes.items; notes = kept.notes.items; names = kept.names.keys } };
+    ghost view = { λ kept. record {
+      bytes = kept.bytes.items;
+      taken = map (λ block. block.items) kept.taken.items;
+      notes = kept.notes.items;
+      names = kept.names.keys;
+    } };
 }
 
 impl Kept {
@@ -81,6 +94,7 @@ impl Kept {
     {
         Kept {
             bytes: Vec::new(alloc),
+            taken: Vec::new(alloc),
             notes: Vec::new(alloc),
             names: IndexSet::new(alloc),
         }
@@ -108,48 +122,79 @@ impl Kept {
     }
 
     /// Keeps entries. What was kept before stays, and where this is refused, nobody sees what else is kept.
-    pub fn keep_all(&mut self, alloc: Global, entries: &Entries) -> Result<Vec<Record>, AllocError>
+    pub fn keep_all(&mut self, alloc: Global, entries: Entries) -> Result<Vec<Record>, AllocError>
         ensures grows { Grows self.old self.new }
         ensures within { IfOk result (λ records. AllByRecursion (Within self.new) records.items) }
-        ensures seen { IfOk result (λ records. map (seen self.new) records.items ≡ entries.now) }
+        ensures seen { IfOk result (λ records. map (seen self.new) records.items ≡ entries) }
     {
-        let layout = entries.layout();
-        let (shift, _) = self.put(layout.bytes)?;
-        let mut records = Vec::with_capacity(alloc, layout.places.len())?;
-        for place in layout.places {
-            let record = self.keep_place(alloc, &layout, shift, *place)?;
+        let (texts, names, places) = entries.into_pieces();
+        let (block, shift) = self.keep_texts(texts)?;
+        let mut records = Vec::with_capacity(alloc, places.len())?;
+        for place in &places {
+            let record = self.keep_place(alloc, &names, block, shift, *place)?;
             records.push(record)?;
         }
         Ok(records)
     }
 
-    // Keeps one of several entries, whose texts and kinds stand behind so many bytes.
+    // Keeps texts and kinds: takes them over, or else puts them behind those of the first block. Answers the number of
+    // their block, and how many bytes stand before them.
+    fn keep_texts(&mut self, texts: Vec<u8>) -> Result<(u32, usize), AllocError>
+        ensures grows { Grows self.old self.new }
+        ensures block { IfOk result (λ at. at.0 ≤ length self.new.taken) }
+        ensures place { IfOk result (λ at. at.1 ≤ length (block_of self.new at.0)) }
+        ensures texts { IfOk result (λ at. drop at.1 (block_of self.new at.0) ≡ texts.items) }
+        ensures fits { IfOk result (λ at. length (block_of self.new at.0) < 2 ^ 64) }
+    {
+        if fills_its_memory(&texts) && self.taken.len() < MOST_TAKEN {
+            return Ok((self.take_over(texts)?, 0));
+        }
+        let (start, _) = self.put(&texts)?;
+        Ok((0, start))
+    }
+
+    // Takes a block over, and answers its number.
+    fn take_over(&mut self, texts: Vec<u8>) -> Result<u32, AllocError>
+        requires { length self.old.taken < 4294967295 }
+        ensures grows { Grows self.old self.new }
+        ensures number { IfOk result (λ number. number ≡ length self.new.taken) }
+        ensures texts { IfOk result (λ number. block_of self.new number ≡ texts.items) }
+        ensures fits { length texts.items < 2 ^ 64 }
+    {
+        self.taken.push(texts)?;
+        Ok(self.taken.len() as u32)
+    }
+
+    // Keeps one of several entries, whose texts and kinds stand in this block behind so many bytes.
     fn keep_place(
         &mut self,
         alloc: Global,
-        layout: &Layout<'_>,
+        names: &[u8],
+        block: u32,
         shift: usize,
         place: EntryAt,
     ) -> Result<Record, AllocError>
-        requires within { IsWithin layout.now.bytes.now layout.now.names.now place }
-        requires stand { StandBehind shift layout.now.bytes.now self.old.bytes }
-        requires fits { length self.old.bytes < 2 ^ 64 }
+        requires within { IsWithin (drop shift (block_of self.old block)) names.now place }
+        requires block { block ≤ length self.old.taken }
+        requires place { shift ≤ length (block_of self.old block) }
+        requires fits { length (block_of self.old block) < 2 ^ 64 }
         ensures grows { Grows self.old self.new }
-        ensures bytes { self.new.bytes ≡ self.old.bytes }
+        ensures blocks { (self.new.bytes ≡ self.old.bytes) × (self.new.taken ≡ self.old.taken) }
         ensures within { IfOk result (Within self.new) }
-        ensures seen { IfOk result (λ kept. seen self.new kept ≡ entry_at layout.now.bytes.now layout.now.names.now place) }
+        ensures seen { IfOk result (λ kept. seen self.new kept ≡ entry_at (drop shift (block_of self.old block)) names.now place) }
     {
         match place {
             EntryAt::Text { start, end } => Ok(Record::Text {
+                block,
                 start: shift + start,
                 end: shift + end,
             }),
             EntryAt::Mention { how, start, end } => {
-                let number = self.number_of_bytes(alloc, &layout.names[start..end])?;
+                let number = self.number_of_bytes(alloc, &names[start..end])?;
                 Ok(Record::Mention { how, name: number })
             }
             EntryAt::Done { status, start, end } => {
-                let number = self.number_of_bytes(alloc, &layout.names[start..end])?;
+                let number = self.number_of_bytes(alloc, &names[start..end])?;
                 Ok(Record::Done {
                     status,
                     name: number,
@@ -157,6 +202,7 @@ impl Kept {
             }
             EntryAt::Closing { status } => Ok(Record::Closing { status }),
             EntryAt::Note { start, middle, end } => self.note_at(NoteAt {
+                block,
                 start: shift + start,
                 middle: shift + middle,
                 end: shift + end,
@@ -164,10 +210,9 @@ impl Kept {
         }
     }
 
-    // Puts a text behind the others, and answers where it begins and ends.
+    // Puts a text behind those of the first block, and answers where it begins and ends.
     fn put(&mut self, text: &[u8]) -> Result<(usize, usize), AllocError>
         ensures grows { Grows self.old self.new }
-        ensures others { (self.new.notes ≡ self.old.notes) × (self.new.names ≡ self.old.names) }
         ensures start { IfOk result (λ span. span.0 ≡ length self.old.bytes) }
         ensures end { IfOk result (λ span. span.1 ≡ length self.old.bytes + length text.now) }
         ensures bytes { IfOk result (λ span. self.new.bytes ≡ self.old.bytes ++ text.now) }
@@ -186,7 +231,11 @@ impl Kept {
     {
         let (start, end) = self.put(line)?;
         self.put(b"\n")?;
-        Ok(Record::Text { start, end })
+        Ok(Record::Text {
+            block: 0,
+            start,
+            end,
+        })
     }
 
     fn keep_note(&mut self, kind: &[u8], text: &[u8]) -> Result<Record, AllocError>
@@ -196,16 +245,21 @@ impl Kept {
     {
         let (start, middle) = self.put(kind)?;
         let (_, end) = self.put(text)?;
-        self.note_at(NoteAt { start, middle, end })
+        self.note_at(NoteAt {
+            block: 0,
+            start,
+            middle,
+            end,
+        })
     }
 
     // A note whose kind and text are kept.
     fn note_at(&mut self, at: NoteAt) -> Result<Record, AllocError>
-        requires { IsNoteWithin self.old.bytes (Some at) }
+        requires { IsNoteWithin self.old (Some at) }
         ensures grows { Grows self.old self.new }
-        ensures bytes { self.new.bytes ≡ self.old.bytes }
+        ensures blocks { (self.new.bytes ≡ self.old.bytes) × (self.new.taken ≡ self.old.taken) }
         ensures within { IfOk result (Within self.new) }
-        ensures seen { IfOk result (λ kept. seen self.new kept ≡ note_seen self.old.bytes (Some at)) }
+        ensures seen { IfOk result (λ kept. seen self.new kept ≡ note_seen self.old (Some at)) }
     {
         let note = self.notes.len();
         self.notes.push(at)?;
@@ -215,7 +269,7 @@ impl Kept {
     /// The number of a name, which is among the names from now on.
     pub fn number_of(&mut self, name: TargetName) -> Result<usize, AllocError>
         ensures grows { Grows self.old self.new }
-        ensures bytes { self.new.bytes ≡ self.old.bytes }
+        ensures blocks { (self.new.bytes ≡ self.old.bytes) × (self.new.taken ≡ self.old.taken) }
         ensures is { IfOk result (λ number. IsNamed self.new.names number name) }
     {
         let (number, _) = self.names.insert_full(name)?;
@@ -226,7 +280,7 @@ impl Kept {
     fn number_of_bytes(&mut self, alloc: Global, name: &[u8]) -> Result<usize, AllocError>
         requires { IsNormal name.now }
         ensures grows { Grows self.old self.new }
-        ensures bytes { self.new.bytes ≡ self.old.bytes }
+        ensures blocks { (self.new.bytes ≡ self.old.bytes) × (self.new.taken ≡ self.old.taken) }
         ensures is { IfOk result (λ number. IsNamed self.new.names number name.now) }
     {
         if let Some(number) = self.names.get_index_of(NameBytes { bytes: name }) {
@@ -258,13 +312,25 @@ impl Kept {
         &self.names.as_slice()[number]
     }
 
+    // The block of this number, which there has to be.
+    fn block(&self, number: u32) -> &[u8]
+        requires { number ≤ length self.now.taken }
+        ensures { result.now ≡ block_of self.now number }
+    {
+        if number == 0 {
+            &self.bytes
+        } else {
+            &self.taken[number as usize - 1]
+        }
+    }
+
     /// An entry that is kept.
     pub fn show(&self, kept: Record) -> EntryRef<'_>
         requires { Within self.now kept }
         ensures { entry_seen result ≡ seen self.now kept }
     {
         match kept {
-            Record::Text { start, end } => EntryRef::Text(&self.bytes[start..end]),
+            Record::Text { block, start, end } => EntryRef::Text(&self.block(block)[start..end]),
             Record::Mention { how, name } => EntryRef::Mention {
                 how,
                 name: self.name(name),
@@ -275,10 +341,16 @@ impl Kept {
             },
             Record::Closing { status } => EntryRef::Closing { status },
             Record::Note { note } => {
-                let NoteAt { start, middle, end } = self.notes[note];
+                let NoteAt {
+                    block,
+                    start,
+                    middle,
+                    end,
+                } = self.notes[note];
+                let bytes = self.block(block);
                 EntryRef::Note {
-                    kind: &self.bytes[start..middle],
-                    text: &self.bytes[middle..end],
+                    kind: &bytes[start..middle],
+                    text: &bytes[middle..end],
                 }
             }
         }
@@ -303,18 +375,33 @@ impl Kept {
         ensures lines { AreLinesOf self.now records.now result.0.now result.1 }
         ensures some { IsTextRecord (slice_get records.now 0) → 0 < result.1 }
     {
-        let bytes = self.bytes.as_slice();
-        let Some(Record::Text { start: first, end }) = records.first() else {
+        let Some(Record::Text {
+            block,
+            start: first,
+            end,
+        }) = records.first()
+        else {
             return (&[], 0);
         };
+        let bytes = self.block(*block);
         let mut last = *end + 1;
         let mut count = 1;
-        while let Some(Record::Text { start, end }) = records.get(count)
+        while let Some(Record::Text {
+            block: other,
+            start,
+            end,
+        }) = records.get(count)
             && *start == last
+            && *other == *block
         {
             last = *end + 1;
             count += 1;
         }
         (&bytes[*first..last], count)
     }
+}
+
+// Whether texts are many, and fill half of their memory at least.
+fn fills_its_memory(texts: &Vec<u8>) -> bool {
+    texts.len() >= 4096 && texts.len() >= texts.capacity() / 2
 }

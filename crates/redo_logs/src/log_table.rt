@@ -103,10 +103,11 @@ impl LogTable {
         Ok(())
     }
 
-    /// Adds entries to a log, which has to be running. A refusal changes nothing.
-    pub fn add_all(&mut self, stream: u32, entries: &Entries) -> Result<(), AllocError>
+    /// Adds entries to a log, which has to be running. A refusal changes nothing. Where their texts are many, these
+    /// stay in the memory that they have.
+    pub fn add_all(&mut self, stream: u32, entries: Entries) -> Result<(), AllocError>
         requires running { slice_get (states_of self.old) stream ≡ Some Running }
-        ensures added { OnOk result (self.new ≡ changed stream (with_entries entries.now) self.old) }
+        ensures added { OnOk result (self.new ≡ changed stream (with_entries entries) self.old) }
         ensures err { OnErr result (self.new ≡ self.old) }
     {
         let records = self.kept.keep_all(self.alloc, entries)?;

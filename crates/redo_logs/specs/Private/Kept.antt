@@ -1,5 +1,6 @@
--- How entries are kept: their texts one behind the other, their names each once, and records that say where these are.
-use Rattle.std.specs.Prelude.{◌≡◌, ℕ, ◌≤◌, ◌<◌, false, List, [], ◌∷◌, ◌++◌, Option, None, Some, nat_eq, length, slice_get, slice_range, ⊤}
+-- How entries are kept: their texts in blocks, one behind the other, their names each once, and records that say where
+-- these are.
+use Rattle.std.specs.Prelude.{◌≡◌, ℕ, zero, suc, ◌≤◌, ◌<◌, false, List, [], ◌∷◌, ◌++◌, Option, None, Some, nat_eq, length, slice_get, slice_index_or, slice_range, ⊤}
 use Rattle.std.specs.List.{AllByRecursion, IsDistinct, flat_map, list_any}
 use Rattle.std.specs.Cmp.Lexicographic.{pointwise}
 use Rattle.redo_line.specs.declared.entry.Entry.{Entry}
@@ -12,11 +13,17 @@ use Rattle.redo_logs.specs.Numbering.{name_at}
 
 pub record Parts : Type 0 where
   pub bytes : List ℕ
+  pub taken : List (List ℕ)
   pub notes : List NoteAt
   pub names : List (List ℕ)
 
 abbrev pub no_parts : Parts
-no_parts = record { bytes = []; notes = []; names = [] }
+no_parts = record { bytes = []; taken = []; notes = []; names = [] }
+
+-- a block: the first is the table's own, the others were taken over
+abbrev pub block_of : Parts → ℕ → List ℕ
+block_of parts zero = parts.bytes
+block_of parts (suc number) = slice_index_or parts.taken number []
 
 -- a list stands in front of another
 pub record IsFront {A : Type 0} (front whole : List A) : Type 0 where
@@ -32,6 +39,7 @@ pub record NamesGrow (old new : List (List ℕ)) : Type 0 where
 -- what was kept stays
 pub record Grows (old new : Parts) : Type 0 where
   pub bytes : IsFront old.bytes new.bytes
+  pub taken : IsFront old.taken new.taken
   pub notes : IsFront old.notes new.notes
   pub names : NamesGrow old.names new.names
 
@@ -40,36 +48,30 @@ pub record IsNamed (names : List (List ℕ)) (number : ℕ) (name : List ℕ) : 
   pub below : number < length names
   pub is : name_at names number ≡ name
 
-abbrev pub note_seen : List ℕ → Option NoteAt → Entry
-note_seen bytes None = entry.Note [] []
-note_seen bytes (Some at) = entry.Note (slice_range bytes at.start at.middle) (slice_range bytes at.middle at.end)
+abbrev pub note_seen : Parts → Option NoteAt → Entry
+note_seen parts None = entry.Note [] []
+note_seen parts (Some at) = entry.Note (slice_range (block_of parts at.block) at.start at.middle) (slice_range (block_of parts at.block) at.middle at.end)
 
 -- the entry that is kept so
 abbrev pub seen : Parts → Record → Entry
-seen parts (Text start end) = entry.Text (slice_range parts.bytes start end)
+seen parts (Text block start end) = entry.Text (slice_range (block_of parts block) start end)
 seen parts (Mention how name) = entry.Mention how (name_at parts.names name)
 seen parts (Done status name) = entry.Done status (name_at parts.names name)
 seen parts (Closing status) = entry.Closing status
-seen parts (Note note) = note_seen parts.bytes (slice_get parts.notes note)
+seen parts (Note note) = note_seen parts (slice_get parts.notes note)
 
-abbrev pub IsNoteWithin : List ℕ → Option NoteAt → Type 0
-IsNoteWithin bytes None = ⊥
-IsNoteWithin bytes (Some at) = (at.start ≤ at.middle) × (at.middle ≤ at.end) × (at.end ≤ length bytes)
+abbrev pub IsNoteWithin : Parts → Option NoteAt → Type 0
+IsNoteWithin parts None = ⊥
+IsNoteWithin parts (Some at) =
+    (at.start ≤ at.middle) × (at.middle ≤ at.end) × (at.end ≤ length (block_of parts at.block)) × (at.block ≤ length parts.taken)
 
 -- where its parts are, there is something, and behind a text stands a line feed
 abbrev pub Within : Parts → Record → Type 0
-Within parts (Text start end) = (start ≤ end) × (slice_get parts.bytes end ≡ Some line_feed)
+Within parts (Text block start end) = (start ≤ end) × (slice_get (block_of parts block) end ≡ Some line_feed)
 Within parts (Mention how name) = name < length parts.names
 Within parts (Done status name) = name < length parts.names
 Within parts (Closing status) = ⊤
-Within parts (Note note) = IsNoteWithin parts.bytes (slice_get parts.notes note)
-
--- bytes stand behind so many others
-pub record StandBehind (count : ℕ) (bytes whole : List ℕ) : Type 0 where
-  pub before : List ℕ
-  pub behind : List ℕ
-  pub is : whole ≡ before ++ (bytes ++ behind)
-  pub count_is : length before ≡ count
+Within parts (Note note) = IsNoteWithin parts (slice_get parts.notes note)
 
 -- the entries of these records, as far as they go, are these texts
 abbrev pub SeenAsTexts : Parts → List Record → List (List ℕ) → Type 0
@@ -86,7 +88,7 @@ pub record AreLinesOf (parts : Parts) (records : List Record) (bytes : List ℕ)
 
 abbrev pub IsTextRecord : Option Record → Type 0
 IsTextRecord None = ⊥
-IsTextRecord (Some (Text start end)) = ⊤
+IsTextRecord (Some (Text block start end)) = ⊤
 IsTextRecord (Some (Mention how name)) = ⊥
 IsTextRecord (Some (Done status name)) = ⊥
 IsTextRecord (Some (Closing status)) = ⊥

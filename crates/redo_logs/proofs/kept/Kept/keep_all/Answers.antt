@@ -1,5 +1,6 @@
 use Rattle.std.proofs.Common.{rules, ◌<◌, List, length, sym, subst}
 use Rattle.std.proofs.lemmas.List.{get_or_default}
+use Rattle.redo_line.specs.declared.entries.EntryAt.{EntryAt}
 use Rattle.redo_logs.specs.declared.kept.Record.{Record}
 use Rattle.redo_logs.proofs.Keeping.{grows_more}
 use Rattle.redo_logs.proofs.KeepingAll.{Keeps, none_kept, one_kept}
@@ -7,19 +8,29 @@ use Rattle.redo_logs.proofs.kept.Kept.keep_all.Goals as goal
 
 pub loop-place-init : goal.loop-place-init
 loop-place-init c =
-    let put = c.in_ok-shift.ensures in
-    subst (λ (rs : List Record). Keeps c.args.self.now c.put.new.self c.layout-layout.result c.in_ok-shift.shift rs 0) (sym c.in_ok-records.ensures.items)
-    (none_kept c.args.self.now c.layout-layout.result c.in_ok-shift.shift c.put.new.self put.grows put.bytes put.start put.fits)
-
-pub returns-in_err-record-clause-grows : goal.returns-in_err-record-clause-grows
-returns-in_err-record-clause-grows c = grows_more c.args.self.now c.loop-place.self c.keep_place.new.self c.loop-place.invariant.grows c.in_err-record.ensures.grows
-
-pub returns-in_err-push-clause-grows : goal.returns-in_err-push-clause-grows
-returns-in_err-push-clause-grows c = grows_more c.args.self.now c.loop-place.self c.keep_place.new.self c.loop-place.invariant.grows c.in_ok-record.ensures.grows
+    let kept = c.in_ok-block.ensures in
+    let begun = c.args.self.now in
+    let now = c.keep_texts.new.self in
+    let names = c.into_pieces-texts.result.1.items in
+    let block = c.in_ok-block.block in
+    let shift = c.in_ok-block.shift in
+    subst (λ (ps : List EntryAt). Keeps begun c.args.entries names ps block shift now c.in_ok-records.records.items 0) (sym c.deref-place-items.ensures.value)
+    (subst (λ (rs : List Record). Keeps begun c.args.entries names c.into_pieces-texts.result.2.items block shift now rs 0) (sym c.in_ok-records.ensures.items)
+    (none_kept begun c.args.entries names c.into_pieces-texts.result.2.items block shift c.into_pieces-texts.result.0.items now c.into_pieces-texts.ensures
+    kept.grows kept.block kept.place kept.texts kept.fits))
 
 pub loop-place-preserved : goal.loop-place-preserved
 loop-place-preserved c =
     let kept = c.in_ok-record.ensures in
-    let below : c.loop-place.place-index < length c.layout-layout.result.places.now = search rules in
-    one_kept c.args.self.now c.layout-layout.result c.in_ok-shift.shift c.loop-place.self c.loop-place.records.items c.loop-place.place-index c.loop-place.invariant
-    c.keep_place.new.self c.push.new.self.items c.in_ok-record.record _ kept.grows kept.bytes kept.within kept.seen c.in_ok-push.ensures.items below (get_or_default c.layout-layout.result.places.now c.loop-place.place-index _ _ below)
+    let places = c.deref-place-items.result.now in
+    let below : c.loop-place.place-index < length places = search rules in
+    one_kept c.args.self.now c.args.entries c.into_pieces-texts.result.1.items places c.in_ok-block.block c.in_ok-block.shift c.loop-place.self c.loop-place.records.items c.loop-place.place-index
+    c.loop-place.invariant c.keep_place.new.self c.push.new.self.items c.in_ok-record.record _ c.deref.result.now kept.grows kept.blocks kept.within
+    c.deref.ensures.value kept.seen c.in_ok-push.ensures.items below
+    (get_or_default places c.loop-place.place-index _ _ below)
+
+pub returns-in_err-record-clause-grows : goal.returns-in_err-record-clause-grows
+returns-in_err-record-clause-grows c = grows_more _ _ _ c.loop-place.invariant.grows c.in_err-record.ensures.grows
+
+pub returns-in_err-push-clause-grows : goal.returns-in_err-push-clause-grows
+returns-in_err-push-clause-grows c = grows_more _ _ _ c.loop-place.invariant.grows c.in_ok-record.ensures.grows

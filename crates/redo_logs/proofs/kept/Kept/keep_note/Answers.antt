@@ -1,6 +1,13 @@
-use Rattle.redo_logs.proofs.Keeping.{end_of, note_put}
+use Rattle.redo_logs.proofs.Keeping.{end_of, grows_more, note_put}
 use Rattle.redo_logs.proofs.Shifting.{note_then}
 use Rattle.redo_logs.proofs.kept.Kept.keep_note.Goals as goal
+
+pub returns-in_err-end-clause-grows : goal.returns-in_err-end-clause-grows
+returns-in_err-end-clause-grows c = grows_more _ _ _ c.in_ok-start.ensures.grows c.in_err-end.ensures.grows
+
+pub returns-clause-grows : goal.returns-clause-grows
+returns-clause-grows c =
+    grows_more _ _ _ (grows_more _ _ _ c.in_ok-start.ensures.grows c.in_ok-end.ensures.grows) c.note_at.ensures.grows
 
 pub returns-clause-seen : goal.returns-clause-seen
 returns-clause-seen c =

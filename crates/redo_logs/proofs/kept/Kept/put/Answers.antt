@@ -1,7 +1,7 @@
 use Rattle.std.proofs.Common.{rules, [], sym, ap, ◌∙◌}
 use Rattle.std.proofs.lemmas.List.{append-nil}
 use Rattle.redo_logs.specs.Private.Kept.{Parts}
-use Rattle.redo_logs.proofs.Keeping.{bytes_grow}
+use Rattle.redo_logs.proofs.Keeping.{bytes_grow, front_same}
 use Rattle.redo_logs.proofs.kept.Kept.put.Goals as goal
 
 pub returns-in_err-extend_from_slice-clause-grows :
@@ -9,9 +9,9 @@ pub returns-in_err-extend_from_slice-clause-grows :
 returns-in_err-extend_from_slice-clause-grows c =
     bytes_grow c.args.self.now _
     (record { more = []; is = c.in_err-extend_from_slice.ensures.items ∙ ap (λ (p : Parts). p.bytes) c.self.view_is ∙ sym (append-nil _) })
-    (ap (λ (p : Parts). p.notes) c.self.view_is) (ap (λ (p : Parts). p.names) c.self.view_is)
+    (front_same _ _ (ap (λ (p : Parts). p.taken) c.self.view_is)) (ap (λ (p : Parts). p.notes) c.self.view_is) (ap (λ (p : Parts). p.names) c.self.view_is)
 
 pub returns-clause-grows : goal.returns-clause-grows
 returns-clause-grows c =
     bytes_grow c.args.self.now _ (record { more = c.args.text.now; is = search rules })
-    (ap (λ (p : Parts). p.notes) c.self.view_is) (ap (λ (p : Parts). p.names) c.self.view_is)
+    (front_same _ _ (ap (λ (p : Parts). p.taken) c.self.view_is)) (ap (λ (p : Parts). p.notes) c.self.view_is) (ap (λ (p : Parts). p.names) c.self.view_is)

@@ -45,9 +45,9 @@ invariant_of-self-2 c =
     let old = c.index_mut.result.now in
     let new : Stored = record { name = old.name; records = c.extend_from_slice.new.self; state = old.state } in
     let below = has_state _ _ _ c.args.stream Running c.self.view_is c.requires.running in
-    changed_stored c.keep_all.new.self c.self.inside.logs.items c.self.inside.places.items c.args.stream old new (with_entries c.args.entries.now) (λ log. refl)
+    changed_stored c.keep_all.new.self c.self.inside.logs.items c.self.inside.places.items c.args.stream old new (with_entries c.args.entries) (λ log. refl)
     (slice_get_read _ _ c.args.stream _ refl below c.index_mut.ensures.value)
-    (entries_log _ old new refl c.in_ok-records.records.items (c.in_ok-extend_from_slice.ensures.items ∙ ap (λ more. c.index_mut.result.now.records.items ++ more) c.deref.ensures.value) c.args.entries.now c.in_ok-records.ensures.seen refl)
+    (entries_log _ old new refl c.in_ok-records.records.items (c.in_ok-extend_from_slice.ensures.items ∙ ap (λ more. c.index_mut.result.now.records.items ++ more) c.deref.ensures.value) c.args.entries c.in_ok-records.ensures.seen refl)
     (entries_log_within _ old new refl c.in_ok-records.records.items (c.in_ok-extend_from_slice.ensures.items ∙ ap (λ more. c.index_mut.result.now.records.items ++ more) c.deref.ensures.value) c.in_ok-records.ensures.within)
     (grown_stored _ _ c.in_ok-records.ensures.grows _ _ c.self.invariant)
 
@@ -56,6 +56,6 @@ returns-clause-added c =
     let old = c.index_mut.result.now in
     let new : Stored = record { name = old.name; records = c.extend_from_slice.new.self; state = old.state } in
     let below = has_state _ _ _ c.args.stream Running c.self.view_is c.requires.running in
-    written c.keep_all.new.self c.self.inside.logs.items c.args.stream old new (with_entries c.args.entries.now) (slice_get_read _ _ c.args.stream _ refl below c.index_mut.ensures.value)
-    (entries_log _ old new refl c.in_ok-records.records.items (c.in_ok-extend_from_slice.ensures.items ∙ ap (λ more. c.index_mut.result.now.records.items ++ more) c.deref.ensures.value) c.args.entries.now c.in_ok-records.ensures.seen refl)
-    ∙ ap (changed c.args.stream (with_entries c.args.entries.now)) (logs_grown _ _ c.in_ok-records.ensures.grows _ c.self.invariant.within ∙ c.self.view_is)
+    written c.keep_all.new.self c.self.inside.logs.items c.args.stream old new (with_entries c.args.entries) (slice_get_read _ _ c.args.stream _ refl below c.index_mut.ensures.value)
+    (entries_log _ old new refl c.in_ok-records.records.items (c.in_ok-extend_from_slice.ensures.items ∙ ap (λ more. c.index_mut.result.now.records.items ++ more) c.deref.ensures.value) c.args.entries c.in_ok-records.ensures.seen refl)
+    ∙ ap (changed c.args.stream (with_entries c.args.entries)) (logs_grown _ _ c.in_ok-records.ensures.grows _ c.self.invariant.within ∙ c.self.view_is)
