@@ -19,11 +19,25 @@ use std::marker::Model;
 /// An entry as a log keeps it: where its texts are, and which names it has.
 #[derive(Clone, Copy, Debug)]
 pub enum Record {
-    Text { block: u32, start: usize, end: usize },
-    Mention { how: How, name: usize },
-    Done { status: i32, name: usize },
-    Closing { status: i32 },
-    Note { note: usize },
+    Text {
+        block: u32,
+        start: usize,
+        end: usize,
+    },
+    Mention {
+        how: How,
+        name: usize,
+    },
+    Done {
+        status: i32,
+        name: usize,
+    },
+    Closing {
+        status: i32,
+    },
+    Note {
+        note: usize,
+    },
 }
 
 // A table asks for so many bytes an entry, beside its texts.
@@ -375,22 +389,26 @@ impl Kept {
         ensures lines { AreLinesOf self.now records.now result.0.now result.1 }
         ensures some { IsTextRecord (slice_get records.now 0) → 0 < result.1 }
     {
-        let Some(Record::Text {
-            block,
-            start: first,
-            end,
-        }) = records.first()
+        let Some(
+            Record::Text {
+                block,
+                start: first,
+                end,
+            },
+        ) = records.first()
         else {
             return (&[], 0);
         };
         let bytes = self.block(*block);
         let mut last = *end + 1;
         let mut count = 1;
-        while let Some(Record::Text {
-            block: other,
-            start,
-            end,
-        }) = records.get(count)
+        while let Some(
+            Record::Text {
+                block: other,
+                start,
+                end,
+            },
+        ) = records.get(count)
             && *start == last
             && *other == *block
         {

@@ -13,6 +13,6 @@ returns-in_err-push-clause-grows c =
 pub returns-clause-grows : goal.returns-clause-grows
 returns-clause-grows c =
     let taken = ap (map (λ block. block.items)) c.in_ok-push.ensures.items ∙ map_push (λ block. block.items) _ c.args.texts
-        ∙ ap (λ (p : Parts). p.taken ++ c.args.texts.items ∷ []) c.self.view_is in
+    ∙ ap (λ (p : Parts). p.taken ++ c.args.texts.items ∷ []) c.self.view_is in
     bytes_grow c.args.self.now _ (front_same _ _ (ap (λ (p : Parts). p.bytes) c.self.view_is)) (record { more = c.args.texts.items ∷ []; is = taken })
     (ap (λ (p : Parts). p.notes) c.self.view_is) (ap (λ (p : Parts). p.names) c.self.view_is)
