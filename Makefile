@@ -23,5 +23,5 @@ install-capture:
 	install -d $(TO)/bin $(TO)/libexec/redo-log
 	$(CC) -std=gnu11 -Wall -Wextra $(CFLAGS) $(LDFLAGS) -o $(TO)/bin/redo-log-capture capture/*.c
 	ln -sf ../../bin/redo-log-capture $(TO)/libexec/redo-log/sh
-	install -D -m 644 capture/capture.mk $(TO)/share/redo-log/capture.mk
+	install -D -m 644 -t $(TO)/share/redo-log capture/capture.mk capture/recipe
 	install -D -m 644 docs/redo-log-capture.1 $(TO)/share/man/man1/redo-log-capture.1

@@ -45,6 +45,7 @@ struct target {
 struct target look_up(const char *name);
 void keep(struct target target, const char *name);
 
+/* With those that it stands in. */
 void make_directory(const char *path);
 void forget_targets(void);
 

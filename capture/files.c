@@ -118,10 +118,11 @@ char *identity(int process) {
 int is_running(const char *run) { return strcmp(identity(atoi(run)), run) == 0; }
 
 char *run_of_book(void) {
-  char *book = contents(path_of(".capture/run"), NULL);
-  if (!book) return text("");
-  book[strcspn(book, "\n")] = 0;
-  return book;
+  char first[64] = "";
+  int file = open(path_of(".capture/run"), O_RDONLY | O_CLOEXEC);
+  if (file >= 0 && pread(file, first, sizeof first - 1, 0) < 0) fail(1, "cannot read %s", path_of(".capture/run"));
+  if (file >= 0) close(file);
+  return text("%.*s", (int)strcspn(first, "\n"), first);
 }
 
 /* A file of a target has a first line of this many bytes, which is written over, and then the name. */
@@ -151,6 +152,11 @@ void keep(struct target target, const char *name) {
 }
 
 void make_directory(const char *path) {
+  char *front = text("%s", path);
+  for (char *slash = front + 1; (slash = strchr(slash, '/')); *slash++ = '/') {
+    *slash = 0;
+    mkdir(front, 0777); /* where this can't be, the last can't */
+  }
   if (mkdir(path, 0777) < 0 && errno != EEXIST) cannot_write(path);
 }
 

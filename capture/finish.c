@@ -29,14 +29,16 @@ static void read_names(void) {
   char *names = contents(path_of("names"), NULL), *left;
   if (!names) fail(1, "cannot read %s", path_of("names"));
   for (char *line = strtok_r(names, "\n", &left); line; line = strtok_r(NULL, "\n", &left)) {
+    char *space = strchr(line, ' ');
     unsigned number = atoi(line);
+    if (!space) fail(1, "%s: a bad line: %s", path_of("names"), line);
     if (number > last) {
       entries = realloc(entries, (number + 1) * sizeof *entries);
       if (!entries) fail(1, "out of memory");
       memset(entries + last + 1, 0, (number - last) * sizeof *entries);
       last = number;
     }
-    entries[number].name = strchr(line, ' ') + 1;
+    entries[number].name = space + 1;
     entries[number].number = number;
     entries[number].status = -1;
   }
@@ -45,16 +47,15 @@ static void read_names(void) {
 static void read_book(char *book) {
   char *left;
   for (char *line = strtok_r(book, "\n", &left); line; line = strtok_r(NULL, "\n", &left)) {
-    unsigned number, leader, records;
-    int status;
-    if (sscanf(line, "began %u %u %u", &number, &leader, &records) == 3) {
-      entries[number].leader = leader;
-      entries[number].records = records;
-    } else if (sscanf(line, "ended %u %d", &number, &status) == 2) {
-      entries[number].status = status;
-    } else if (sscanf(line, "named %u", &number) == 1) {
-      entries[number].is_named = 1;
-    }
+    char event[8];
+    unsigned number, first, second;
+    int count = sscanf(line, "%7s %u %u %u", event, &number, &first, &second);
+    if (count < 2 || number > last) continue;
+    struct entry *entry = &entries[number];
+    if (count == 4 && strcmp(event, "began") == 0) entry->leader = first, entry->records = second;
+    if (count == 2 && strcmp(event, "named") == 0) entry->is_named = 1;
+    if (count == 2 && strcmp(event, "again") == 0) entry->status = -1;
+    if (count == 3 && strcmp(event, "ended") == 0) entry->status = first;
   }
 }
 

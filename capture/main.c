@@ -32,9 +32,10 @@ static const char help[] =
     "  126  the command can't be run\n"
     "  127  the command isn't found\n";
 
-/* The file that each make is to read first, as `make install` puts it beside the folder of the program. */
+/* The file that each make is to read first, where `make install` puts it. */
 static char *rules_of(const char *program) {
-  char *rules = text("%.*s../share/redo-log/capture.mk", (int)(leaf(program) - program), program);
+  char *folder = text("%.*s", (int)(leaf(program) - program) - 1, program);
+  char *rules = text("%.*sshare/redo-log/capture.mk", (int)(leaf(folder) - folder), folder);
   if (access(rules, R_OK) < 0) fail(1, "cannot read %s", rules);
   for (const char *byte = rules; *byte; byte++)
     if (isspace((unsigned char)*byte)) fail(1, "%s: make takes no path with a space", rules);

@@ -157,10 +157,12 @@ static void begin_first(const char *needs) {
   tell_leader("do", "");
 }
 
-static void begin(const char *needs) {
+/* Whether the makes that led here began with a line of this very target. */
+static int is_within(const char *led) { return strstr(text(" %s", led), text(" %u ", target.number)) != NULL; }
+
+static void begin(const char *needs, const char *led) {
   if (access(path_of(".capture"), F_OK) < 0) {
     if (access(path_of("names"), F_OK) == 0) fail(1, "%s is there already, and no capture wrote it", path_of("names"));
-    make_directory(at);
     make_directory(path_of(".capture"));
   }
   int held = lock();
@@ -168,7 +170,13 @@ static void begin(const char *needs) {
   if (strcmp(book, own_run) != 0) start(book);
   target = look_up(name);
   if (target.number == 0) list();
-  if (strcmp(target.run, own_run) != 0) begin_first(needs);
+  if (strcmp(target.run, own_run) != 0) {
+    begin_first(needs);
+  } else if (!is_within(led)) {
+    target.status = -1;
+    keep(target, name);
+    append_line(path_of(".capture/run"), "again %u", target.number);
+  }
   unlock(held);
 }
 
@@ -199,11 +207,6 @@ static void set_run(void) {
   set_environment(identity(getppid()), directory ? directory : "capture");
 }
 
-/* Whether the makes that led here began with a line of this very target. */
-static int is_within(const char *led) {
-  return strstr(text(" %s ", led), text(" %u ", target.number)) != NULL;
-}
-
 void recipe(char **command) {
   const char *capture = getenv("CAPTURE");
   const char *needs = capture ? strstr(capture, " : ") : NULL;
@@ -219,7 +222,7 @@ void recipe(char **command) {
   leader = *led ? atoi(led) : 1;
   path_for_leader = spelled(name, leader_up);
   if (!path_for_leader) leader = 1, path_for_leader = name;
-  begin(needs + 3);
+  begin(needs + 3, led);
 
   unsetenv("CAPTURE");
   if (is_within(led)) become(command); /* standard error is its log already */
