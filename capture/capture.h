@@ -4,8 +4,9 @@
 
 /* A capture directory has the files that redo-log reads, and `.capture`, with
      lock       who holds it (flock) may read and write the others
-     run        the book of the last run: first which it is, a process and when that began; then what came of each target
-     targets/   what is known of each target, in a file of its own, so that no run has to go over a list */
+     run        the book of the last run: which that is, a process and when it began; then what came of each target
+     last       the last number that a target got
+     targets/   what is known of each target, in a file of its own, so that no line has to go over a list */
 extern const char *at;
 
 /* A line on standard error, and the end. */
@@ -20,9 +21,12 @@ char *log_of(unsigned number);
 
 /* All of a file, with a NUL behind it; or NULL, if there is none. */
 char *contents(const char *path, size_t *size);
-/* Adds to a file. What there was no room for is taken off again. */
+/* Adds to a file. What there was no room for is taken off again, and told by -1, or as what can't be written. */
+int try_append(const char *path, const char *bytes, size_t size);
 void append(const char *path, const char *bytes, size_t size);
 void append_line(const char *path, const char *format, ...);
+/* Writes over the front of a file. */
+void write_over(const char *path, const char *bytes);
 /* Puts a new file in place of another one, whole. */
 void replace(const char *path, const char *bytes, size_t size);
 
@@ -59,8 +63,8 @@ char *mark_of(const char *run);
 void set_environment(const char *run, const char *directory);
 
 _Noreturn void become(char **command);
-/* Runs a command, and tells its status as a shell does: with standard error into `log`, if there is one, and with standard
-   output there too, if it says so. */
+/* Runs a command, and tells its status as a shell does: with standard error into `log`, if there is one, and with
+   standard output there too, if it says so. */
 int run(char **command, const char *log, int both);
 
 _Noreturn void recipe(char **command);

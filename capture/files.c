@@ -74,12 +74,17 @@ static int write_all(int file, const char *bytes, size_t size) {
   return 0;
 }
 
-void append(const char *path, const char *bytes, size_t size) {
+int try_append(const char *path, const char *bytes, size_t size) {
   struct stat before;
   int file = open(path, O_WRONLY | O_APPEND | O_CREAT | O_CLOEXEC, 0666);
-  if (file < 0 || fstat(file, &before) < 0) cannot_write(path);
-  if (write_all(file, bytes, size) < 0 && ftruncate(file, before.st_size) <= 0) cannot_write(path);
-  close(file);
+  int result = file < 0 || fstat(file, &before) < 0 ? -1 : write_all(file, bytes, size);
+  if (file >= 0 && result < 0 && ftruncate(file, before.st_size) < 0) cannot_write(path);
+  if (file >= 0) close(file);
+  return result;
+}
+
+void append(const char *path, const char *bytes, size_t size) {
+  if (try_append(path, bytes, size) < 0) cannot_write(path);
 }
 
 void append_line(const char *path, const char *format, ...) {
@@ -110,8 +115,9 @@ char *identity(int process) {
   char *said = contents(text("/proc/%d/stat", process), NULL);
   char *fields = said ? strrchr(said, ')') : NULL;
   unsigned long long began = 0;
-  /* The time is the 22nd field, and the bracket ends the second. */
-  if (fields) sscanf(fields + 1, " %*s %*s %*s %*s %*s %*s %*s %*s %*s %*s %*s %*s %*s %*s %*s %*s %*s %*s %*s %llu", &began);
+  /* The bracket ends the second field, and the time is the 22nd. */
+  for (int field = 2; fields && field < 22; field++) fields = strchr(fields + 1, ' ');
+  if (fields) began = strtoull(fields, NULL, 10);
   return text("%d-%llu", process, began);
 }
 
@@ -143,12 +149,15 @@ struct target look_up(const char *name) {
   }
 }
 
-void keep(struct target target, const char *name) {
-  char *head = text("%10u %4d %s", target.number, target.status, target.run);
-  char *kept = text("%-*.*s\n%s", HEAD - 1, HEAD - 1, head, name);
-  int file = open(target.file, O_WRONLY | O_CREAT | O_CLOEXEC, 0666);
-  if (file < 0 || write_all(file, kept, strlen(kept)) < 0) cannot_write(target.file);
+void write_over(const char *path, const char *bytes) {
+  int file = open(path, O_WRONLY | O_CREAT | O_CLOEXEC, 0666);
+  if (file < 0 || write_all(file, bytes, strlen(bytes)) < 0) cannot_write(path);
   close(file);
+}
+
+void keep(struct target target, const char *name) {
+  char *head = text("%u %d %s", target.number, target.status, target.run);
+  write_over(target.file, text("%-*.*s\n%s", HEAD - 1, HEAD - 1, head, name));
 }
 
 void make_directory(const char *path) {
@@ -183,9 +192,10 @@ char *mark_of(const char *run) {
 void set_environment(const char *run, const char *directory) {
   char *here = getcwd(NULL, 0);
   if (!here) fail(1, "no directory to work in");
+  const char *front = strcmp(here, "/") == 0 ? "" : here;
   setenv("CAPTURE_RUN", run, 1);
   setenv("CAPTURE_BASE", here, 1);
-  setenv("CAPTURE_AT", directory[0] == '/' ? directory : text("%s/%s", strcmp(here, "/") == 0 ? "" : here, directory), 1);
+  setenv("CAPTURE_AT", directory[0] == '/' ? directory : text("%s/%s", front, directory), 1);
 }
 
 static _Noreturn void cannot_run(const char *command, int error) {

@@ -1,4 +1,4 @@
-/* What is known only when a run has ended: the log of the run, what the makes of recipes made, and the closing records. */
+/* What is known only when a run has ended: its own log, what the makes of recipes made, and the closing records. */
 #define _GNU_SOURCE
 #include "capture.h"
 #include <stdlib.h>
@@ -90,15 +90,18 @@ static char *behind_line(char *from, char *end) {
   return feed ? feed + 1 : end;
 }
 
-/* Writes the log anew: the records of what the target needs, those of what its recipe led to, what it said, and its end. */
+/* Writes a log anew: records of what the target needs, and of what its recipe led to; what it said; and the end. */
 static void close_log(struct entry *target) {
   char *path = log_of(target->number), *out;
   size_t size = 0, out_size;
-  char *log = contents(path, &size), *end = log + size, *at_line = log;
+  char *log = contents(path, &size);
+  if (!log) log = text("");
+  char *end = log + size, *at_line = log;
   FILE *stream = open_memstream(&out, &out_size);
+  if (!stream) fail(1, "out of memory");
   for (unsigned i = 0; i < target->records; i++) at_line = behind_line(at_line, end);
   fwrite(log, 1, at_line - log, stream);
-  fwrite(target->led, 1, target->led_size, stream);
+  if (target->led) fwrite(target->led, 1, target->led_size, stream);
   while (at_line < end) {
     char *marked = find_marked(at_line, end);
     fwrite(at_line, 1, marked - at_line, stream);
@@ -106,10 +109,13 @@ static void close_log(struct entry *target) {
   }
   fflush(stream);
   if (out_size > 0 && out[out_size - 1] != '\n') fputc('\n', stream);
+  const char *name = target->name[0] == '/' ? target->name : leaf(target->name);
   if (target->leader != 0 && target->status >= 0)
-    fprintf(stream, "@@REDO:done:%s@@ %d %s\n", stamp, target->status, target->name[0] == '/' ? target->name : leaf(target->name));
-  fclose(stream);
+    fprintf(stream, "@@REDO:done:%s@@ %d %s\n", stamp, target->status, name);
+  if (fclose(stream) != 0) fail(1, "out of memory");
   replace(path, out, out_size);
+  free(log);
+  free(out);
 }
 
 void finish(void) {

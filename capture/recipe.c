@@ -9,15 +9,16 @@
 #include <time.h>
 #include <unistd.h>
 
-/* The run, the target, and how its log calls the directory where the build began: the way `up` to it. */
+/* The run; the target; and the way `up`, from where its log stands to where the build began. */
 static char *own_run, *name, *up;
 static struct target target;
 
-/* The leader is the target whose recipe runs the make that this belongs to, or 1, for the run. Until that ends, its log
-   mentions this target, as `path_for_leader`. */
+/* The leader is the target whose recipe runs the make that this belongs to, or 1, for the run. Until the run ends, its
+   log mentions this target, as `path_for_leader`. */
 static unsigned leader = 1;
 static char *path_for_leader;
 
+/* The name of a target, as make has it here, from where the build began. */
 static char *normal(const char *given) {
   static char *here, *base;
   if (!here) here = getcwd(NULL, 0), base = getenv("CAPTURE_BASE");
@@ -39,12 +40,13 @@ static char *normal(const char *given) {
   return path[front] && path[front + 1] ? path + front + 1 : ".";
 }
 
+/* The same for a log, by the way up from that. */
 static char *spelled(const char *known, const char *way_up) {
   if (known[0] == '/') return text("%s", known);
   return way_up[0] == '/' ? NULL : text("%s%s", way_up, known);
 }
 
-/* From outside of that directory nothing leads to it by a name that isn't absolute: then it is a slash. */
+/* A slash, if the log is that of a target outside: there is no way from there. */
 static char *way_up_from(const char *known) {
   if (known[0] == '/') return "/";
   char *way = "";
@@ -101,6 +103,7 @@ static void start(const char *book) {
     struct target all = look_up("all");
     all.number = 1;
     keep(all, "all");
+    replace(path_of(".capture/last"), "1\n", 2);
     append_line(names, "1 all");
   }
   if (unlink(log_of(1)) < 0 && errno != ENOENT) cannot_write(log_of(1));
@@ -108,29 +111,19 @@ static void start(const char *book) {
   replace(path_of(".capture/run"), begun, strlen(begun));
 }
 
-/* The number of the last line of the index, and one. */
-static unsigned next_number(const char *names) {
-  static char end[1 << 18]; /* a name comes in a variable, which has no more than half of that */
-  int file = open(names, O_RDONLY | O_CLOEXEC);
-  off_t size = file < 0 ? -1 : lseek(file, 0, SEEK_END);
-  off_t from = size < (off_t)sizeof end ? 0 : size - (off_t)sizeof end;
-  ssize_t got = size < 0 ? -1 : pread(file, end, sizeof end, from);
-  if (got <= 0) fail(1, "cannot read %s", names);
-  close(file);
-  char *line = memrchr(end, '\n', got - 1);
-  return atoi(line ? line + 1 : end) + 1;
-}
-
+/* A process may be killed between any two of these steps: then the number is lost, and nothing has it twice. */
 static void list(void) {
   for (char *space = name; (space = strchr(space, ' ')); space++) {
     char *front = text("%.*s", (int)(space - name) + 1, name);
     struct target known = look_up(front);
     if (access(known.file, F_OK) < 0) keep(known, front);
   }
-  char *names = path_of("names");
-  target.number = next_number(names);
+  char *last = path_of(".capture/last"), *names = path_of("names");
+  target.number = atoi(contents(last, NULL)) + 1;
+  write_over(last, text("%u\n", target.number));
   keep(target, name);
-  append_line(names, "%u %s", target.number, name);
+  char *line = text("%u %s\n", target.number, name);
+  if (try_append(names, line, strlen(line)) < 0) unlink(target.file), cannot_write(names);
 }
 
 /* Writes records for the leader's log, which stand there until the run has ended. */
