@@ -60,7 +60,7 @@ static _Noreturn void capture(char **command, const char *directory, int both) {
   const char *others = getenv("MAKEFILES");
   setenv("MAKEFILES", text("%s %s", rules_of(program), others ? others : ""), 1);
   setenv("CAPTURE_WITH", program, 1);
-  unsetenv("CAPTURE_LED");
+  unsetenv("CAPTURE_LEADER");
   unsetenv("CAPTURE_UP");
   if (both) setenv("CAPTURE_BOTH", "yes", 1); else unsetenv("CAPTURE_BOTH");
   set_environment(identity(getpid()), directory);

@@ -150,10 +150,7 @@ static void begin_first(const char *needs) {
   tell_leader("do", "");
 }
 
-/* Whether the makes that led here began with a line of this very target. */
-static int is_within(const char *led) { return strstr(text(" %s", led), text(" %u ", target.number)) != NULL; }
-
-static void begin(const char *needs, const char *led) {
+static void begin(const char *needs) {
   if (access(path_of(".capture"), F_OK) < 0) {
     if (access(path_of("names"), F_OK) == 0) fail(1, "%s is there already, and no capture wrote it", path_of("names"));
     make_directory(path_of(".capture"));
@@ -165,7 +162,7 @@ static void begin(const char *needs, const char *led) {
   if (target.number == 0) list();
   if (strcmp(target.run, own_run) != 0) {
     begin_first(needs);
-  } else if (!is_within(led)) {
+  } else {
     target.status = -1;
     keep(target, name);
     append_line(path_of(".capture/run"), "again %u", target.number);
@@ -207,19 +204,18 @@ void recipe(char **command) {
   if (strchr(capture, '\n')) fail(1, "a name with a line feed: %s", capture);
   if (!getenv("CAPTURE_RUN")) set_run();
   at = getenv("CAPTURE_AT"), own_run = getenv("CAPTURE_RUN");
-  const char *led = getenv("CAPTURE_LED"), *leader_up = getenv("CAPTURE_UP");
-  if (!led || !leader_up) led = leader_up = "";
+  const char *led_by = getenv("CAPTURE_LEADER"), *leader_up = getenv("CAPTURE_UP");
+  if (!led_by || !leader_up) led_by = leader_up = "";
 
   name = normal(text("%.*s", (int)(needs - capture), capture));
   up = way_up_from(name);
-  leader = *led ? atoi(led) : 1;
+  leader = *led_by ? atoi(led_by) : 1;
   path_for_leader = spelled(name, leader_up);
   if (!path_for_leader) leader = 1, path_for_leader = name;
-  begin(needs + 3, led);
+  begin(needs + 3);
 
   unsetenv("CAPTURE");
-  if (is_within(led)) become(command); /* standard error is its log already */
-  setenv("CAPTURE_LED", text("%u %s", target.number, led), 1);
+  setenv("CAPTURE_LEADER", text("%u", target.number), 1);
   setenv("CAPTURE_UP", up, 1);
   int status = run(command, log_of(target.number), getenv("CAPTURE_BOTH") != NULL);
   end(status);
