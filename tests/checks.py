@@ -1,5 +1,6 @@
 """What the tests of the built programs share: where they are, and a count of what was as expected."""
 import os
+import subprocess
 import sys
 
 TOP = os.path.dirname(os.path.dirname(os.path.abspath(__file__)))
@@ -12,6 +13,18 @@ def contents(path):
     """The text of a file of the repository."""
     with open(os.path.join(TOP, path), encoding="utf-8") as file:
         return file.read()
+
+
+def environment(more=None):
+    """That of this process, without what a make that runs it has set."""
+    kept = {name: value for name, value in os.environ.items() if not name.startswith(("MAKE", "MFLAGS", "CAPTURE"))}
+    return {**kept, "LC_ALL": "C.UTF-8", **(more or {})}
+
+
+def install_capture(prefix):
+    """Installs redo-log-capture there, and gives its path."""
+    subprocess.run(["make", "-s", "install-capture", f"PREFIX={prefix}"], cwd=TOP, env=environment(), check=True)
+    return os.path.join(prefix, "bin/redo-log-capture")
 
 
 class Checks:

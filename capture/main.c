@@ -1,0 +1,110 @@
+/* redo-log-capture: captures a build by GNU make for redo-log. README.md says what is captured. */
+#define _GNU_SOURCE
+#include "capture.h"
+#include <ctype.h>
+#include <limits.h>
+#include <stdlib.h>
+#include <string.h>
+#include <unistd.h>
+
+static const char help[] =
+    "Runs a build by GNU make, and captures what each recipe says on standard error as a log for redo-log.\n"
+    "\n"
+    "Usage: redo-log-capture [OPTIONS] [--] <COMMAND>...\n"
+    "       redo-log-capture [--dir <DIR>] --finish\n"
+    "\n"
+    "Arguments:\n"
+    "  <COMMAND>...  A make with its words, or a command that runs some\n"
+    "\n"
+    "Options:\n"
+    "      --dir <DIR>  The capture directory [default: capture]\n"
+    "      --both       Capture standard output too\n"
+    "      --finish     Finish the logs of a build that was killed, or run without this command in front\n"
+    "  -h, --help       Print help\n"
+    "\n"
+    "Example:\n"
+    "  redo-log-capture make -j8 all      captures a build\n"
+    "  redo-log -r --dir capture all      shows it\n"
+    "\n"
+    "Exit status: that of the command; or else\n"
+    "    1  the captures can't be written\n"
+    "    2  the words are refused\n"
+    "  126  the command can't be run\n"
+    "  127  the command isn't found\n";
+
+/* The file that each make is to read first, where `make install` puts it. */
+static char *rules_of(const char *program) {
+  char *folder = text("%.*s", (int)(leaf(program) - program) - 1, program);
+  char *rules = text("%.*sshare/redo-log/capture.mk", (int)(leaf(folder) - folder), folder);
+  if (access(rules, R_OK) < 0) fail(1, "cannot read %s", rules);
+  for (const char *byte = rules; *byte; byte++)
+    if (isspace((unsigned char)*byte)) fail(1, "%s: make takes no path with a space", rules);
+  return rules;
+}
+
+static _Noreturn void finish_left(const char *directory) {
+  set_environment("", directory);
+  at = getenv("CAPTURE_AT");
+  char *run = run_of_book();
+  if (!*run) fail(1, "%s: nothing was captured there", directory);
+  if (is_running(run)) fail(1, "%s is in use by another make, process %d", directory, atoi(run));
+  if (strncmp(run, "ended", 5) != 0) finish();
+  exit(0);
+}
+
+static _Noreturn void capture(char **command, const char *directory, int both) {
+  char program[PATH_MAX];
+  ssize_t size = readlink("/proc/self/exe", program, sizeof program - 1);
+  if (size < 0) fail(1, "cannot read /proc/self/exe");
+  program[size] = 0;
+  const char *others = getenv("MAKEFILES");
+  setenv("MAKEFILES", text("%s %s", rules_of(program), others ? others : ""), 1);
+  setenv("CAPTURE_WITH", program, 1);
+  unsetenv("CAPTURE_LEADER");
+  unsetenv("CAPTURE_UP");
+  if (both) setenv("CAPTURE_BOTH", "yes", 1); else unsetenv("CAPTURE_BOTH");
+  set_environment(identity(getpid()), directory);
+  at = getenv("CAPTURE_AT");
+
+  int status = run(command, NULL, 0);
+  if (status != 0) unwritten = status;
+  if (strcmp(run_of_book(), getenv("CAPTURE_RUN")) == 0) {
+    finish();
+    if (status != 0) fail(status, "captured in %s; to read it: redo-log -r --dir %s all", directory, directory);
+  }
+  exit(status);
+}
+
+/* Where make has this as its shell, the words are for the shell in its place. */
+static _Noreturn void as_shell(char **words, int count) {
+  const char *shell = getenv("CAPTURE_SHELL");
+  char *parts = text("%s", shell && *shell ? shell : "/bin/sh"), *left;
+  char **command = calloc(count + strlen(parts) + 1, sizeof *command), **end = command;
+  if (!command) fail(1, "out of memory");
+  for (char *part = strtok_r(parts, " ", &left); part; part = strtok_r(NULL, " ", &left)) *end++ = part;
+  memcpy(end, words, count * sizeof *words);
+  recipe(command);
+}
+
+int main(int count, char **words) {
+  if (strcmp(leaf(words[0]), "sh") == 0) as_shell(words + 1, count - 1);
+  if (count > 2 && strcmp(words[1], "--recipe") == 0) recipe(words + 2);
+
+  const char *directory = "capture";
+  int both = 0, finishes = 0;
+  for (words++; *words && **words == '-'; words++) {
+    char *word = *words;
+    if (strcmp(word, "-h") == 0 || strcmp(word, "--help") == 0) return fputs(help, stdout) < 0 || fflush(stdout) != 0;
+    if (strcmp(word, "--both") == 0) both = 1;
+    else if (strcmp(word, "--finish") == 0) finishes = 1;
+    else if (strcmp(word, "--dir") == 0) directory = words[1] ? *++words : "";
+    else if (strncmp(word, "--dir=", 6) == 0) directory = word + 6;
+    else if (strcmp(word, "--") == 0) { words++; break; }
+    else fail(2, "%s: no such option; --help tells which there are", word);
+  }
+  if (!*directory) fail(2, "--dir: no directory is said");
+  if (finishes && *words) fail(2, "--finish: runs no command: %s", *words);
+  if (finishes) finish_left(directory);
+  if (!*words) fail(2, "no command is said; --help tells how");
+  capture(words, directory, both);
+}

@@ -1,0 +1,223 @@
+/* A line of a recipe, as make has it run: its words are the shell, and what make hands to that. */
+#define _GNU_SOURCE
+#include "capture.h"
+#include <errno.h>
+#include <fcntl.h>
+#include <stdlib.h>
+#include <string.h>
+#include <sys/stat.h>
+#include <time.h>
+#include <unistd.h>
+
+/* The run; the target; and the way `up`, from where its log stands to where the build began. */
+static char *own_run, *name, *up;
+static struct target target;
+
+/* The leader is the target whose recipe runs the make that this belongs to, or 1, for the run. Until the run ends, its
+   log mentions this target, as `path_for_leader`. */
+static unsigned leader = 1;
+static char *path_for_leader;
+
+/* The name of a target, as make has it here, from where the build began. */
+static char *normal(const char *given) {
+  static char *here, *base;
+  if (!here) here = getcwd(NULL, 0), base = getenv("CAPTURE_BASE");
+  if (!here || !base) fail(1, "no directory to work in");
+  char *rest = given[0] == '/' ? text("%s", given) : text("%s/%s", here, given);
+  char *path = calloc(strlen(rest) + 2, 1), *end = path, *left;
+  if (!path) fail(1, "out of memory");
+  for (char *part = strtok_r(rest, "/", &left); part; part = strtok_r(NULL, "/", &left)) {
+    if (strcmp(part, "..") == 0) {
+      while (end > path && *--end != '/') continue;
+      *end = 0;
+    } else if (strcmp(part, ".") != 0) {
+      *end++ = '/';
+      end = stpcpy(end, part);
+    }
+  }
+  size_t front = strcmp(base, "/") == 0 ? 0 : strlen(base);
+  if (strncmp(path, base, front) != 0 || (path[front] != '/' && path[front] != 0)) return *path ? path : "/";
+  return path[front] && path[front + 1] ? path + front + 1 : ".";
+}
+
+/* The same for a log, by the way up from that. */
+static char *spelled(const char *known, const char *way_up) {
+  if (known[0] == '/') return text("%s", known);
+  return way_up[0] == '/' ? NULL : text("%s%s", way_up, known);
+}
+
+/* A slash, if the log is that of a target outside: there is no way from there. */
+static char *way_up_from(const char *known) {
+  if (known[0] == '/') return "/";
+  char *way = "";
+  for (; (known = strchr(known, '/')); known++) way = text("../%s", way);
+  return way;
+}
+
+/* What begins in the log of the target, and in the book: mentions of what it needs, if that is known. */
+struct front {
+  FILE *records, *book;
+  unsigned count;
+  const char *stamp;
+};
+
+static void mention(struct front *front, const char *known) {
+  struct target need = look_up(known);
+  char *path = spelled(known, up);
+  if (need.number == 0 || need.number == target.number || !path) return;
+  int is_made = strcmp(need.run, own_run) == 0;
+  fprintf(front->records, "@@REDO:%s:%s@@ %s\n", is_made ? "do" : "unchanged", front->stamp, path);
+  front->count++;
+  if (!is_made) return;
+  fprintf(front->book, "named %u\n", need.number);
+  if (need.status < 0) return;
+  fprintf(front->records, "@@REDO:done:%s@@ %d %s\n", front->stamp, need.status, path);
+  front->count++;
+}
+
+/* Whether a name that is listed goes on like this: `list` keeps each front that a space ends. */
+static int goes_on(const char *known) { return access(look_up(text("%s ", known)).file, F_OK) == 0; }
+
+/* A name with spaces comes as several words. */
+static void mention_needs(struct front *front, const char *needs) {
+  for (const char *word = needs; *word; word += strspn(word, " ")) {
+    const char *end = word, *known;
+    do {
+      end += strspn(end, " ");
+      end += strcspn(end, " ");
+      known = normal(text("%.*s", (int)(end - word), word));
+      mention(front, known);
+    } while (*end && goes_on(known));
+    word += strcspn(word, " ");
+  }
+}
+
+/* Begins the run, if no other has the directory. */
+static void start(const char *book) {
+  char *names = path_of("names");
+  struct stat listed;
+  if (!is_running(own_run)) fail(1, "the build that this belongs to has ended");
+  if (is_running(book)) fail(1, "%s is in use by another make, process %d", at, atoi(book));
+  if (stat(names, &listed) < 0 || listed.st_size == 0) {
+    forget_targets();
+    struct target all = look_up("all");
+    all.number = 1;
+    keep(all, "all");
+    replace(path_of(".capture/last"), "1\n", 2);
+    append_line(names, "1 all");
+  }
+  if (unlink(log_of(1)) < 0 && errno != ENOENT) cannot_write(log_of(1));
+  char *begun = text("%s\n", own_run);
+  replace(path_of(".capture/run"), begun, strlen(begun));
+}
+
+/* A process may be killed between any two of these steps: then the number is lost, and nothing has it twice. */
+static void list(void) {
+  for (char *space = name; (space = strchr(space, ' ')); space++) {
+    char *front = text("%.*s", (int)(space - name) + 1, name);
+    struct target known = look_up(front);
+    if (access(known.file, F_OK) < 0) keep(known, front);
+  }
+  char *last = path_of(".capture/last"), *names = path_of("names");
+  target.number = atoi(contents(last, NULL)) + 1;
+  write_over(last, text("%u\n", target.number));
+  keep(target, name);
+  char *line = text("%u %s\n", target.number, name);
+  if (try_append(names, line, strlen(line)) < 0) unlink(target.file), cannot_write(names);
+}
+
+/* Writes records for the leader's log, which stand there until the run has ended. */
+static void tell_leader(const char *kind, const char *status) {
+  if (leader == target.number) return;
+  append_line(log_of(leader), "@@REDO:%s:%s@@ %s%s", kind, mark_of(own_run), status, path_for_leader);
+}
+
+/* The log is a new file: what an earlier run left behind has the one that was. */
+static void begin_first(const char *needs) {
+  char *records, *book, *log = log_of(target.number);
+  size_t records_size, book_size;
+  struct front front = {open_memstream(&records, &records_size), open_memstream(&book, &book_size), 0,
+                        text("%d:%lld", getpid(), (long long)time(NULL))};
+  if (!front.records || !front.book) fail(1, "out of memory");
+  mention_needs(&front, needs);
+  fprintf(front.book, "began %u %u %u\n", target.number, leader, front.count);
+  if (fclose(front.records) != 0 || fclose(front.book) != 0) fail(1, "out of memory");
+  if (unlink(log) < 0 && errno != ENOENT) cannot_write(log);
+  append(log, records, records_size);
+  target.run = own_run, target.status = -1;
+  keep(target, name);
+  append(path_of(".capture/run"), book, book_size);
+  tell_leader("do", "");
+}
+
+static void begin(const char *needs) {
+  if (access(path_of(".capture"), F_OK) < 0) {
+    if (access(path_of("names"), F_OK) == 0) fail(1, "%s is there already, and no capture wrote it", path_of("names"));
+    make_directory(path_of(".capture"));
+  }
+  int held = lock();
+  char *book = run_of_book();
+  if (strcmp(book, own_run) != 0) start(book);
+  target = look_up(name);
+  if (target.number == 0) list();
+  if (strcmp(target.run, own_run) != 0) {
+    begin_first(needs);
+  } else {
+    target.status = -1;
+    keep(target, name);
+    append_line(path_of(".capture/run"), "again %u", target.number);
+  }
+  unlock(held);
+}
+
+/* The next line of the recipe, and the record that closes the log, have to begin a line. */
+static void end_line(const char *log) {
+  char last;
+  int file = open(log, O_RDONLY | O_CLOEXEC);
+  if (file < 0) return;
+  off_t size = lseek(file, 0, SEEK_END);
+  if (size > 0 && pread(file, &last, 1, size - 1) == 1 && last != '\n') append(log, "\n", 1);
+  close(file);
+}
+
+static void end(int status) {
+  int held = lock();
+  if (strcmp(run_of_book(), own_run) != 0) fail(1, "%s is in use by a later make", at);
+  end_line(log_of(target.number));
+  target.status = status;
+  keep(target, name);
+  append_line(path_of(".capture/run"), "ended %u %d", target.number, status);
+  if (status != 0) tell_leader("done", text("%d ", status));
+  unlock(held);
+}
+
+/* Where a make was told of this as its shell, with no redo-log-capture in front, the run is that of the first make. */
+static void set_run(void) {
+  const char *directory = getenv("CAPTURE_DIR");
+  set_environment(identity(getppid()), directory ? directory : "capture");
+}
+
+void recipe(char **command) {
+  const char *capture = getenv("CAPTURE");
+  const char *needs = capture ? strstr(capture, " : ") : NULL;
+  if (!needs || needs == capture) become(command); /* what $(shell ..) runs has no target */
+  if (strchr(capture, '\n')) fail(1, "a name with a line feed: %s", capture);
+  if (!getenv("CAPTURE_RUN")) set_run();
+  at = getenv("CAPTURE_AT"), own_run = getenv("CAPTURE_RUN");
+  const char *led_by = getenv("CAPTURE_LEADER"), *leader_up = getenv("CAPTURE_UP");
+  if (!led_by || !leader_up) led_by = leader_up = "";
+
+  name = normal(text("%.*s", (int)(needs - capture), capture));
+  up = way_up_from(name);
+  leader = *led_by ? atoi(led_by) : 1;
+  path_for_leader = spelled(name, leader_up);
+  if (!path_for_leader) leader = 1, path_for_leader = name;
+  begin(needs + 3);
+
+  unsetenv("CAPTURE");
+  setenv("CAPTURE_LEADER", text("%u", target.number), 1);
+  setenv("CAPTURE_UP", up, 1);
+  int status = run(command, log_of(target.number), getenv("CAPTURE_BOTH") != NULL);
+  end(status);
+  exit(status);
+}
