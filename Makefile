@@ -1,9 +1,10 @@
 # make run       proves and builds the program, and runs it on the sample captures
 # make check     everything that a change has to pass
-# make install   installs the program as $(PREFIX)/bin/redo-log, and its manual page
+# make install   proves and builds the program, and installs it below $(PREFIX), with its launcher as bin/redo-log, its manual
+#                page, and completions for bash, zsh and fish; `make -o build install` takes the program that is built already
 PREFIX ?= /usr/local
 
-.PHONY: run check install
+.PHONY: run check build install
 
 run:
 	cd crates/redo_log && rt run -- --dir ../../sample all
@@ -11,7 +12,13 @@ run:
 check:
 	bash .ci/run
 
-install:
+build:
 	cd crates/redo_log && rt run -- --help >/dev/null
-	install -D crates/redo_log/out/redo_log $(DESTDIR)$(PREFIX)/bin/redo-log
-	install -D -m 644 docs/redo-log.1 $(DESTDIR)$(PREFIX)/share/man/man1/redo-log.1
+
+install: build
+	install -D crates/redo_log/out/redo_log '$(DESTDIR)$(PREFIX)/libexec/redo-log'
+	install -D shell/launcher '$(DESTDIR)$(PREFIX)/bin/redo-log'
+	install -D -m 644 docs/redo-log.1 '$(DESTDIR)$(PREFIX)/share/man/man1/redo-log.1'
+	install -D -m 644 shell/redo-log.bash '$(DESTDIR)$(PREFIX)/share/bash-completion/completions/redo-log'
+	install -D -m 644 shell/_redo-log '$(DESTDIR)$(PREFIX)/share/zsh/site-functions/_redo-log'
+	install -D -m 644 shell/redo-log.fish '$(DESTDIR)$(PREFIX)/share/fish/vendor_completions.d/redo-log.fish'
