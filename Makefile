@@ -1,7 +1,7 @@
 # make run       proves and builds the program, and runs it on the sample captures
 # make check     everything that a change has to pass
-# make install   proves and builds the program, and installs it below $(PREFIX), with its launcher as bin/redo-log, its manual
-#                page, and completions for bash, zsh and fish; `make -o build install` takes the program that is built already
+# make install   proves and builds the program, and installs it below $(PREFIX): its launcher as bin/redo-log, its
+#                manual page, and completions for bash, zsh and fish; `make -o build install` takes what is built already
 PREFIX ?= /usr/local
 
 .PHONY: run check build install

@@ -1,5 +1,5 @@
-# Completion of redo-log's words, for bash since 4.4: its options, directories behind --dir, and the names that the directory
-# lists. A name that begins with a dash is offered only behind --.
+# Completion of redo-log's words, for bash since 4.4: its options, directories behind --dir, and the names that the
+# directory lists. A name that begins with a dash is offered only behind --.
 
 # Cuts a line into `words` as bash reads them, but expands nothing; `quote` is the one that is open at its end.
 _redo_log_words() {
@@ -20,10 +20,10 @@ _redo_log_words() {
   done
 }
 
-# Writes the names of $dir/names that begin with `typed`, without their beginning `start`, as they have to be written where
-# `quote` is open. Readline takes that quote, where it stands first or last, for the one that it opened or has to close.
-# Of more than a thousand it writes some that have no more in common than all: so it doesn't take long, and what all have in
-# common is completed as ever.
+# Writes the names of $dir/names that begin with `typed`, without their beginning `start`, as they have to be written
+# where `quote` is open. Readline takes that quote, where it stands first or last, for the one that it opened or has
+# to close. Of more than a thousand it writes some that have no more in common than all: so it doesn't take long, and
+# what all have in common is completed as ever.
 _redo_log_names() {
   [[ -f $dir/names ]] || return
   LC_ALL=C typed=$typed start=$start quote=$quote option=$option awk '
@@ -74,7 +74,7 @@ _redo_log() {
         ;;
     esac
   done
-  # What is replaced is $2, the end of what was typed: it begins behind an open quote, or a character as `:` or `=`.
+  # What is replaced is $2, the end of what was typed: it begins behind an open quote, or a character as `:`.
   _redo_log_words "${line:0:${#line}-${#2}}"
   start=${words[-1]}
 

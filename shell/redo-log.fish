@@ -1,9 +1,9 @@
-# Completion of redo-log's words, for fish: its options, directories behind --dir, and the names that the directory lists. A
-# name that begins with a dash is offered only behind --, and one with a tab not at all: fish takes what stands behind a tab
-# for a description.
+# Completion of redo-log's words, for fish: its options, directories behind --dir, and the names that the directory
+# lists. A name that begins with a dash is offered only behind --, and one with a tab not at all: fish takes what
+# stands behind a tab for a description.
 
-# Of more than a thousand names it writes some that have no more in common than all: so it doesn't take long, and what all
-# have in common is completed as ever.
+# Of more than a thousand names it writes some that have no more in common than all: so it doesn't take long, and what
+# all have in common is completed as ever.
 function __redo_log_names
     set -l option
     set -l directory .
