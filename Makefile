@@ -1,12 +1,14 @@
 # make run              proves and builds the program, and runs it on the sample captures
 # make check            everything that a change has to pass
-# make install          installs the program as $(PREFIX)/bin/redo-log, its manual page, and what install-capture does
+# make install          proves and builds the program, and installs it below $(PREFIX): its launcher as bin/redo-log, its
+#                       manual page, completions for bash, zsh and fish, and what install-capture does; with the words
+#                       `-o build install` it takes what is built already
 # make install-capture  installs $(PREFIX)/bin/redo-log-capture, which captures builds by make, and what that needs
 PREFIX ?= /usr/local
 TO = $(DESTDIR)$(PREFIX)
 CFLAGS ?= -O2
 
-.PHONY: run check install install-capture
+.PHONY: run check build install install-capture
 
 run:
 	cd crates/redo_log && rt run -- --dir ../../sample all
@@ -14,14 +16,20 @@ run:
 check:
 	bash .ci/run
 
-install: install-capture
+build:
 	cd crates/redo_log && rt run -- --help >/dev/null
-	install -D crates/redo_log/out/redo_log $(TO)/bin/redo-log
-	install -D -m 644 docs/redo-log.1 $(TO)/share/man/man1/redo-log.1
+
+install: build install-capture
+	install -D crates/redo_log/out/redo_log '$(TO)/libexec/redo-log/redo-log'
+	install -D shell/launcher '$(TO)/bin/redo-log'
+	install -D -m 644 docs/redo-log.1 '$(TO)/share/man/man1/redo-log.1'
+	install -D -m 644 shell/redo-log.bash '$(TO)/share/bash-completion/completions/redo-log'
+	install -D -m 644 shell/_redo-log '$(TO)/share/zsh/site-functions/_redo-log'
+	install -D -m 644 shell/redo-log.fish '$(TO)/share/fish/vendor_completions.d/redo-log.fish'
 
 install-capture:
-	install -d $(TO)/bin $(TO)/libexec/redo-log
-	$(CC) -std=gnu11 -Wall -Wextra $(CFLAGS) $(LDFLAGS) -o $(TO)/bin/redo-log-capture capture/*.c
-	ln -sf ../../bin/redo-log-capture $(TO)/libexec/redo-log/sh
-	install -D -m 644 -t $(TO)/share/redo-log capture/capture.mk capture/recipe
-	install -D -m 644 docs/redo-log-capture.1 $(TO)/share/man/man1/redo-log-capture.1
+	install -d '$(TO)/bin' '$(TO)/libexec/redo-log'
+	$(CC) -std=gnu11 -Wall -Wextra $(CFLAGS) $(LDFLAGS) -o '$(TO)/bin/redo-log-capture' capture/*.c
+	ln -sf ../../bin/redo-log-capture '$(TO)/libexec/redo-log/sh'
+	install -D -m 644 -t '$(TO)/share/redo-log' capture/capture.mk capture/recipe
+	install -D -m 644 docs/redo-log-capture.1 '$(TO)/share/man/man1/redo-log-capture.1'
