@@ -1,8 +1,8 @@
 # make run              proves and builds the program, and runs it on the sample captures
 # make check            everything that a change has to pass
 # make install          proves and builds the program, and installs it below $(PREFIX): its launcher as bin/redo-log, its
-#                       manual page, completions for bash, zsh and fish, and what install-capture does; with the words
-#                       `-o build install` it takes what is built already
+#                       manual page, completions for bash, zsh and fish, and what install-capture does;
+#                       `make -o build install` takes what is built already
 # make install-capture  installs $(PREFIX)/bin/redo-log-capture, which captures builds by make, and what that needs
 PREFIX ?= /usr/local
 TO = $(DESTDIR)$(PREFIX)
@@ -33,3 +33,6 @@ install-capture:
 	ln -sf ../../bin/redo-log-capture '$(TO)/libexec/redo-log/sh'
 	install -D -m 644 -t '$(TO)/share/redo-log' capture/capture.mk capture/recipe
 	install -D -m 644 docs/redo-log-capture.1 '$(TO)/share/man/man1/redo-log-capture.1'
+	install -D -m 644 shell/redo-log-capture.bash '$(TO)/share/bash-completion/completions/redo-log-capture'
+	install -D -m 644 shell/_redo-log-capture '$(TO)/share/zsh/site-functions/_redo-log-capture'
+	install -D -m 644 shell/redo-log-capture.fish '$(TO)/share/fish/vendor_completions.d/redo-log-capture.fish'
