@@ -11,6 +11,8 @@ extern const char *at;
 
 /* A line on standard error, and the end. */
 _Noreturn void fail(int status, const char *format, ...);
+/* The line alone. */
+void note(const char *format, ...);
 _Noreturn void cannot_write(const char *path);
 /* The status then: that of a command which has failed already, or 1. */
 extern int unwritten;
@@ -56,6 +58,9 @@ void forget_targets(void);
 /* The last part of a path. */
 const char *leaf(const char *path);
 
+/* A word as it has to be written for a shell. */
+char *quoted(const char *word);
+
 /* What stands for the process and the time in records that are there only until the run has ended. */
 char *mark_of(const char *run);
 
@@ -66,7 +71,10 @@ _Noreturn void become(char **command);
 /* Runs a command, and tells its status as a shell does: with standard error into `log`, if there is one, and with
    standard output there too, if it says so. */
 int run(char **command, const char *log, int both);
+/* The signal that ended the command, or 0. */
+extern int ended_by;
 
 _Noreturn void recipe(char **command);
-/* Does what can be done only when the run that the book is of has ended. */
-void finish(void);
+/* Does what can be done only when the run that the book is of has ended. Answers the names of targets that failed, of which
+   nothing that they led to did; or an empty string. */
+char *finish(void);

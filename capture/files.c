@@ -18,16 +18,26 @@
 const char *at;
 int unwritten = 1;
 
-void fail(int status, const char *format, ...) {
-  va_list values;
-  va_start(values, format);
+static void say(const char *format, va_list values) {
   fputs("redo-log-capture: ", stderr);
   vfprintf(stderr, format, values);
   fputc('\n', stderr);
+}
+
+void note(const char *format, ...) {
+  va_list values;
+  va_start(values, format);
+  say(format, values);
+}
+
+void fail(int status, const char *format, ...) {
+  va_list values;
+  va_start(values, format);
+  say(format, values);
   exit(status);
 }
 
-void cannot_write(const char *path) { fail(unwritten, "cannot write %s", path); }
+void cannot_write(const char *path) { fail(unwritten, "cannot write %s: %s", path, strerror(errno)); }
 
 static char *printed(const char *format, va_list values) {
   char *result;
@@ -178,6 +188,14 @@ void forget_targets(void) {
   closedir(targets);
 }
 
+char *quoted(const char *word) {
+  static const char plain[] = "abcdefghijklmnopqrstuvwxyzABCDEFGHIJKLMNOPQRSTUVWXYZ0123456789_./+-=:@%,";
+  if (*word && word[strspn(word, plain)] == 0) return text("%s", word);
+  char *quote = text("'");
+  for (; *word; word++) quote = *word == '\'' ? text("%s'\\''", quote) : text("%s%c", quote, *word);
+  return text("%s'", quote);
+}
+
 const char *leaf(const char *path) {
   const char *slash = strrchr(path, '/');
   return slash ? slash + 1 : path;
@@ -207,16 +225,18 @@ void become(char **command) {
   cannot_run(command[0], errno);
 }
 
+int ended_by;
+
 static volatile pid_t child;
 
-/* An interrupt comes from the terminal to the child too. */
+/* What a terminal sends comes to the child too. */
 static void hand_on(int signal) {
-  if (signal != SIGINT && child > 0) kill(child, signal);
+  if (signal != SIGINT && signal != SIGQUIT && child > 0) kill(child, signal);
 }
 
 int run(char **command, const char *log, int both) {
-  static const int kinds[] = {SIGHUP, SIGINT, SIGTERM};
-  for (int i = 0; i < 3; i++) {
+  static const int kinds[] = {SIGHUP, SIGINT, SIGQUIT, SIGTERM};
+  for (int i = 0; i < 4; i++) {
     struct sigaction action = {.sa_handler = hand_on, .sa_flags = SA_RESTART}, before;
     if (sigaction(kinds[i], NULL, &before) == 0 && before.sa_handler != SIG_IGN) sigaction(kinds[i], &action, NULL);
   }
@@ -231,5 +251,6 @@ int run(char **command, const char *log, int both) {
   while (waitpid(process, &status, 0) < 0)
     if (errno != EINTR) fail(1, "%s: cannot be waited for", command[0]);
   child = 0;
+  ended_by = WIFSIGNALED(status) ? WTERMSIG(status) : 0;
   return WIFSIGNALED(status) ? 128 + WTERMSIG(status) : WEXITSTATUS(status);
 }

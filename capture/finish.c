@@ -12,6 +12,7 @@ struct entry {
   unsigned number, leader; /* the leader is 0 for one that this run didn't make */
   unsigned records;        /* in front of its log */
   int is_named, status;    /* the status is -1 for one that didn't end */
+  int led_to_failure;
   char *led;               /* records of what its recipe led to */
   size_t led_size;
   FILE *led_stream;
@@ -118,7 +119,20 @@ static void close_log(struct entry *target) {
   free(out);
 }
 
-void finish(void) {
+static char *failed(struct entry **sorted, unsigned count) {
+  char *names = "";
+  unsigned listed = 0, more = 0;
+  for (unsigned i = 0; i < count; i++)
+    if (sorted[i]->status > 0 && sorted[i]->leader != sorted[i]->number) entries[sorted[i]->leader].led_to_failure = 1;
+  for (unsigned i = 0; i < count; i++) {
+    if (sorted[i]->status <= 0 || sorted[i]->led_to_failure) continue;
+    if (listed == 3) more++;
+    else names = text("%s%s%s", names, listed++ > 0 ? ", " : "", sorted[i]->name);
+  }
+  return more > 0 ? text("%s and %u more", names, more) : names;
+}
+
+char *finish(void) {
   int held = lock();
   char *book = contents(path_of(".capture/run"), NULL), *run = run_of_book();
   stamp = text("%d:%lld", getpid(), (long long)time(NULL)), mark = mark_of(run);
@@ -139,4 +153,5 @@ void finish(void) {
     if (number == 1 || entries[number].leader != 0) close_log(&entries[number]);
   }
   unlock(held);
+  return failed(sorted, count);
 }

@@ -3,6 +3,7 @@
 #include "capture.h"
 #include <ctype.h>
 #include <limits.h>
+#include <signal.h>
 #include <stdlib.h>
 #include <string.h>
 #include <unistd.h>
@@ -52,6 +53,28 @@ static _Noreturn void finish_left(const char *directory) {
   exit(0);
 }
 
+/* A line on a build that failed, or of which there is nothing to show. */
+static void tell(int status, const char *directory, int is_captured, const char *failed) {
+  char *way = text("to read it: redo-log -r --dir %s all", quoted(directory));
+  if (!is_captured && access(path_of("names"), F_OK) < 0)
+    note("nothing was captured: no recipe ran");
+  else if (!is_captured && status != 0 && strncmp(run_of_book(), "ended", 5) == 0)
+    note("nothing was captured: no recipe ran; %s has an earlier build", directory);
+  else if (is_captured && status != 0 && *failed)
+    note("%s failed; %s", failed, way);
+  else if (is_captured && status != 0)
+    note("captured in %s; %s", directory, way);
+}
+
+/* As the command did, so that an interrupt ends a script that this is part of. */
+static _Noreturn void end_as_command(int status) {
+  if (ended_by == SIGHUP || ended_by == SIGINT || ended_by == SIGQUIT || ended_by == SIGTERM) {
+    signal(ended_by, SIG_DFL);
+    kill(getpid(), ended_by);
+  }
+  exit(status);
+}
+
 static _Noreturn void capture(char **command, const char *directory, int both) {
   char program[PATH_MAX];
   ssize_t size = readlink("/proc/self/exe", program, sizeof program - 1);
@@ -68,11 +91,9 @@ static _Noreturn void capture(char **command, const char *directory, int both) {
 
   int status = run(command, NULL, 0);
   if (status != 0) unwritten = status;
-  if (strcmp(run_of_book(), getenv("CAPTURE_RUN")) == 0) {
-    finish();
-    if (status != 0) fail(status, "captured in %s; to read it: redo-log -r --dir %s all", directory, directory);
-  }
-  exit(status);
+  int is_captured = strcmp(run_of_book(), getenv("CAPTURE_RUN")) == 0;
+  tell(status, directory, is_captured, is_captured ? finish() : "");
+  end_as_command(status);
 }
 
 /* Where make has this as its shell, the words are for the shell in its place. */

@@ -153,7 +153,9 @@ static void begin_first(const char *needs) {
 static void begin(const char *needs) {
   if (access(path_of(".capture"), F_OK) < 0) {
     if (access(path_of("names"), F_OK) == 0) fail(1, "%s is there already, and no capture wrote it", path_of("names"));
+    int is_new = access(at, F_OK) < 0;
     make_directory(path_of(".capture"));
+    if (is_new) append_line(path_of(".gitignore"), "*");
   }
   int held = lock();
   char *book = run_of_book();
@@ -197,10 +199,18 @@ static void set_run(void) {
   set_environment(identity(getppid()), directory ? directory : "capture");
 }
 
+/* Whether make only tells what it would do (-n), or touches (-t), or asks (-q): then it runs the recipes of makes alone. */
+static int makes_nothing(void) {
+  const char *flags = getenv("MAKEFLAGS");
+  size_t letters = flags && *flags != '-' ? strcspn(flags, " ") : 0;
+  return letters > 0 && (memchr(flags, 'n', letters) || memchr(flags, 't', letters) || memchr(flags, 'q', letters));
+}
+
 void recipe(char **command) {
   const char *capture = getenv("CAPTURE");
   const char *needs = capture ? strstr(capture, " : ") : NULL;
   if (!needs || needs == capture) become(command); /* what $(shell ..) runs has no target */
+  if (makes_nothing()) become(command);
   if (strchr(capture, '\n')) fail(1, "a name with a line feed: %s", capture);
   if (!getenv("CAPTURE_RUN")) set_run();
   at = getenv("CAPTURE_AT"), own_run = getenv("CAPTURE_RUN");
