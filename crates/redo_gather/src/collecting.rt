@@ -40,18 +40,18 @@ impl Collector {
     }
 
     /// Takes until so many streams are over, or nothing more comes.
-    pub fn take<T: Wait, G: Gate>(mut self, rt: &T, gate: &G, streams: usize) -> Collector
-        ensures stays { (result.mailbox.mailbox ≡ self.mailbox.mailbox) × (result.mailbox.met ≡ self.mailbox.met) }
-        ensures holds { (names : List (List ℕ)) → Holds names self.mailbox.taken self.table self.refused →
-            Holds names result.mailbox.taken result.table result.refused }
+    pub fn take<T: Wait, G: Gate>(&mut self, rt: &T, gate: &G, streams: usize)
+        ensures stays { (self.new.mailbox.mailbox ≡ self.old.mailbox.mailbox) × (self.new.mailbox.met ≡ self.old.mailbox.met) }
+        ensures holds { (names : List (List ℕ)) → Holds names self.old.mailbox.taken self.old.table self.old.refused →
+            Holds names self.new.mailbox.taken self.new.table self.new.refused }
     {
         let mut left = streams;
         for _ in rt.forever() {
             if left == 0 {
-                return self;
+                return;
             }
             let Some(item) = self.mailbox.take(rt) else {
-                return self;
+                return;
             };
             if ends(&item.what) {
                 left -= 1;

@@ -95,9 +95,19 @@ fn gather_by<T: Threads + Wait + Sync, R: Feed + Send, G: Gate>(
             requires limit { (1 ≤ max_bytes) × (max_bytes ≤ 2 ^ 40) }
             ensures { Collects R.tells max_bytes ends.items (map (λ share. share.items) shares.items) collector result }
         {
+            let mut collector = collector;
             collect(
-                scope, rt, alloc, ends, shares, max_bytes, gate, 0, collector,
-            )
+                scope,
+                rt,
+                alloc,
+                ends,
+                shares,
+                max_bytes,
+                gate,
+                0,
+                &mut collector,
+            );
+            collector
         },
     );
     collector.finish(rt, gate)
@@ -151,14 +161,15 @@ fn collect<'s, T: Threads + Wait + Sync, R: Feed + Send + 's, G: Gate, E>(
     max_bytes: u64,
     gate: &'s G,
     streams: usize,
-    collector: Collector,
-) -> Collector
-    requires one { AllByRecursion (λ end. end.mailbox ≡ collector.mailbox.mailbox) ends.items }
+    collector: &mut Collector,
+)
+    requires one { AllByRecursion (λ end. end.mailbox ≡ collector.old.mailbox.mailbox) ends.items }
     requires limit { (1 ≤ max_bytes) × (max_bytes ≤ 2 ^ 40) }
-    ensures { Collects R.tells max_bytes ends.items (map (λ share. share.items) shares.items) collector result }
+    ensures { Collects R.tells max_bytes ends.items (map (λ share. share.items) shares.items) collector.old collector.new }
 {
     let (Some(end), Some(share)) = (ends.pop(), shares.pop()) else {
-        return collector.take(rt, gate, streams);
+        collector.take(rt, gate, streams);
+        return;
     };
     let streams_then = streams.wrapping_add(share.len());
     let sender = Sender {
@@ -167,9 +178,10 @@ fn collect<'s, T: Threads + Wait + Sync, R: Feed + Send + 's, G: Gate, E>(
         max_bytes,
     };
     let Ok(thread) = start(scope, rt, alloc, sender, gate) else {
-        return collector.take(rt, gate, streams);
+        collector.take(rt, gate, streams);
+        return;
     };
-    let mut collector = collect(
+    collect(
         scope,
         rt,
         alloc,
@@ -182,7 +194,6 @@ fn collect<'s, T: Threads + Wait + Sync, R: Feed + Send + 's, G: Gate, E>(
     );
     let end = thread.join(rt);
     collector.meet(rt, end);
-    collector
 }
 
 // Starts a sender in a thread of its own.

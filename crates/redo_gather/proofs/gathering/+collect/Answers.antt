@@ -13,14 +13,14 @@ use Rattle.redo_gather.proofs.gathering.+collect.Goals as goal
 pub returns : goal.returns
 returns g t c =
     let tells = g.R.Feed.tells in
-    let senders = c.args.collector.mailbox.mailbox.senders in
+    let senders = c.args.collector.now.mailbox.mailbox.senders in
     let end = c.in-Some-Some.end in
     let share = c.in-Some-Some.share in
     let ends = c.pop.new.self.items in
     let shares = map (λ s. s.items) c.pop-2.new.self.items in
     let met = c.meet.ensures.met in
     let stays = c.meet.ensures.stays in
-    let others = c.collect-collector.ensures in record {
+    let others = c.collect.ensures in record {
       mailbox = ap (λ (m : Collector). m.mailbox) met ∙ others.mailbox;
       holds = λ names holds.
           subst (λ (at : List Item × List Log × Bool). Holds names at.0 at.1 at.2) (λ i. (ap (λ (m : Collector). m.taken) (sym met) i, sym stays.0 i, sym stays.1 i))
