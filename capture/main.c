@@ -22,6 +22,7 @@ static const char help[] =
     "      --both       Capture standard output too\n"
     "      --finish     Finish the logs of a build that was killed, or run without this command in front\n"
     "  -h, --help       Print help\n"
+    "  -V, --version    Print the version\n"
     "\n"
     "Example:\n"
     "  redo-log-capture make -j8 all      captures a build\n"
@@ -32,6 +33,8 @@ static const char help[] =
     "    2  the words are refused\n"
     "  126  the command can't be run\n"
     "  127  the command isn't found\n";
+
+static _Noreturn void print(const char *told) { exit(fputs(told, stdout) < 0 || fflush(stdout) != 0); }
 
 /* The file that each make is to read first, where `make install` puts it. */
 static char *rules_of(const char *program) {
@@ -115,7 +118,8 @@ int main(int count, char **words) {
   int both = 0, finishes = 0;
   for (words++; *words && **words == '-'; words++) {
     char *word = *words;
-    if (strcmp(word, "-h") == 0 || strcmp(word, "--help") == 0) return fputs(help, stdout) < 0 || fflush(stdout) != 0;
+    if (strcmp(word, "-h") == 0 || strcmp(word, "--help") == 0) print(help);
+    if (strcmp(word, "-V") == 0 || strcmp(word, "--version") == 0) print("redo-log-capture " VERSION "\n");
     if (strcmp(word, "--both") == 0) both = 1;
     else if (strcmp(word, "--finish") == 0) finishes = 1;
     else if (strcmp(word, "--dir") == 0) directory = words[1] ? *++words : "";

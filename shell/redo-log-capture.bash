@@ -28,7 +28,7 @@ _redo_log_capture() {
       compopt -o default
     fi
   elif [[ $2 == -* ]]; then
-    mapfile -t COMPREPLY < <(compgen -W '--dir --both --finish -h --help' -- "$2")
+    mapfile -t COMPREPLY < <(compgen -W '--dir --both --finish -h --help -V --version' -- "$2")
   else
     mapfile -t COMPREPLY < <(compgen -c -- "$2")
   fi

@@ -6,3 +6,4 @@ complete -c redo-log-capture -n __fish_no_arguments -l dir -x -a '(__fish_comple
 complete -c redo-log-capture -n __fish_no_arguments -l both -d 'Capture standard output too'
 complete -c redo-log-capture -n __fish_no_arguments -l finish -d 'Finish the logs of a build that was killed'
 complete -c redo-log-capture -n __fish_no_arguments -s h -l help -d 'Print help'
+complete -c redo-log-capture -n __fish_no_arguments -s V -l version -d 'Print the version'

@@ -13,12 +13,14 @@ import shutil
 import subprocess
 import sys
 import tempfile
+import time
 
 import generate
 import model
 import storm
 
-MOST_SECONDS = 120  # for one run: a machine that others use too was seen to stand still for 20
+# For one run: a machine that others use too was seen to stand still for 20. How long the slowest took is told.
+MOST_SECONDS = 120
 MOST_PRINTED = 10
 NEEDED_STATUSES = [0, 2, 3, 4, 5, 24]
 STATUSES = [0, 2, 3, 4, 5, 6, 7, 24]
@@ -26,14 +28,16 @@ GENERATORS = {"generate": generate, "storm": storm}
 
 
 def run(program, directory, words):
-    """Status (a signal's as a negative number, or `timeout`), standard output, standard error."""
+    """Status (a signal's as a negative number, or `timeout`), standard output, standard error; and the seconds that it took."""
+    began = time.monotonic()
     try:
         done = subprocess.run(
             [os.fsencode(program)] + words, cwd=directory, stdin=subprocess.DEVNULL, capture_output=True, timeout=MOST_SECONDS
         )
-        return done.returncode, done.stdout, done.stderr
+        got = done.returncode, done.stdout, done.stderr
     except subprocess.TimeoutExpired as expired:
-        return "timeout", expired.stdout or b"", expired.stderr or b""
+        got = "timeout", expired.stdout or b"", expired.stderr or b""
+    return got, time.monotonic() - began
 
 
 def same(expected, got):
@@ -57,9 +61,10 @@ def fronts_of(directory, words, path, more):
 
 
 def compared_as_it_grows(program, seed, directory):
-    """Seed, words, the model's answer for a front of what was appended, and the program's."""
+    """Seed, words, the model's answer for a front of what was appended, and the program's, with the seconds that it took."""
     words, path, more = storm.growing(seed, directory)
     answers = fronts_of(directory, words, path, more)
+    began = time.monotonic()
     process = subprocess.Popen([os.fsencode(program)] + words, cwd=directory, stdout=subprocess.PIPE, stderr=subprocess.PIPE)
     with open(path, "ab", buffering=0) as file:
         for byte in more:
@@ -70,11 +75,11 @@ def compared_as_it_grows(program, seed, directory):
     except subprocess.TimeoutExpired:
         process.kill()
         got = "timeout", b"", b""
-    return seed, words, got if got in answers else answers[-1], got
+    return seed, words, got if got in answers else answers[-1], got, time.monotonic() - began
 
 
 def compared(task):
-    """Seed, words, the model's answer and the program's."""
+    """Seed, words, the model's answer and the program's, with the seconds that it took."""
     program, generator, seed = task
     directory = tempfile.mkdtemp(prefix="redo-log.")
     try:
@@ -82,7 +87,7 @@ def compared(task):
             return compared_as_it_grows(program, seed, directory)
         words = GENERATORS[generator].case(seed, directory)
         expected = model.answer(directory, words)
-        return seed, words, expected, run(program, directory, words)
+        return seed, words, expected, *run(program, directory, words)
     except Exception as error:
         raise RuntimeError(f"seed {seed}: {error!r}") from error
     finally:
@@ -120,11 +125,12 @@ def main(program, generator, first, last):
     statuses = collections.Counter()
     plans = collections.Counter()
     ends = collections.Counter()
-    number, differ = 0, 0
+    number, differ, slowest = 0, 0, 0
     with multiprocessing.Pool(os.cpu_count()) as pool:
         tasks = ((program, generator, seed) for seed in range(first, last + 1))
-        for seed, words, expected, got in pool.imap(compared, tasks, chunksize=8):
+        for seed, words, expected, got, seconds in pool.imap(compared, tasks, chunksize=8):
             number += 1
+            slowest = max(slowest, seconds)
             statuses[expected[0]] += 1
             ends[kind_of(got[0])] += 1
             if expected[0] in (0, 4, 5):
@@ -147,7 +153,8 @@ def main(program, generator, first, last):
                 print("no case had {} senders and the capacity {}".format(*plan))
     least = min(plans[plan] for plan in wanted)
     print(f"each of {len(wanted)} numbers of senders and capacities at least {least} times")
-    print(", ".join(f"{ends[kind]} {kind}" for kind in ("hangs", "signals", "statuses outside the table")))
+    others = ", ".join(f"{ends[kind]} {kind}" for kind in ("hangs", "signals", "statuses outside the table"))
+    print(f"{others}; the slowest run took {slowest:.1f} s")
     print(f"{generator}, seeds {first} to {last}: {number} directories, {differ} differ")
     print("status " + "".join(f"{status:>8}" for status in sorted(statuses)))
     print("cases  " + "".join(f"{statuses[status]:>8}" for status in sorted(statuses)))

@@ -41,12 +41,24 @@ fn expect(
 ) -> Result<(), Fail> {
     for cut in &cuts(rt.alloc(), given)? {
         for way in WAYS {
-            let answer = gathered_so(rt, given, *cut, max_bytes, way, &Free)?;
-            let message = format!(in rt.alloc(); "{given:?} {cut:?} {way:?}")?;
-            expect_answer(rt, &answer, want, &message)?;
+            expect_so(rt, given, *cut, max_bytes, way, want)?;
         }
     }
     Ok(())
+}
+
+/// The same for one cut and one way.
+fn expect_so(
+    rt: &(impl Abort + AllocGlobal + Threads + Wait + Sync),
+    given: &[Given<'_>],
+    cut: Cut,
+    max_bytes: u64,
+    way: Way,
+    want: Want<'_>,
+) -> Result<(), Fail> {
+    let answer = gathered_so(rt, given, cut, max_bytes, way, &Free)?;
+    let message = format!(in rt.alloc(); "{given:?} {cut:?} {way:?}")?;
+    expect_answer(rt, &answer, want, &message)
 }
 
 /// What is gathered of the streams in such reads.
@@ -298,47 +310,47 @@ fn a_sender_goes_on_behind_a_fault(rt: HostRuntime) -> Result<(), Fail> {
 
 #[test]
 fn there_may_be_many_streams(rt: HostRuntime) -> Result<(), Fail> {
+    let logs = many_logs(rt.alloc(), 200)?;
     for way in WAYS {
-        let answer = many_gathered(&rt, way)?;
-        expect_answer(
-            &rt,
-            &answer,
-            Ok(many_logs(rt.alloc())?.as_str()),
-            "200 streams",
-        )?;
+        let answer = many_gathered(&rt, 200, way, &Free)?;
+        expect_answer(&rt, &answer, Ok(&logs), "200 streams")?;
     }
     Ok(())
 }
 
-fn many_gathered(
+/// What is gathered of so many streams, of which each has one line.
+fn many_gathered<G: Gate>(
     rt: &(impl AllocGlobal + Threads + Wait + Sync),
+    count: u32,
     way: Way,
+    gate: &G,
 ) -> Result<Result<LogTable, GatherFault>, Fail> {
-    let targets = many_targets(rt.alloc())?;
-    gathered_by(rt, &targets, many_readers(rt.alloc())?, 1000, way, &Free)
+    let targets = many_targets(rt.alloc(), count)?;
+    let readers = many_readers(rt.alloc(), count)?;
+    gathered_by(rt, &targets, readers, 1000, way, gate)
 }
 
-fn many_targets(alloc: Global) -> Result<LogTable, Fail> {
+fn many_targets(alloc: Global, count: u32) -> Result<LogTable, Fail> {
     let mut names = Vec::new(alloc);
-    for i in 1..201 {
+    for i in 0..count {
         let name = format!(in alloc; "t{i}")?;
         names.push(TargetName::resolve(alloc, None, name.as_bytes())?)?;
     }
     Ok(entered(alloc, names)?)
 }
 
-fn many_readers(alloc: Global) -> Result<Vec<Pieces>, AllocError> {
+fn many_readers(alloc: Global, count: u32) -> Result<Vec<Pieces>, AllocError> {
     let mut readers = Vec::new(alloc);
-    for i in 1..201 {
+    for i in 0..count {
         let line = format!(in alloc; "line {i}\n")?;
         readers.push(reader(alloc, &line, false, Cut::InReadsOf(3))?)?;
     }
     Ok(readers)
 }
 
-fn many_logs(alloc: Global) -> Result<String, AllocError> {
+fn many_logs(alloc: Global, count: u32) -> Result<String, AllocError> {
     let mut logs = String::new(alloc);
-    for i in 1..201 {
+    for i in 0..count {
         logs.push_str(&format!(in alloc; "t{i}: Ended\ntext|line {i}\n")?)?;
     }
     Ok(logs)
@@ -418,15 +430,7 @@ fn expect_started(
     senders: u32,
 ) -> Result<(), Fail> {
     let gate = Starting::new(u64::from(senders));
-    let mut names = Vec::new(rt.alloc());
-    let mut readers = Vec::new(rt.alloc());
-    for i in 0..senders {
-        let name = format!(in rt.alloc(); "t{i}")?;
-        names.push(TargetName::resolve(rt.alloc(), None, name.as_bytes())?)?;
-        readers.push(reader(rt.alloc(), "x\n", false, Cut::InReadsOf(3))?)?;
-    }
-    let targets = entered(rt.alloc(), names)?;
-    let answer = gathered_by(rt, &targets, readers, 1000, Way::Senders(senders, 1), &gate)?;
+    let answer = many_gathered(rt, senders, Way::Senders(senders, 1), &gate)?;
     assert!(rt; answer.is_ok());
     assert_eq!(rt; gate.let_go(), u64::from(senders));
     Ok(())

@@ -25,9 +25,23 @@ fn viewed(
     per_call: usize,
 ) -> Result<(Result<(), ViewFault>, Vec<u8>), Fail> {
     let table = logs_of(alloc, given)?;
+    written(alloc, &table, options, asked, room, per_call)
+}
+
+/// The same for a table.
+fn written(
+    alloc: Global,
+    table: &LogTable,
+    options: &Options,
+    asked: &[&str],
+    room: usize,
+    per_call: usize,
+) -> Result<(Result<(), ViewFault>, Vec<u8>), Fail>
+    requires { list_all has_ended table.now ≡ true }
+{
     let asked = resolved(alloc, asked)?;
     let mut out = Taker::new(alloc, room, per_call)?;
-    let answer = view(alloc, &table, options, &asked, &mut out);
+    let answer = view(alloc, table, options, &asked, &mut out);
     Ok((answer, out.bytes().to_vec(alloc)?))
 }
 

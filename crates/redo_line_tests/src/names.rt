@@ -104,6 +104,13 @@ fn map_of_two(alloc: Global) -> Result<IndexMap<TargetName, u32>, Fail> {
 #[test]
 fn a_map_finds_a_name_by_its_normal_form(rt: HostRuntime) -> Result<(), Fail> {
     let map = map_of_two(rt.alloc())?;
+    expect_found(&rt, &map)
+}
+
+fn expect_found(
+    rt: &(impl Abort + AllocGlobal),
+    map: &IndexMap<TargetName, u32>,
+) -> Result<(), Fail> {
     let same = resolved(rt.alloc(), Some("d/x"), "./q/../a")?;
     assert_eq!(rt; map.get_index_of(&same), Some(0));
     assert_eq!(rt; map.get(&same).copied(), Some(1));

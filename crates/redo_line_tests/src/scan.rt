@@ -113,10 +113,7 @@ fn step_through(
 
 /// What a scan of these pieces finds, whose entries go into a table, those of a piece together.
 fn scan_together(alloc: Global, mut scan: Scan, pieces: &[Vec<u8>]) -> Result<Scanned, Fail> {
-    let mut table = table_of_one(alloc)?;
-    let fault = take_all_together(alloc, &mut scan, pieces, &mut table)?;
-    let entries = first_entries(alloc, &table)?;
-    let mut scanned = Scanned { entries, fault };
+    let mut scanned = take_all_together(alloc, &mut scan, pieces)?;
     finish(alloc, scan, &mut scanned)?;
     Ok(scanned)
 }
@@ -127,19 +124,16 @@ fn table_of_one(alloc: Global) -> Result<LogTable, Fail> {
     Ok(table)
 }
 
-/// Takes pieces, and answers the first fault.
-fn take_all_together(
-    alloc: Global,
-    scan: &mut Scan,
-    pieces: &[Vec<u8>],
-    table: &mut LogTable,
-) -> Result<Option<StreamFault>, Fail> {
+/// Takes pieces, up to the last.
+fn take_all_together(alloc: Global, scan: &mut Scan, pieces: &[Vec<u8>]) -> Result<Scanned, Fail> {
+    let mut table = table_of_one(alloc)?;
     let mut fault = None;
     for piece in pieces {
-        let met = take_together(alloc, scan, piece, table)?;
+        let met = take_together(alloc, scan, piece, &mut table)?;
         fault = fault.or(met);
     }
-    Ok(fault)
+    let entries = first_entries(alloc, &table)?;
+    Ok(Scanned { entries, fault })
 }
 
 /// The entries of the first log, each with a line feed.

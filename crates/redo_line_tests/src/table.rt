@@ -13,8 +13,9 @@ fn name(alloc: Global, text: &str) -> Result<TargetName, Fail> {
 /// A table of the logs of `a` and `b`.
 fn table_of_two(alloc: Global) -> Result<LogTable, Fail> {
     let mut table = LogTable::new(alloc);
-    table.enter(name(alloc, "a")?)?;
-    table.enter(name(alloc, "b")?)?;
+    for text in ["a", "b"] {
+        table.enter(name(alloc, text)?)?;
+    }
     Ok(table)
 }
 
@@ -89,19 +90,29 @@ fn expect_found(
     Ok(())
 }
 
+/// What is entered into a table, and the answers.
+const ENTERED: [(&str, Result<u32, TableFault>); 4] = [
+    ("a", Ok(0)),
+    ("b", Ok(1)),
+    ("a", Err(TableFault::Twice)),
+    ("x/../b", Err(TableFault::Twice)),
+];
+
 #[test]
 fn logs_are_entered_in_order(rt: HostRuntime) -> Result<(), Fail> {
-    let mut table = LogTable::new(rt.alloc());
+    enter_in_order(&rt, &mut LogTable::new(rt.alloc()))
+}
+
+fn enter_in_order(rt: &(impl Abort + AllocGlobal), table: &mut LogTable) -> Result<(), Fail> {
     assert_eq!(rt; table.len(), 0);
-    expect_entered(&rt, &mut table, "a", Ok(0))?;
-    expect_entered(&rt, &mut table, "b", Ok(1))?;
-    expect_entered(&rt, &mut table, "a", Err(TableFault::Twice))?;
-    expect_entered(&rt, &mut table, "x/../b", Err(TableFault::Twice))?;
+    for (text, answer) in ENTERED {
+        expect_entered(rt, table, text, answer)?;
+    }
     assert_eq!(rt; table.len(), 2);
-    expect_found(&rt, &table, "a", Some(0))?;
-    expect_found(&rt, &table, "b", Some(1))?;
-    expect_found(&rt, &table, "c", None)?;
-    expect(&rt, &table, "a: Running\nb: Running\n")
+    for (text, place) in [("a", Some(0)), ("b", Some(1)), ("c", None)] {
+        expect_found(rt, table, text, place)?;
+    }
+    expect(rt, table, "a: Running\nb: Running\n")
 }
 
 #[test]
@@ -127,6 +138,10 @@ fn a_log_has_the_entries_that_were_added(rt: HostRuntime) -> Result<(), Fail> {
 fn an_entry_is_shown_by_its_place(rt: HostRuntime) -> Result<(), Fail> {
     let mut table = table_of_two(rt.alloc())?;
     add(rt.alloc(), &mut table, 0, "x")?;
+    expect_one_entry(&rt, &table)
+}
+
+fn expect_one_entry(rt: &(impl Abort + AllocGlobal), table: &LogTable) -> Result<(), Fail> {
     let first = table.entry(0, 0).ok_or("no entry")?;
     assert_eq!(rt; entry_text(rt.alloc(), first)?.as_str(), "text|x");
     assert!(rt; table.entry(0, 1).is_none());
@@ -137,13 +152,17 @@ fn an_entry_is_shown_by_its_place(rt: HostRuntime) -> Result<(), Fail> {
 #[test]
 fn a_log_ends_or_fails(rt: HostRuntime) -> Result<(), Fail> {
     let mut table = table_of_two(rt.alloc())?;
-    add(rt.alloc(), &mut table, 0, "x")?;
-    expect_ends(&rt, &table, None, false);
-    close(&mut table, 0, None)?;
-    expect_ends(&rt, &table, None, false);
-    close(&mut table, 1, Some(StreamFault::TooLong))?;
-    expect_ends(&rt, &table, Some((1, StreamFault::TooLong)), false);
-    expect(&rt, &table, "a: Ended\ntext|x\nb: Failed(TooLong)\n")
+    end_and_fail(&rt, &mut table)
+}
+
+fn end_and_fail(rt: &(impl Abort + AllocGlobal), table: &mut LogTable) -> Result<(), Fail> {
+    add(rt.alloc(), table, 0, "x")?;
+    expect_ends(rt, table, None, false);
+    close(table, 0, None)?;
+    expect_ends(rt, table, None, false);
+    close(table, 1, Some(StreamFault::TooLong))?;
+    expect_ends(rt, table, Some((1, StreamFault::TooLong)), false);
+    expect(rt, table, "a: Ended\ntext|x\nb: Failed(TooLong)\n")
 }
 
 #[test]
@@ -190,17 +209,25 @@ const LINES: [(u32, usize, &str, usize); 8] = [
 #[test]
 fn lines_of_texts_are_had_together(rt: HostRuntime) -> Result<(), Fail> {
     let table = table_of_lines(rt.alloc())?;
+    expect_lines(&rt, &table);
+    Ok(())
+}
+
+fn expect_lines(rt: &impl Abort, table: &LogTable) {
     let logs = table.numbered();
     for (i, k, lines, count) in LINES {
         let found = logs.lines(i, k);
         assert_eq!(rt; (found.0, found.1), (lines.as_bytes(), count));
     }
-    Ok(())
 }
 
 #[test]
 fn a_mention_has_the_number_of_its_name(rt: HostRuntime) -> Result<(), Fail> {
     let table = table_of_lines(rt.alloc())?;
+    expect_mention(&rt, &table)
+}
+
+fn expect_mention(rt: &impl Abort, table: &LogTable) -> Result<(), Fail> {
     let logs = table.numbered();
     let Some(NumberedEntry::Mention { name, .. }) = logs.entry(0, 3) else {
         return Err("no mention".into());

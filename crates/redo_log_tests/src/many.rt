@@ -6,7 +6,9 @@ use redo_given::Cut;
 use redo_line::{StreamFault, Taker};
 use std::alloc::{AllocError, Global};
 use std::process::Abort;
+use std::sync::Wait;
 use std::test::Fail;
+use std::thread::Threads;
 
 /// Names of four digits, in order.
 fn numbers(alloc: Global, count: usize) -> Result<Vec<String>, AllocError> {
@@ -48,26 +50,26 @@ const LAST: &str = "3999\nend\n";
 
 #[test]
 fn a_chain_of_logs_is_shown_to_its_end(rt: HostRuntime) -> Result<(), Fail> {
-    let alloc = rt.alloc();
-    let names = numbers(alloc, 3000)?;
-    let streams = chain(alloc, &names)?;
-    let mut given = Vec::new(alloc);
+    let names = numbers(rt.alloc(), 3000)?;
+    let streams = chain(rt.alloc(), &names)?;
+    expect_chain(&rt, &names, &streams)
+}
+
+fn expect_chain(
+    rt: &(impl Abort + AllocGlobal + Threads + Wait + Sync),
+    names: &[String],
+    streams: &[String],
+) -> Result<(), Fail> {
+    let plan = Plan::new(4, 64, MAX_BYTES)?;
+    let mut out = Taker::new(rt.alloc(), 10_000_000, 10_000_000)?;
+    let mut given = Vec::new(rt.alloc());
     for (name, stream) in names.iter().zip(streams.iter()) {
         given.push((name.as_str(), stream.as_str(), false))?;
     }
-    let plan = Plan::new(4, 64, MAX_BYTES)?;
-    let mut out = Taker::new(alloc, 10_000_000, 10_000_000)?;
-    let ran = ran(
-        &rt,
-        &given,
-        Cut::InReadsOf(1000),
-        &plan,
-        &DEEP,
-        &["1000"],
-        &mut out,
-    )?;
+    let cut = Cut::InReadsOf(1000);
+    let ran = ran(rt, &given, cut, &plan, &DEEP, &["1000"], &mut out)?;
     assert_eq!(rt; ran.status, 0);
-    expect_end_of_chain(&rt, out.bytes());
+    expect_end_of_chain(rt, out.bytes());
     Ok(())
 }
 

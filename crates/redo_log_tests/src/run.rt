@@ -36,8 +36,8 @@ pub fn ran(
     out: &mut impl Sink,
 ) -> Result<Outcome, Fail> {
     let alloc = rt.alloc();
-    let (index, readers) = captured(alloc, given, cut)?;
     let words = words(alloc, asked)?;
+    let (index, readers) = captured(alloc, given, cut)?;
     let answer = run(
         rt, alloc, &index, readers, plan, options, &words, &Free, out,
     );
@@ -369,10 +369,10 @@ fn a_run_reads_and_takes_its_streams_side_by_side(rt: HostRuntime) -> Result<(),
     let taken = |stream| Event::Taken { stream, lines: 1 };
     let gate = Holding::new([Hold::new(read(0), taken(1)), Hold::new(read(1), taken(0))]);
     let given = [("p", "p1\np2\n", false), ("q", "q1\nq2\n", false)];
-    let (index, readers) = captured(alloc, &given, Cut::InReadsOf(3))?;
-    let words = [b"p".to_vec(alloc)?, b"q".to_vec(alloc)?];
+    let words = words(alloc, &["p", "q"])?;
     let plan = Plan::new(2, 1, 1000)?;
     let mut out = Taker::new(alloc, 1000, 1000)?;
+    let (index, readers) = captured(alloc, &given, Cut::InReadsOf(3))?;
     let answer = run(
         &rt, alloc, &index, readers, &plan, &PLAIN, &words, &gate, &mut out,
     );
