@@ -19,25 +19,33 @@ import generate
 import model
 import storm
 
-# For one run: a machine that others use too was seen to stand still for 20. How long the slowest took is told.
-MOST_SECONDS = 120
+MOST_SECONDS = 20  # for one run
 MOST_PRINTED = 10
 NEEDED_STATUSES = [0, 2, 3, 4, 5, 24]
 STATUSES = [0, 2, 3, 4, 5, 6, 7, 24]
 GENERATORS = {"generate": generate, "storm": storm}
 
 
-def run(program, directory, words):
-    """Status (a signal's as a negative number, or `timeout`), standard output, standard error; and the seconds that it took."""
+def start(program, directory, words):
+    pipe = subprocess.PIPE
+    return subprocess.Popen([os.fsencode(program)] + words, cwd=directory, stdin=subprocess.DEVNULL, stdout=pipe, stderr=pipe)
+
+
+def ended(process):
+    """Status (a signal's as a negative number, or `timeout`), standard output, standard error; and the seconds that it took.
+
+    Each second is waited for by itself. So what a machine stands still, with all that runs on it, counts as one of them, as
+    long as it may be: one that others use too was seen to for more than twenty.
+    """
     began = time.monotonic()
-    try:
-        done = subprocess.run(
-            [os.fsencode(program)] + words, cwd=directory, stdin=subprocess.DEVNULL, capture_output=True, timeout=MOST_SECONDS
-        )
-        got = done.returncode, done.stdout, done.stderr
-    except subprocess.TimeoutExpired as expired:
-        got = "timeout", expired.stdout or b"", expired.stderr or b""
-    return got, time.monotonic() - began
+    for _ in range(MOST_SECONDS):
+        try:
+            out, err = process.communicate(timeout=1)
+            return (process.returncode, out, err), time.monotonic() - began
+        except subprocess.TimeoutExpired:
+            continue
+    process.kill()
+    return ("timeout", *process.communicate()), time.monotonic() - began
 
 
 def same(expected, got):
@@ -64,18 +72,12 @@ def compared_as_it_grows(program, seed, directory):
     """Seed, words, the model's answer for a front of what was appended, and the program's, with the seconds that it took."""
     words, path, more = storm.growing(seed, directory)
     answers = fronts_of(directory, words, path, more)
-    began = time.monotonic()
-    process = subprocess.Popen([os.fsencode(program)] + words, cwd=directory, stdout=subprocess.PIPE, stderr=subprocess.PIPE)
+    process = start(program, directory, words)
     with open(path, "ab", buffering=0) as file:
         for byte in more:
             file.write(bytes([byte]))
-    try:
-        out, err = process.communicate(timeout=MOST_SECONDS)
-        got = process.returncode, out, err
-    except subprocess.TimeoutExpired:
-        process.kill()
-        got = "timeout", b"", b""
-    return seed, words, got if got in answers else answers[-1], got, time.monotonic() - began
+    got, seconds = ended(process)
+    return seed, words, got if got in answers else answers[-1], got, seconds
 
 
 def compared(task):
@@ -87,7 +89,7 @@ def compared(task):
             return compared_as_it_grows(program, seed, directory)
         words = GENERATORS[generator].case(seed, directory)
         expected = model.answer(directory, words)
-        return seed, words, expected, *run(program, directory, words)
+        return seed, words, expected, *ended(start(program, directory, words))
     except Exception as error:
         raise RuntimeError(f"seed {seed}: {error!r}") from error
     finally:
