@@ -2,10 +2,9 @@
 use crate::gate::{Event, Hold, Holding};
 use crate::sent::sent;
 use redo_gather::{Free, Share};
-use redo_given::{Cut, Given, reader};
+use redo_given::{Cut, Given, item_text, reader};
 use redo_line::{Pieces, TargetName};
 use redo_wire::{Item, What};
-use redo_wire_tests::items::item_text;
 use std::alloc::Global;
 use std::process::Abort;
 use std::sync::Wait;

@@ -2,10 +2,9 @@
 ghost use Rattle.std.specs.Prelude.{◌≡◌};
 
 use redo_gather::{Gate, Share, send};
+use redo_given::{Two, rest, two_ended};
 use redo_line::Pieces;
 use redo_wire::{Item, PostEnd, TakeEnd, What};
-use redo_wire_tests::pair::{Two, two_ended};
-use redo_wire_tests::traffic::rest;
 use std::sync::Wait;
 use std::test::Fail;
 use std::thread::{Threads, join};

@@ -1,6 +1,6 @@
 //! Entries in few pieces of memory.
 ghost use Rattle.std.specs.Prelude.{◌≡◌, ◌+◌, true, [], ◌∷◌, ◌++◌, length, IfOk, OnOk, OnErr};
-ghost use Rattle.redo_line.specs.Entries.{AreAt, IsLayout};
+ghost use Rattle.redo_line.specs.Entries.{AreAt, IsLayout, IsWithin, entry_at};
 ghost use Rattle.redo_line.specs.Names.{IsNormal};
 ghost use Rattle.redo_line.specs.Private.CutLine.{line_bytes};
 ghost use Rattle.redo_line.specs.declared.entry.Entry.TheVariants.{Text, Mention, Done, Closing, Note};
@@ -141,20 +141,7 @@ impl Entries {
                 bytes.truncate(end);
                 Ok(Entry::Text(LineText::from_vec(bytes).behind(start)))
             }
-            EntryAt::Mention { how, start, end } => {
-                let name = TargetName::of_normal(alloc, &names[start..end])?;
-                Ok(Entry::Mention { how, name })
-            }
-            EntryAt::Done { status, start, end } => {
-                let name = TargetName::of_normal(alloc, &names[start..end])?;
-                Ok(Entry::Done { status, name })
-            }
-            EntryAt::Closing { status } => Ok(Entry::Closing { status }),
-            EntryAt::Note { start, middle, end } => {
-                let kind = LineText::copy_of(alloc, &bytes[start..middle])?;
-                let text = LineText::copy_of(alloc, &bytes[middle..end])?;
-                Ok(Entry::Note { kind, text })
-            }
+            place => copy_at(alloc, &bytes, &names, place),
         }
     }
 
@@ -244,6 +231,33 @@ impl Entries {
         let (_, end) = put(&mut self.bytes, text)?;
         self.places.push(EntryAt::Note { start, middle, end })?;
         Ok(())
+    }
+}
+
+// The entry that stands there, with memory of its own.
+fn copy_at(alloc: Global, bytes: &[u8], names: &[u8], place: EntryAt) -> Result<Entry, AllocError>
+    requires { IsWithin bytes.now names.now place }
+    ensures { IfOk result (λ entry. entry ≡ entry_at bytes.now names.now place) }
+{
+    match place {
+        EntryAt::Text { start, end } => {
+            let text = LineText::copy_of(alloc, &bytes[start..end])?;
+            Ok(Entry::Text(text))
+        }
+        EntryAt::Mention { how, start, end } => {
+            let name = TargetName::of_normal(alloc, &names[start..end])?;
+            Ok(Entry::Mention { how, name })
+        }
+        EntryAt::Done { status, start, end } => {
+            let name = TargetName::of_normal(alloc, &names[start..end])?;
+            Ok(Entry::Done { status, name })
+        }
+        EntryAt::Closing { status } => Ok(Entry::Closing { status }),
+        EntryAt::Note { start, middle, end } => {
+            let kind = LineText::copy_of(alloc, &bytes[start..middle])?;
+            let text = LineText::copy_of(alloc, &bytes[middle..end])?;
+            Ok(Entry::Note { kind, text })
+        }
     }
 }
 

@@ -2,10 +2,9 @@
 //! `measure` it prints items a second. Else it passes few items, and prints how many came.
 #![tactic(auto)]
 
-use redo_given::line;
+use redo_given::{Posts, exchange, line};
 use redo_line::{Entries, Entry};
 use redo_wire::What;
-use redo_wire_tests::traffic::{Posts, exchange};
 use std::alloc::Global;
 use std::env;
 use std::num::nearest_usize_to_f64;

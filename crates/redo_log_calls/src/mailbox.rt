@@ -1,9 +1,8 @@
 //! A mailbox that is opened, and what its ends post and take.
 ghost use Rattle.std.specs.Prelude.{◌≡◌};
 
+use redo_given::{Two, rest, two_ended};
 use redo_wire::{Item, PostEnd, What};
-use redo_wire_tests::pair::{Two, two_ended};
-use redo_wire_tests::traffic::rest;
 use std::io;
 use std::sync::Wait;
 

@@ -3,9 +3,9 @@ ghost use Rattle.std.specs.Prelude.{◌≡◌};
 
 use crate::gather::MAX_BYTES;
 use redo_gather::{Free, Plan, Share, send};
+use redo_given::{Posting, exchange};
 use redo_line::{Entries, Entry, EntryAt, Layout, Pieces, TargetName};
 use redo_wire::{Item, PostEnd, What};
-use redo_wire_tests::traffic::{Posting, exchange};
 use std::alloc::{AllocError, Global};
 use std::io;
 use std::sync::Wait;

@@ -76,21 +76,44 @@ pub fn command<R: Files<File: Send> + Threads + Wait + Sync + AllocGlobal, W: Wr
     ensures { IsStatus result }
 {
     let alloc = rt.alloc();
-    let job = match read_words(alloc, words) {
-        Ok(job) => job,
-        Err(WordsFault::Help) => return print_help(alloc, out, err),
-        Err(fault) => return refuse(alloc, &Failure::Words(fault), err),
+    match read_words(alloc, words) {
+        Ok(job) => show_job(rt, &job, out, err),
+        Err(WordsFault::Help) => print_help(alloc, out, err),
+        Err(fault) => refuse(alloc, &Failure::Words(fault), err),
+    }
+}
+
+// Does a job: reads the index of its directory, and shows the logs of its targets.
+fn show_job<R: Files<File: Send> + Threads + Wait + Sync + AllocGlobal, W: Write, E: Write>(
+    rt: &R,
+    job: &Job,
+    out: &mut W,
+    err: &mut E,
+) -> u8
+    ensures { IsStatus result }
+{
+    match find_index(rt, job.dir()) {
+        Ok(index) => show_logs(rt, job, &index, out, err),
+        Err(failure) => refuse(rt.alloc(), &failure, err),
+    }
+}
+
+// Shows the logs of a job's targets out of the captures of an index.
+fn show_logs<R: Files<File: Send> + Threads + Wait + Sync + AllocGlobal, W: Write, E: Write>(
+    rt: &R,
+    job: &Job,
+    index: &Index,
+    out: &mut W,
+    err: &mut E,
+) -> u8
+    ensures { IsStatus result }
+{
+    let Ok(readers) = open_captures(rt, job.dir(), index) else {
+        return refuse(rt.alloc(), &Failure::Memory, err);
     };
-    let index = match find_index(rt, job.dir()) {
-        Ok(index) => index,
-        Err(failure) => return refuse(alloc, &failure, err),
-    };
-    let Ok(readers) = open_captures(rt, job.dir(), &index) else {
-        return refuse(alloc, &Failure::Memory, err);
-    };
-    match show(rt, &job, &index, readers, out) {
+    match show(rt, job, index, readers, out) {
         Ok(()) => 0,
-        Err(fault) => tell(alloc, &Failure::Run(fault), &index, job.targets(), err),
+        Err(fault) => tell(rt.alloc(), &Failure::Run(fault), index, job.targets(), err),
     }
 }
 

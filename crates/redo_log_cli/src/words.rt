@@ -73,43 +73,45 @@ fn command<'a>(alloc: Global) -> Result<Command<'a>, AllocError>
 fn with_flags<'a>(alloc: Global, command: Command<'a>) -> Result<Command<'a>, AllocError>
     ensures { IfOk result (λ more. app_of more ≡ with_rules flags (app_of command.entry)) }
 {
-    let recursive = flag(alloc, "recursive", "recursive", ArgAction::SetTrue)
-        .short('r')
-        .help("Show the logs of mentioned targets too, each at its first mention");
-    let unchanged = flag(alloc, "unchanged", "unchanged", ArgAction::SetTrue)
-        .short('u')
-        .help("Show targets that needed no rebuild too");
-    let details = flag(alloc, "details", "no-details", ArgAction::SetFalse).help(
+    let command = command.arg(
+        flag(alloc, "recursive", "recursive", ArgAction::SetTrue)
+            .short('r')
+            .help("Show the logs of mentioned targets too, each at its first mention"),
+    )?;
+    let command = command.arg(
+        flag(alloc, "unchanged", "unchanged", ArgAction::SetTrue)
+            .short('u')
+            .help("Show targets that needed no rebuild too"),
+    )?;
+    let command = command.arg(flag(alloc, "details", "no-details", ArgAction::SetFalse).help(
         "Leave out the text lines of logs",
-    );
-    let debug_locks = flag(alloc, "debug_locks", "debug-locks", ArgAction::SetTrue).help(
+    ))?;
+    command.arg(flag(alloc, "debug_locks", "debug-locks", ArgAction::SetTrue).help(
         "Show messages on waiting and locking",
-    );
-    command
-        .arg(recursive)?
-        .arg(unchanged)?
-        .arg(details)?
-        .arg(debug_locks)
+    ))
 }
 
 fn with_values<'a>(alloc: Global, command: Command<'a>) -> Result<Command<'a>, AllocError>
     ensures { IfOk result (λ more. app_of more ≡ with_rules values (app_of command.entry)) }
 {
-    let dir = Arg::new(alloc, "dir").long("dir").value_name("DIR").help(
-        "The capture directory: `names`, and a `log.NUMBER` for each line of it [default: .]",
-    );
-    let senders = number(alloc, "senders", value_parser!(u32).range(1..=64)).help(
+    let command = command.arg(
+        Arg::new(alloc, "dir").long("dir").value_name("DIR").help(
+            "The capture directory: `names`, and a `log.NUMBER` for each line of it [default: .]",
+        ),
+    )?;
+    let command = command.arg(number(alloc, "senders", value_parser!(u32).range(1..=64)).help(
         "How many senders read logs, 1 to 64 [default: 4]",
-    );
-    let capacity = number(alloc, "capacity", value_parser!(u32).range(1..=65_536)).help(
+    ))?;
+    let command = command.arg(number(alloc, "capacity", value_parser!(u32).range(1..=65_536)).help(
         "How many items of up to 1024 lines may wait, 1 to 65536 [default: 64]",
-    );
-    let target = Arg::new(alloc, "target")
-        .value_name("TARGET")
-        .action(ArgAction::Append)
-        .required(true)
-        .help("A target to show: its name in `names`, in any spelling");
-    command.arg(dir)?.arg(senders)?.arg(capacity)?.arg(target)
+    ))?;
+    command.arg(
+        Arg::new(alloc, "target")
+            .value_name("TARGET")
+            .action(ArgAction::Append)
+            .required(true)
+            .help("A target to show: its name in `names`, in any spelling"),
+    )
 }
 
 fn flag<'a>(alloc: Global, id: &'a str, long: &'a str, action: ArgAction) -> Arg<'a>

@@ -64,10 +64,6 @@ found_name names name number is =
       is = ap (λ n. get_or names n []) (sym same) ∙ sym (same_text name (get_or names found.place []) (sym found.passes));
     }
 
-pub not_there : (o : Option ℕ) → is_some o ≡ false → o ≡ None
-not_there None absent = refl
-not_there (Some n) absent = absurd (cc)
-
 -- ---- places
 
 abbrev none : Option ℕ

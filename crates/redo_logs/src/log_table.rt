@@ -77,10 +77,21 @@ impl LogTable {
         if self.find(&target).is_some() {
             return Err(TableFault::Twice);
         }
-        let number = self.logs.len();
-        if number == MOST {
+        if self.logs.len() == MOST {
             return Err(TableFault::Full);
         }
+        Ok(self.enter_new(target)?)
+    }
+
+    // The same for a target that has no log yet, where there is room for one more.
+    fn enter_new(&mut self, target: TargetName) -> Result<u32, AllocError>
+        requires absent { place_of target self.old ≡ None }
+        requires room { length self.old < most }
+        ensures number { IfOk result (λ number. number ≡ length self.old) }
+        ensures entered { OnOk result (self.new ≡ self.old ++ new_log target ∷ []) }
+        ensures err { OnErr result (self.new ≡ self.old) }
+    {
+        let number = self.logs.len() as u32;
         let name = self.kept.number_of(target)?;
         make_room(&mut self.places, self.kept.len())?;
         self.logs.push(Log {
@@ -88,8 +99,8 @@ impl LogTable {
             records: Vec::new(self.alloc),
             state: LogState::Running,
         })?;
-        self.places[name] = Some(number as u32);
-        Ok(number as u32)
+        self.places[name] = Some(number);
+        Ok(number)
     }
 
     /// Adds an entry to a log, which has to be running. A refusal changes nothing.

@@ -1,8 +1,5 @@
-//! Tests of the mailbox, and the senders and the collector that measurements drive it with.
+//! Tests of the mailbox.
 #![tactic(auto)]
 
-pub mod items;
 #[cfg(test)]
 mod mailbox;
-pub mod pair;
-pub mod traffic;

@@ -1,10 +1,7 @@
 //! What is taken of a mailbox is what was posted, of each sender in order.
 ghost use Rattle.std.specs.Prelude.{◌≡◌, IfOk};
 
-use crate::items::item_text;
-use crate::pair::{Two, two_ended};
-use crate::traffic::{Posts, exchange, rest};
-use redo_given::line;
+use redo_given::{Posts, Two, exchange, item_text, line, rest, two_ended};
 use redo_line::{Entries, Entry};
 use redo_wire::{Item, PostEnd, What};
 use std::alloc::{AllocError, Global};

@@ -22,3 +22,14 @@ pub returns-clause-fault : goal.returns-clause-fault
 returns-clause-fault g c =
     let targets = ap targets_of c.in_ok-table.ensures ∙ targets-entered c.args.names.items in
     (subst (λ names. IsGathered c.args.plan.now.max_bytes names (map g.R.Feed.tells c.args.readers.items) c.gather_by.result) targets c.gather_by.ensures.gathered).fault
+
+pub returns-clause-ended : goal.returns-clause-ended
+returns-clause-ended g c = c.gather_by.ensures.gathered.ended
+
+pub returns-clause-number : goal.returns-clause-number
+returns-clause-number g c =
+    let targets = ap targets_of c.in_ok-table.ensures ∙ targets-entered c.args.names.items in
+    (subst (λ names. IsGathered c.args.plan.now.max_bytes names (map g.R.Feed.tells c.args.readers.items) c.gather_by.result) targets c.gather_by.ensures.gathered).number
+
+pub returns-clause-no_memory : goal.returns-clause-no_memory
+returns-clause-no_memory g c = c.gather_by.ensures.no_memory

@@ -80,7 +80,11 @@ pub fn exchange<T: AllocGlobal + Threads + Wait + Sync, P: Posting>(
         rt,
         |scope| -> Emptied
             requires { AllByRecursion (λ end. end.mailbox ≡ emptied.mailbox.mailbox) ends.items }
-        { post_all(scope, rt, ends, posts, 0, emptied) },
+        {
+            let mut emptied = emptied;
+            post_all(scope, rt, ends, posts, 0, &mut emptied);
+            emptied
+        },
     );
     emptied.all(rt)
 }
@@ -93,22 +97,23 @@ fn post_all<'s, T: Threads + Wait + Sync, P: Posting + 's, E>(
     mut ends: Vec<PostEnd>,
     mut posts: Vec<P>,
     streams: usize,
-    emptied: Emptied,
-) -> Emptied
-    requires { AllByRecursion (λ end. end.mailbox ≡ emptied.mailbox.mailbox) ends.items }
-    ensures { result.mailbox.mailbox ≡ emptied.mailbox.mailbox }
+    emptied: &mut Emptied,
+)
+    requires { AllByRecursion (λ end. end.mailbox ≡ emptied.old.mailbox.mailbox) ends.items }
+    ensures { emptied.new.mailbox.mailbox ≡ emptied.old.mailbox.mailbox }
 {
     let (Some(end), Some(posting)) = (ends.pop(), posts.pop()) else {
-        return emptied.take(rt, streams);
+        emptied.take(rt, streams);
+        return;
     };
     let streams_then = streams.wrapping_add(posting.streams());
     let Ok(thread) = start(scope, rt, end, posting) else {
-        return emptied.take(rt, streams);
+        emptied.take(rt, streams);
+        return;
     };
-    let mut emptied = post_all(scope, rt, ends, posts, streams_then, emptied);
+    post_all(scope, rt, ends, posts, streams_then, emptied);
     let end = thread.join(rt);
     emptied.mailbox.meet(rt, end);
-    emptied
 }
 
 /// Starts a thread that posts at an end.
@@ -156,16 +161,16 @@ fn post<T: Wait>(rt: &T, end: &mut PostEnd, mut item: Item)
 
 impl Emptied {
     /// Takes until so many streams are over, or nothing more comes.
-    fn take<T: Wait>(mut self, rt: &T, streams: usize) -> Emptied
-        ensures { result.mailbox.mailbox ≡ self.mailbox.mailbox }
+    fn take<T: Wait>(&mut self, rt: &T, streams: usize)
+        ensures { self.new.mailbox.mailbox ≡ self.old.mailbox.mailbox }
     {
         let mut streams = streams;
         for _ in rt.forever() {
             if streams == 0 {
-                return self;
+                return;
             }
             let Some(item) = self.mailbox.take(rt) else {
-                return self;
+                return;
             };
             if matches!(item.what, What::End | What::Fail(_)) {
                 streams = streams.wrapping_sub(1);

@@ -1,13 +1,13 @@
-use Rattle.std.proofs.Common.{◌≡◌, ◌≤◌, ◌<◌, ◌++◌, ◌∷◌, [], Some, length, slice_set, rules, refl, sym, ap, ◌∙◌, subst, arith}
+use Rattle.std.proofs.Common.{◌≡◌, ◌≤◌, ◌<◌, ◌++◌, ◌∷◌, List, [], Some, length, slice_set, rules, refl, sym, ap, ◌∙◌, subst, arith}
 use Rattle.std.proofs.lemmas.List.{length-map}
 use Rattle.std.proofs.lemmas.Result.{MatchResult-from_err}
 use Rattle.redo_logs.specs.declared.log_state.LogState.TheVariants.{Running}
 use Rattle.redo_logs.specs.declared.log_table.Log.{Log as Stored}
 use Rattle.redo_logs.specs.Logs.{most, new_log, place_of}
 use Rattle.redo_logs.specs.Private.Stored.{IsStored, log_of, logs_of}
-use Rattle.redo_logs.proofs.Growing.{not_there, one_more, one_stored, placed_stored}
+use Rattle.redo_logs.proofs.Growing.{one_more, one_stored, placed_stored}
 use Rattle.redo_logs.proofs.Storing.{grown_stored, logs_grown}
-use Rattle.redo_logs.proofs.log_table.LogTable.enter.Goals as goal
+use Rattle.redo_logs.proofs.log_table.LogTable.enter_new.Goals as goal
 
 pub invariant_of-self : goal.invariant_of-self
 invariant_of-self c = grown_stored _ _ c.in_err-name.ensures.grows _ _ c.self.invariant
@@ -32,7 +32,7 @@ pub invariant_of-self-in_err-push : goal.invariant_of-self-in_err-push
 invariant_of-self-in_err-push c =
     let grown = grown_stored _ _ c.in_ok-name.ensures.grows _ _ c.self.invariant in
     let few : length c.self.inside.places.items ≤ c.len.result = subst (λ n. length c.self.inside.places.items ≤ n) (sym c.len.ensures) grown.places_within in
-    subst (λ logs. IsStored c.number_of.new.self logs c.make_room.new.places.items) (sym c.in_err-push.ensures.items)
+    subst (λ logs. IsStored c.number_of.new.self logs c.make_room.new.places.items) (sym {A = List Stored} c.in_err-push.ensures.items)
     (placed_stored _ _ _ _ (subst (λ n. length c.make_room.new.places.items ≤ n) c.len.ensures (c.in_ok-make_room.ensures.within few)) c.in_ok-make_room.ensures.same grown)
 
 pub returns-in_err-push-clause-err : goal.returns-in_err-push-clause-err
@@ -52,13 +52,11 @@ invariant_of-self-2 c =
     let few : length c.self.inside.places.items ≤ c.len.result = subst (λ n. length c.self.inside.places.items ≤ n) (sym c.len.ensures) grown.places_within in
     let stored = placed_stored _ _ _ _ (subst (λ n. length places ≤ n) c.len.ensures (c.in_ok-make_room.ensures.within few)) c.in_ok-make_room.ensures.same grown in
     let count : c.len-number.result ≡ length logs = search rules in
-    let size = c.self.invariant.table.size in
-    let room : length logs < most = omega (arith, size, count, c.if-number-eq-MOST.false, length-map logs (log_of c.self.inside.kept)) in
+    let room : length logs < most = omega (arith, c.requires.room, ap length c.self.view_is, length-map logs (log_of c.self.inside.kept)) in
     let there = c.in_ok-make_room.ensures.room in
     let has_place : c.in_ok-name.name < length places = omega (arith, there, c.len.ensures, named.below) in
-    let none = sym c.find.ensures ∙ not_there c.find.result (sym c.is_some.ensures ∙ c.if-is_some.false) in
-    let absent = (λ i. place_of (named.is i) (same i)) ∙ none in
-    subst (λ ls. IsStored parts ls (slice_set places c.in_ok-name.name (Some c.len-number.result))) (sym c.in_ok-push.ensures.items)
+    let absent = (λ i. place_of (named.is i) (same i)) ∙ c.requires.absent in
+    subst (λ ls. IsStored parts ls (slice_set places c.in_ok-name.name (Some c.len-number.result))) (sym {A = List Stored} c.in_ok-push.ensures.items)
     (subst (λ n. IsStored parts (logs ++ log ∷ []) (slice_set places c.in_ok-name.name (Some n))) (sym count)
     (one_more parts logs places c.in_ok-name.name log refl c.new.ensures.items refl stored named.below room has_place absent))
 

@@ -1,5 +1,5 @@
 use Rattle.std.proofs.Common.{◌≡◌}
-use Rattle.redo_wire_tests.proofs.traffic.Emptied.take.Given as goal
+use Rattle.redo_given.proofs.traffic.Emptied.take.Given as goal
 
 abbrev pub invariant-loop : goal.invariant-loop
 invariant-loop g l =
