@@ -150,13 +150,20 @@ static void begin_first(const char *needs) {
   tell_leader("do", "");
 }
 
+/* Takes the directory, if it is new or has captures. Recipes that begin at the same time may all find nothing there: each
+   makes `.capture` before there is a list of names, so that list is looked for first. */
+static void take_directory(void) {
+  char *names = path_of("names");
+  int is_listed = access(names, F_OK) == 0;
+  if (access(path_of(".capture"), F_OK) == 0) return;
+  if (is_listed) fail(1, "%s is there already, and no capture wrote it", names);
+  int is_new = access(at, F_OK) < 0;
+  make_directory(path_of(".capture"));
+  if (is_new) write_over(path_of(".gitignore"), "*\n");
+}
+
 static void begin(const char *needs) {
-  if (access(path_of(".capture"), F_OK) < 0) {
-    if (access(path_of("names"), F_OK) == 0) fail(1, "%s is there already, and no capture wrote it", path_of("names"));
-    int is_new = access(at, F_OK) < 0;
-    make_directory(path_of(".capture"));
-    if (is_new) append_line(path_of(".gitignore"), "*");
-  }
+  take_directory();
   int held = lock();
   char *book = run_of_book();
   if (strcmp(book, own_run) != 0) start(book);
