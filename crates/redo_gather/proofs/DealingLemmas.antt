@@ -31,6 +31,11 @@ first_more senders sender given one =
 
 -- ---- dealing
 
+-- where none is left, all were dealt
+pub all_dealt : {A : Type 0} (all dealt left : List A) → all ≡ dealt ++ left → length left ≡ 0 → dealt ≡ all
+all_dealt all dealt [] is none = sym (is ∙ append-nil dealt)
+all_dealt all dealt (x ∷ left) is none = absurd (omega (arith, none))
+
 pub zip-none : {A : Type 0} (B : Type 0) (keys : List A) (none : List B) → none ≡ [] → zip keys none ≡ []
 zip-none B [] none is = refl
 zip-none B (key ∷ keys) [] is = refl

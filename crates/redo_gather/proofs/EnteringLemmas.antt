@@ -1,10 +1,11 @@
 -- What a loop over names has entered.
-use Rattle.std.proofs.Common.{◌≡◌, ℕ, ◌+◌, nat_eq, false, List, [], ◌∷◌, ◌++◌, None, IsSome, is_some, true≢false, map, position, refl, sym, ap, ◌∙◌, subst}
+use Rattle.std.proofs.Common.{◌≡◌, ℕ, ◌+◌, nat_eq, false, List, [], ◌∷◌, ◌++◌, None, IsSome, Result, Ok, Err, IfOk, OnOk, is_some, true≢false, length, map, position, refl, sym, ap, ◌∙◌, subst, arith}
 use Rattle.std.specs.Cmp.Lexicographic.{pointwise}
+use Rattle.std.specs.Result.{result_and}
 use Rattle.std.specs.List.{IsDistinct, AllByRecursion, position_from}
 use Rattle.std.proofs.lemmas.Iterator.Adapters.{position_from-zero}
 use Rattle.std.proofs.lemmas.Cmp.{nat_list_eq_equiv}
-use Rattle.std.proofs.lemmas.List.{append_assoc, map_push}
+use Rattle.std.proofs.lemmas.List.{append_assoc, append-nil, map_push}
 use Rattle.std.proofs.lemmas.Map.Keys.{IsDistinct-head, IsDistinct-tail}
 use Rattle.redo_logs.specs.Logs.{Log, new_log, targets_of, place_of}
 
@@ -50,3 +51,15 @@ module _ (names left : List (List ℕ)) (table : List Log) (so_far : Entered nam
         ap (place_of name) so_far.table_is ∙ ap (position (pointwise nat_eq name)) (targets-entered so_far.first) ∙ position_from-zero (pointwise nat_eq name) so_far.first
         ∙ none_before so_far.first name others 0 (subst (IsDistinct (pointwise nat_eq)) names_here distinct) in
         true≢false (sym there ∙ ap is_some none)
+
+  pub all_entered : length left ≡ 0 → table ≡ map new_log names
+  all_entered none = so_far.table_is ∙ ap (map new_log) (by left none so_far.names_are)
+    where
+      by : (l : List (List ℕ)) → length l ≡ 0 → names ≡ so_far.first ++ l → so_far.first ≡ names
+      by [] none is = sym (is ∙ append-nil so_far.first)
+      by (name ∷ l) none is = absurd (omega (arith, none))
+
+-- a value that goes with a result
+pub ok_of_and : {A B E : Type 0} (P : B → Type 0) (given : Result A E) (value : B) → OnOk given (P value) → IfOk (result_and given (Ok value)) P
+ok_of_and P (Ok done) value is = is
+ok_of_and P (Err fault) value is = tt

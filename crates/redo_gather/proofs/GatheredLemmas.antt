@@ -1,26 +1,23 @@
 -- What a loop over streams has gathered.
-use Rattle.std.proofs.Common.{◌≡◌, ℕ, true, List, [], ◌∷◌, ◌++◌, Option, None, Some, length, map, slice_get, refl, sym, ap, ◌∙◌, arith, Err, ◌≢◌, subst}
+use Rattle.std.proofs.Common.{◌≡◌, ℕ, true, List, [], ◌∷◌, ◌++◌, Option, None, Some, length, map, slice_get, refl, sym, ap, ◌∙◌, arith, Result, Ok, Err, ◌≢◌, subst}
 use Rattle.std.specs.List.{list_all}
+use Rattle.std.specs.Result.{result_and}
 use Rattle.std.proofs.lemmas.List.{append_assoc, append-nil, length-append, length-map}
-use Rattle.redo_line.specs.declared.entry.Entry.{Entry}
 use Rattle.redo_line.specs.declared.stream_fault.StreamFault.{StreamFault}
 use Rattle.redo_line.specs.declared.stream_fault.StreamFault.TheVariants.{BadRecord, AfterClose, TooLong, Read, OutOfMemory}
-use Rattle.redo_line.specs.Feed.{Stream, SomeStream}
+use Rattle.redo_line.specs.Feed.{Stream}
 use Rattle.redo_line.specs.Log.{fault_of, log_of}
 use Rattle.redo_logs.specs.declared.log_state.LogState.TheVariants.{Running}
 use Rattle.redo_logs.specs.Logs.{Log, new_log, targets_of, states_of, changed, has_ended}
 use Rattle.redo_logs.proofs.ChangedLemmas.{changed-here}
 use Rattle.redo_gather.specs.declared.gather_fault.GatherFault.{GatherFault}
+use Rattle.redo_gather.specs.declared.gather_fault.GatherFault.TheVariants as fault_of_all
+use Rattle.redo_gather.specs.Private.Collecting.{IsGathered}
 use Rattle.redo_gather.specs.GatherFault.{IfStreamFault}
 use Rattle.redo_gather.specs.Private.GatherFault.{fault_of_stream}
-use Rattle.redo_gather.specs.Private.Storing.{completed}
+use Rattle.redo_gather.specs.Private.Storing.{HasFault, IsCompleted, completed}
 use Rattle.redo_gather.specs.Streams.{AreTold, SomeStreams, whole_log, logs_of, fault_among}
 use Rattle.redo_gather.proofs.StreamLemmas.{whole_logs, one_more, fault_behind, count_told, told-append, any_streams, given_stream}
-
--- these entries are the log of a stream, and complete that of this number
-pub record Completes (target : List ℕ) (max_bytes number : ℕ) (entries : List Entry) (told : Option Stream) (begun table : List Log) : Type 0 where
-  pub entries_are : SomeStream told (λ stream. log_of target max_bytes stream ≡ Some entries)
-  pub table_is : table ≡ changed number (completed entries None) begun
 
 -- the first logs of a table are whole, one for each reader that was read to its end, and the others are empty
 pub record Gathered (max_bytes : ℕ) (names : List (List ℕ)) (told : List (Option Stream)) (table : List Log) : Type 0 where
@@ -91,8 +88,9 @@ module _ (max_bytes : ℕ) (names : List (List ℕ)) (told : List (Option Stream
         runs [] others = refl
         runs (log ∷ logs) others = runs logs others
 
-    pub one_gathered : (reader : Option Stream) (entries : List Entry) (after : List Log) → Completes target max_bytes (length told) entries reader table after → Gathered max_bytes names (told ++ reader ∷ []) after
-    one_gathered reader entries after completes =
+    pub one_gathered : (reader : Option Stream) (after : List Log) → IsCompleted target max_bytes (length told) reader table after → Gathered max_bytes names (told ++ reader ∷ []) after
+    one_gathered reader after completes =
+        let entries = completes.entries in
         let given = given_stream reader (λ stream. log_of target max_bytes stream ≡ Some entries) completes.entries_are in
         let log = whole_log target entries in record {
           first = so_far.first ++ target ∷ [];
@@ -110,7 +108,7 @@ module _ (max_bytes : ℕ) (names : List (List ℕ)) (told : List (Option Stream
               ∙ changed-here so_far.logs (new_log target) (map new_log next.0) (completed entries None) ∙ sym (append_assoc so_far.logs (log ∷ []) (map new_log next.0));
         }
 
-    pub fault_gathered : (reader : Option Stream) (unread : List (Option Stream)) (fault : StreamFault) → SomeStream reader (λ stream. fault_of target max_bytes stream ≡ Some fault)
+    pub fault_gathered : (reader : Option Stream) (unread : List (Option Stream)) (fault : StreamFault) → HasFault target max_bytes reader fault
         → SomeStreams (told ++ reader ∷ unread) (λ streams. fault_among max_bytes names streams ≡ Some (length told, fault))
     fault_gathered reader unread fault read =
         let given = given_stream reader (λ stream. fault_of target max_bytes stream ≡ Some fault) read in
@@ -156,3 +154,23 @@ of_stream A number fault P p given is = subst (λ (f : GatherFault). IfStreamFau
     by TooLong p = p (λ e. absurd (cc))
     by Read p = p (λ e. absurd (cc))
     by OutOfMemory p = tt
+
+-- what follows of each fault follows of that of a stream
+pub weaker_fault : (A B : Type 0) (P Q : ℕ → StreamFault → Type 0) → ((number : ℕ) (fault : StreamFault) → P number fault → Q number fault)
+    → (given : GatherFault) → IfStreamFault {A = A} (Err given) P → IfStreamFault {A = B} (Err given) Q
+weaker_fault A B P Q follows (fault_of_all.Stream number fault) is = follows number fault is
+weaker_fault A B P Q follows fault_of_all.OutOfMemory is = tt
+
+-- of no streams the logs are none
+pub none_asked : {A : Type 0} (tells : A → Option Stream) (max_bytes : ℕ) (names : List (List ℕ)) (readers : List A) (table : List Log)
+    → table ≡ map new_log names → length readers ≡ length names → length table ≡ 0 → IsGathered max_bytes names (map tells readers) (Ok table)
+none_asked tells max_bytes [] [] table is same none =
+    subst (λ (t : List Log). IsGathered max_bytes [] [] (Ok t)) (sym is) (record { logs = ([], tt, refl); targets = refl; ended = refl; fault = tt; number = tt })
+none_asked tells max_bytes [] (reader ∷ readers) table is same none = absurd (omega (arith, same))
+none_asked tells max_bytes (name ∷ names) readers table is same none = absurd (omega (arith, ap length is, none))
+
+-- ..also where a value goes with it
+pub fault_of_and : (A B : Type 0) (P : ℕ → StreamFault → Type 0) (given : Result A GatherFault) (value : B) → IfStreamFault {A = A} given P → IfStreamFault {A = B} (result_and given (Ok value)) P
+fault_of_and A B P (Ok done) value is = tt
+fault_of_and A B P (Err (fault_of_all.Stream number fault)) value is = is
+fault_of_and A B P (Err fault_of_all.OutOfMemory) value is = tt

@@ -7,7 +7,7 @@ use Rattle.redo_line.specs.declared.entry.Entry.{Entry}
 use Rattle.redo_line.specs.declared.feed.Broken.{Broken}
 use Rattle.redo_line.specs.declared.stream_fault.StreamFault.{StreamFault}
 use Rattle.redo_line.specs.declared.stream_fault.StreamFault.TheVariants.{Read, OutOfMemory}
-use Rattle.redo_line.specs.Feed.{Stream, Pulls}
+use Rattle.redo_line.specs.Feed.{Stream, Pulls, SomeStream}
 use Rattle.redo_line.specs.Laws.{IsFront}
 use Rattle.redo_line.specs.Log.{stream_of, entries_of, fault_of, log_of, part_of, unless_fault}
 use Rattle.redo_line.specs.Scan.{Scanned, Finds, IsFine, MayRefuse, TakesAll, entries_in, entries_so_far, fault_so_far, so_far, took}
@@ -15,7 +15,7 @@ use Rattle.redo_line.proofs.FaultLemmas.{early_fault, early_part, failed_read, f
 use Rattle.redo_line.proofs.GaveLemmas.{Gave, Gave-none, Gave-more, Gave-end, Gave-failed, weaker}
 use Rattle.redo_line.proofs.LogLemmas.{entries_lead_part, entries_lead_log}
 use Rattle.redo_gather.specs.Owed.{IsOwed, IsOwedFor, log_or_part, told_entries}
-use Rattle.redo_gather.specs.Private.Reading.{IsRead, IsCutIn, IsRefused}
+use Rattle.redo_gather.specs.Private.Reading.{IsRead, IsReadToEnd, IsCutIn, IsRefused}
 
 -- a scan for the log of a target, within this limit
 pub record IsFor (target : List ℕ) (max_bytes : ℕ) (scan : Scanned) : Type 0 where
@@ -131,22 +131,23 @@ module _ (target : List ℕ) (max_bytes : ℕ) where
       subst (λ (s : Stream). IsOwed target max_bytes s entries (Some fault)) all
       (inl (are ∙ sym (early_part target max_bytes bytes gave.0.bytes false stream.fails fault other is) ∙ sym (told_part _ fault fault_is), sym fault_is))
 
+  front_told : (bytes : List ℕ) (entries : List Entry) → fault_so_far target max_bytes bytes ≡ None → IsFront entries (entries_so_far target max_bytes bytes)
+      → (more : List ℕ) (fails : Bool) → IsFront entries (told_entries target max_bytes (stream_of (bytes ++ more) fails))
+  front_told bytes entries fine front more fails =
+      front_of_front entries (entries_so_far target max_bytes bytes) _ front
+      (of_either (entries_so_far target max_bytes bytes) _ _ (entries_lead_log target max_bytes bytes more fails fine) (entries_lead_part target max_bytes bytes more fails fine))
+
   -- bytes that are fine, with some of their first entries
   cut : (told after : Option Stream) (bytes behind : List ℕ) (entries : List Entry) → Gave told (bytes ++ behind) after → fault_so_far target max_bytes bytes ≡ None
       → IsFront entries (entries_so_far target max_bytes bytes) → IsOwedFor max_bytes (target, told) entries (Some OutOfMemory)
   cut told after bytes behind entries gave fine front = by told gave
     where
-      of_stream : (more : List ℕ) (fails : Bool) → IsFront entries (told_entries target max_bytes (stream_of (bytes ++ more) fails))
-      of_stream more fails =
-          front_of_front entries (entries_so_far target max_bytes bytes) _ front
-          (of_either (entries_so_far target max_bytes bytes) _ _ (entries_lead_log target max_bytes bytes more fails fine) (entries_lead_part target max_bytes bytes more fails fine))
-
       by : (told : Option Stream) → Gave told (bytes ++ behind) after → IsOwedFor max_bytes (target, told) entries (Some OutOfMemory)
-      by None gave = (stream_of (bytes ++ behind) false, inr (of_stream behind false, refl))
+      by None gave = (stream_of (bytes ++ behind) false, inr (front_told bytes entries fine front behind false, refl))
       by (Some stream) gave =
           subst (λ (s : Stream). IsOwed target max_bytes s entries (Some OutOfMemory))
           (same_stream stream (bytes ++ (behind ++ gave.0.bytes)) stream.fails (gave.2 ∙ append_assoc bytes behind gave.0.bytes) refl)
-          (inr (of_stream (behind ++ gave.0.bytes) stream.fails, refl))
+          (inr (front_told bytes entries fine front (behind ++ gave.0.bytes) stream.fails, refl))
 
   module _ (told now after : Option Stream) (scan : Scanned) (entries : List Entry) (reading : Reading told now scan entries) (own : IsFor target max_bytes scan) where
     own_fault : (bytes : List ℕ) → fault_so_far scan.target scan.max_bytes bytes ≡ fault_so_far target max_bytes bytes
@@ -175,18 +176,8 @@ module _ (target : List ℕ) (max_bytes : ℕ) where
         (Gave-failed told now after scan.bytes broken buffer reading.gave pulls)
 
     -- at the end of input
-    module _ (buffer : List ℕ) (pulls : Pulls now after (Ok 0) buffer) where
-      pub at_end : (last : Option Entry) (all : List Entry) → log_of scan.target scan.max_bytes (so_far scan.bytes) ≡ Some (entries_in scan ++ option_to_list last) → all ≡ entries ++ option_to_list last
-          → IsOwedFor max_bytes (target, told) all None
-      at_end last all log_is all_are =
-          weaker told (λ stream. (stream.bytes ≡ scan.bytes) × (stream.fails ≡ false)) (λ stream. IsOwed target max_bytes stream all None)
-          (λ stream is.
-          subst (λ (s : Stream). IsOwed target max_bytes s all None) (same_stream stream scan.bytes false is.0 is.1)
-          (inl (all_are ∙ ap (λ es. es ++ option_to_list last) reading.read.entries_are ∙ sym (told_log (so_far scan.bytes) _ (own_log ∙ log_is)), sym fine)))
-          (Gave-end told now after scan.bytes buffer reading.gave pulls)
-        where
-          own_log : log_of target max_bytes (so_far scan.bytes) ≡ log_of scan.target scan.max_bytes (so_far scan.bytes)
-          own_log = sym (ap (λ t. log_of t scan.max_bytes (so_far scan.bytes)) own.target_is ∙ ap (λ n. log_of target n (so_far scan.bytes)) own.limit_is)
+    pub all_taken : (buffer : List ℕ) → Pulls now after (Ok 0) buffer → SomeStream told (λ stream. (stream.bytes ≡ scan.bytes) × (stream.fails ≡ false))
+    all_taken buffer pulls = Gave-end told now after scan.bytes buffer reading.gave pulls
 
     pub no_memory_left : IsOwedFor max_bytes (target, told) entries (Some OutOfMemory)
     no_memory_left =
@@ -207,3 +198,33 @@ module _ (target : List ℕ) (max_bytes : ℕ) where
 
       pub one_piece : (new : Scanned) (all : List Entry) → new ≡ took (take n buffer) scan → IsRead new all → Reading told after new all
       one_piece new all new_is read = record { gave = subst (λ (s : Scanned). Gave told s.bytes after) (sym new_is) more; read = read }
+
+-- all of a stream was read
+module _ (told : Option Stream) (old new : Scanned) (entries : List Entry) (ended : IsReadToEnd told old new entries) where
+  fine_to_end : fault_so_far old.target old.max_bytes new.bytes ≡ None
+  fine_to_end =
+      sym (ap (λ t. fault_so_far t new.max_bytes new.bytes) ended.target_is ∙ ap (λ n. fault_so_far old.target n new.bytes) ended.limit_is) ∙ ended.read.fine.no_fault
+
+  pub at_end : (last : Option Entry) (all : List Entry) → log_of new.target new.max_bytes (so_far new.bytes) ≡ Some (entries_in new ++ option_to_list last) → all ≡ entries ++ option_to_list last
+      → IsOwedFor old.max_bytes (old.target, told) all None
+  at_end last all log_is all_are =
+      weaker told (λ stream. (stream.bytes ≡ new.bytes) × (stream.fails ≡ false)) (λ stream. IsOwed old.target old.max_bytes stream all None)
+      (λ stream is.
+      subst (λ (s : Stream). IsOwed old.target old.max_bytes s all None) (same_stream stream new.bytes false is.0 is.1)
+      (inl (all_are ∙ ap (λ es. es ++ option_to_list last) ended.read.entries_are ∙ sym (told_log old.target old.max_bytes (so_far new.bytes) _ (own_log ∙ log_is)), sym fine_to_end)))
+      ended.all
+    where
+      own_log : log_of old.target old.max_bytes (so_far new.bytes) ≡ log_of new.target new.max_bytes (so_far new.bytes)
+      own_log = sym (ap (λ t. log_of t new.max_bytes (so_far new.bytes)) ended.target_is ∙ ap (λ n. log_of old.target n (so_far new.bytes)) ended.limit_is)
+
+  pub cut_at_end : IsOwedFor old.max_bytes (old.target, told) entries (Some OutOfMemory)
+  cut_at_end =
+      weaker told (λ stream. (stream.bytes ≡ new.bytes) × (stream.fails ≡ false)) (λ stream. IsOwed old.target old.max_bytes stream entries (Some OutOfMemory))
+      (λ stream is.
+      subst (λ (s : Stream). IsOwed old.target old.max_bytes s entries (Some OutOfMemory)) (same_stream stream (new.bytes ++ []) false (is.0 ∙ sym (append-nil new.bytes)) is.1)
+      (inr (front_told old.target old.max_bytes new.bytes entries fine_to_end ([], sym are_to_end ∙ sym (append-nil entries)) [] false, refl)))
+      ended.all
+    where
+      are_to_end : entries ≡ entries_so_far old.target old.max_bytes new.bytes
+      are_to_end =
+          ended.read.entries_are ∙ (ap (λ t. entries_so_far t new.max_bytes new.bytes) ended.target_is ∙ ap (λ n. entries_so_far old.target n new.bytes) ended.limit_is)

@@ -1,15 +1,15 @@
 -- One turn of a loop over readers.
-use Rattle.std.proofs.Common.{◌≡◌, ℕ, ◌+◌, ◌<◌, true, List, [], ◌∷◌, ◌++◌, Option, Some, length, map, slice_get, sym, ap, ◌∙◌, subst, arith}
+use Rattle.std.proofs.Common.{◌≡◌, ℕ, ◌+◌, ◌<◌, true, List, [], ◌∷◌, ◌++◌, Option, Some, length, map, slice_get, get_or, sym, ap, ◌∙◌, subst, arith}
 use Rattle.std.specs.List.{list_all}
 use Rattle.std.proofs.lemmas.List.{append_assoc, append-nil, length-append, length-map, map_push, map-append}
-use Rattle.redo_line.specs.declared.entry.Entry.{Entry}
+use Rattle.std.proofs.lemmas.Option.{slice_get-get_or}
 use Rattle.redo_line.specs.declared.stream_fault.StreamFault.{StreamFault}
-use Rattle.redo_line.specs.Feed.{Stream, SomeStream}
-use Rattle.redo_line.specs.Log.{fault_of}
+use Rattle.redo_line.specs.Feed.{Stream}
 use Rattle.redo_logs.specs.declared.log_state.LogState.TheVariants.{Running}
 use Rattle.redo_logs.specs.Logs.{Log, targets_of, states_of, has_ended}
+use Rattle.redo_gather.specs.Private.Storing.{HasFault, IsCompleted}
 use Rattle.redo_gather.specs.Streams.{SomeStreams, logs_of, fault_among}
-use Rattle.redo_gather.proofs.GatheredLemmas.{Completes, Gathered, count_logs, next_runs, one_gathered, fault_gathered, all_gathered, all_targets, all_have_ended}
+use Rattle.redo_gather.proofs.GatheredLemmas.{Gathered, count_logs, next_runs, one_gathered, fault_gathered, all_gathered, all_targets, all_have_ended}
 
 module _ {A : Type 0} (tells : A → Option Stream) (max_bytes : ℕ) (names : List (List ℕ)) (readers : List A) where
   -- the first readers, as many as this number, were read to their ends
@@ -34,6 +34,12 @@ module _ {A : Type 0} (tells : A → Option Stream) (max_bytes : ℕ) (names : L
       readers_here : readers ≡ read ++ reader ∷ others
       readers_here = so_far.readers_are ∙ ap (λ l. read ++ l) left_is
 
+      -- and a target
+      pub target_below : (target : List ℕ) × (slice_get (targets_of table) number ≡ Some target)
+      target_below =
+          let within : number < length (targets_of table) = omega (arith, below_logs, length-map table (λ (log : Log). log.target)) in
+          (get_or (targets_of table) number [], slice_get-get_or (targets_of table) number [] within)
+
       module _ (target : List ℕ) (here : slice_get (targets_of table) number ≡ Some target) where
         there : slice_get (targets_of table) (length (map tells read)) ≡ Some target
         there = ap (λ (n : ℕ). slice_get (targets_of table) n) (sym count) ∙ here
@@ -42,17 +48,17 @@ module _ {A : Type 0} (tells : A → Option Stream) (max_bytes : ℕ) (names : L
         log_runs =
             ap (λ (n : ℕ). slice_get (states_of table) n) count ∙ next_runs max_bytes names (map tells read) table so_far.gathered target there
 
-        pub one_more_read : (entries : List Entry) (after : List Log) → Completes target max_bytes number entries (tells reader) table after → Underway (read ++ reader ∷ []) others (number + 1) after
-        one_more_read entries after completes = record {
+        pub one_more_read : (after : List Log) → IsCompleted target max_bytes number (tells reader) table after → Underway (read ++ reader ∷ []) others (number + 1) after
+        one_more_read after completes = record {
           readers_are = readers_here ∙ sym (append_assoc read (reader ∷ []) others);
           number_is = let n = so_far.number_is in omega (arith, length-append read (reader ∷ []));
           gathered =
               subst (λ told. Gathered max_bytes names told after) (sym (map_push tells read reader))
-              (one_gathered max_bytes names (map tells read) table so_far.gathered target there (tells reader) entries after
-              (subst (λ (n : ℕ). Completes target max_bytes n entries (tells reader) table after) count completes));
+              (one_gathered max_bytes names (map tells read) table so_far.gathered target there (tells reader) after
+              (subst (λ (n : ℕ). IsCompleted target max_bytes n (tells reader) table after) count completes));
         }
 
-        pub fault_read : (fault : StreamFault) → SomeStream (tells reader) (λ stream. fault_of target max_bytes stream ≡ Some fault)
+        pub fault_read : (fault : StreamFault) → HasFault target max_bytes (tells reader) fault
             → SomeStreams (map tells readers) (λ streams. fault_among max_bytes names streams ≡ Some (number, fault))
         fault_read fault at_fault =
             subst (λ told. SomeStreams told (λ streams. fault_among max_bytes names streams ≡ Some (number, fault))) (sym (ap (map tells) readers_here ∙ map-append tells read (reader ∷ others)))

@@ -1,8 +1,9 @@
-ghost use Rattle.std.specs.Prelude.{◌≡◌, ◌≢◌, ℕ, List, [], ◌∷◌, ◌++◌, Option, false, IfOk};
+ghost use Rattle.std.specs.Prelude.{◌≡◌, ◌≢◌, ℕ, ◌≤◌, ◌^◌, List, [], ◌∷◌, ◌++◌, Option, false, Ok, IfOk};
+ghost use Rattle.std.specs.Result.{result_and};
 ghost use Rattle.redo_line.specs.Feed.{Stream};
 ghost use Rattle.redo_line.specs.declared.stream_fault.StreamFault.TheVariants.{OutOfMemory};
 ghost use Rattle.redo_wire.specs.declared.item.Item.{Item};
-ghost use Rattle.redo_wire.specs.Mailbox.{AreAllMet, AreOfSenders, AreWhole, meets};
+ghost use Rattle.redo_wire.specs.Mailbox.{AreAllMet, AreEndsOf, AreOfSenders, AreWhole, IsOpened, meets};
 ghost use Rattle.redo_gather.specs.GatherFault.{IfStreamFault};
 ghost use Rattle.redo_gather.specs.Private.Collecting.{AllOwed, AllTaken, Holds, IsGathered};
 
@@ -10,7 +11,7 @@ use crate::gate::Gate;
 use crate::gather_fault::GatherFault;
 use crate::storing::store_item;
 use redo_logs::LogTable;
-use redo_wire::{Item, PostEnd, TakeEnd, What};
+use redo_wire::{Item, PostEnd, TakeEnd, What, open};
 use std::alloc::{AllocError, Global};
 use std::sync::Wait;
 
@@ -26,8 +27,8 @@ pub struct Collector {
 }
 
 impl Collector {
-    /// A collector of a table's logs.
-    pub fn new(alloc: Global, mailbox: TakeEnd, table: LogTable) -> Result<Collector, AllocError>
+    // A collector of a table's logs.
+    fn new(alloc: Global, mailbox: TakeEnd, table: LogTable) -> Result<Collector, AllocError>
         ensures { IfOk result (λ collector. (collector.mailbox ≡ mailbox) × (collector.table ≡ table) × (collector.refused ≡ false)) }
     {
         let counts = vec![in alloc; 0u64; table.len() as usize]?;
@@ -37,6 +38,24 @@ impl Collector {
             refused: false,
             counts,
         })
+    }
+
+    /// A collector of a table's logs over a new mailbox of this capacity, and the ends of so many senders.
+    pub fn open(
+        alloc: Global,
+        table: LogTable,
+        capacity: u32,
+        senders: u32,
+    ) -> Result<(Collector, Vec<PostEnd>), AllocError>
+        requires capacity { (1 ≤ capacity) × (capacity ≤ 2 ^ 16) }
+        requires senders { (1 ≤ senders) × (senders ≤ 64) }
+        ensures takes { IfOk result (λ opened. IsOpened capacity senders opened.0.mailbox) }
+        ensures posts { IfOk result (λ opened. AreEndsOf opened.0.mailbox.mailbox opened.1.items) }
+        ensures begins { IfOk result (λ opened. (opened.0.table ≡ table) × (opened.0.refused ≡ false)) }
+    {
+        let (mailbox, ends) = open(alloc, capacity, senders)?;
+        let collector = Collector::new(alloc, mailbox, table)?;
+        Ok((collector, ends))
     }
 
     /// Takes until so many streams are over, or nothing more comes.
@@ -77,11 +96,20 @@ impl Collector {
             IsGathered max_bytes names told result }
         ensures no_memory { IfStreamFault result (λ number fault. fault ≢ OutOfMemory) }
     {
+        self.close(rt, gate).and(Ok(self.table))
+    }
+
+    // Takes what is left, and answers the first fault in the table, or want of memory, if there is one.
+    fn close<T: Wait, G: Gate>(&mut self, rt: &T, gate: &G) -> Result<(), GatherFault>
+        ensures gathered { (max_bytes : ℕ) (names : List (List ℕ)) (told : List (Option Stream)) → AllOwed max_bytes names told self.old →
+            IsGathered max_bytes names told (result_and result (Ok self.new.table)) }
+        ensures no_memory { IfStreamFault result (λ number fault. fault ≢ OutOfMemory) }
+    {
         if !self.mailbox.all_met() {
             return Err(GatherFault::OutOfMemory);
         }
         self.drain(rt, gate);
-        self.answer()
+        self.outcome()
     }
 
     // Takes what is left, once all ends were met.
@@ -103,17 +131,17 @@ impl Collector {
         unreachable!()
     }
 
-    // The table, or the first fault in it, or want of memory.
-    fn answer(self) -> Result<LogTable, GatherFault>
-        ensures gathered { (max_bytes : ℕ) (names : List (List ℕ)) (told : List (Option Stream)) → AllTaken max_bytes names told self →
-            IsGathered max_bytes names told result }
+    // The first fault in the table, or want of memory, if there is one.
+    fn outcome(&self) -> Result<(), GatherFault>
+        ensures gathered { (max_bytes : ℕ) (names : List (List ℕ)) (told : List (Option Stream)) → AllTaken max_bytes names told self.now →
+            IsGathered max_bytes names told (result_and result (Ok self.now.table)) }
         ensures no_memory { IfStreamFault result (λ number fault. fault ≢ OutOfMemory) }
     {
         if self.refused {
             return Err(GatherFault::OutOfMemory);
         }
         match self.table.first_fault() {
-            None => Ok(self.table),
+            None => Ok(()),
             Some((number, fault)) => Err(GatherFault::of(number, fault)),
         }
     }

@@ -17,7 +17,7 @@ use crate::sending::Share;
 use crate::storing::enter_all;
 use redo_line::{Feed, TargetName};
 use redo_logs::LogTable;
-use redo_wire::{PostEnd, open};
+use redo_wire::PostEnd;
 use std::alloc::{AllocError, Global};
 use std::snapshot::Snapshot;
 use std::sync::Wait;
@@ -84,8 +84,7 @@ fn gather_by<T: Threads + Wait + Sync, R: Feed + Send, G: Gate>(
     ensures no_memory { IfStreamFault result (λ number fault. fault ≢ OutOfMemory) }
 {
     let shares = deal(alloc, &table, readers, senders)?;
-    let (mailbox, ends) = open(alloc, plan.capacity(), senders)?;
-    let collector = Collector::new(alloc, mailbox, table)?;
+    let (collector, ends) = Collector::open(alloc, table, plan.capacity(), senders)?;
     let max_bytes = plan.max_bytes();
     let collector = thread::scope(
         thread::scope_env(),

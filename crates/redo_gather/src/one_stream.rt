@@ -1,9 +1,9 @@
-ghost use Rattle.std.specs.Prelude.{◌≡◌, ◌≢◌, ◌<◌, ◌≤◌, ◌^◌, [], None, IfErr, OnOk, length};
+ghost use Rattle.std.specs.Prelude.{◌≡◌, ◌≢◌, ◌<◌, ◌≤◌, ◌^◌, [], None, Some, IfErr, OnOk, length};
 ghost use Rattle.redo_line.specs.declared.stream_fault.StreamFault.TheVariants.{OutOfMemory, Read};
 ghost use Rattle.redo_line.specs.Log.{log_of};
 ghost use Rattle.redo_line.specs.Scan.{so_far, took};
 ghost use Rattle.redo_gather.specs.Owed.{IsOwedFor};
-ghost use Rattle.redo_gather.specs.Private.Reading.{IsRead, IsRefused, fault_in};
+ghost use Rattle.redo_gather.specs.Private.Reading.{IsRead, IsReadToEnd, IsRefused, fault_in};
 
 use redo_line::{Broken, Entries, Feed, Scan, StreamFault, TargetName};
 use std::alloc::Global;
@@ -64,20 +64,41 @@ fn read_entries<R: Feed, B: Fn(u64)>(
     ensures buf { length buf.new ≡ length buf.old }
 {
     let mut scan = scan;
+    read_pieces(entries, &mut scan, reader, buf, before_read)?;
+    if let Some(last) = scan.finish()? {
+        entries.push(last)?;
+    }
+    Ok(())
+}
+
+// Reads the entries of a stream's lines, up to its end or its fault; but not of an unended line.
+fn read_pieces<R: Feed, B: Fn(u64)>(
+    entries: &mut Entries,
+    scan: &mut Scan,
+    reader: &mut R,
+    buf: &mut [u8],
+    before_read: &B,
+) -> Result<(), StreamFault>
+    requires at_most { scan.old.max_bytes ≤ 2 ^ 40 }
+    requires begins { scan.old.bytes ≡ [] }
+    requires read { IsRead scan.old entries.old }
+    requires room { 0 < length buf.old }
+    requires callable { B.IsAlwaysCallable before_read.now }
+    ensures ended { OnOk result (IsReadToEnd (R.tells reader.old) scan.old scan.new entries.new) }
+    ensures owed { IfErr result (λ fault.
+        IsOwedFor scan.old.max_bytes (scan.old.target, R.tells reader.old) entries.new (Some fault)) }
+    ensures buf { length buf.new ≡ length buf.old }
+{
     let mut turn = 0;
     'reads: loop {
         turn += 1;
         before_read(turn);
         match reader.pull(buf) {
             Err(Broken) => return Err(StreamFault::Read),
-            Ok(0) => break 'reads,
-            Ok(n) => read_piece(entries, &mut scan, &buf[..n])?,
+            Ok(0) => return Ok(()),
+            Ok(n) => read_piece(entries, scan, &buf[..n])?,
         }
     }
-    if let Some(last) = scan.finish()? {
-        entries.push(last)?;
-    }
-    Ok(())
 }
 
 // Reads the entries of the lines that end in a piece.

@@ -1,10 +1,14 @@
-ghost use Rattle.std.specs.Prelude.{◌≡◌, ◌≢◌, ◌<◌, ◌≤◌, ◌^◌, true, IfOk, nat_eq, length, map};
+ghost use Rattle.std.specs.Prelude.{◌≡◌, ◌≢◌, ℕ, ◌<◌, ◌≤◌, ◌^◌, true, List, Some, Ok, IfOk, OnOk, nat_eq, length, map, slice_get};
 ghost use Rattle.std.specs.List.{IsDistinct, list_all};
+ghost use Rattle.std.specs.Result.{result_and};
 ghost use Rattle.std.specs.Cmp.Lexicographic.{pointwise};
 ghost use Rattle.redo_line.specs.declared.stream_fault.StreamFault.TheVariants.{OutOfMemory};
-ghost use Rattle.redo_logs.specs.Logs.{most, targets_of, has_ended};
+ghost use Rattle.redo_logs.specs.declared.log_state.LogState.TheVariants.{Running};
+ghost use Rattle.redo_logs.specs.Logs.{most, new_log, states_of, targets_of, has_ended};
 ghost use Rattle.redo_gather.specs.GatherFault.{IfStreamFault};
 ghost use Rattle.redo_gather.specs.Streams.{AreLogs, IsFault};
+ghost use Rattle.redo_gather.specs.Private.Collecting.{IsGathered};
+ghost use Rattle.redo_gather.specs.Private.Storing.{HasFault, IsCompleted};
 
 use crate::gather_fault::GatherFault;
 use crate::one_stream::read_stream;
@@ -45,19 +49,62 @@ pub fn gather_plain<R: Feed>(
     ensures number { IfStreamFault result (λ number fault. number < length names.items) }
     ensures no_memory { IfStreamFault result (λ number fault. fault ≢ OutOfMemory) }
 {
-    let mut table = enter_all(alloc, names)?;
     let mut room = vec![in alloc; 0u8; READ_BYTES]?;
-    let buf = room.as_mut_slice();
+    let mut table = enter_all(alloc, names)?;
+    gather_into(alloc, &mut table, readers, max_bytes, room.as_mut_slice()).and(Ok(table))
+}
+
+// Completes the logs of a table of the targets, which are empty; or answers the fault.
+fn gather_into<R: Feed>(
+    alloc: Global,
+    table: &mut LogTable,
+    readers: Vec<R>,
+    max_bytes: u64,
+    buf: &mut [u8],
+) -> Result<(), GatherFault>
+    requires at_least { 1 ≤ max_bytes }
+    requires at_most { max_bytes ≤ 2 ^ 40 }
+    requires begins { table.old ≡ map new_log (targets_of table.old) }
+    requires readers { length readers.items ≡ length table.old }
+    requires size { length table.old ≤ most }
+    requires room { 0 < length buf.old }
+    ensures gathered { IsGathered max_bytes (targets_of table.old) (map R.tells readers.items) (result_and result (Ok table.new)) }
+    ensures no_memory { IfStreamFault result (λ number fault. fault ≢ OutOfMemory) }
+{
     let mut number = 0;
     for mut reader in readers {
-        let target = table.name(number).copy(alloc)?;
-        let log = read_stream(alloc, target, max_bytes, &mut reader, buf, &|_| {});
-        let fault = log.fault;
-        if let Some(fault) = fault {
-            return Err(GatherFault::of(number, fault));
-        }
-        store(&mut table, number, log)?;
+        gather_one(alloc, table, number, max_bytes, &mut reader, buf)?;
         number += 1;
     }
-    Ok(table)
+    Ok(())
+}
+
+// Reads one stream, and completes the log of its number; or answers its fault.
+fn gather_one<R: Feed>(
+    alloc: Global,
+    table: &mut LogTable,
+    number: u32,
+    max_bytes: u64,
+    reader: &mut R,
+    buf: &mut [u8],
+) -> Result<(), GatherFault>
+    requires at_least { 1 ≤ max_bytes }
+    requires at_most { max_bytes ≤ 2 ^ 40 }
+    requires runs { slice_get (states_of table.old) number ≡ Some Running }
+    requires room { 0 < length buf.old }
+    ensures completed { (target : List ℕ) → slice_get (targets_of table.old) number ≡ Some target →
+        OnOk result (IsCompleted target max_bytes number (R.tells reader.old) table.old table.new) }
+    ensures fault { (target : List ℕ) → slice_get (targets_of table.old) number ≡ Some target →
+        IfStreamFault result (λ other fault. (other ≡ number) × HasFault target max_bytes (R.tells reader.old) fault) }
+    ensures no_memory { IfStreamFault result (λ number fault. fault ≢ OutOfMemory) }
+    ensures buf { length buf.new ≡ length buf.old }
+{
+    let target = table.name(number).copy(alloc)?;
+    let log = read_stream(alloc, target, max_bytes, reader, buf, &|_| {});
+    let fault = log.fault;
+    if let Some(fault) = fault {
+        return Err(GatherFault::of(number, fault));
+    }
+    store(table, number, log)?;
+    Ok(())
 }

@@ -2,7 +2,7 @@ ghost use Rattle.std.specs.Prelude.{◌≡◌, ◌≢◌, ◌<◌, ◌≤◌, �
 ghost use Rattle.redo_line.specs.declared.stream_fault.StreamFault.TheVariants.{OutOfMemory, Read};
 ghost use Rattle.redo_line.specs.declared.entry.Entry.{Entry as Told};
 ghost use Rattle.redo_line.specs.Scan.{Scanned};
-ghost use Rattle.redo_gather.specs.Private.Posting.{AreLinesPosted, IsPosted, IsStreamPosted};
+ghost use Rattle.redo_gather.specs.Private.Posting.{AreLinesPosted, ArePiecesPosted, IsPosted, IsStreamPosted};
 ghost use Rattle.redo_gather.specs.Private.Reading.{IsRead, IsReadTo, IsRefused, fault_in};
 ghost use Rattle.redo_gather.specs.Sending.{HasPosted, HasSent, IsFilled, last_of, line_of, most_entries, numbered, singles_in};
 
@@ -121,24 +121,44 @@ fn send_entries<T: Wait, R: Feed, B: Fn(u64)>(
     requires callable { B.IsAlwaysCallable before_read.now }
     ensures { AreLinesPosted scan.max_bytes stream (scan.target, R.tells reader.old) end.old end.new result }
 {
+    let mut scan = scan;
+    send_pieces(rt, alloc, end, stream, &mut scan, reader, buf, before_read)?;
+    if let Some(last) = scan.finish()? {
+        post(rt, end, stream, What::Line(last));
+    }
+    Ok(())
+}
+
+// Posts the entries of a stream's lines, up to its end or its fault; but not of an unended line.
+fn send_pieces<T: Wait, R: Feed, B: Fn(u64)>(
+    rt: &T,
+    alloc: Global,
+    end: &mut PostEnd,
+    stream: u32,
+    scan: &mut Scan,
+    reader: &mut R,
+    buf: &mut [u8],
+    before_read: &B,
+) -> Result<(), StreamFault>
+    requires at_most { scan.old.max_bytes ≤ 2 ^ 40 }
+    requires begins { scan.old.bytes ≡ [] }
+    requires read { IsRead scan.old [] }
+    requires callable { B.IsAlwaysCallable before_read.now }
+    ensures { ArePiecesPosted stream (R.tells reader.old) scan.old scan.new end.old end.new result }
+{
     if buf.is_empty() {
         return Err(StreamFault::OutOfMemory);
     }
-    let mut scan = scan;
     let mut turn = 0;
     'reads: loop {
         turn += 1;
         before_read(turn);
         match reader.pull(buf) {
             Err(Broken) => return Err(StreamFault::Read),
-            Ok(0) => break 'reads,
-            Ok(n) => send_piece(rt, alloc, end, stream, &mut scan, &buf[..n])?,
+            Ok(0) => return Ok(()),
+            Ok(n) => send_piece(rt, alloc, end, stream, scan, &buf[..n])?,
         }
     }
-    if let Some(last) = scan.finish()? {
-        post(rt, end, stream, What::Line(last));
-    }
-    Ok(())
 }
 
 // Posts the entries of the lines that end in a piece.

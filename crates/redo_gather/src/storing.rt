@@ -1,4 +1,4 @@
-ghost use Rattle.std.specs.Prelude.{◌≡◌, ◌≢◌, ◌≤◌, ◌↔◌, true, false, Some, IfOk, OnOk, length, map, slice_get};
+ghost use Rattle.std.specs.Prelude.{◌≡◌, ◌≢◌, ◌≤◌, ◌↔◌, true, false, [], Some, IfOk, OnOk, length, map, slice_get};
 ghost use Rattle.std.specs.List.{IsDistinct};
 ghost use Rattle.std.specs.Cmp.Lexicographic.{pointwise};
 ghost use Rattle.std.specs.Prelude.{nat_eq};
@@ -22,6 +22,16 @@ pub fn enter_all(alloc: Global, names: Vec<TargetName>) -> Result<LogTable, Allo
     ensures { IfOk result (λ table. table ≡ map new_log names.items) }
 {
     let mut table = LogTable::new(alloc);
+    enter_each(&mut table, names).and(Ok(table))
+}
+
+// Enters the logs of these targets, which are empty, in a table that has none.
+fn enter_each(table: &mut LogTable, names: Vec<TargetName>) -> Result<(), AllocError>
+    requires begins { table.old ≡ [] }
+    requires distinct { IsDistinct (pointwise nat_eq) names.items }
+    requires size { length names.items ≤ most }
+    ensures { OnOk result (table.new ≡ map new_log names.items) }
+{
     for name in names {
         match table.enter(name) {
             Ok(_) => {}
@@ -30,7 +40,7 @@ pub fn enter_all(alloc: Global, names: Vec<TargetName>) -> Result<LogTable, Allo
             Err(TableFault::OutOfMemory) => return Err(AllocError),
         }
     }
-    Ok(table)
+    Ok(())
 }
 
 /// Adds what was read of a stream to its log, and ends it, or lets it fail. What was cut short is refused.

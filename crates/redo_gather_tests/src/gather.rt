@@ -1,6 +1,7 @@
 //! Streams that are gathered on one thread or by senders: their logs, or the fault of the
 //! least-numbered stream that has one.
-use crate::gate::{Counting, Event, Filling, Hold, Holding, Starting};
+use crate::counting::{Counting, Filling, Starting};
+use crate::gate::{Event, Hold, Holding};
 use crate::gathered::{WAYS, Way, gathered_by};
 use redo_gather::{Free, Gate, GatherFault};
 use redo_given::{Answer, Cut, Given, Script, captured, cuts, entered, logs_text, reader};
@@ -23,13 +24,27 @@ fn expect_answer(
     message: &str,
 ) -> Result<(), Fail> {
     match answer {
-        Ok(table) => {
-            let text = logs_text(rt.alloc(), table)?;
-            assert_eq!(rt; Ok(text.as_str()), want, "{message}");
+        Ok(table) => expect_logs(rt, table, want, message),
+        Err(fault) => {
+            expect_same(rt, Err(*fault), want, message);
+            Ok(())
         }
-        Err(fault) => assert_eq!(rt; Err(*fault), want, "{message}"),
     }
+}
+
+fn expect_logs(
+    rt: &(impl Abort + AllocGlobal),
+    table: &LogTable,
+    want: Want<'_>,
+    message: &str,
+) -> Result<(), Fail> {
+    let text = logs_text(rt.alloc(), table)?;
+    expect_same(rt, Ok(&text), want, message);
     Ok(())
+}
+
+fn expect_same(rt: &impl Abort, found: Want<'_>, want: Want<'_>, message: &str) {
+    assert_eq!(rt; found, want, "{message}");
 }
 
 /// However the streams are cut into reads, and whoever reads them, this is gathered.
@@ -41,7 +56,7 @@ fn expect(
 ) -> Result<(), Fail> {
     for cut in &cuts(rt.alloc(), given)? {
         for way in WAYS {
-            expect_so(rt, given, *cut, max_bytes, way, want)?;
+            expect_so(rt, given, *cut, max_bytes, *way, want)?;
         }
     }
     Ok(())
@@ -57,8 +72,20 @@ fn expect_so(
     want: Want<'_>,
 ) -> Result<(), Fail> {
     let answer = gathered_so(rt, given, cut, max_bytes, way, &Free)?;
+    expect_answer_so(rt, &answer, given, cut, way, want)
+}
+
+/// What is told where the answer is another one names the streams, the cut and the way.
+fn expect_answer_so(
+    rt: &(impl Abort + AllocGlobal),
+    answer: &Result<LogTable, GatherFault>,
+    given: &[Given<'_>],
+    cut: Cut,
+    way: Way,
+    want: Want<'_>,
+) -> Result<(), Fail> {
     let message = format!(in rt.alloc(); "{given:?} {cut:?} {way:?}")?;
-    expect_answer(rt, &answer, want, &message)
+    expect_answer(rt, answer, want, &message)
 }
 
 /// What is gathered of the streams in such reads.
@@ -72,6 +99,17 @@ fn gathered_so<G: Gate>(
 ) -> Result<Result<LogTable, GatherFault>, Fail> {
     let (targets, readers) = captured(rt.alloc(), given, cut)?;
     gathered_by(rt, &targets, readers, max_bytes, way, gate)
+}
+
+/// Whether the streams are gathered without a fault.
+fn is_gathered<G: Gate>(
+    rt: &(impl AllocGlobal + Threads + Wait + Sync),
+    given: &[Given<'_>],
+    cut: Cut,
+    way: Way,
+    gate: &G,
+) -> Result<bool, Fail> {
+    Ok(gathered_so(rt, given, cut, 1000, way, gate)?.is_ok())
 }
 
 fn stream(number: u32, fault: StreamFault) -> GatherFault {
@@ -99,7 +137,7 @@ const BUILD: [Given<'static>; 3] = [
 ];
 
 /// Streams, and their logs.
-const LOGS: [(&[Given<'static>], &str); 6] = [
+static LOGS: &[(&[Given<'static>], &str)] = &[
     (&[], ""),
     (&[("all", "", false)], "all: Ended\n"),
     (&[("all", "x", false)], "all: Ended\ntext|x\n"),
@@ -117,57 +155,57 @@ const LOGS: [(&[Given<'static>], &str); 6] = [
 
 #[test]
 fn streams_have_these_logs(rt: HostRuntime) -> Result<(), Fail> {
-    for (given, logs) in &LOGS {
+    for (given, logs) in LOGS {
         expect(&rt, given, 1000, Ok(logs))?;
     }
     Ok(())
 }
 
 /// Two streams, and the number and the fault of the one that is told.
-const FAULTS: [([Given<'static>; 2], u32, StreamFault); 7] = [
+static FAULTS: &[(&[Given<'static>], u32, StreamFault)] = &[
     (
-        [("all", "ok\n@@REDO:do:7\n", false), ("b", "", false)],
+        &[("all", "ok\n@@REDO:do:7\n", false), ("b", "", false)],
         0,
         StreamFault::BadRecord { line: 2 },
     ),
     (
-        [("a", CLOSING_AND_MORE, false), ("b", BAD, false)],
+        &[("a", CLOSING_AND_MORE, false), ("b", BAD, false)],
         0,
         StreamFault::AfterClose { line: 2 },
     ),
     (
-        [("a", BAD_NINTH, false), ("b", BAD, false)],
+        &[("a", BAD_NINTH, false), ("b", BAD, false)],
         0,
         StreamFault::BadRecord { line: 9 },
     ),
     (
-        [("a", "x\n", true), ("b", BAD, false)],
+        &[("a", "x\n", true), ("b", BAD, false)],
         0,
         StreamFault::Read,
     ),
     (
-        [("a", BAD, true), ("b", "", false)],
+        &[("a", BAD, true), ("b", "", false)],
         0,
         StreamFault::BadRecord { line: 1 },
     ),
     (
-        [("a", "ok\n", false), ("b", BAD, false)],
+        &[("a", "ok\n", false), ("b", BAD, false)],
         1,
         StreamFault::BadRecord { line: 1 },
     ),
-    ([("a", "", false), ("b", "", true)], 1, StreamFault::Read),
+    (&[("a", "", false), ("b", "", true)], 1, StreamFault::Read),
 ];
 
 #[test]
 fn the_fault_is_that_of_the_least_numbered_stream(rt: HostRuntime) -> Result<(), Fail> {
-    for (given, number, fault) in &FAULTS {
+    for (given, number, fault) in FAULTS {
         expect(&rt, given, 1000, Err(stream(*number, *fault)))?;
     }
     Ok(())
 }
 
 /// A target, its stream, a limit, and the log or the fault within it.
-const LIMITED: [(&str, &str, u64, Result<&str, StreamFault>); 6] = [
+static LIMITED: &[(&str, &str, u64, Result<&str, StreamFault>)] = &[
     ("all", "abc\n", 4, Ok("all: Ended\ntext|abc\n")),
     ("all", "abc\nd", 4, Err(StreamFault::TooLong)),
     ("a", CLOSING, 27, Ok("a: Ended\nclosing|0\n")),
@@ -183,7 +221,7 @@ const LIMITED: [(&str, &str, u64, Result<&str, StreamFault>); 6] = [
 
 #[test]
 fn a_stream_may_have_so_many_bytes(rt: HostRuntime) -> Result<(), Fail> {
-    for (name, bytes, max_bytes, want) in &LIMITED {
+    for (name, bytes, max_bytes, want) in LIMITED {
         let want = want.map_err(|fault| stream(0, fault));
         expect(&rt, &[(*name, *bytes, false)], *max_bytes, want)?;
     }
@@ -201,7 +239,7 @@ fn table_of(alloc: Global, names: &[&str]) -> Result<LogTable, Fail> {
 
 /// The answers of a reader, the last of them again and again, the log or the fault that comes of
 /// them, and after how many reads.
-const READS: [(&[Answer], Answer, u64, Result<&str, StreamFault>); 5] = [
+static READS: &[(&[Answer], Answer, u64, Result<&str, StreamFault>)] = &[
     (&[], Answer::Byte, 1001, Err(StreamFault::TooLong)),
     (&[Answer::Failure], Answer::Byte, 1, Err(StreamFault::Read)),
     (
@@ -229,40 +267,75 @@ fn expect_reads(
     want: Want<'_>,
 ) -> Result<(), Fail> {
     let count = AtomicU64::new(0);
-    let answer = gathered_of_answers(rt, answers, last, &count, way)?;
-    expect_answer(rt, &answer, want, "so many reads")?;
-    assert_eq!(rt; count.load(Ordering::SeqCst), reads);
+    expect_counted_reads(rt, answers, last, &count, way, want)?;
+    expect_count(rt, &count, reads);
     Ok(())
 }
 
-/// What is gathered of the stream of `all`, of which the reads are counted here.
-fn gathered_of_answers(
-    rt: &(impl AllocGlobal + Threads + Wait + Sync),
+/// What comes of the stream of `all`, of which the reads are counted here.
+fn expect_counted_reads(
+    rt: &(impl Abort + AllocGlobal + Threads + Wait + Sync),
     answers: &[Answer],
     last: Answer,
     count: &AtomicU64,
     way: Way,
+    want: Want<'_>,
+) -> Result<(), Fail> {
+    let answer = gathered_of_answers(rt, &["all"], answers, last, &[count], way)?;
+    expect_answer(rt, &answer, want, "so many reads")
+}
+
+fn expect_count(rt: &impl Abort, count: &AtomicU64, want: u64) {
+    assert_eq!(rt; count.load(Ordering::SeqCst), want);
+}
+
+/// What is gathered of the streams of these targets, whose reads are counted here.
+fn gathered_of_answers(
+    rt: &(impl AllocGlobal + Threads + Wait + Sync),
+    names: &[&str],
+    answers: &[Answer],
+    last: Answer,
+    counts: &[&AtomicU64],
+    way: Way,
 ) -> Result<Result<LogTable, GatherFault>, Fail> {
-    let mut readers = Vec::new(rt.alloc());
-    readers.push(Script::new(answers, last, count))?;
-    gathered_by(
-        rt,
-        &table_of(rt.alloc(), &["all"])?,
-        readers,
-        1000,
-        way,
-        &Free,
-    )
+    let targets = table_of(rt.alloc(), names)?;
+    gathered_of_scripts(rt, &targets, answers, last, counts, way)
+}
+
+fn gathered_of_scripts(
+    rt: &(impl AllocGlobal + Threads + Wait + Sync),
+    targets: &LogTable,
+    answers: &[Answer],
+    last: Answer,
+    counts: &[&AtomicU64],
+    way: Way,
+) -> Result<Result<LogTable, GatherFault>, Fail> {
+    let readers = scripts(rt.alloc(), answers, last, counts)?;
+    gathered_by(rt, targets, readers, 1000, way, &Free)
+}
+
+/// A reader for each count, which answers so.
+fn scripts<'a>(
+    alloc: Global,
+    answers: &'a [Answer],
+    last: Answer,
+    counts: &[&'a AtomicU64],
+) -> Result<Vec<Script<'a>>, AllocError> {
+    let mut readers = Vec::new(alloc);
+    for count in counts {
+        readers.push(Script::new(answers, last, count))?;
+    }
+    Ok(readers)
 }
 
 // It is asked once more than there may be bytes, a failed read is not tried again, and nothing is
 // read behind the end.
 #[test]
 fn a_reader_is_asked_so_often(rt: HostRuntime) -> Result<(), Fail> {
-    for (answers, last, reads, want) in &READS {
+    for (answers, last, reads, want) in READS {
         let want = want.map_err(|fault| stream(0, fault));
         for way in WAYS {
-            expect_reads(&rt, answers, *last, *reads, way, want)?;
+            expect_reads(&rt, answers, *last, *reads, *way, want)?;
         }
     }
     Ok(())
@@ -277,8 +350,8 @@ fn expect_second_reads(
     let (first, second) = (AtomicU64::new(0), AtomicU64::new(0));
     let fault = fault_of_failures(rt, &first, &second, way)?;
     assert_eq!(rt; fault, Some(stream(0, StreamFault::Read)));
-    assert_eq!(rt; first.load(Ordering::SeqCst), 1);
-    assert_eq!(rt; second.load(Ordering::SeqCst), want);
+    expect_count(rt, &first, 1);
+    expect_count(rt, &second, want);
     Ok(())
 }
 
@@ -289,12 +362,9 @@ fn fault_of_failures(
     second: &AtomicU64,
     way: Way,
 ) -> Result<Option<GatherFault>, Fail> {
-    let mut readers = Vec::new(rt.alloc());
-    for reads in [first, second] {
-        readers.push(Script::new(&[], Answer::Failure, reads))?;
-    }
-    let targets = table_of(rt.alloc(), &["a", "b"])?;
-    Ok(gathered_by(rt, &targets, readers, 1000, way, &Free)?.err())
+    let counts = [first, second];
+    let answer = gathered_of_answers(rt, &["a", "b"], &[], Answer::Failure, &counts, way)?;
+    Ok(answer.err())
 }
 
 #[test]
@@ -312,10 +382,19 @@ fn a_sender_goes_on_behind_a_fault(rt: HostRuntime) -> Result<(), Fail> {
 fn there_may_be_many_streams(rt: HostRuntime) -> Result<(), Fail> {
     let logs = many_logs(rt.alloc(), 200)?;
     for way in WAYS {
-        let answer = many_gathered(&rt, 200, way, &Free)?;
-        expect_answer(&rt, &answer, Ok(&logs), "200 streams")?;
+        expect_many(&rt, *way, &logs)?;
     }
     Ok(())
+}
+
+/// The logs of 200 streams are these.
+fn expect_many(
+    rt: &(impl Abort + AllocGlobal + Threads + Wait + Sync),
+    way: Way,
+    logs: &str,
+) -> Result<(), Fail> {
+    let answer = many_gathered(rt, 200, way, &Free)?;
+    expect_answer(rt, &answer, Ok(logs), "200 streams")
 }
 
 /// What is gathered of so many streams, of which each has one line.
@@ -326,26 +405,44 @@ fn many_gathered<G: Gate>(
     gate: &G,
 ) -> Result<Result<LogTable, GatherFault>, Fail> {
     let targets = many_targets(rt.alloc(), count)?;
+    gathered_of_lines(rt, &targets, count, way, gate)
+}
+
+fn gathered_of_lines<G: Gate>(
+    rt: &(impl AllocGlobal + Threads + Wait + Sync),
+    targets: &LogTable,
+    count: u32,
+    way: Way,
+    gate: &G,
+) -> Result<Result<LogTable, GatherFault>, Fail> {
     let readers = many_readers(rt.alloc(), count)?;
-    gathered_by(rt, &targets, readers, 1000, way, gate)
+    gathered_by(rt, targets, readers, 1000, way, gate)
 }
 
 fn many_targets(alloc: Global, count: u32) -> Result<LogTable, Fail> {
     let mut names = Vec::new(alloc);
     for i in 0..count {
-        let name = format!(in alloc; "t{i}")?;
-        names.push(TargetName::resolve(alloc, None, name.as_bytes())?)?;
+        names.push(numbered(alloc, i)?)?;
     }
     Ok(entered(alloc, names)?)
+}
+
+fn numbered(alloc: Global, i: u32) -> Result<TargetName, Fail> {
+    let name = format!(in alloc; "t{i}")?;
+    Ok(TargetName::resolve(alloc, None, name.as_bytes())?)
 }
 
 fn many_readers(alloc: Global, count: u32) -> Result<Vec<Pieces>, AllocError> {
     let mut readers = Vec::new(alloc);
     for i in 0..count {
-        let line = format!(in alloc; "line {i}\n")?;
-        readers.push(reader(alloc, &line, false, Cut::InReadsOf(3))?)?;
+        readers.push(line_reader(alloc, i)?)?;
     }
     Ok(readers)
+}
+
+fn line_reader(alloc: Global, i: u32) -> Result<Pieces, AllocError> {
+    let line = format!(in alloc; "line {i}\n")?;
+    reader(alloc, &line, false, Cut::InReadsOf(3))
 }
 
 fn many_logs(alloc: Global, count: u32) -> Result<String, AllocError> {
@@ -367,11 +464,20 @@ fn expect_held(
     holds: [Hold; 2],
 ) -> Result<(), Fail> {
     let gate = Holding::new(holds);
-    let way = Way::Senders(2, 1);
-    let answer = gathered_so(rt, &PAIR, Cut::InReadsOf(3), 1000, way, &gate)?;
-    expect_answer(rt, &answer, Ok(PAIR_LOGS), "with holds")?;
+    expect_under(rt, &PAIR, &gate, Ok(PAIR_LOGS))?;
     assert!(rt; gate.kept_all());
     Ok(())
+}
+
+/// What two senders gather of the streams under this gate.
+fn expect_under(
+    rt: &(impl Abort + AllocGlobal + Threads + Wait + Sync),
+    given: &[Given<'_>],
+    gate: &Holding,
+    want: Want<'_>,
+) -> Result<(), Fail> {
+    let answer = gathered_so(rt, given, Cut::InReadsOf(3), 1000, Way::Senders(2, 1), gate)?;
+    expect_answer(rt, &answer, want, "with holds")
 }
 
 #[test]
@@ -410,16 +516,8 @@ fn the_fault_of_the_least_number_is_told_though_it_comes_last(rt: HostRuntime) -
     let over = Event::Over { stream: 1 };
     let gate = Holding::new([Hold::new(read, over), Hold::new(read, over)]);
     let given = [("a", BAD_NINTH, false), ("b", BAD, false)];
-    let answer = gathered_so(
-        &rt,
-        &given,
-        Cut::InReadsOf(3),
-        1000,
-        Way::Senders(2, 1),
-        &gate,
-    )?;
     let want = Err(stream(0, StreamFault::BadRecord { line: 9 }));
-    expect_answer(&rt, &answer, want, "with holds")?;
+    expect_under(&rt, &given, &gate, want)?;
     assert!(rt; gate.kept_all());
     Ok(())
 }
@@ -430,10 +528,18 @@ fn expect_started(
     senders: u32,
 ) -> Result<(), Fail> {
     let gate = Starting::new(u64::from(senders));
-    let answer = many_gathered(rt, senders, Way::Senders(senders, 1), &gate)?;
-    assert!(rt; answer.is_ok());
+    assert!(rt; are_gathered(rt, senders, &gate)?);
     assert_eq!(rt; gate.let_go(), u64::from(senders));
     Ok(())
+}
+
+/// Whether so many streams are gathered by as many senders.
+fn are_gathered(
+    rt: &(impl AllocGlobal + Threads + Wait + Sync),
+    senders: u32,
+    gate: &Starting,
+) -> Result<bool, Fail> {
+    Ok(many_gathered(rt, senders, Way::Senders(senders, 1), gate)?.is_ok())
 }
 
 #[test]
@@ -452,20 +558,29 @@ fn as_many_items_wait_as_the_plan_has_room_for(rt: HostRuntime) -> Result<(), Fa
     for _ in 0..200 {
         lines.push_str("x\n")?;
     }
-    let given = [("a", lines.as_str(), false)];
     for capacity in [1, 2, 3, 64] {
-        let until = u64::from(capacity).saturating_add(2);
-        let gate = Filling::new(until);
-        let way = Way::Senders(1, capacity);
-        let answer = gathered_so(&rt, &given, Cut::InReadsOf(2), 1000, way, &gate)?;
-        assert!(rt; answer.is_ok());
-        assert_eq!(rt; gate.noted(), until);
+        expect_waiting(&rt, &lines, capacity)?;
     }
     Ok(())
 }
 
+/// So many items wait, of those of the lines.
+fn expect_waiting(
+    rt: &(impl Abort + AllocGlobal + Threads + Wait + Sync),
+    lines: &str,
+    capacity: u32,
+) -> Result<(), Fail> {
+    let until = u64::from(capacity).saturating_add(2);
+    let gate = Filling::new(until);
+    let way = Way::Senders(1, capacity);
+    let given = [("a", lines, false)];
+    assert!(rt; is_gathered(rt, &given, Cut::InReadsOf(2), way, &gate)?);
+    assert_eq!(rt; gate.noted(), until);
+    Ok(())
+}
+
 /// Streams, how many reads of 7 bytes tell them, and how many entries they have.
-const COUNTED: [(Given<'static>, u64, u64); 6] = [
+static COUNTED: &[(Given<'static>, u64, u64)] = &[
     (("a", "1\n2\n3\n4\n5\n6\n7\n", false), 3, 7),
     (("b", "", false), 1, 0),
     (("c", "one\ntwo\nthree", false), 3, 3),
@@ -477,22 +592,44 @@ const COUNTED: [(Given<'static>, u64, u64); 6] = [
 // Several streams a sender, and several lines a read.
 #[test]
 fn the_gate_is_told_of_each_read_entry_and_end_of_each_stream(rt: HostRuntime) -> Result<(), Fail> {
-    let mut given = Vec::new(rt.alloc());
-    for (stream, _, _) in &COUNTED {
+    let given = counted_streams(rt.alloc())?;
+    expect_counted(&rt, &given, Way::Senders(2, 1))?;
+    expect_counted(&rt, &given, Way::Senders(4, 64))
+}
+
+fn counted_streams(alloc: Global) -> Result<Vec<Given<'static>>, AllocError> {
+    let mut given = Vec::new(alloc);
+    for (stream, _, _) in COUNTED {
         given.push(*stream)?;
     }
-    for way in [Way::Senders(2, 1), Way::Senders(4, 64)] {
-        let gate = Counting::new(rt.alloc(), given.len())?;
-        let answer = gathered_so(&rt, &given, Cut::InReadsOf(7), 1000, way, &gate)?;
-        assert!(rt; answer.is_ok());
-        assert_eq!(rt; gate.wrong(), 0);
-        for (number, (_, reads, entries)) in COUNTED.iter().enumerate() {
-            assert_eq!(rt;
-                gate.told_of(number),
-                Some((*reads, *entries, 1)),
-                "stream {number}"
-            );
-        }
-    }
+    Ok(given)
+}
+
+/// What the gate is told where the streams are read in this way.
+fn expect_counted(
+    rt: &(impl Abort + AllocGlobal + Threads + Wait + Sync),
+    given: &[Given<'_>],
+    way: Way,
+) -> Result<(), Fail> {
+    let gate = Counting::new(rt.alloc(), given.len())?;
+    assert!(rt; is_gathered(rt, given, Cut::InReadsOf(7), way, &gate)?);
+    expect_told(rt, &gate);
     Ok(())
+}
+
+fn expect_told(rt: &impl Abort, gate: &Counting) {
+    assert_eq!(rt; gate.wrong(), 0);
+    for (number, (_, reads, entries)) in COUNTED.iter().enumerate() {
+        expect_told_of(rt, number, gate.told_of(number), (*reads, *entries, 1));
+    }
+}
+
+/// So many reads, entries and ends of a stream were told.
+fn expect_told_of(
+    rt: &impl Abort,
+    number: usize,
+    told: Option<(u64, u64, u64)>,
+    want: (u64, u64, u64),
+) {
+    assert_eq!(rt; told, Some(want), "stream {number}");
 }

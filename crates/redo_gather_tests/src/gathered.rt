@@ -22,7 +22,7 @@ pub enum Way {
 }
 
 /// One, few and as many senders as there may be.
-pub const WAYS: [Way; 6] = [
+pub static WAYS: &[Way] = &[
     Way::Plain,
     Way::Senders(1, 1),
     Way::Senders(2, 1),

@@ -3,15 +3,20 @@
 #![tactic(auto)]
 
 pub mod cases;
+#[cfg(test)]
+mod counting;
 pub mod gate;
 #[cfg(test)]
 mod gather;
 #[cfg(test)]
 mod gathered;
 #[cfg(test)]
+mod held;
+#[cfg(test)]
 mod plan;
 #[cfg(test)]
 mod send;
-pub mod sent;
+#[cfg(test)]
+mod sent;
 #[cfg(test)]
 mod view;

@@ -5,7 +5,7 @@ use redo_gather::{Free, Share};
 use redo_given::{Cut, Given, item_text, reader};
 use redo_line::{Pieces, TargetName};
 use redo_wire::{Item, What};
-use std::alloc::Global;
+use std::alloc::{AllocError, Global};
 use std::process::Abort;
 use std::sync::Wait;
 use std::test::Fail;
@@ -18,12 +18,22 @@ const NOTHING: Given<'static> = ("z", "", false);
 fn share(alloc: Global, from: u32, given: &[Given<'_>], cut: Cut) -> Result<Share<Pieces>, Fail> {
     let mut share = Vec::new(alloc);
     let mut number = from;
-    for (name, stream, fails) in given {
-        let target = TargetName::resolve(alloc, None, name.as_bytes())?;
-        share.push((number, target, reader(alloc, stream, *fails, cut)?))?;
+    for stream in given {
+        share.push(member(alloc, number, stream, cut)?)?;
         number = number.saturating_add(1);
     }
     Ok(share)
+}
+
+fn member(
+    alloc: Global,
+    number: u32,
+    given: &Given<'_>,
+    cut: Cut,
+) -> Result<(u32, TargetName, Pieces), Fail> {
+    let (name, stream, fails) = given;
+    let target = TargetName::resolve(alloc, None, name.as_bytes())?;
+    Ok((number, target, reader(alloc, stream, *fails, cut)?))
 }
 
 /// These are the items of the sender, in order.
@@ -36,13 +46,33 @@ fn expect_items(
     let mut place = 0usize;
     for item in taken {
         if item.sender == sender {
-            let text = item_text(rt.alloc(), item)?;
-            assert_eq!(rt; Some(text.as_str()), want.get(place).copied());
+            expect_item(rt, item, want.get(place).copied())?;
             place = place.saturating_add(1);
         }
     }
     assert_eq!(rt; place, want.len());
     Ok(())
+}
+
+fn expect_item(
+    rt: &(impl Abort + AllocGlobal),
+    item: &Item,
+    want: Option<&str>,
+) -> Result<(), Fail> {
+    let text = item_text(rt.alloc(), item)?;
+    assert_eq!(rt; Some(text.as_str()), want);
+    Ok(())
+}
+
+/// What a sender of these streams posts, in such reads, beside one that is at its end at once.
+fn posted(
+    rt: &(impl AllocGlobal + Threads + Wait + Sync),
+    given: &[Given<'_>],
+    cut: Cut,
+) -> Result<Vec<Item>, Fail> {
+    let first = share(rt.alloc(), 5, given, cut)?;
+    let second = share(rt.alloc(), 9, &[NOTHING], cut)?;
+    sent(rt, first, second, given.len(), &Free)
 }
 
 /// A sender of these streams, in such reads, posts these items.
@@ -52,15 +82,13 @@ fn expect_posted(
     cut: Cut,
     want: &[&str],
 ) -> Result<(), Fail> {
-    let first = share(rt.alloc(), 5, given, cut)?;
-    let second = share(rt.alloc(), 9, &[NOTHING], cut)?;
-    let taken = sent(rt, first, second, given.len(), &Free)?;
+    let taken = posted(rt, given, cut)?;
     expect_items(rt, &taken, 0, want)?;
     expect_items(rt, &taken, 1, &["9 of 1: end"])
 }
 
 /// Streams, how many bytes a read of them gives, and the items that are posted.
-const POSTED: [(&[Given<'static>], usize, &[&str]); 7] = [
+static POSTED: &[(&[Given<'static>], usize, &[&str])] = &[
     (&[("a", "", false)], 9, &["5 of 0: end"]),
     (
         &[("a", "x\ny\nz\n", false)],
@@ -104,23 +132,36 @@ const POSTED: [(&[Given<'static>], usize, &[&str]); 7] = [
 // Each reading is an item of what it completes, and behind a fault comes the next stream.
 #[test]
 fn a_sender_posts_what_a_reading_completes(rt: HostRuntime) -> Result<(), Fail> {
-    for (given, bytes, want) in &POSTED {
+    for (given, bytes, want) in POSTED {
         expect_posted(&rt, given, Cut::InReadsOf(*bytes), want)?;
     }
     Ok(())
 }
 
-/// How many entries the items have that a sender posts of a stream in such reads.
-fn counts_of(
-    rt: &(impl AllocGlobal + Threads + Wait + Sync),
+/// So many entries the items have that a sender posts of a stream in reads of 5,000 bytes.
+fn expect_counts(
+    rt: &(impl Abort + AllocGlobal + Threads + Wait + Sync),
     name: &str,
     stream: &str,
-    cut: Cut,
+    want: &[usize],
+) -> Result<(), Fail> {
+    let counts = counts_of(rt, &[(name, stream, false)])?;
+    assert_eq!(rt; counts.as_slice(), want);
+    Ok(())
+}
+
+fn counts_of(
+    rt: &(impl AllocGlobal + Threads + Wait + Sync),
+    given: &[Given<'_>],
 ) -> Result<Vec<usize>, Fail> {
-    let first = share(rt.alloc(), 5, &[(name, stream, false)], cut)?;
-    let second = share(rt.alloc(), 9, &[NOTHING], Cut::InReadsOf(1))?;
-    let mut counts = Vec::new(rt.alloc());
-    for item in &sent(rt, first, second, 1, &Free)? {
+    let items = posted(rt, given, Cut::InReadsOf(5000))?;
+    Ok(counts_in(rt.alloc(), &items)?)
+}
+
+/// How many entries each item of the first sender has.
+fn counts_in(alloc: Global, items: &[Item]) -> Result<Vec<usize>, AllocError> {
+    let mut counts = Vec::new(alloc);
+    for item in items {
         if item.sender == 0 {
             counts.push(entries_in(item))?;
         }
@@ -128,32 +169,34 @@ fn counts_of(
     Ok(counts)
 }
 
+fn repeated(alloc: Global, text: &str, times: u32) -> Result<String, AllocError> {
+    let mut repeated = String::new(alloc);
+    for _ in 0..times {
+        repeated.push_str(text)?;
+    }
+    Ok(repeated)
+}
+
 #[test]
 fn an_item_has_at_most_1024_entries(rt: HostRuntime) -> Result<(), Fail> {
-    let mut stream = String::new(rt.alloc());
-    for _ in 0..2049 {
-        stream.push_str("x\n")?;
-    }
-    let counts = counts_of(&rt, "a", &stream, Cut::InReadsOf(5000))?;
-    assert_eq!(rt; counts.as_slice(), [1024, 1024, 1, 0].as_slice());
-    Ok(())
+    let stream = repeated(rt.alloc(), "x\n", 2049)?;
+    expect_counts(&rt, "a", &stream, &[1024, 1024, 1, 0])
 }
 
 // Names are as long as the directory of the log's target, and with three of them an item has bytes enough.
 #[test]
 fn an_item_has_no_entry_behind_131072_bytes(rt: HostRuntime) -> Result<(), Fail> {
-    let mut name = String::new(rt.alloc());
-    for _ in 0..30_000 {
-        name.push_str("d/")?;
-    }
+    let mut name = repeated(rt.alloc(), "d/", 30_000)?;
     name.push_str("a")?;
-    let mut stream = String::new(rt.alloc());
-    for _ in 0..7 {
-        stream.push_str("@@REDO:do:1:1@@ b\n")?;
-    }
-    let counts = counts_of(&rt, &name, &stream, Cut::InReadsOf(5000))?;
-    assert_eq!(rt; counts.as_slice(), [3, 3, 1, 0].as_slice());
-    Ok(())
+    expect_mentions(&rt, &name)
+}
+
+fn expect_mentions(
+    rt: &(impl Abort + AllocGlobal + Threads + Wait + Sync),
+    name: &str,
+) -> Result<(), Fail> {
+    let stream = repeated(rt.alloc(), "@@REDO:do:1:1@@ b\n", 7)?;
+    expect_counts(rt, name, &stream, &[3, 3, 1, 0])
 }
 
 // Each sender reads its second line only once the other's first one was taken.
@@ -162,14 +205,29 @@ fn senders_post_before_they_read_again(rt: HostRuntime) -> Result<(), Fail> {
     let read = |stream| Event::BeforeRead { stream, turn: 2 };
     let taken = |stream| Event::Taken { stream, lines: 1 };
     let gate = Holding::new([Hold::new(read(0), taken(1)), Hold::new(read(1), taken(0))]);
+    expect_pair(&rt, &gate)?;
+    assert!(rt; gate.kept_all());
+    Ok(())
+}
+
+/// What two senders of two lines each post under this gate.
+fn expect_pair(
+    rt: &(impl Abort + AllocGlobal + Threads + Wait + Sync),
+    gate: &Holding,
+) -> Result<(), Fail> {
+    let items = pair_posted(rt, gate)?;
+    expect_items(rt, &items, 0, &["0 of 0: p1", "0 of 0: p2", "0 of 0: end"])?;
+    expect_items(rt, &items, 1, &["1 of 1: q1", "1 of 1: q2", "1 of 1: end"])
+}
+
+fn pair_posted(
+    rt: &(impl AllocGlobal + Threads + Wait + Sync),
+    gate: &Holding,
+) -> Result<Vec<Item>, Fail> {
     let cut = Cut::InReadsOf(3);
     let first = share(rt.alloc(), 0, &[("p", "p1\np2\n", false)], cut)?;
     let second = share(rt.alloc(), 1, &[("q", "q1\nq2\n", false)], cut)?;
-    let items = sent(&rt, first, second, 1, &gate)?;
-    expect_items(&rt, &items, 0, &["0 of 0: p1", "0 of 0: p2", "0 of 0: end"])?;
-    expect_items(&rt, &items, 1, &["1 of 1: q1", "1 of 1: q2", "1 of 1: end"])?;
-    assert!(rt; gate.kept_all());
-    Ok(())
+    sent(rt, first, second, 1, gate)
 }
 
 /// How many entries an item has.

@@ -21,13 +21,13 @@ pub fn sent<T: AllocGlobal + Threads + Wait + Sync, G: Gate>(
     streams: usize,
     gate: &G,
 ) -> Result<Vec<Item>, Fail> {
+    let taken = Vec::with_capacity(rt.alloc(), 1000)?;
     let Two {
         mailbox,
         first,
         second,
     } = two_ended(rt.alloc(), 1)?;
-    let taken = Vec::with_capacity(rt.alloc(), 1000)?;
-    let ((first, second), (mut mailbox, mut taken)) = join(
+    let ((first, second), (mut mailbox, taken)) = join(
         rt,
         || {
             join(
@@ -40,6 +40,15 @@ pub fn sent<T: AllocGlobal + Threads + Wait + Sync, G: Gate>(
     );
     mailbox.meet(rt, first);
     mailbox.meet(rt, second);
+    with_rest(rt, mailbox, taken)
+}
+
+/// What was taken, with what is left in the mailbox.
+fn with_rest<T: Wait>(
+    rt: &T,
+    mut mailbox: TakeEnd,
+    mut taken: Vec<Item>,
+) -> Result<Vec<Item>, Fail> {
     for _ in rt.forever() {
         let Some(item) = rest(rt, &mut mailbox)? else {
             break;

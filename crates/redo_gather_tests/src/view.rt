@@ -7,11 +7,13 @@ use crate::cases::{
     ASKED, BUILD, BUILD_TEXT, CHOSEN, Case, DEEP, Given, LOGS, MAX_BYTES, MENTIONS, PLAIN, STATUSES,
 };
 use crate::gathered::gathered;
+use redo_gather::GatherFault;
 use redo_given::{Cut, captured, whole};
 use redo_line::{Taker, TargetName};
 use redo_logs::LogTable;
 use redo_view::{Options, ViewFault, view};
 use std::alloc::Global;
+use std::fmt::Debug;
 use std::process::Abort;
 use std::test::Fail;
 
@@ -48,8 +50,18 @@ fn written(
 fn logs_of(alloc: Global, given: &[Given]) -> Result<LogTable, Fail>
     ensures { IfOk result (λ table. list_all has_ended table ≡ true) }
 {
-    let (targets, readers) = captured(alloc, &whole(alloc, given)?, Cut::InReadsOf(1))?;
-    Ok(gathered(alloc, &targets, readers, MAX_BYTES)??)
+    let given = whole(alloc, given)?;
+    Ok(gathered_logs(alloc, &given)??)
+}
+
+fn gathered_logs(
+    alloc: Global,
+    given: &[redo_given::Given<'_>],
+) -> Result<Result<LogTable, GatherFault>, Fail>
+    ensures { IfOk result (λ answer. IfOk answer (λ table. list_all has_ended table ≡ true)) }
+{
+    let (targets, readers) = captured(alloc, given, Cut::InReadsOf(1))?;
+    gathered(alloc, &targets, readers, MAX_BYTES)
 }
 
 fn resolved(alloc: Global, names: &[&str]) -> Result<Vec<TargetName>, Fail> {
@@ -62,47 +74,96 @@ fn resolved(alloc: Global, names: &[&str]) -> Result<Vec<TargetName>, Fail> {
 
 /// The whole text of each case is written.
 fn expect(rt: &(impl Abort + AllocGlobal), cases: &[Case]) -> Result<(), Fail> {
-    for (given, options, asked, text) in cases {
-        let (answer, written) = viewed(rt.alloc(), given, options, asked, 1000, 1000)?;
-        assert_eq!(rt; answer, Ok(()), "{given:?}");
-        assert_eq!(rt; written.as_slice(), text.as_bytes(), "{given:?}");
+    for case in cases {
+        expect_case(rt, case)?;
     }
     Ok(())
 }
 
+fn expect_case(rt: &(impl Abort + AllocGlobal), case: &Case) -> Result<(), Fail> {
+    let (given, options, asked, text) = case;
+    let (answer, written) = viewed(rt.alloc(), given, options, asked, 1000, 1000)?;
+    expect_answer(rt, answer, Ok(()), given);
+    expect_written(rt, &written, text.as_bytes(), given);
+    Ok(())
+}
+
+/// The logs are viewed with this answer.
+fn expect_answer(
+    rt: &impl Abort,
+    answer: Result<(), ViewFault>,
+    want: Result<(), ViewFault>,
+    about: &impl Debug,
+) {
+    assert_eq!(rt; answer, want, "{about:?}");
+}
+
+/// These bytes of the text are written.
+fn expect_written(rt: &impl Abort, written: &[u8], want: &[u8], about: &impl Debug) {
+    assert_eq!(rt; written, want, "{about:?}");
+}
+
+// The tables that are gone over, as statics: a constant is written out wherever it is named.
+static OF_LOGS: &[Case] = &LOGS;
+
+static OF_MENTIONS: &[Case] = &MENTIONS;
+
+static OF_ASKING: &[Case] = &ASKED;
+
+static OF_OPTIONS: &[Case] = &CHOSEN;
+
+static OF_STATUSES: &[Case] = &STATUSES;
+
 #[test]
 fn a_log_is_shown_below_the_line_of_its_target(rt: HostRuntime) -> Result<(), Fail> {
-    expect(&rt, &LOGS)
+    expect(&rt, OF_LOGS)
 }
 
 #[test]
 fn mentions_are_shown_and_opened_with_recursive(rt: HostRuntime) -> Result<(), Fail> {
-    expect(&rt, &MENTIONS)
+    expect(&rt, OF_MENTIONS)
 }
 
 #[test]
 fn a_mention_names_and_an_asking_opens(rt: HostRuntime) -> Result<(), Fail> {
-    expect(&rt, &ASKED)
+    expect(&rt, OF_ASKING)
 }
 
 #[test]
 fn options_choose_what_is_shown(rt: HostRuntime) -> Result<(), Fail> {
-    expect(&rt, &CHOSEN)
+    expect(&rt, OF_OPTIONS)
 }
 
 #[test]
 fn a_status_other_than_0_is_shown(rt: HostRuntime) -> Result<(), Fail> {
-    expect(&rt, &STATUSES)
+    expect(&rt, OF_STATUSES)
 }
+
+/// Targets, and the place of the first one that is unknown.
+static UNKNOWN: &[(&[&str], usize)] = &[
+    (&["all", "zz"], 1),
+    (&["zz", "all"], 0),
+    (&["zz", "yy"], 0),
+];
 
 #[test]
 fn the_least_unknown_target_is_told_and_nothing_written(rt: HostRuntime) -> Result<(), Fail> {
-    let alloc = rt.alloc();
-    for (asked, place) in [(["all", "zz"], 1), (["zz", "all"], 0), (["zz", "yy"], 0)] {
-        let (answer, written) = viewed(alloc, &[("all", "hello\n")], &PLAIN, &asked, 1000, 1000)?;
-        assert_eq!(rt; answer, Err(ViewFault::Unknown { place }), "{asked:?}");
-        assert_eq!(rt; written.len(), 0, "{asked:?}");
+    for (asked, place) in UNKNOWN {
+        expect_unknown(&rt, asked, *place)?;
     }
+    Ok(())
+}
+
+/// The target at this place is told, and nothing written.
+fn expect_unknown(
+    rt: &(impl Abort + AllocGlobal),
+    asked: &[&str],
+    place: usize,
+) -> Result<(), Fail> {
+    let given = [("all", "hello\n")];
+    let (answer, written) = viewed(rt.alloc(), &given, &PLAIN, asked, 1000, 1000)?;
+    expect_answer(rt, answer, Err(ViewFault::Unknown { place }), &asked);
+    assert_eq!(rt; written.len(), 0, "{asked:?}");
     Ok(())
 }
 
@@ -115,8 +176,8 @@ fn expect_build(
     text: &[u8],
 ) -> Result<(), Fail> {
     let (answer, written) = viewed(rt.alloc(), &BUILD, &DEEP, &["all"], room, per_call)?;
-    assert_eq!(rt; answer, want, "{room}");
-    assert_eq!(rt; written.as_slice(), text, "{room}");
+    expect_answer(rt, answer, want, &room);
+    expect_written(rt, &written, text, &room);
     Ok(())
 }
 

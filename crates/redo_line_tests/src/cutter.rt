@@ -9,12 +9,14 @@ fn expect_more(rt: &impl Abort, cut: Cut) {
 
 fn expect_line(rt: &impl Abort, cut: Cut, want: &[u8], place: usize) {
     match cut {
-        Cut::Line { bytes, upto } => {
-            assert_eq!(rt; bytes.bytes(), want);
-            assert_eq!(rt; upto, place);
-        }
+        Cut::Line { bytes, upto } => expect_bytes(rt, bytes.bytes(), upto, want, place),
         Cut::More => panic!(rt; "no line was found"),
     }
+}
+
+fn expect_bytes(rt: &impl Abort, bytes: &[u8], upto: usize, want: &[u8], place: usize) {
+    assert_eq!(rt; bytes, want);
+    assert_eq!(rt; upto, place);
 }
 
 #[test]
@@ -23,8 +25,12 @@ fn a_line_spans_two_pieces(rt: HostRuntime) -> Result<(), Fail> {
     expect_more(&rt, cutter.next(b"ab", 0)?);
     expect_line(&rt, cutter.next(b"c\nd", 0)?, b"abc", 2);
     expect_more(&rt, cutter.next(b"c\nd", 2)?);
+    expect_left(&rt, cutter, b"d")
+}
+
+fn expect_left(rt: &impl Abort, cutter: Cutter, want: &[u8]) -> Result<(), Fail> {
     let last = cutter.finish().ok_or("nothing was left")?;
-    assert_eq!(rt; last.bytes(), b"d".as_slice());
+    assert_eq!(rt; last.bytes(), want);
     Ok(())
 }
 

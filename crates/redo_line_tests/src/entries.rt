@@ -7,7 +7,7 @@ use std::process::Abort;
 use std::test::Fail;
 
 /// A line in the log of `all`, and its entry.
-const ENTRIES: [(&str, &str); 17] = [
+static ENTRIES: [(&str, &str); 17] = [
     ("hello", "text|hello"),
     ("", "text|"),
     ("x @@REDO:do:7:1@@ a", "text|x @@REDO:do:7:1@@ a"),
@@ -28,7 +28,7 @@ const ENTRIES: [(&str, &str); 17] = [
 ];
 
 /// Lines that begin as a record does, and are none.
-const BAD: [&str; 16] = [
+static BAD: [&str; 16] = [
     "@@REDO:",
     "@@REDO:do:7",
     "@@REDO::7:1@@ a",
@@ -105,7 +105,7 @@ fn an_unended_line_is_text(rt: HostRuntime) -> Result<(), Fail> {
 }
 
 /// A line in the log of `d/a`, and its entry.
-const OF_D_A: [(&str, &str); 6] = [
+static OF_D_A: [(&str, &str); 6] = [
     ("@@REDO:do:7:1@@ ../e//x", "do|e/x"),
     ("@@REDO:do:7:1@@ b", "do|d/b"),
     ("@@REDO:done:7:1@@ 3 a", "closing|3"),

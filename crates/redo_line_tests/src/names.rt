@@ -6,7 +6,7 @@ use std::process::Abort;
 use std::test::Fail;
 
 /// The target in whose log a name stands, or none, the name, and its normal form.
-const NAMES: [(Option<&str>, &str, &str); 20] = [
+static NAMES: [(Option<&str>, &str, &str); 20] = [
     (None, "a//b/./c", "a/b/c"),
     (None, "a/", "a"),
     (None, "a/..", "."),
@@ -46,15 +46,23 @@ fn expect_form(
     normal: &str,
 ) -> Result<(), Fail> {
     let target = resolved(rt.alloc(), of, name)?;
-    assert_eq!(rt; target.bytes(), normal.as_bytes(), "{name:?} of {of:?}");
+    expect_bytes(rt, target.bytes(), normal.as_bytes(), name);
     expect_copy(rt, &target)
+}
+
+fn expect_bytes(rt: &impl Abort, bytes: &[u8], normal: &[u8], name: &str) {
+    assert_eq!(rt; bytes, normal, "{name:?}");
 }
 
 fn expect_copy(rt: &(impl Abort + AllocGlobal), target: &TargetName) -> Result<(), Fail> {
     let copy = target.copy(rt.alloc())?;
+    expect_same(rt, &copy, target);
+    Ok(())
+}
+
+fn expect_same(rt: &impl Abort, copy: &TargetName, target: &TargetName) {
     assert!(rt; copy.same(target));
     assert_eq!(rt; copy.bytes(), target.bytes());
-    Ok(())
 }
 
 #[test]
@@ -96,9 +104,19 @@ fn a_relative_and_an_absolute_name_differ(rt: HostRuntime) -> Result<(), Fail> {
 /// The map of `d/a` to 1 and of `e` to 2.
 fn map_of_two(alloc: Global) -> Result<IndexMap<TargetName, u32>, Fail> {
     let mut map = IndexMap::new(alloc);
-    map.insert(resolved(alloc, None, "d/a")?, 1u32)?;
-    map.insert(resolved(alloc, None, "e")?, 2u32)?;
+    insert(alloc, &mut map, "d/a", 1)?;
+    insert(alloc, &mut map, "e", 2)?;
     Ok(map)
+}
+
+fn insert(
+    alloc: Global,
+    map: &mut IndexMap<TargetName, u32>,
+    name: &str,
+    value: u32,
+) -> Result<(), Fail> {
+    map.insert(resolved(alloc, None, name)?, value)?;
+    Ok(())
 }
 
 #[test]
@@ -112,9 +130,26 @@ fn expect_found(
     map: &IndexMap<TargetName, u32>,
 ) -> Result<(), Fail> {
     let same = resolved(rt.alloc(), Some("d/x"), "./q/../a")?;
-    assert_eq!(rt; map.get_index_of(&same), Some(0));
-    assert_eq!(rt; map.get(&same).copied(), Some(1));
+    expect_at(rt, map, &same, Some(0), Some(1));
+    expect_other(rt, map)
+}
+
+fn expect_other(
+    rt: &(impl Abort + AllocGlobal),
+    map: &IndexMap<TargetName, u32>,
+) -> Result<(), Fail> {
     let other = resolved(rt.alloc(), None, "d")?;
-    assert_eq!(rt; map.get(&other).copied(), None);
+    expect_at(rt, map, &other, None, None);
     Ok(())
+}
+
+fn expect_at(
+    rt: &impl Abort,
+    map: &IndexMap<TargetName, u32>,
+    name: &TargetName,
+    place: Option<usize>,
+    value: Option<u32>,
+) {
+    assert_eq!(rt; map.get_index_of(name), place);
+    assert_eq!(rt; map.get(name).copied(), value);
 }

@@ -158,30 +158,49 @@ fn expect(
     entries: &str,
     fault: Option<StreamFault>,
 ) -> Result<(), Fail> {
-    let alloc = rt.alloc();
-    for cut in &cuts(alloc, &[("", stream, false)])? {
-        let pieces = cut_into_reads(alloc, stream.as_bytes(), *cut)?;
-        let scanned = scan(alloc, new_scan(alloc, target, max_bytes)?, &pieces)?;
-        expect_scanned(rt, &scanned, entries, fault, stream);
-        let together = scan_together(alloc, new_scan(alloc, target, max_bytes)?, &pieces)?;
-        expect_scanned(rt, &together, entries, fault, stream);
+    for cut in &cuts(rt.alloc(), &[("", stream, false)])? {
+        let pieces = cut_into_reads(rt.alloc(), stream.as_bytes(), *cut)?;
+        expect_entries(rt, target, max_bytes, &pieces, entries, fault)?;
+        expect_together(rt, target, max_bytes, &pieces, entries, fault)?;
     }
     Ok(())
 }
 
-fn expect_scanned(
-    rt: &impl Abort,
-    scanned: &Scanned,
+/// These are found in these pieces, one by one.
+fn expect_entries(
+    rt: &(impl Abort + AllocGlobal),
+    target: &str,
+    max_bytes: u64,
+    pieces: &[Vec<u8>],
     entries: &str,
     fault: Option<StreamFault>,
-    stream: &str,
-) {
-    assert_eq!(rt; scanned.fault, fault, "{stream:?}");
-    assert_eq!(rt; scanned.entries.as_str(), entries, "{stream:?}");
+) -> Result<(), Fail> {
+    let scanned = scan(rt.alloc(), new_scan(rt.alloc(), target, max_bytes)?, pieces)?;
+    expect_scanned(rt, &scanned, entries, fault);
+    Ok(())
+}
+
+/// The same, those of a piece together.
+fn expect_together(
+    rt: &(impl Abort + AllocGlobal),
+    target: &str,
+    max_bytes: u64,
+    pieces: &[Vec<u8>],
+    entries: &str,
+    fault: Option<StreamFault>,
+) -> Result<(), Fail> {
+    let scanned = scan_together(rt.alloc(), new_scan(rt.alloc(), target, max_bytes)?, pieces)?;
+    expect_scanned(rt, &scanned, entries, fault);
+    Ok(())
+}
+
+fn expect_scanned(rt: &impl Abort, scanned: &Scanned, entries: &str, fault: Option<StreamFault>) {
+    assert_eq!(rt; scanned.fault, fault, "{entries:?}");
+    assert_eq!(rt; scanned.entries.as_str(), entries);
 }
 
 /// A target, its stream, and the entries of it.
-const ENTRIES: [(&str, &str, &str); 8] = [
+static ENTRIES: [(&str, &str, &str); 8] = [
     ("all", "", ""),
     ("all", "hello\n", "text|hello\n"),
     ("all", "x", "text|x\n"),
@@ -209,7 +228,7 @@ fn a_stream_has_these_entries(rt: HostRuntime) -> Result<(), Fail> {
 }
 
 /// A target, its stream, the entries before its fault, and the fault.
-const FAULTS: [(&str, &str, &str, StreamFault); 5] = [
+static FAULTS: [(&str, &str, &str, StreamFault); 5] = [
     (
         "all",
         "ok\n@@REDO:do:7\n",
@@ -263,7 +282,7 @@ type Limited = (
     Option<StreamFault>,
 );
 
-const LIMITED: [Limited; 10] = [
+static LIMITED: [Limited; 10] = [
     ("all", 4, "abc\n", "text|abc\n", None),
     ("all", 4, "abc\nd", "text|abc\n", Some(StreamFault::TooLong)),
     (
@@ -304,13 +323,19 @@ fn a_line_counts_as_far_as_its_bytes_are_within_the_limit(rt: HostRuntime) -> Re
 
 #[test]
 fn a_refusal_is_answered_to_every_later_call(rt: HostRuntime) -> Result<(), Fail> {
-    let alloc = rt.alloc();
-    let fault = StreamFault::BadRecord { line: 1 };
-    let mut scan = Scan::new(alloc, TargetName::resolve(alloc, None, b"all")?, 100);
-    assert!(rt; matches!(scan.step(b"@@RE", 0), Ok(Step::More)));
+    let mut scan = new_scan(rt.alloc(), "all", 100)?;
+    expect_more(&rt, &mut scan, b"@@RE");
     for piece in ["DO:do:7\nok\n", "ok\n", ""] {
-        assert_eq!(rt; scan.step(piece.as_bytes(), 0).err(), Some(fault));
+        expect_bad_record(&rt, scan.step(piece.as_bytes(), 0).err());
     }
-    assert_eq!(rt; scan.finish().err(), Some(fault));
+    expect_bad_record(&rt, scan.finish().err());
     Ok(())
+}
+
+fn expect_more(rt: &impl Abort, scan: &mut Scan, piece: &[u8]) {
+    assert!(rt; matches!(scan.step(piece, 0), Ok(Step::More)));
+}
+
+fn expect_bad_record(rt: &impl Abort, fault: Option<StreamFault>) {
+    assert_eq!(rt; fault, Some(StreamFault::BadRecord { line: 1 }));
 }

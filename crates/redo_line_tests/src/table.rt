@@ -76,8 +76,13 @@ fn expect_entered(
     text: &str,
     answer: Result<u32, TableFault>,
 ) -> Result<(), Fail> {
-    assert_eq!(rt; table.enter(name(rt.alloc(), text)?), answer);
+    let target = name(rt.alloc(), text)?;
+    expect_answer(rt, table.enter(target), answer);
     Ok(())
+}
+
+fn expect_answer(rt: &impl Abort, answer: Result<u32, TableFault>, want: Result<u32, TableFault>) {
+    assert_eq!(rt; answer, want);
 }
 
 fn expect_found(
@@ -86,12 +91,17 @@ fn expect_found(
     text: &str,
     place: Option<u32>,
 ) -> Result<(), Fail> {
-    assert_eq!(rt; table.find(&name(rt.alloc(), text)?), place, "{text}");
+    let target = name(rt.alloc(), text)?;
+    expect_place(rt, table.find(&target), place, text);
     Ok(())
 }
 
+fn expect_place(rt: &impl Abort, found: Option<u32>, place: Option<u32>, text: &str) {
+    assert_eq!(rt; found, place, "{text}");
+}
+
 /// What is entered into a table, and the answers.
-const ENTERED: [(&str, Result<u32, TableFault>); 4] = [
+static ENTERED: [(&str, Result<u32, TableFault>); 4] = [
     ("a", Ok(0)),
     ("b", Ok(1)),
     ("a", Err(TableFault::Twice)),
@@ -104,32 +114,49 @@ fn logs_are_entered_in_order(rt: HostRuntime) -> Result<(), Fail> {
 }
 
 fn enter_in_order(rt: &(impl Abort + AllocGlobal), table: &mut LogTable) -> Result<(), Fail> {
-    assert_eq!(rt; table.len(), 0);
-    for (text, answer) in ENTERED {
-        expect_entered(rt, table, text, answer)?;
+    expect_len(rt, table, 0);
+    for (text, answer) in &ENTERED {
+        expect_entered(rt, table, text, *answer)?;
     }
-    assert_eq!(rt; table.len(), 2);
-    for (text, place) in [("a", Some(0)), ("b", Some(1)), ("c", None)] {
-        expect_found(rt, table, text, place)?;
-    }
+    expect_len(rt, table, 2);
+    find_all(rt, table)?;
     expect(rt, table, "a: Running\nb: Running\n")
+}
+
+fn expect_len(rt: &impl Abort, table: &LogTable, len: u32) {
+    assert_eq!(rt; table.len(), len);
+}
+
+/// What is looked up in the table, and its place.
+static FOUND: [(&str, Option<u32>); 3] = [("a", Some(0)), ("b", Some(1)), ("c", None)];
+
+fn find_all(rt: &(impl Abort + AllocGlobal), table: &LogTable) -> Result<(), Fail> {
+    for (text, place) in &FOUND {
+        expect_found(rt, table, text, *place)?;
+    }
+    Ok(())
 }
 
 #[test]
 fn a_log_has_the_entries_that_were_added(rt: HostRuntime) -> Result<(), Fail> {
-    let alloc = rt.alloc();
-    let mut table = table_of_two(alloc)?;
-    add(alloc, &mut table, 0, "x")?;
-    let lines = [
-        "@@REDO:do:7:1@@ c",
-        "@@REDO:done:7:1@@ -2 c",
-        "@@REDO:check:7:1@@ yes",
-        "@@REDO:done:7:1@@ 3 b",
-    ];
-    add_all(alloc, &mut table, 1, &lines)?;
+    let mut table = table_of_two(rt.alloc())?;
+    add_to_both(&rt, &mut table)
+}
+
+/// Lines that say different things.
+static SAID: [&str; 4] = [
+    "@@REDO:do:7:1@@ c",
+    "@@REDO:done:7:1@@ -2 c",
+    "@@REDO:check:7:1@@ yes",
+    "@@REDO:done:7:1@@ 3 b",
+];
+
+fn add_to_both(rt: &(impl Abort + AllocGlobal), table: &mut LogTable) -> Result<(), Fail> {
+    add(rt.alloc(), table, 0, "x")?;
+    add_all(rt.alloc(), table, 1, &SAID)?;
     expect(
-        &rt,
-        &table,
+        rt,
+        table,
         "a: Running\ntext|x\nb: Running\ndo|c\ndone|-2|c\nnote|check|yes\nclosing|3\n",
     )
 }
@@ -137,15 +164,21 @@ fn a_log_has_the_entries_that_were_added(rt: HostRuntime) -> Result<(), Fail> {
 #[test]
 fn an_entry_is_shown_by_its_place(rt: HostRuntime) -> Result<(), Fail> {
     let mut table = table_of_two(rt.alloc())?;
-    add(rt.alloc(), &mut table, 0, "x")?;
-    expect_one_entry(&rt, &table)
+    add_one_entry(&rt, &mut table)
 }
 
-fn expect_one_entry(rt: &(impl Abort + AllocGlobal), table: &LogTable) -> Result<(), Fail> {
-    let first = table.entry(0, 0).ok_or("no entry")?;
-    assert_eq!(rt; entry_text(rt.alloc(), first)?.as_str(), "text|x");
+fn add_one_entry(rt: &(impl Abort + AllocGlobal), table: &mut LogTable) -> Result<(), Fail> {
+    add(rt.alloc(), table, 0, "x")?;
+    expect_entry(rt, table)?;
     assert!(rt; table.entry(0, 1).is_none());
     assert!(rt; table.entry(2, 0).is_none());
+    Ok(())
+}
+
+fn expect_entry(rt: &(impl Abort + AllocGlobal), table: &LogTable) -> Result<(), Fail> {
+    let first = table.entry(0, 0).ok_or("no entry")?;
+    let text = entry_text(rt.alloc(), first)?;
+    assert_eq!(rt; text.as_str(), "text|x");
     Ok(())
 }
 
@@ -168,34 +201,50 @@ fn end_and_fail(rt: &(impl Abort + AllocGlobal), table: &mut LogTable) -> Result
 #[test]
 fn the_first_fault_is_that_of_the_least_number(rt: HostRuntime) -> Result<(), Fail> {
     let mut table = table_of_two(rt.alloc())?;
+    fail_both(&rt, &mut table)
+}
+
+fn fail_both(rt: &impl Abort, table: &mut LogTable) -> Result<(), Fail> {
     let fault = StreamFault::BadRecord { line: 9 };
-    close(&mut table, 1, Some(StreamFault::Read))?;
-    close(&mut table, 0, Some(fault))?;
-    expect_ends(&rt, &table, Some((0, fault)), false);
+    close(table, 1, Some(StreamFault::Read))?;
+    close(table, 0, Some(fault))?;
+    expect_ends(rt, table, Some((0, fault)), false);
     Ok(())
 }
 
 #[test]
 fn all_logs_have_ended(rt: HostRuntime) -> Result<(), Fail> {
-    expect_ends(&rt, &LogTable::new(rt.alloc()), None, true);
     let mut table = table_of_two(rt.alloc())?;
-    close(&mut table, 1, None)?;
-    close(&mut table, 0, None)?;
-    expect_ends(&rt, &table, None, true);
+    end_both(&rt, &mut table)
+}
+
+fn end_both(rt: &impl Abort, table: &mut LogTable) -> Result<(), Fail> {
+    close(table, 1, None)?;
+    close(table, 0, None)?;
+    expect_ends(rt, table, None, true);
     Ok(())
+}
+
+#[test]
+fn all_logs_of_an_empty_table_have_ended(rt: HostRuntime) {
+    expect_ends(&rt, &LogTable::new(rt.alloc()), None, true);
 }
 
 /// A table whose first log has two texts, then one that was added behind another log's, and a mention.
 fn table_of_lines(alloc: Global) -> Result<LogTable, Fail> {
     let mut table = table_of_two(alloc)?;
-    add_all(alloc, &mut table, 0, &["x", "yy"])?;
-    add(alloc, &mut table, 1, "other")?;
-    add_all(alloc, &mut table, 0, &["z", "@@REDO:do:1:1@@ b", ""])?;
+    add_lines(alloc, &mut table)?;
     Ok(table)
 }
 
+fn add_lines(alloc: Global, table: &mut LogTable) -> Result<(), Fail> {
+    add_all(alloc, table, 0, &["x", "yy"])?;
+    add(alloc, table, 1, "other")?;
+    add_all(alloc, table, 0, &["z", "@@REDO:do:1:1@@ b", ""])
+}
+
 /// At each entry the lines of the texts that were added one behind the other, and how many they are.
-const LINES: [(u32, usize, &str, usize); 8] = [
+static LINES: [(u32, usize, &str, usize); 8] = [
     (0, 0, "x\nyy\n", 2),
     (0, 1, "yy\n", 1),
     (0, 2, "z\n", 1),
@@ -215,10 +264,13 @@ fn lines_of_texts_are_had_together(rt: HostRuntime) -> Result<(), Fail> {
 
 fn expect_lines(rt: &impl Abort, table: &LogTable) {
     let logs = table.numbered();
-    for (i, k, lines, count) in LINES {
-        let found = logs.lines(i, k);
-        assert_eq!(rt; (found.0, found.1), (lines.as_bytes(), count));
+    for (i, k, lines, count) in &LINES {
+        expect_these(rt, logs.lines(*i, *k), (lines.as_bytes(), *count));
     }
+}
+
+fn expect_these(rt: &impl Abort, found: (&[u8], usize), want: (&[u8], usize)) {
+    assert_eq!(rt; found, want);
 }
 
 #[test]

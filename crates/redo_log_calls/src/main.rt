@@ -1,6 +1,6 @@
 //! Makes single calls, and prints what each answered and left. Its one argument names the calls; where
 //! they gather streams, a number of senders may stand behind the name.
-//! The scripts of `tests` run it: one refuses it each request for memory in turn.
+//! The scripts of `tests` run it: one refuses it each request for memory in turn. With `rates` it measures the mailbox.
 #![tactic(auto)]
 
 ghost use Rattle.std.specs.Prelude.{◌≤◌, ◌<◌, ◌^◌, length, IfSome};
@@ -9,6 +9,7 @@ mod chain;
 mod command;
 mod gather;
 mod mailbox;
+mod rates;
 mod send;
 mod table;
 mod view;
@@ -34,6 +35,7 @@ fn main(rt: HostRuntime) -> io::Result<ExitCode> {
     };
     match calls.as_str() {
         "command_unflushed" => command::command_unflushed(&rt)?,
+        "rates" => rates::rates(&rt)?,
         calls => make(&rt, calls)?,
     }
     Ok(ExitCode::SUCCESS)

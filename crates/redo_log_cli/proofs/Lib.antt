@@ -1,4 +1,5 @@
 mod Answered
+mod ErrorLemmas
 mod FileLemmas
 mod Getters
 mod OneKind

@@ -1,6 +1,6 @@
 -- What each entry of a parse of the words is known to be.
 use Rattle.std.proofs.Common.{◌≡◌, ◌⊎◌, ◌∙◌, ◌<◌, ◌≤◌, ◌&&◌, ℕ, zero, suc, Bool, true, false, not, List, [], ◌∷◌, length, map, is_some, Option, Some, None, Ok, Err, Result, refl, sym, subst, ap, inl, inr, arith, codes}
-use Rattle.std.specs.Prelude.{IfErr, IfSome, IsErrAnd, option_map, pos, slice_get, unwrap_or}
+use Rattle.std.specs.Prelude.{IfErr, IfOk, IfSome, MatchResult, IsErrAnd, option_map, pos, slice_get, unwrap_or}
 use Rattle.std.specs.Borrow.{Bor}
 use Rattle.std.specs.List.{All, AllByRecursion, slice_index_or}
 use Rattle.std.specs.Str.{bytes_eq}
@@ -10,7 +10,7 @@ use Rattle.std.proofs.lemmas.Slice.Eq.{bytes_eq-Decides}
 use Rattle.clap.specs.Built.{BuildsOrBreaks, BuildsTo, IsParsedFrom, IsPlain, IsPlainArg, is_broken}
 use Rattle.clap.specs.Facts.{Entry, EntryPasses, HasReading, IsParsed, PassesArg, ValuesPass, args_of, groups_of, parser_of_value, unwrap_or_range}
 use Rattle.clap.specs.Faults.{fault_of, is_simple_and_free}
-use Rattle.clap.specs.Kinds.{HasKind, IsAmong, Kinds}
+use Rattle.clap.specs.Kinds.{FailsBy, HasKind, IsAmong, Kinds}
 use Rattle.clap.specs.Matches.{found_of, has_subcommand, matched_of, one_text, raw_values}
 use Rattle.clap.specs.Simple.{App, app_of, built, is_buildable, is_simple}
 use Rattle.clap.specs.Values.{Accepts, kind_of, read_as, reading_of}
@@ -23,6 +23,7 @@ use Rattle.clap.specs.declared.builder.value_parser.Reading.{Reading}
 use Rattle.clap.specs.declared.builder.value_parser.ValueParser.{ValueParser}
 use Rattle.clap.specs.declared.builder.value_parser.ValueParser.TheVariants as vp
 use Rattle.clap.specs.declared.error.Error.{Error}
+use Rattle.clap.specs.declared.error.kind.ErrorKind.TheVariants as kind
 use Rattle.clap.specs.declared.parser.matches.ArgMatches.{ArgMatches}
 use Rattle.clap.specs.declared.parser.matches.Found.{Found}
 use Rattle.clap.specs.declared.parser.matches.MatchedArg.{MatchedArg}
@@ -250,7 +251,7 @@ number_text : (greatest : ℕ) (text : Text) → IsTaken (vp.Signed (pos 1) (pos
 number_text greatest text (written, is, ignore_case, taken) = (written, is, taken)
 
 -- the parse of a command that has all options
-pub sound : (old new : Command) (m : ArgMatches) → app_of old ≡ redo_log → BuildsTo old new
+sound : (old new : Command) (m : ArgMatches) → app_of old ≡ redo_log → BuildsTo old new
     → (app_of new ≡ app_of old) ⊎ (is_buildable (app_of old) ≡ true → app_of new ≡ built (app_of old))
     → ((out-Command new).has_globals ≡ false → IsParsed new (found_of m) (has_subcommand m))
     → AreSound (rows_of (found_of m))
@@ -293,13 +294,13 @@ sound old new m is builds app parsed =
     }
 
 -- the command after a parse that succeeds
-pub app_after : (old new : Command) → BuildsOrBreaks old new → (is_broken new ≡ true → ⊥)
+app_after : (old new : Command) → BuildsOrBreaks old new → (is_broken new ≡ true → ⊥)
     → (app_of new ≡ app_of old) ⊎ (is_buildable (app_of old) ≡ true → app_of new ≡ built (app_of old))
 app_after old new (inl broken) whole = absurd (whole broken)
 app_after old new (inr builds) whole = builds.2
 
 -- the fault that an error of a parse is told as
-pub fault_is : (words : List Text) (e : Error) → HasKind (fault_of redo_log words) e → (told (kind_of e) ≡ OutOfMemory) ⊎ (fault_of_words words ≡ Some (told (kind_of e)))
+fault_is : (words : List Text) (e : Error) → HasKind (fault_of redo_log words) e → (told (kind_of e) ≡ OutOfMemory) ⊎ (fault_of_words words ≡ Some (told (kind_of e)))
 fault_is words e (inl memory) = inl (ap told memory)
 fault_is words e (inr among) = inr (go (fault_of redo_log words) (one_kind words) among)
   where
@@ -309,6 +310,35 @@ fault_is words e (inr among) = inr (go (fault_of redo_log words) (one_kind words
     go (k ∷ []) one (inr none) = absurd none
     go (k ∷ l ∷ ks) one (inr more) = absurd (omega arith)
 
-pub told_on : {T : Type 0} (P : WordsFault → Type 0) (fault : WordsFault) (result : Result T WordsFault) → IsErrAnd result (λ f. f ≡ fault) → P fault → IfErr result P
-told_on P fault (Ok value) none p = absurd none
-told_on P fault (Err f) is p = subst P (sym is) p
+-- what a parse by the whole command gives: rows that are sound, and a fault that is that of the words
+module _ (words : List Text) (answer : Result ArgMatches Error) where
+  pub sound_if_ok : (old new : Command) (More : ArgMatches → Type 0) → app_of old ≡ redo_log → BuildsOrBreaks old new
+      → (is_broken new ≡ true → IsErrAnd answer (λ e. kind_of e ≡ kind.OutOfMemory))
+      → IfOk answer (λ m. BuildsTo old new × ((out-Command new).has_globals ≡ false → IsParsed new (found_of m) (has_subcommand m)) × More m)
+      → IfOk answer (λ m. AreSound (rows_of (found_of m)))
+  sound_if_ok old new More is after fails ok = go answer fails ok
+    where
+      go : (r : Result ArgMatches Error) → (is_broken new ≡ true → IsErrAnd r (λ e. kind_of e ≡ kind.OutOfMemory))
+          → IfOk r (λ m. BuildsTo old new × ((out-Command new).has_globals ≡ false → IsParsed new (found_of m) (has_subcommand m)) × More m)
+          → IfOk r (λ m. AreSound (rows_of (found_of m)))
+      go (Ok m) whole parsed = sound old new m is parsed.0 (app_after old new after whole) parsed.1
+      go (Err e) whole parsed = tt
+
+  pub taken_if_ok : FailsBy (fault_of redo_log words) answer → IfOk answer (λ _. fault_of_words words ≡ None)
+  taken_if_ok fails = go answer fails
+    where
+      go : (r : Result ArgMatches Error) → FailsBy (fault_of redo_log words) r → IfOk r (λ _. fault_of_words words ≡ None)
+      go (Ok m) none = ap first_told none
+      go (Err e) kinds = tt
+
+  module _ (Told : Error → WordsFault → Type 0) (result : Result ArgMatches WordsFault)
+      (told_as : MatchResult answer (λ m. result ≡ Ok m) (λ e. IsErrAnd result (Told e))) where
+    pub fault_if_err : ((e : Error) (fault : WordsFault) → Told e fault → fault ≡ told (kind_of e)) → FailsBy (fault_of redo_log words) answer
+        → IfErr result (λ fault. (fault ≡ OutOfMemory) ⊎ (fault_of_words words ≡ Some fault))
+    fault_if_err gives fails = go answer result told_as fails
+      where
+        go : (a : Result ArgMatches Error) (r : Result ArgMatches WordsFault) → MatchResult a (λ m. r ≡ Ok m) (λ e. IsErrAnd r (Told e)) → FailsBy (fault_of redo_log words) a
+            → IfErr r (λ fault. (fault ≡ OutOfMemory) ⊎ (fault_of_words words ≡ Some fault))
+        go (Ok m) r is kinds = subst (λ x. IfErr x (λ fault. (fault ≡ OutOfMemory) ⊎ (fault_of_words words ≡ Some fault))) (sym is) tt
+        go (Err e) (Ok m) is kinds = absurd is
+        go (Err e) (Err f) is kinds = subst (λ fault. (fault ≡ OutOfMemory) ⊎ (fault_of_words words ≡ Some fault)) (sym (gives e f is)) (fault_is words e kinds)

@@ -1,4 +1,5 @@
 -- What only clauses of private functions cite: it helps to prove the others, and nobody has to believe it.
+pub mod Arguments
 pub mod Opening
 pub mod Program
 pub mod Taken

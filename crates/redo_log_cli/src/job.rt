@@ -3,7 +3,7 @@ ghost use Rattle.clap.specs.Matches.{found_of};
 ghost use Rattle.clap.specs.Walk.{rows_of};
 ghost use Rattle.redo_gather.specs.Plan.{AreSenders, IsCapacity};
 ghost use Rattle.redo_run.specs.Run.{bytes_of_words};
-ghost use Rattle.redo_log_cli.specs.Job.{parts_of};
+ghost use Rattle.redo_log_cli.specs.Job.{options_of, parts_of};
 ghost use Rattle.redo_log_cli.specs.Private.Taken.{AreSound};
 
 use clap::ArgMatches;
@@ -87,21 +87,30 @@ pub(crate) fn job_of(alloc: Global, matches: &ArgMatches<'_>) -> Result<Job, All
     requires { AreSound (rows_of (found_of matches.now)) }
     ensures { IfOk result (λ job. job ≡ parts_of (rows_of (found_of matches.now))) }
 {
-    let options = Options {
-        recursive: matches.get_flag("recursive"),
-        unchanged: matches.get_flag("unchanged"),
-        details: matches.get_flag("details"),
-        debug_locks: matches.get_flag("debug_locks"),
-    };
+    let options = options_of(matches);
+    let senders = matches.get_one("senders").unwrap_or(DEFAULT_SENDERS);
+    let capacity = matches.get_one("capacity").unwrap_or(DEFAULT_CAPACITY);
     let dir = matches.get_str("dir").unwrap_or(DEFAULT_DIR);
     let targets = matches.get_strs("target").unwrap_or(&[]);
     Ok(Job {
         options,
         dir: String::from_str(alloc, dir)?,
-        senders: matches.get_one("senders").unwrap_or(DEFAULT_SENDERS),
-        capacity: matches.get_one("capacity").unwrap_or(DEFAULT_CAPACITY),
+        senders,
+        capacity,
         targets: bytes_of(alloc, targets)?,
     })
+}
+
+fn options_of(matches: &ArgMatches<'_>) -> Options
+    requires { AreSound (rows_of (found_of matches.now)) }
+    ensures { result ≡ options_of (rows_of (found_of matches.now)) }
+{
+    Options {
+        recursive: matches.get_flag("recursive"),
+        unchanged: matches.get_flag("unchanged"),
+        details: matches.get_flag("details"),
+        debug_locks: matches.get_flag("debug_locks"),
+    }
 }
 
 fn bytes_of(alloc: Global, words: &[&str]) -> Result<Vec<Vec<u8>>, AllocError>

@@ -1,16 +1,16 @@
-ghost use Rattle.std.specs.Prelude.{◌≡◌, ◌⊎◌, None, Some, false, IfOk, IfErr, map};
+ghost use Rattle.std.specs.Prelude.{◌≡◌, ◌⊎◌, ◌++◌, None, Some, codes, false, IfOk, IfErr, map};
 ghost use Rattle.std.specs.String.{string_bytes};
 ghost use Rattle.clap.specs.Matches.{found_of};
 ghost use Rattle.clap.specs.Simple.{app_of, matches_of};
 ghost use Rattle.clap.specs.Walk.{rows_of, rule_of};
 ghost use Rattle.redo_log_cli.specs.declared.words_fault.WordsFault.TheVariants.{OutOfMemory};
-ghost use Rattle.redo_log_cli.specs.CommandLine.{checked_rule, flag_rule, flags, redo_log, values, with_rules};
+ghost use Rattle.redo_log_cli.specs.CommandLine.{flag_rule, flags, letter_rule, number_rule, redo_log, text_rule, values, words_rule};
+ghost use Rattle.redo_log_cli.specs.Private.Arguments.{AreArguments};
 ghost use Rattle.redo_log_cli.specs.Private.Taken.{AreSound};
 ghost use Rattle.redo_log_cli.specs.Words.{fault_of_words, parts_asked};
 
 use crate::job::{Job, job_of};
 use crate::words_fault::WordsFault;
-use clap::builder::ValueParser;
 use clap::{Arg, ArgAction, ArgMatches, Command, value_parser};
 use std::alloc::{AllocError, Global};
 
@@ -47,9 +47,8 @@ pub fn read_words(alloc: Global, words: Vec<String>) -> Result<Job, WordsFault>
     // They ask for help, or are refused: which of these. Or there was no memory.
     ensures fault { IfErr result (λ fault. (fault ≡ OutOfMemory) ⊎ (fault_of_words (map string_bytes words.items) ≡ Some fault)) }
 {
-    let mut command = command(alloc)?;
-    let matches = parse(&mut command, words.as_slice())?;
-    Ok(job_of(alloc, &matches)?)
+    let matches = parse(alloc, words.as_slice())?;
+    job_of(alloc, &matches).map_err(WordsFault::from)
 }
 
 /// The help text: what the words of the command line are, with an example, and the statuses with which
@@ -62,59 +61,78 @@ pub fn help_text(alloc: Global) -> Result<String, AllocError> {
 fn command<'a>(alloc: Global) -> Result<Command<'a>, AllocError>
     ensures { IfOk result (λ command. app_of command ≡ redo_log) }
 {
-    let plain = Command::new(alloc, "redo-log")
+    let arguments = arguments(alloc)?;
+    Command::new(alloc, "redo-log")
         .about(ABOUT)
         .after_help(AFTER_HELP)
-        .no_binary_name(true);
-    let flags = with_flags(alloc, plain)?;
-    with_values(alloc, flags)
+        .no_binary_name(true)
+        .args(arguments)
 }
 
-fn with_flags<'a>(alloc: Global, command: Command<'a>) -> Result<Command<'a>, AllocError>
-    ensures { IfOk result (λ more. app_of more ≡ with_rules flags (app_of command.entry)) }
+// All arguments, in their order.
+fn arguments<'a>(alloc: Global) -> Result<Vec<Arg<'a>>, AllocError>
+    ensures { IfOk result (λ arguments. AreArguments (flags ++ values) arguments.items) }
 {
-    let command = command.arg(
-        flag(alloc, "recursive", "recursive", ArgAction::SetTrue)
-            .short('r')
-            .help("Show the logs of mentioned targets too, each at its first mention"),
-    )?;
-    let command = command.arg(
-        flag(alloc, "unchanged", "unchanged", ArgAction::SetTrue)
-            .short('u')
-            .help("Show targets that needed no rebuild too"),
-    )?;
-    let command = command.arg(flag(alloc, "details", "no-details", ArgAction::SetFalse).help(
-        "Leave out the text lines of logs",
-    ))?;
-    command.arg(flag(alloc, "debug_locks", "debug-locks", ArgAction::SetTrue).help(
-        "Show messages on waiting and locking",
-    ))
-}
-
-fn with_values<'a>(alloc: Global, command: Command<'a>) -> Result<Command<'a>, AllocError>
-    ensures { IfOk result (λ more. app_of more ≡ with_rules values (app_of command.entry)) }
-{
-    let command = command.arg(
-        Arg::new(alloc, "dir").long("dir").value_name("DIR").help(
+    vec![in alloc;
+        letter_flag(
+            alloc,
+            "recursive",
+            'r',
+            "Show the logs of mentioned targets too, each at its first mention",
+        ),
+        letter_flag(
+            alloc,
+            "unchanged",
+            'u',
+            "Show targets that needed no rebuild too"
+        ),
+        flag(
+            alloc,
+            "details",
+            "no-details",
+            ArgAction::SetFalse,
+            "Leave out the text lines of logs",
+        ),
+        flag(
+            alloc,
+            "debug_locks",
+            "debug-locks",
+            ArgAction::SetTrue,
+            "Show messages on waiting and locking",
+        ),
+        text_option(
+            alloc,
+            "dir",
+            "DIR",
             "The capture directory: `names`, and a `log.NUMBER` for each line of it [default: .]",
         ),
-    )?;
-    let command = command.arg(number(alloc, "senders", value_parser!(u32).range(1..=64)).help(
-        "How many senders read logs, 1 to 64 [default: 4]",
-    ))?;
-    let command = command.arg(number(alloc, "capacity", value_parser!(u32).range(1..=65_536)).help(
-        "How many items of up to 1024 lines may wait, 1 to 65536 [default: 64]",
-    ))?;
-    command.arg(
-        Arg::new(alloc, "target")
-            .value_name("TARGET")
-            .action(ArgAction::Append)
-            .required(true)
-            .help("A target to show: its name in `names`, in any spelling"),
-    )
+        number(
+            alloc,
+            "senders",
+            64,
+            "How many senders read logs, 1 to 64 [default: 4]"
+        ),
+        number(
+            alloc,
+            "capacity",
+            65_536,
+            "How many items of up to 1024 lines may wait, 1 to 65536 [default: 64]",
+        ),
+        targets(alloc),
+    ]
+    .map_err(AllocError::from)
 }
 
-fn flag<'a>(alloc: Global, id: &'a str, long: &'a str, action: ArgAction) -> Arg<'a>
+// An option without a value that is true where it is given.
+fn letter_flag<'a>(alloc: Global, id: &'a str, letter: char, help: &'a str) -> Arg<'a>
+    ensures rule { rule_of result ≡ letter_rule id.entry.now letter }
+    ensures local { result.global ≡ false }
+{
+    flag(alloc, id, id, ArgAction::SetTrue, help).short(letter)
+}
+
+// An option without a value.
+fn flag<'a>(alloc: Global, id: &'a str, long: &'a str, action: ArgAction, help: &'a str) -> Arg<'a>
     ensures rule { rule_of result ≡ flag_rule id.entry.now long.entry.now action }
     ensures local { result.global ≡ false }
 {
@@ -122,25 +140,50 @@ fn flag<'a>(alloc: Global, id: &'a str, long: &'a str, action: ArgAction) -> Arg
         .long(long)
         .action(action)
         .value_parser(value_parser!(bool))
+        .help(help)
 }
 
-fn number<'a>(alloc: Global, id: &'a str, parser: ValueParser<'a>) -> Arg<'a>
-    ensures rule { rule_of result ≡ checked_rule id.entry.now parser.entry }
+// An option with a value, which help calls by this name.
+fn text_option<'a>(alloc: Global, id: &'a str, value_name: &'a str, help: &'a str) -> Arg<'a>
+    ensures rule { rule_of result ≡ text_rule id.entry.now }
     ensures local { result.global ≡ false }
 {
     Arg::new(alloc, id)
         .long(id)
-        .value_name("N")
-        .value_parser(parser)
+        .value_name(value_name)
+        .help(help)
 }
 
-// What the words give each option, as the whole command takes them.
-fn parse<'a>(command: &mut Command<'a>, words: &'a [String]) -> Result<ArgMatches<'a>, WordsFault>
-    requires { app_of command.old ≡ redo_log }
+// An option with a number from 1 to the greatest.
+fn number<'a>(alloc: Global, id: &'a str, greatest: u32, help: &'a str) -> Arg<'a>
+    ensures rule { rule_of result ≡ number_rule id.entry.now greatest }
+    ensures local { result.global ≡ false }
+{
+    let parser = value_parser!(u32).range(1..=i64::from(greatest));
+    text_option(alloc, id, "N", help).value_parser(parser)
+}
+
+// The words that are no options.
+fn targets<'a>(alloc: Global) -> Arg<'a>
+    ensures rule { rule_of result ≡ words_rule (codes "target") }
+    ensures local { result.global ≡ false }
+{
+    Arg::new(alloc, "target")
+        .value_name("TARGET")
+        .action(ArgAction::Append)
+        .required(true)
+        .help("A target to show: its name in `names`, in any spelling")
+}
+
+// What the words give each option.
+fn parse<'a>(alloc: Global, words: &'a [String]) -> Result<ArgMatches<'a>, WordsFault>
     ensures sound { IfOk result (λ matches. AreSound (rows_of (found_of matches))) }
     ensures entries { IfOk result (λ matches. rows_of (found_of matches) ≡ matches_of redo_log (map string_bytes words.entry.now)) }
     ensures taken { IfOk result (λ _. fault_of_words (map string_bytes words.entry.now) ≡ None) }
     ensures fault { IfErr result (λ fault. (fault ≡ OutOfMemory) ⊎ (fault_of_words (map string_bytes words.entry.now) ≡ Some fault)) }
 {
-    Ok(command.try_get_matches_from_mut(words)?)
+    let mut command = command(alloc)?;
+    command
+        .try_get_matches_from_mut(words)
+        .map_err(WordsFault::from)
 }

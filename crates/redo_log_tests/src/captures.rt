@@ -7,24 +7,43 @@ use redo_log_cli::{Index, read_index};
 use std::alloc::{AllocError, Global};
 use std::test::Fail;
 
-/// An index of the targets, with a reader for each.
-pub fn captured(alloc: Global, given: &[Given<'_>], cut: Cut) -> Result<(Index, Vec<Pieces>), Fail>
-    ensures { IfOk result (λ captured. length captured.1.items ≡ length captured.0) }
+/// An index of the targets.
+pub fn index_of(alloc: Global, given: &[Given<'_>]) -> Result<Index, Fail> {
+    let names = names_text(alloc, given)?;
+    Ok(read_index(alloc, names.as_bytes())?)
+}
+
+fn names_text(alloc: Global, given: &[Given<'_>]) -> Result<String, AllocError> {
+    let mut names = String::new(alloc);
+    for (i, (name, _, _)) in given.iter().enumerate() {
+        add_name(alloc, &mut names, i + 1, name)?;
+    }
+    Ok(names)
+}
+
+fn add_name(
+    alloc: Global,
+    names: &mut String,
+    number: usize,
+    name: &str,
+) -> Result<(), AllocError> {
+    names.push_str(&format!(in alloc; "{number} {name}\n")?)
+}
+
+/// A reader for each target of the index.
+pub fn readers_for(
+    alloc: Global,
+    index: &Index,
+    given: &[Given<'_>],
+    cut: Cut,
+) -> Result<Vec<Pieces>, Fail>
+    ensures { IfOk result (λ readers. length readers.items ≡ length index.now) }
 {
-    let index = index_of(alloc, given)?;
     let readers = readers_of(alloc, given, cut)?;
     if readers.len() != index.len() as usize {
         return Err("not a reader for each name".into());
     }
-    Ok((index, readers))
-}
-
-fn index_of(alloc: Global, given: &[Given<'_>]) -> Result<Index, Fail> {
-    let mut names = String::new(alloc);
-    for (i, (name, _, _)) in given.iter().enumerate() {
-        names.push_str(&format!(in alloc; "{} {name}\n", i + 1)?)?;
-    }
-    Ok(read_index(alloc, names.as_bytes())?)
+    Ok(readers)
 }
 
 fn readers_of(alloc: Global, given: &[Given<'_>], cut: Cut) -> Result<Vec<Pieces>, AllocError> {

@@ -1,12 +1,13 @@
 //! Runs whose writer fails, at each byte and in each call, and runs whose readers fail, at each read.
 ghost use Rattle.std.specs.Prelude.{None};
 
-use crate::run::{Want, expect_planned, outcome_of, ran, stream};
+use crate::run::{Outcome, Want, expect_planned, outcome_of, ran, stream};
 use redo_gather::Plan;
 use redo_gather_tests::cases::{BUILD, BUILD_TEXT, DEEP, MAX_BYTES};
-use redo_given::{Cut, whole};
+use redo_given::{Cut, Given, whole};
 use redo_line::{Broken, Sink, StreamFault, Taker};
 use redo_log_cli::RunFault;
+use std::alloc::{AllocError, Global};
 use std::process::Abort;
 use std::sync::Wait;
 use std::test::Fail;
@@ -22,11 +23,15 @@ fn expect_room(
     want: Want<'_>,
     text: &[u8],
 ) -> Result<(), Fail> {
-    let alloc = rt.alloc();
-    let mut out = Taker::new(alloc, room, per_call)?;
+    let mut out = Taker::new(rt.alloc(), room, per_call)?;
     expect_build(rt, want, &mut out)?;
-    assert_eq!(rt; out.bytes(), text, "{room}");
+    expect_bytes(rt, out.bytes(), text, room);
     Ok(())
+}
+
+/// These bytes were written, with so much room or so many calls before the one that fails.
+fn expect_bytes(rt: &impl Abort, bytes: &[u8], text: &[u8], case: usize) {
+    assert_eq!(rt; bytes, text, "{case}");
 }
 
 /// This is answered where the text of the build goes to a writer.
@@ -35,12 +40,22 @@ fn expect_build(
     want: Want<'_>,
     out: &mut impl Sink,
 ) -> Result<(), Fail> {
-    let alloc = rt.alloc();
-    let given = whole(alloc, &BUILD)?;
+    let ran = ran_build(rt, out)?;
+    expect_ran(rt, &ran, want)
+}
+
+fn ran_build(
+    rt: &(impl AllocGlobal + Threads + Wait + Sync),
+    out: &mut impl Sink,
+) -> Result<Outcome, Fail> {
     let plan = Plan::new(4, 64, MAX_BYTES)?;
-    let ran = ran(rt, &given, Cut::InReadsOf(1), &plan, &DEEP, &["all"], out)?;
-    let (outcome, _) = outcome_of(alloc, want)?;
-    assert_eq!(rt; ran, outcome);
+    let given = whole(rt.alloc(), &BUILD)?;
+    ran(rt, &given, Cut::InReadsOf(1), &plan, &DEEP, &["all"], out)
+}
+
+fn expect_ran(rt: &(impl Abort + AllocGlobal), ran: &Outcome, want: Want<'_>) -> Result<(), Fail> {
+    let (outcome, _) = outcome_of(rt.alloc(), want)?;
+    assert_eq!(rt; ran, &outcome);
     Ok(())
 }
 
@@ -48,11 +63,20 @@ fn expect_build(
 fn a_writer_that_is_full_ends_a_run(rt: HostRuntime) -> Result<(), Fail> {
     let text = BUILD_TEXT.as_bytes();
     assert_eq!(rt; text.len(), 70);
-    for room in 0..text.len() {
-        expect_room(&rt, room, 1000, CANNOT_WRITE, &text[..room])?;
-    }
+    expect_fronts(&rt, text)?;
     expect_room(&rt, text.len(), 3, Ok(BUILD_TEXT), text)?;
     expect_room(&rt, text.len(), 0, CANNOT_WRITE, b"")
+}
+
+/// A writer with room for a front of the text alone holds that front.
+fn expect_fronts(
+    rt: &(impl Abort + AllocGlobal + Threads + Wait + Sync),
+    text: &[u8],
+) -> Result<(), Fail> {
+    for room in 0..text.len() {
+        expect_room(rt, room, 1000, CANNOT_WRITE, &text[..room])?;
+    }
+    Ok(())
 }
 
 /// A writer that takes one byte in each call but one, which fails.
@@ -95,9 +119,13 @@ fn expect_failing_once(
         calls: 0,
     };
     expect_build(rt, want, &mut out)?;
-    assert_eq!(rt; out.taken.as_slice(), text, "{fails_at}");
-    assert_eq!(rt; out.calls, calls, "{fails_at}");
+    expect_bytes(rt, &out.taken, text, fails_at);
+    expect_calls(rt, &out, calls);
     Ok(())
+}
+
+fn expect_calls(rt: &impl Abort, out: &FailingOnce, calls: usize) {
+    assert_eq!(rt; out.calls, calls, "{}", out.fails_at);
 }
 
 #[test]
@@ -117,11 +145,7 @@ fn expect_failed_reads(
     behind: [Option<usize>; 3],
     want: Want<'_>,
 ) -> Result<(), Fail> {
-    let mut given = Vec::new(rt.alloc());
-    for ((name, stream), bytes) in BUILD.iter().zip(behind) {
-        let front = bytes.and_then(|bytes| stream.get(..bytes));
-        given.push((*name, front.unwrap_or(stream), bytes.is_some()))?;
-    }
+    let given = failing_build(rt.alloc(), behind)?;
     for senders in [1, 2, 64] {
         let plan = Plan::new(senders, 1, MAX_BYTES)?;
         expect_planned(rt, &given, Cut::InReadsOf(1), &plan, &DEEP, &["all"], want)?;
@@ -129,10 +153,27 @@ fn expect_failed_reads(
     Ok(())
 }
 
+/// The build, of which these streams fail behind so many bytes.
+fn failing_build(
+    alloc: Global,
+    behind: [Option<usize>; 3],
+) -> Result<Vec<Given<'static>>, AllocError> {
+    let mut given = Vec::new(alloc);
+    for ((name, stream), bytes) in BUILD.iter().zip(&behind) {
+        given.push((*name, front(stream, *bytes), bytes.is_some()))?;
+    }
+    Ok(given)
+}
+
+/// So many bytes of the stream, or all.
+fn front(stream: &str, bytes: Option<usize>) -> &str {
+    let front = bytes.and_then(|bytes| stream.get(..bytes));
+    front.unwrap_or(stream)
+}
+
 #[test]
 fn each_failed_read_is_told_and_nothing_written(rt: HostRuntime) -> Result<(), Fail> {
-    let [(_, all), _, (_, last)] = BUILD;
-    assert_eq!(rt; (all.len(), last.len()), (113, 5));
+    expect_lengths(&rt);
     let told = stream(0, StreamFault::Read, "redo-log: all: cannot be read\n", 5);
     for bytes in 0..114 {
         expect_failed_reads(&rt, [Some(bytes), None, None], told)?;
@@ -143,4 +184,10 @@ fn each_failed_read_is_told_and_nothing_written(rt: HostRuntime) -> Result<(), F
     }
     let told = stream(1, StreamFault::Read, "redo-log: a.o: cannot be read\n", 5);
     expect_failed_reads(&rt, [None, Some(0), Some(0)], told)
+}
+
+/// How long the streams are that fail behind each byte.
+fn expect_lengths(rt: &impl Abort) {
+    let [(_, all), _, (_, last)] = BUILD;
+    assert_eq!(rt; (all.len(), last.len()), (113, 5));
 }

@@ -18,14 +18,19 @@ fn expect_told(
     number: u8,
 ) -> Result<(), Fail> {
     let line = line_told(rt.alloc(), &failure)?;
-    expect_line(rt, &failure, &line, want, number);
+    expect_line(rt, &failure, &line, want);
+    expect_status(rt, &failure, number);
     Ok(())
 }
 
 fn line_told(alloc: Global, failure: &Failure) -> Result<Vec<u8>, Fail> {
     let index = read_index(alloc, b"7 ./d//a\n1 b\n".as_slice())?;
+    line_with(alloc, failure, &index)
+}
+
+fn line_with(alloc: Global, failure: &Failure, index: &Index) -> Result<Vec<u8>, Fail> {
     let words = words(alloc)?;
-    line_of(alloc, failure, &index, &words)
+    line_of(alloc, failure, index, &words)
 }
 
 fn line_of(
@@ -48,8 +53,11 @@ fn words(alloc: Global) -> Result<Vec<Vec<u8>>, AllocError> {
     Ok(words)
 }
 
-fn expect_line(rt: &impl Abort, failure: &Failure, line: &[u8], want: &[u8], number: u8) {
+fn expect_line(rt: &impl Abort, failure: &Failure, line: &[u8], want: &[u8]) {
     assert_eq!(rt; line, want, "{failure:?}");
+}
+
+fn expect_status(rt: &impl Abort, failure: &Failure, number: u8) {
     assert_eq!(rt; status(failure), number, "{failure:?}");
 }
 
@@ -68,7 +76,7 @@ fn has_places(failure: &Failure, streams: u32, words: usize) -> bool
 const NO_MEMORY: &[u8] = b"redo-log: out of memory\n";
 
 /// A failure, the line of it and the status.
-const TOLD: [(Failure, &[u8], u8); 12] = [
+static TOLD: &[(Failure, &[u8], u8)] = &[
     (Failure::Words(WordsFault::Help), b"", 0),
     (
         Failure::Words(WordsFault::Refused),
@@ -109,14 +117,14 @@ const TOLD: [(Failure, &[u8], u8); 12] = [
 
 #[test]
 fn each_failure_has_its_line_and_its_status(rt: HostRuntime) -> Result<(), Fail> {
-    for (failure, line, number) in &TOLD {
+    for (failure, line, number) in TOLD {
         expect_told(&rt, *failure, line, *number)?;
     }
     Ok(())
 }
 
 /// The place of a word that is unknown, and the line.
-const UNKNOWN: [(usize, &[u8]); 3] = [
+static UNKNOWN: &[(usize, &[u8])] = &[
     (0, b"redo-log: x/../d/a: not known\n"),
     (1, b"redo-log: : not known\n"),
     (2, b"redo-log: \xff\xfe: not known\n"),
@@ -124,7 +132,7 @@ const UNKNOWN: [(usize, &[u8]); 3] = [
 
 #[test]
 fn an_unknown_word_is_told_as_it_was_given(rt: HostRuntime) -> Result<(), Fail> {
-    for (place, line) in &UNKNOWN {
+    for (place, line) in UNKNOWN {
         let failure = Failure::Run(RunFault::Unknown { place: *place });
         expect_told(&rt, failure, line, 24)?;
     }
@@ -132,7 +140,7 @@ fn an_unknown_word_is_told_as_it_was_given(rt: HostRuntime) -> Result<(), Fail> 
 }
 
 /// The number of a stream, its fault, the line and the status.
-const OF_STREAMS: [(u32, StreamFault, &[u8], u8); 5] = [
+static OF_STREAMS: &[(u32, StreamFault, &[u8], u8)] = &[
     (
         0,
         StreamFault::BadRecord { line: 9 },
@@ -154,7 +162,7 @@ const OF_STREAMS: [(u32, StreamFault, &[u8], u8); 5] = [
 
 #[test]
 fn the_fault_of_a_stream_is_told_with_its_name(rt: HostRuntime) -> Result<(), Fail> {
-    for (number, fault, line, status) in &OF_STREAMS {
+    for (number, fault, line, status) in OF_STREAMS {
         let (number, fault) = (*number, *fault);
         let failure = Failure::Run(RunFault::Stream { number, fault });
         expect_told(&rt, failure, line, *status)?;

@@ -1,11 +1,12 @@
 //! Indexes: what they list, and which line is refused.
 use redo_line::TargetName;
 use redo_log_cli::{Index, IndexFault, read_index};
+use std::alloc::Global;
 use std::process::Abort;
 use std::test::Fail;
 
 /// An index, and the numbers and the names that it lists.
-const LISTED: [(&str, &[(u32, &str)]); 4] = [
+static LISTED: &[(&str, &[(u32, &str)])] = &[
     ("", &[]),
     ("1 all\n", &[(1, "all")]),
     ("7 d/./a\n999999999 b", &[(7, "d/a"), (999999999, "b")]),
@@ -13,7 +14,7 @@ const LISTED: [(&str, &[(u32, &str)]); 4] = [
 ];
 
 /// An index, and its fault.
-const REFUSED: [(&str, IndexFault); 10] = [
+static REFUSED: &[(&str, IndexFault)] = &[
     ("1 a\n2 ./a\n", IndexFault::NameTwice { line: 2 }),
     ("1 a\n1 b\n", IndexFault::FidTwice { line: 2 }),
     ("1 a\n1 a\n", IndexFault::FidTwice { line: 2 }),
@@ -28,27 +29,55 @@ const REFUSED: [(&str, IndexFault); 10] = [
 
 #[test]
 fn an_index_lists_its_lines(rt: HostRuntime) -> Result<(), Fail> {
-    for (bytes, entries) in &LISTED {
-        let index = read_index(rt.alloc(), bytes.as_bytes())?;
-        assert_eq!(rt; index.len() as usize, entries.len(), "{bytes:?}");
-        for (i, &(number, name)) in entries.iter().enumerate() {
-            expect_entry(&rt, &index, i as u32, number, name)?;
-        }
+    for (bytes, entries) in LISTED {
+        expect_listed(&rt, bytes, entries)?;
+    }
+    Ok(())
+}
+
+/// The index of these bytes lists these numbers and names.
+fn expect_listed(
+    rt: &(impl Abort + AllocGlobal),
+    bytes: &str,
+    entries: &[(u32, &str)],
+) -> Result<(), Fail> {
+    let index = read_index(rt.alloc(), bytes.as_bytes())?;
+    expect_entries(rt, &index, bytes, entries)
+}
+
+fn expect_entries(
+    rt: &(impl Abort + AllocGlobal),
+    index: &Index,
+    bytes: &str,
+    entries: &[(u32, &str)],
+) -> Result<(), Fail> {
+    assert_eq!(rt; index.len() as usize, entries.len(), "{bytes:?}");
+    for (i, &(number, name)) in entries.iter().enumerate() {
+        expect_entry(rt, index, i as u32, number, name);
+        expect_found(rt, index, i as u32, name)?;
     }
     Ok(())
 }
 
 /// What the index lists at this place.
-fn expect_entry(
+fn expect_entry(rt: &impl Abort, index: &Index, i: u32, number: u32, name: &str) {
+    assert!(rt; i < index.len());
+    expect_number(rt, index.fid(i), number, name);
+    assert_eq!(rt; index.name(i).bytes(), name.as_bytes());
+}
+
+/// This is the number of the target of this name.
+fn expect_number(rt: &impl Abort, found: u32, number: u32, name: &str) {
+    assert_eq!(rt; found, number, "{name:?}");
+}
+
+/// The index finds the target of this name at this place.
+fn expect_found(
     rt: &(impl Abort + AllocGlobal),
     index: &Index,
     i: u32,
-    number: u32,
     name: &str,
 ) -> Result<(), Fail> {
-    assert!(rt; i < index.len());
-    assert_eq!(rt; index.fid(i), number, "{name:?}");
-    assert_eq!(rt; index.name(i).bytes(), name.as_bytes());
     let target = TargetName::resolve(rt.alloc(), None, name.as_bytes())?;
     assert_eq!(rt; index.find(&target), Some(i));
     Ok(())
@@ -56,23 +85,39 @@ fn expect_entry(
 
 #[test]
 fn the_least_bad_line_is_refused_with_its_first_cause(rt: HostRuntime) -> Result<(), Fail> {
-    for (bytes, fault) in &REFUSED {
-        assert_eq!(rt;
-            read_index(rt.alloc(), bytes.as_bytes()).err(),
-            Some(*fault),
-            "{bytes:?}"
-        );
+    for (bytes, fault) in REFUSED {
+        assert_eq!(rt; fault_of(rt.alloc(), bytes), Some(*fault), "{bytes:?}");
     }
     Ok(())
+}
+
+fn fault_of(alloc: Global, bytes: &str) -> Option<IndexFault> {
+    read_index(alloc, bytes.as_bytes()).err()
 }
 
 #[test]
 fn a_target_that_is_not_listed_is_not_found(rt: HostRuntime) -> Result<(), Fail> {
     let other = TargetName::resolve(rt.alloc(), None, b"b")?;
-    let index = read_index(rt.alloc(), b"1 a\n2 b/c\n".as_slice())?;
-    expect_not_found(&rt, &index, 2, &other);
-    expect_not_found(&rt, &Index::new(rt.alloc()), 0, &other);
+    expect_not_listed(&rt, "1 a\n2 b/c\n", 2, &other)?;
+    expect_nothing_listed(&rt, &other);
     Ok(())
+}
+
+/// The index of these bytes lists so many targets, and not this one.
+fn expect_not_listed(
+    rt: &(impl Abort + AllocGlobal),
+    bytes: &str,
+    len: u32,
+    other: &TargetName,
+) -> Result<(), Fail> {
+    let index = read_index(rt.alloc(), bytes.as_bytes())?;
+    expect_not_found(rt, &index, len, other);
+    Ok(())
+}
+
+/// A new index lists no target, and so not this one.
+fn expect_nothing_listed(rt: &(impl Abort + AllocGlobal), other: &TargetName) {
+    expect_not_found(rt, &Index::new(rt.alloc()), 0, other);
 }
 
 /// The index lists so many targets, and not this one.

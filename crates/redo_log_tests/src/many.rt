@@ -2,7 +2,7 @@
 use crate::run::{expect_planned, ran, stream};
 use redo_gather::Plan;
 use redo_gather_tests::cases::{DEEP, MAX_BYTES, PLAIN};
-use redo_given::Cut;
+use redo_given::{Cut, Given};
 use redo_line::{StreamFault, Taker};
 use std::alloc::{AllocError, Global};
 use std::process::Abort;
@@ -22,15 +22,28 @@ fn numbers(alloc: Global, count: usize) -> Result<Vec<String>, AllocError> {
 #[test]
 fn the_first_of_many_bad_logs_is_told(rt: HostRuntime) -> Result<(), Fail> {
     let names = numbers(rt.alloc(), 64)?;
-    let mut given = Vec::new(rt.alloc());
-    for name in &names {
+    let given = bad_logs(rt.alloc(), &names)?;
+    expect_first_told(&rt, &given)
+}
+
+/// A log for each name, whose first line is at fault.
+fn bad_logs(alloc: Global, names: &[String]) -> Result<Vec<Given<'_>>, AllocError> {
+    let mut given = Vec::new(alloc);
+    for name in names {
         given.push((name.as_str(), "@@REDO:\n", false))?;
     }
+    Ok(given)
+}
+
+fn expect_first_told(
+    rt: &(impl Abort + AllocGlobal + Threads + Wait + Sync),
+    given: &[Given<'_>],
+) -> Result<(), Fail> {
     let fault = StreamFault::BadRecord { line: 1 };
     let told = stream(0, fault, "redo-log: 1000: line 1: bad record\n", 4);
     let plan = Plan::new(64, 1, MAX_BYTES)?;
     for cut in [Cut::InReadsOf(1), Cut::InReadsOf(1000)] {
-        expect_planned(&rt, &given, cut, &plan, &PLAIN, &["1063"], told)?;
+        expect_planned(rt, given, cut, &plan, &PLAIN, &["1063"], told)?;
     }
     Ok(())
 }
@@ -39,10 +52,14 @@ fn the_first_of_many_bad_logs_is_told(rt: HostRuntime) -> Result<(), Fail> {
 fn chain(alloc: Global, names: &[String]) -> Result<Vec<String>, AllocError> {
     let mut streams = Vec::new(alloc);
     for name in names.iter().skip(1) {
-        streams.push(format!(in alloc; "@@REDO:do:1:1@@ {name}\n")?)?;
+        streams.push(mention(alloc, name)?)?;
     }
-    streams.push(format!(in alloc; "end\n")?)?;
+    streams.push(String::from_str(alloc, "end\n")?)?;
     Ok(streams)
+}
+
+fn mention(alloc: Global, name: &str) -> Result<String, AllocError> {
+    format!(in alloc; "@@REDO:do:1:1@@ {name}\n")
 }
 
 /// The end of the chain's text, behind the spaces of its last log's line.
@@ -60,16 +77,42 @@ fn expect_chain(
     names: &[String],
     streams: &[String],
 ) -> Result<(), Fail> {
-    let plan = Plan::new(4, 64, MAX_BYTES)?;
-    let mut out = Taker::new(rt.alloc(), 10_000_000, 10_000_000)?;
-    let mut given = Vec::new(rt.alloc());
+    let given = logs(rt.alloc(), names, streams)?;
+    expect_shown(rt, &given)
+}
+
+fn logs<'a>(
+    alloc: Global,
+    names: &'a [String],
+    streams: &'a [String],
+) -> Result<Vec<Given<'a>>, AllocError> {
+    let mut given = Vec::new(alloc);
     for (name, stream) in names.iter().zip(streams.iter()) {
         given.push((name.as_str(), stream.as_str(), false))?;
     }
-    let cut = Cut::InReadsOf(1000);
-    let ran = ran(rt, &given, cut, &plan, &DEEP, &["1000"], &mut out)?;
-    assert_eq!(rt; ran.status, 0);
+    Ok(given)
+}
+
+/// A run of the chain's first log writes the whole text.
+fn expect_shown(
+    rt: &(impl Abort + AllocGlobal + Threads + Wait + Sync),
+    given: &[Given<'_>],
+) -> Result<(), Fail> {
+    let mut out = Taker::new(rt.alloc(), 10_000_000, 10_000_000)?;
+    expect_no_fault(rt, given, &mut out)?;
     expect_end_of_chain(rt, out.bytes());
+    Ok(())
+}
+
+fn expect_no_fault(
+    rt: &(impl Abort + AllocGlobal + Threads + Wait + Sync),
+    given: &[Given<'_>],
+    out: &mut Taker,
+) -> Result<(), Fail> {
+    let plan = Plan::new(4, 64, MAX_BYTES)?;
+    let cut = Cut::InReadsOf(1000);
+    let ran = ran(rt, given, cut, &plan, &DEEP, &["1000"], out)?;
+    assert_eq!(rt; ran.status, 0);
     Ok(())
 }
 
@@ -78,6 +121,10 @@ fn expect_end_of_chain(rt: &impl Abort, text: &[u8]) {
     assert_eq!(rt; text.len(), 9_030_004);
     let (front, end) = text.split_at(text.len().saturating_sub(LAST.len()));
     assert_eq!(rt; end, LAST.as_bytes());
+    expect_spaces(rt, front);
+}
+
+fn expect_spaces(rt: &impl Abort, front: &[u8]) {
     let (front, spaces) = front.split_at(front.len().saturating_sub(6000));
     assert!(rt; spaces.iter().all(|byte| *byte == b' '));
     assert!(rt; front.ends_with(b"\nredo"));

@@ -1,13 +1,13 @@
 //! Runs: the streams of all targets of an index, the words that ask, and the text or the fault.
-ghost use Rattle.std.specs.Prelude.{◌≡◌, ◌<◌, length};
+ghost use Rattle.std.specs.Prelude.{◌≡◌, ◌<◌, IfOk, length};
 ghost use Rattle.redo_run.specs.RunFault.{IfStreamFault, IfUnknown};
 
-use crate::captures::captured;
+use crate::captures::{index_of, readers_for};
 use redo_gather::{Free, Plan};
 use redo_gather_tests::cases::{ASKED, CHOSEN, Case, LOGS, MAX_BYTES, MENTIONS, PLAIN, STATUSES};
 use redo_gather_tests::gate::{Event, Hold, Holding};
 use redo_given::{Answer, Cut, Given, Script, cuts, whole};
-use redo_line::{Sink, StreamFault, Taker};
+use redo_line::{Pieces, Sink, StreamFault, Taker};
 use redo_log_cli::{Failure, Index, RunFault, fault_line, read_index, run, status};
 use redo_view::Options;
 use std::alloc::{AllocError, Global};
@@ -25,6 +25,14 @@ pub struct Outcome {
     pub status: u8,
 }
 
+/// What a run is asked for.
+#[derive(Clone, Copy)]
+struct Request<'a> {
+    plan: &'a Plan,
+    options: &'a Options,
+    words: &'a [Vec<u8>],
+}
+
 /// Runs with these readers.
 pub fn ran(
     rt: &(impl AllocGlobal + Threads + Wait + Sync),
@@ -35,13 +43,52 @@ pub fn ran(
     asked: &[&str],
     out: &mut impl Sink,
 ) -> Result<Outcome, Fail> {
+    let words = words(rt.alloc(), asked)?;
+    let request = Request {
+        plan,
+        options,
+        words: &words,
+    };
+    ran_as_requested(rt, given, cut, request, out)
+}
+
+fn ran_as_requested(
+    rt: &(impl AllocGlobal + Threads + Wait + Sync),
+    given: &[Given<'_>],
+    cut: Cut,
+    request: Request<'_>,
+    out: &mut impl Sink,
+) -> Result<Outcome, Fail> {
+    let index = index_of(rt.alloc(), given)?;
+    ran_over(rt, &index, given, cut, request, out)
+}
+
+/// Runs over the streams of the index's targets.
+fn ran_over(
+    rt: &(impl AllocGlobal + Threads + Wait + Sync),
+    index: &Index,
+    given: &[Given<'_>],
+    cut: Cut,
+    request: Request<'_>,
+    out: &mut impl Sink,
+) -> Result<Outcome, Fail> {
+    let readers = readers_for(rt.alloc(), index, given, cut)?;
+    Ok(ran_with(rt, index, readers, request, out)?)
+}
+
+fn ran_with(
+    rt: &(impl AllocGlobal + Threads + Wait + Sync),
+    index: &Index,
+    readers: Vec<Pieces>,
+    request: Request<'_>,
+    out: &mut impl Sink,
+) -> Result<Outcome, AllocError>
+    requires { length readers.items ≡ length index.now }
+{
     let alloc = rt.alloc();
-    let words = words(alloc, asked)?;
-    let (index, readers) = captured(alloc, given, cut)?;
-    let answer = run(
-        rt, alloc, &index, readers, plan, options, &words, &Free, out,
-    );
-    Ok(told(alloc, answer, &index, &words)?)
+    let (plan, options, words) = (request.plan, request.options, request.words);
+    let answer = run(rt, alloc, index, readers, plan, options, words, &Free, out);
+    told(alloc, answer, index, words)
 }
 
 /// The answer of a run of these words, with what is told of it.
@@ -80,7 +127,7 @@ fn words(alloc: Global, asked: &[&str]) -> Result<Vec<Vec<u8>>, AllocError> {
 pub type Want<'a> = Result<&'a str, (RunFault, &'a str, u8)>;
 
 /// Numbers of senders, and capacities.
-const PLANS: [(u32, u32); 6] = [(1, 1), (1, 64), (2, 1), (2, 64), (64, 1), (64, 64)];
+static PLANS: &[(u32, u32)] = &[(1, 1), (1, 64), (2, 1), (2, 64), (64, 1), (64, 64)];
 
 /// However the streams are cut into reads, and whoever reads them, this is answered, and the text or
 /// nothing written.
@@ -92,13 +139,26 @@ fn expect_run(
     asked: &[&str],
     want: Want<'_>,
 ) -> Result<(), Fail> {
+    expect_cut(rt, given, max_bytes, options, asked, want)?;
+    for (senders, capacity) in PLANS {
+        let plan = Plan::new(*senders, *capacity, max_bytes)?;
+        expect_planned(rt, given, Cut::InReadsOf(3), &plan, options, asked, want)?;
+    }
+    Ok(())
+}
+
+/// However the streams are cut into reads, this is answered.
+fn expect_cut(
+    rt: &(impl Abort + AllocGlobal + Threads + Wait + Sync),
+    given: &[Given<'_>],
+    max_bytes: u64,
+    options: &Options,
+    asked: &[&str],
+    want: Want<'_>,
+) -> Result<(), Fail> {
     let plan = Plan::new(4, 64, max_bytes)?;
     for cut in &cuts(rt.alloc(), given)? {
         expect_planned(rt, given, *cut, &plan, options, asked, want)?;
-    }
-    for (senders, capacity) in PLANS {
-        let plan = Plan::new(senders, capacity, max_bytes)?;
-        expect_planned(rt, given, Cut::InReadsOf(3), &plan, options, asked, want)?;
     }
     Ok(())
 }
@@ -145,25 +205,39 @@ fn expect_texts(
     rt: &(impl Abort + AllocGlobal + Threads + Wait + Sync),
     cases: &[Case],
 ) -> Result<(), Fail> {
-    for (given, options, asked, text) in cases {
-        let given = whole(rt.alloc(), given)?;
-        expect_run(rt, &given, MAX_BYTES, options, asked, Ok(text))?;
+    for case in cases {
+        expect_text(rt, case)?;
     }
     Ok(())
 }
 
+fn expect_text(
+    rt: &(impl Abort + AllocGlobal + Threads + Wait + Sync),
+    case: &Case,
+) -> Result<(), Fail> {
+    let (given, options, asked, text) = case;
+    let given = whole(rt.alloc(), given)?;
+    expect_run(rt, &given, MAX_BYTES, options, asked, Ok(text))
+}
+
+// The tables that are gone over, as statics: a constant is written out wherever it is named.
+static OF_LOGS: &[Case] = &LOGS;
+
+static OF_MENTIONS: &[Case] = &MENTIONS;
+
+static OF_ASKING: &[Case] = &ASKED;
+
+static OF_OPTIONS: &[Case] = &CHOSEN;
+
+static OF_STATUSES: &[Case] = &STATUSES;
+
 #[test]
 fn a_run_writes_the_text_of_its_logs(rt: HostRuntime) -> Result<(), Fail> {
-    for cases in [
-        LOGS.as_slice(),
-        MENTIONS.as_slice(),
-        ASKED.as_slice(),
-        CHOSEN.as_slice(),
-        STATUSES.as_slice(),
-    ] {
-        expect_texts(&rt, cases)?;
-    }
-    Ok(())
+    expect_texts(&rt, OF_LOGS)?;
+    expect_texts(&rt, OF_MENTIONS)?;
+    expect_texts(&rt, OF_ASKING)?;
+    expect_texts(&rt, OF_OPTIONS)?;
+    expect_texts(&rt, OF_STATUSES)
 }
 
 const BAD: &str = "@@REDO:do:7\n";
@@ -183,53 +257,59 @@ fn unknown<'a>(place: usize, line: &'a str) -> Want<'a> {
 }
 
 /// Two streams, and the number of the one that is told, its fault, the line and the status.
-type AtFault = ([Given<'static>; 2], u32, StreamFault, &'static str, u8);
+type AtFault = (
+    &'static [Given<'static>],
+    u32,
+    StreamFault,
+    &'static str,
+    u8,
+);
 
-const AT_FAULT: [AtFault; 7] = [
+static AT_FAULT: &[AtFault] = &[
     (
-        [("all", "ok\n@@REDO:do:7\n", false), ("b", "", false)],
+        &[("all", "ok\n@@REDO:do:7\n", false), ("b", "", false)],
         0,
         StreamFault::BadRecord { line: 2 },
         "redo-log: all: line 2: bad record\n",
         4,
     ),
     (
-        [("a", CLOSING_AND_MORE, false), ("all", "", false)],
+        &[("a", CLOSING_AND_MORE, false), ("all", "", false)],
         0,
         StreamFault::AfterClose { line: 2 },
         "redo-log: a: line 2: after the closing record\n",
         4,
     ),
     (
-        [("a", BAD_NINTH, false), ("all", BAD, false)],
+        &[("a", BAD_NINTH, false), ("all", BAD, false)],
         0,
         StreamFault::BadRecord { line: 9 },
         "redo-log: a: line 9: bad record\n",
         4,
     ),
     (
-        [("a", "x\n", true), ("all", BAD, false)],
+        &[("a", "x\n", true), ("all", BAD, false)],
         0,
         StreamFault::Read,
         "redo-log: a: cannot be read\n",
         5,
     ),
     (
-        [("a", BAD, true), ("all", "", false)],
+        &[("a", BAD, true), ("all", "", false)],
         0,
         StreamFault::BadRecord { line: 1 },
         "redo-log: a: line 1: bad record\n",
         4,
     ),
     (
-        [("all", "@@REDO:do:7\nok\n", false), ("b", "", false)],
+        &[("all", "@@REDO:do:7\nok\n", false), ("b", "", false)],
         0,
         StreamFault::BadRecord { line: 1 },
         "redo-log: all: line 1: bad record\n",
         4,
     ),
     (
-        [("all", "x\n", false), ("d//b", BAD, false)],
+        &[("all", "x\n", false), ("d//b", BAD, false)],
         1,
         StreamFault::BadRecord { line: 1 },
         "redo-log: d/b: line 1: bad record\n",
@@ -239,7 +319,7 @@ const AT_FAULT: [AtFault; 7] = [
 
 #[test]
 fn a_stream_at_fault_is_told_and_nothing_written(rt: HostRuntime) -> Result<(), Fail> {
-    for (given, number, fault, line, status) in &AT_FAULT {
+    for (given, number, fault, line, status) in AT_FAULT {
         let want = stream(*number, *fault, line, *status);
         expect_run(&rt, given, 1000, &PLAIN, &["all"], want)?;
     }
@@ -265,7 +345,7 @@ const AFTER_CLOSE: Want<'static> = Err((
 ));
 
 /// The stream of `a`, a limit, and what a run answers within it.
-const LIMITED: [(&str, u64, Want<'static>); 6] = [
+static LIMITED: &[(&str, u64, Want<'static>)] = &[
     ("abc\n", 4, Ok("redo  a\nabc\n")),
     ("abc\nd", 4, TOO_LONG),
     (CLOSING, 27, Ok("redo  a\n")),
@@ -276,33 +356,31 @@ const LIMITED: [(&str, u64, Want<'static>); 6] = [
 
 #[test]
 fn a_stream_may_have_so_many_bytes(rt: HostRuntime) -> Result<(), Fail> {
-    for (text, max_bytes, want) in &LIMITED {
+    for (text, max_bytes, want) in LIMITED {
         let given = [("a", *text, false)];
         expect_run(&rt, &given, *max_bytes, &PLAIN, &["a"], *want)?;
     }
     Ok(())
 }
 
+/// What a log at fault is asked for, the place of the unknown word, and the line.
+static UNKNOWN: &[(&[&str], usize, &str)] = &[
+    (&["all", "nope"], 1, "redo-log: nope: not known\n"),
+    (&["nope", "none"], 0, "redo-log: nope: not known\n"),
+    (&[""], 0, "redo-log: : not known\n"),
+    (&["./all//x", "all"], 0, "redo-log: ./all//x: not known\n"),
+    (
+        &["all", "./all", "all/../x"],
+        2,
+        "redo-log: all/../x: not known\n",
+    ),
+];
+
 #[test]
 fn an_unknown_word_is_told_before_a_fault(rt: HostRuntime) -> Result<(), Fail> {
-    let alloc = rt.alloc();
-    let given = whole(alloc, &[("all", BAD)])?;
-    for (asked, place, line) in [
-        (
-            &["all", "nope"] as &[&str],
-            1,
-            "redo-log: nope: not known\n",
-        ),
-        (&["nope", "none"], 0, "redo-log: nope: not known\n"),
-        (&[""], 0, "redo-log: : not known\n"),
-        (&["./all//x", "all"], 0, "redo-log: ./all//x: not known\n"),
-        (
-            &["all", "./all", "all/../x"],
-            2,
-            "redo-log: all/../x: not known\n",
-        ),
-    ] {
-        expect_run(&rt, &given, 1000, &PLAIN, asked, unknown(place, line))?;
+    for (asked, place, line) in UNKNOWN {
+        let want = unknown(*place, line);
+        expect_run(&rt, &[("all", BAD, false)], 1000, &PLAIN, asked, want)?;
     }
     let want = unknown(0, "redo-log: a: not known\n");
     expect_run(&rt, &[], 1000, &PLAIN, &["a"], want)
@@ -323,12 +401,31 @@ fn answer_of_counted(
     reads: &AtomicU64,
 ) -> Result<Result<(), RunFault>, Fail> {
     let index = read_index(rt.alloc(), b"1 all\n".as_slice())?;
-    let mut readers = Vec::new(rt.alloc());
+    answer_over(rt, &index, reads)
+}
+
+fn answer_over(
+    rt: &(impl AllocGlobal + Threads + Wait + Sync),
+    index: &Index,
+    reads: &AtomicU64,
+) -> Result<Result<(), RunFault>, Fail> {
+    let readers = counted_readers(rt.alloc(), index, reads)?;
+    answer_to_nope(rt, index, readers)
+}
+
+fn counted_readers<'a>(
+    alloc: Global,
+    index: &Index,
+    reads: &'a AtomicU64,
+) -> Result<Vec<Script<'a>>, Fail>
+    ensures { IfOk result (λ readers. length readers.items ≡ length index.now) }
+{
+    let mut readers = Vec::new(alloc);
     readers.push(Script::new(&[], Answer::End, reads))?;
     if readers.len() != index.len() as usize {
         return Err("not a reader for each name".into());
     }
-    answer_to_nope(rt, &index, readers)
+    Ok(readers)
 }
 
 fn answer_to_nope(
@@ -347,15 +444,17 @@ fn answer_to_nope(
     ))
 }
 
+/// Words, and what is written of two logs.
+static RELATIVE: &[(&[&str], &str)] = &[
+    (&["d/./a"], "redo  d/a\nA\n"),
+    (&["x/..//d/a", "/e", "d/a"], "redo  d/a\nA\nredo  /e\nE\n"),
+    (&[], ""),
+];
+
 #[test]
 fn a_word_is_a_name_relative_to_the_base(rt: HostRuntime) -> Result<(), Fail> {
-    let alloc = rt.alloc();
-    let given = whole(alloc, &[("d/a", "A\n"), ("/e", "E\n")])?;
-    for (asked, text) in [
-        (&["d/./a"] as &[&str], "redo  d/a\nA\n"),
-        (&["x/..//d/a", "/e", "d/a"], "redo  d/a\nA\nredo  /e\nE\n"),
-        (&[], ""),
-    ] {
+    let given = [("d/a", "A\n", false), ("/e", "E\n", false)];
+    for (asked, text) in RELATIVE {
         expect_run(&rt, &given, 1000, &PLAIN, asked, Ok(text))?;
     }
     Ok(())
@@ -364,23 +463,52 @@ fn a_word_is_a_name_relative_to_the_base(rt: HostRuntime) -> Result<(), Fail> {
 // Each stream's second line is read only once the other's first one was taken.
 #[test]
 fn a_run_reads_and_takes_its_streams_side_by_side(rt: HostRuntime) -> Result<(), Fail> {
-    let alloc = rt.alloc();
     let read = |stream| Event::BeforeRead { stream, turn: 2 };
     let taken = |stream| Event::Taken { stream, lines: 1 };
     let gate = Holding::new([Hold::new(read(0), taken(1)), Hold::new(read(1), taken(0))]);
-    let given = [("p", "p1\np2\n", false), ("q", "q1\nq2\n", false)];
-    let words = words(alloc, &["p", "q"])?;
-    let plan = Plan::new(2, 1, 1000)?;
-    let mut out = Taker::new(alloc, 1000, 1000)?;
-    let (index, readers) = captured(alloc, &given, Cut::InReadsOf(3))?;
-    let answer = run(
-        &rt, alloc, &index, readers, &plan, &PLAIN, &words, &gate, &mut out,
-    );
+    expect_pair_shown(&rt, &gate)?;
+    assert!(rt; gate.kept_all());
+    Ok(())
+}
+
+/// Two streams of two lines.
+const PAIR: [Given<'static>; 2] = [("p", "p1\np2\n", false), ("q", "q1\nq2\n", false)];
+
+/// A run under this gate writes the logs of the two streams.
+fn expect_pair_shown(
+    rt: &(impl Abort + AllocGlobal + Threads + Wait + Sync),
+    gate: &Holding,
+) -> Result<(), Fail> {
+    let mut out = Taker::new(rt.alloc(), 1000, 1000)?;
+    let answer = answer_to_pair(rt, gate, &mut out)?;
     assert_eq!(rt; answer, Ok(()));
     assert_eq!(rt;
         out.bytes(),
         b"redo  p\np1\np2\nredo  q\nq1\nq2\n".as_slice()
     );
-    assert!(rt; gate.kept_all());
     Ok(())
+}
+
+fn answer_to_pair(
+    rt: &(impl AllocGlobal + Threads + Wait + Sync),
+    gate: &Holding,
+    out: &mut Taker,
+) -> Result<Result<(), RunFault>, Fail> {
+    let words = words(rt.alloc(), &["p", "q"])?;
+    let index = index_of(rt.alloc(), &PAIR)?;
+    answer_side_by_side(rt, gate, &index, &words, out)
+}
+
+/// What a run of the two streams by two senders answers, a line at once.
+fn answer_side_by_side(
+    rt: &(impl AllocGlobal + Threads + Wait + Sync),
+    gate: &Holding,
+    index: &Index,
+    words: &[Vec<u8>],
+    out: &mut Taker,
+) -> Result<Result<(), RunFault>, Fail> {
+    let alloc = rt.alloc();
+    let plan = Plan::new(2, 1, 1000)?;
+    let readers = readers_for(alloc, index, &PAIR, Cut::InReadsOf(3))?;
+    Ok(run(rt, alloc, index, readers, &plan, &PLAIN, words, gate, out))
 }

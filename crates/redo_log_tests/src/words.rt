@@ -42,13 +42,19 @@ const BOTH_LETTERS: Options = Options {
     debug_locks: false,
 };
 
-const fn plain<'a>(targets: &'a [&'a str]) -> Want<'a> {
+/// Without options, and without targets yet.
+const PLAIN_JOB: Want<'static> = Want {
+    options: PLAIN,
+    dir: ".",
+    senders: 4,
+    capacity: 64,
+    targets: &[],
+};
+
+fn plain<'a>(targets: &'a [&'a str]) -> Want<'a> {
     Want {
-        options: PLAIN,
-        dir: ".",
-        senders: 4,
-        capacity: 64,
         targets,
+        ..PLAIN_JOB
     }
 }
 
@@ -68,13 +74,32 @@ fn expect_job(
 ) -> Result<(), Fail> {
     let job = read(rt, words)??;
     expect_options(rt, &job, want);
+    expect_dir(rt, &job, want);
     expect_numbers(rt, &job, want);
     expect_targets(rt, &job, want.targets);
     Ok(())
 }
 
+/// The words are refused with this fault.
+fn expect_fault(
+    rt: &(impl Abort + AllocGlobal),
+    words: &[&str],
+    fault: WordsFault,
+) -> Result<(), Fail> {
+    let found = fault_of(rt, words)?;
+    assert_eq!(rt; found, Some(fault), "{words:?}");
+    Ok(())
+}
+
+fn fault_of(rt: &impl AllocGlobal, words: &[&str]) -> Result<Option<WordsFault>, Fail> {
+    Ok(read(rt, words)?.err())
+}
+
 fn expect_options(rt: &impl Abort, job: &Job, want: &Want<'_>) {
     assert_eq!(rt; job.options(), &want.options);
+}
+
+fn expect_dir(rt: &impl Abort, job: &Job, want: &Want<'_>) {
     assert_eq!(rt; job.dir(), want.dir);
 }
 
@@ -85,111 +110,145 @@ fn expect_numbers(rt: &impl Abort, job: &Job, want: &Want<'_>) {
 
 fn expect_targets(rt: &impl Abort, job: &Job, names: &[&str]) {
     assert_eq!(rt; job.targets().len(), names.len(), "{names:?}");
-    for (target, name) in job.targets().iter().zip(names) {
-        assert_eq!(rt; target.as_slice(), name.as_bytes(), "{names:?}");
+    expect_names(rt, job.targets(), names);
+}
+
+fn expect_names(rt: &impl Abort, targets: &[Vec<u8>], names: &[&str]) {
+    for (target, name) in targets.iter().zip(names) {
+        expect_target(rt, target, name, names);
     }
 }
 
+/// The target has this name, which is one of these.
+fn expect_target(rt: &impl Abort, target: &[u8], name: &str, names: &[&str]) {
+    assert_eq!(rt; target, name.as_bytes(), "{names:?}");
+}
+
+/// Words, and the targets among them.
+static TARGETS: &[(&[&str], &[&str])] = &[
+    (&["all"], &["all"]),
+    (&["b", "a", "b"], &["b", "a", "b"]),
+    (&[""], &[""]),
+    (&["-"], &["-"]),
+    (&["a", "-", ""], &["a", "-", ""]),
+    (&["help"], &["help"]),
+    (&["--", "--"], &["--"]),
+    (&["--", "-r", "--help"], &["-r", "--help"]),
+    (&["a", "--", "b", "--dir"], &["a", "b", "--dir"]),
+];
+
 #[test]
 fn words_that_are_no_options_are_targets(rt: HostRuntime) -> Result<(), Fail> {
-    for (words, targets) in [
-        (["all"].as_slice(), ["all"].as_slice()),
-        (&["b", "a", "b"], &["b", "a", "b"]),
-        (&[""], &[""]),
-        (&["-"], &["-"]),
-        (&["a", "-", ""], &["a", "-", ""]),
-        (&["help"], &["help"]),
-        (&["--", "--"], &["--"]),
-        (&["--", "-r", "--help"], &["-r", "--help"]),
-        (&["a", "--", "b", "--dir"], &["a", "b", "--dir"]),
-    ] {
+    for (words, targets) in TARGETS {
         expect_job(&rt, words, &plain(targets))?;
     }
     Ok(())
 }
 
-#[test]
-fn options_are_read(rt: HostRuntime) -> Result<(), Fail> {
-    let all_set = Want {
-        options: ALL_SET,
-        dir: "d",
-        senders: 2,
-        capacity: 1,
-        targets: &["-x"],
-    };
-    let words = [
-        "-r",
-        "-u",
-        "--no-details",
-        "--debug-locks",
-        "--dir",
-        "d",
-        "--senders",
-        "2",
-        "--capacity",
-        "1",
-        "--",
-        "-x",
-    ];
-    expect_job(&rt, &words, &all_set)?;
-    let words = [
-        "--capacity=1",
-        "--recursive",
-        "--dir=d",
-        "--debug-locks",
-        "--unchanged",
-        "--senders=2",
-        "--no-details",
-        "--",
-        "-x",
-    ];
-    expect_job(&rt, &words, &all_set)?;
-    let greatest = Want {
-        senders: 64,
-        capacity: 65_536,
-        ..plain(&["a"])
-    };
-    expect_job(
-        &rt,
-        &["a", "--senders", "64", "--capacity", "65536"],
-        &greatest,
-    )?;
-    expect_job(&rt, &["a", "--senders=+064", "--capacity=65536"], &greatest)
-}
+/// Each option is set.
+const EACH_SET: Want<'static> = Want {
+    options: ALL_SET,
+    dir: "d",
+    senders: 2,
+    capacity: 1,
+    targets: &["-x"],
+};
+
+const GREATEST: Want<'static> = Want {
+    senders: 64,
+    capacity: 65_536,
+    targets: &["a"],
+    ..PLAIN_JOB
+};
+
+/// Words, and the job that is read of them.
+static JOBS: &[(&[&str], Want<'static>)] = &[
+    (
+        &[
+            "-r",
+            "-u",
+            "--no-details",
+            "--debug-locks",
+            "--dir",
+            "d",
+            "--senders",
+            "2",
+            "--capacity",
+            "1",
+            "--",
+            "-x",
+        ],
+        EACH_SET,
+    ),
+    (
+        &[
+            "--capacity=1",
+            "--recursive",
+            "--dir=d",
+            "--debug-locks",
+            "--unchanged",
+            "--senders=2",
+            "--no-details",
+            "--",
+            "-x",
+        ],
+        EACH_SET,
+    ),
+    (&["a", "--senders", "64", "--capacity", "65536"], GREATEST),
+    (&["a", "--senders=+064", "--capacity=65536"], GREATEST),
+];
 
 #[test]
-fn options_stand_among_targets(rt: HostRuntime) -> Result<(), Fail> {
-    for words in [["-r", "a", "b"], ["a", "-r", "b"], ["a", "b", "-r"]] {
-        let want = Want {
-            options: RECURSIVE,
-            ..plain(&["a", "b"])
-        };
-        expect_job(&rt, &words, &want)?;
-    }
-    for words in [
-        ["-ru", "--dir=d", "a", "b"],
-        ["a", "-ur", "--dir=d", "b"],
-        ["a", "b", "--dir=d", "-ru"],
-    ] {
-        let want = Want {
-            options: BOTH_LETTERS,
-            dir: "d",
-            ..plain(&["a", "b"])
-        };
-        expect_job(&rt, &words, &want)?;
+fn options_are_read(rt: HostRuntime) -> Result<(), Fail> {
+    for (words, want) in JOBS {
+        expect_job(&rt, words, want)?;
     }
     Ok(())
 }
 
+const ONE_OPTION: Want<'static> = Want {
+    options: RECURSIVE,
+    targets: &["a", "b"],
+    ..PLAIN_JOB
+};
+
+const THREE_OPTIONS: Want<'static> = Want {
+    options: BOTH_LETTERS,
+    dir: "d",
+    targets: &["a", "b"],
+    ..PLAIN_JOB
+};
+
+/// Words, and the job that is read of them.
+static AMONG_TARGETS: &[(&[&str], Want<'static>)] = &[
+    (&["-r", "a", "b"], ONE_OPTION),
+    (&["a", "-r", "b"], ONE_OPTION),
+    (&["a", "b", "-r"], ONE_OPTION),
+    (&["-ru", "--dir=d", "a", "b"], THREE_OPTIONS),
+    (&["a", "-ur", "--dir=d", "b"], THREE_OPTIONS),
+    (&["a", "b", "--dir=d", "-ru"], THREE_OPTIONS),
+];
+
+#[test]
+fn options_stand_among_targets(rt: HostRuntime) -> Result<(), Fail> {
+    for (words, want) in AMONG_TARGETS {
+        expect_job(&rt, words, want)?;
+    }
+    Ok(())
+}
+
+/// Words, and the directory that they name.
+static DIRECTORIES: &[(&[&str], &str)] = &[
+    (&["--dir=", "a"], ""),
+    (&["--dir", "", "a"], ""),
+    (&["--dir=-x", "a"], "-x"),
+    (&["--dir==", "a"], "="),
+    (&["--dir", "/a b/\u{e9}", "a"], "/a b/\u{e9}"),
+];
+
 #[test]
 fn a_directory_is_taken_as_it_is(rt: HostRuntime) -> Result<(), Fail> {
-    for (words, dir) in [
-        (["--dir=", "a"].as_slice(), ""),
-        (&["--dir", "", "a"], ""),
-        (&["--dir=-x", "a"], "-x"),
-        (&["--dir==", "a"], "="),
-        (&["--dir", "/a b/\u{e9}", "a"], "/a b/\u{e9}"),
-    ] {
+    for (words, dir) in DIRECTORIES {
         let want = Want {
             dir,
             ..plain(&["a"])
@@ -199,95 +258,95 @@ fn a_directory_is_taken_as_it_is(rt: HostRuntime) -> Result<(), Fail> {
     Ok(())
 }
 
+static REFUSED: &[&[&str]] = &[
+    &[],
+    &["--"],
+    &["-r"],
+    &["-f", "all"],
+    &["--force", "all"],
+    &["--recur", "all"],
+    &["-V", "all"],
+    &["--version"],
+    &["--senders", "0", "all"],
+    &["--senders", "65", "all"],
+    &["--senders", "-1", "all"],
+    &["--senders=-1", "all"],
+    &["--senders=", "all"],
+    &["--senders", "four", "all"],
+    &["--senders", "1.0", "all"],
+    &["--senders", "18446744073709551617", "all"],
+    &["--capacity", "0", "all"],
+    &["--capacity", "65537", "all"],
+    &["--dir", "d"],
+    &["all", "--dir"],
+    &["--dir", "-r", "all"],
+    &["--dir", "a", "--dir", "b", "all"],
+    &["--senders", "2", "--senders", "2", "all"],
+    &["-r", "-r", "all"],
+    &["-rr", "all"],
+    &["-ur", "--recursive", "all"],
+    &["--recursive=true", "all"],
+    &["-rf", "all"],
+];
+
 #[test]
 fn words_are_refused(rt: HostRuntime) -> Result<(), Fail> {
-    for words in [
-        [].as_slice(),
-        &["--"],
-        &["-r"],
-        &["-f", "all"],
-        &["--force", "all"],
-        &["--recur", "all"],
-        &["-V", "all"],
-        &["--version"],
-        &["--senders", "0", "all"],
-        &["--senders", "65", "all"],
-        &["--senders", "-1", "all"],
-        &["--senders=-1", "all"],
-        &["--senders=", "all"],
-        &["--senders", "four", "all"],
-        &["--senders", "1.0", "all"],
-        &["--senders", "18446744073709551617", "all"],
-        &["--capacity", "0", "all"],
-        &["--capacity", "65537", "all"],
-        &["--dir", "d"],
-        &["all", "--dir"],
-        &["--dir", "-r", "all"],
-        &["--dir", "a", "--dir", "b", "all"],
-        &["--senders", "2", "--senders", "2", "all"],
-        &["-r", "-r", "all"],
-        &["-rr", "all"],
-        &["-ur", "--recursive", "all"],
-        &["--recursive=true", "all"],
-        &["-rf", "all"],
-    ] {
-        assert_eq!(rt;
-            read(&rt, words)?.err(),
-            Some(WordsFault::Refused),
-            "{words:?}"
-        );
+    for words in REFUSED {
+        expect_fault(&rt, words, WordsFault::Refused)?;
     }
     Ok(())
 }
 
+static HELP: &[&[&str]] = &[
+    &["--help"],
+    &["-h"],
+    &["all", "--help"],
+    &["-rh", "all"],
+    &["--help", "--force"],
+];
+
 #[test]
 fn help_is_asked_for(rt: HostRuntime) -> Result<(), Fail> {
-    for words in [
-        ["--help"].as_slice(),
-        &["-h"],
-        &["all", "--help"],
-        &["-rh", "all"],
-        &["--help", "--force"],
-    ] {
-        assert_eq!(rt;
-            read(&rt, words)?.err(),
-            Some(WordsFault::Help),
-            "{words:?}"
-        );
+    for words in HELP {
+        expect_fault(&rt, words, WordsFault::Help)?;
     }
     // The first fault counts.
-    assert_eq!(rt;
-        read(&rt, &["--force", "--help"])?.err(),
-        Some(WordsFault::Refused)
-    );
+    expect_fault(&rt, &["--force", "--help"], WordsFault::Refused)?;
     // Behind `--` it is a target.
     expect_job(&rt, &["--", "--help"], &plain(&["--help"]))
 }
 
+/// What stands in the help text.
+static HELP_PARTS: &[&str] = &[
+    "Usage: redo-log [OPTIONS] <TARGET>...\n",
+    "-r, --recursive",
+    "-u, --unchanged",
+    "--no-details",
+    "--debug-locks",
+    "--dir <DIR>",
+    "--senders <N>",
+    "--capacity <N>",
+    "-h, --help",
+    "\n   0  ",
+    "\n   2  ",
+    "\n   3  ",
+    "\n   4  ",
+    "\n   5  ",
+    "\n   6  ",
+    "\n   7  ",
+    "\n  24  ",
+];
+
 #[test]
 fn the_help_text_tells_each_option_and_status(rt: HostRuntime) -> Result<(), Fail> {
     let text = help_text(rt.alloc())?;
-    for part in [
-        "Usage: redo-log [OPTIONS] <TARGET>...\n",
-        "-r, --recursive",
-        "-u, --unchanged",
-        "--no-details",
-        "--debug-locks",
-        "--dir <DIR>",
-        "--senders <N>",
-        "--capacity <N>",
-        "-h, --help",
-        "\n   0  ",
-        "\n   2  ",
-        "\n   3  ",
-        "\n   4  ",
-        "\n   5  ",
-        "\n   6  ",
-        "\n   7  ",
-        "\n  24  ",
-    ] {
-        assert!(rt; text.contains(part), "{part}");
-    }
+    expect_parts(&rt, &text);
     assert!(rt; text.ends_with("not listed\n"));
     Ok(())
+}
+
+fn expect_parts(rt: &impl Abort, text: &str) {
+    for part in HELP_PARTS {
+        assert!(rt; text.contains(part), "{part}");
+    }
 }

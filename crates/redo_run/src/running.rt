@@ -1,15 +1,24 @@
-ghost use Rattle.std.specs.Prelude.{◌≡◌, ◌≢◌, ◌<◌, ◌⊎◌, None, Err, IfOk, IfErr, length, map};
+ghost use Rattle.std.specs.Prelude.{◌≡◌, ◌≢◌, ◌<◌, ◌⊎◌, true, None, Err, IfOk, IfErr, OnOk, length, map};
+ghost use Rattle.std.specs.List.{list_all};
 ghost use Rattle.redo_line.specs.declared.stream_fault.StreamFault.TheVariants as stream;
+ghost use Rattle.redo_logs.specs.Logs.{has_ended, targets_of};
+ghost use Rattle.redo_gather.specs.GatherFault as gathering;
+ghost use Rattle.redo_gather.specs.Streams.{AreLogs, IsFault};
+ghost use Rattle.redo_view.specs.Expansion.{expansion};
+ghost use Rattle.redo_view.specs.View.{unknown_among};
+ghost use Rattle.redo_view.specs.Written.{WroteAll, WroteFront, WroteUntilFailed};
 ghost use Rattle.redo_index.specs.Index.{names_of};
+ghost use Rattle.redo_run.specs.declared.run_fault.RunFault.TheVariants.{OutOfMemory, Write};
 ghost use Rattle.redo_run.specs.Private.LookUp.{IsFaultOfWords};
 ghost use Rattle.redo_run.specs.Run.{bytes_of_words, question, target_of, targets_named, unknown_word};
 ghost use Rattle.redo_run.specs.RunFault.{IfStreamFault, IfTold, IfUnknown};
 ghost use Rattle.redo_run.specs.Shown.{FailsInText, HasFault, WritesAll, WritesFront};
 
 use crate::run_fault::RunFault;
-use redo_gather::{Gate, Plan, gather, logs_unless_fault};
+use redo_gather::{Gate, GatherFault, Plan, gather, logs_unless_fault};
 use redo_index::Index;
 use redo_line::{Feed, NameFault, Sink, TargetName};
+use redo_logs::LogTable;
 use redo_view::{Options, ViewFault, view};
 use std::alloc::{AllocError, Global};
 use std::sync::Wait;
@@ -56,18 +65,58 @@ pub fn run<T: Threads + Wait + Sync, R: Feed + Send, W: Sink, G: Gate>(
     ensures no_memory { IfStreamFault result (λ _ fault. fault ≢ stream.OutOfMemory) }
 
     // The writer failed, once, behind a front of the text.
-    ensures write { result ≡ Err RunFault.Write →
+    ensures write { result ≡ Err Write →
         FailsInText (question index.now plan.now options.now asked.now) (map R.tells readers.items) (W.tells out.old) (W.tells out.new) }
 
     // There was no memory, and the writer didn't fail: nothing was written, or a front of the text.
-    ensures memory { result ≡ Err RunFault.OutOfMemory → (W.tells out.new ≡ W.tells out.old) ⊎
+    ensures memory { result ≡ Err OutOfMemory → (W.tells out.new ≡ W.tells out.old) ⊎
         WritesFront (question index.now plan.now options.now asked.now) (map R.tells readers.items) (W.tells out.old) (W.tells out.new) }
 {
     let targets = find_targets(alloc, index, asked)?;
-    let names = index.names(alloc)?;
     logs_unless_fault();
-    let table = gather(rt, alloc, names, readers, plan, gate)?;
-    match view(alloc, &table, options, &targets, out) {
+    let table = gather_listed(rt, alloc, index, readers, plan, gate)?;
+    show(alloc, &table, options, &targets, out)
+}
+
+// The logs of all targets that are listed.
+fn gather_listed<T: Threads + Wait + Sync, R: Feed + Send, G: Gate>(
+    rt: &T,
+    alloc: Global,
+    index: &Index,
+    readers: Vec<R>,
+    plan: &Plan,
+    gate: &G,
+) -> Result<LogTable, GatherFault>
+    requires { length readers.items ≡ length index.now }
+    ensures logs { IfOk result (AreLogs plan.now.max_bytes (names_of index.now) (map R.tells readers.items)) }
+    ensures targets { IfOk result (λ table. targets_of table ≡ names_of index.now) }
+    ensures ended { IfOk result (λ table. list_all has_ended table ≡ true) }
+    ensures fault { gathering.IfStreamFault result (IsFault plan.now.max_bytes (names_of index.now) (map R.tells readers.items)) }
+    ensures number { gathering.IfStreamFault result (λ number fault. number < length index.now) }
+    ensures no_memory { gathering.IfStreamFault result (λ number fault. fault ≢ stream.OutOfMemory) }
+{
+    let names = index.names(alloc)?;
+    gather(rt, alloc, names, readers, plan, gate)
+}
+
+// Shows logs at targets that have one each.
+fn show<W: Sink>(
+    alloc: Global,
+    table: &LogTable,
+    options: &Options,
+    targets: &[TargetName],
+    out: &mut W,
+) -> Result<(), RunFault>
+    requires ended { list_all has_ended table.now ≡ true }
+    requires known { unknown_among table.now targets.now ≡ None }
+    ensures ok { OnOk result (WroteAll (W.tells out.old) (W.tells out.new) (expansion table.now options.now targets.now)) }
+    ensures either { IfErr result (λ fault. (fault ≡ Write) ⊎ (fault ≡ OutOfMemory)) }
+    ensures write { result ≡ Err Write →
+        WroteUntilFailed (W.tells out.old) (W.tells out.new) (expansion table.now options.now targets.now) }
+    ensures memory { result ≡ Err OutOfMemory →
+        WroteFront (W.tells out.old) (W.tells out.new) (expansion table.now options.now targets.now) }
+{
+    match view(alloc, table, options, targets, out) {
         Ok(()) => Ok(()),
         Err(ViewFault::Unknown { .. }) => unreachable!(),
         Err(ViewFault::Write) => Err(RunFault::Write),

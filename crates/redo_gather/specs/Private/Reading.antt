@@ -1,8 +1,9 @@
 -- How the entries of a stream are read, a piece after another.
-use Rattle.std.specs.Prelude.{◌≡◌, ℕ, ◌⊎◌, List, ◌++◌, Option, None, Some, Result, Ok, Err, take}
+use Rattle.std.specs.Prelude.{◌≡◌, ℕ, ◌⊎◌, false, List, ◌++◌, Option, None, Some, Result, Ok, Err, take}
 use Rattle.redo_line.specs.declared.entry.Entry.{Entry}
 use Rattle.redo_line.specs.declared.stream_fault.StreamFault.{StreamFault}
 use Rattle.redo_line.specs.declared.stream_fault.StreamFault.TheVariants.{OutOfMemory}
+use Rattle.redo_line.specs.Feed.{Stream, SomeStream}
 use Rattle.redo_line.specs.Laws.{IsFront}
 use Rattle.redo_line.specs.Scan.{Scanned, IsFine, entries_in, entries_so_far, fault_so_far, took}
 
@@ -14,6 +15,13 @@ pub record IsRead (scan : Scanned) (entries : List Entry) : Type 0 where
 -- behind a scan's bytes a piece was taken up to a place, and these are the entries of all
 abbrev pub IsReadTo : Scanned → List ℕ → ℕ → Scanned → List Entry → Type 0
 IsReadTo begun piece place scan entries = (scan ≡ took (take place piece) begun) × IsRead scan entries
+
+-- all bytes of the stream that a reader tells were taken, no failed read ends them, and these are the entries of its lines
+pub record IsReadToEnd (told : Option Stream) (old new : Scanned) (entries : List Entry) : Type 0 where
+  pub target_is : new.target ≡ old.target
+  pub limit_is : new.max_bytes ≡ old.max_bytes
+  pub read : IsRead new entries
+  pub all : SomeStream told (λ stream. (stream.bytes ≡ new.bytes) × (stream.fails ≡ false))
 
 module _ (scan : Scanned) (piece : List ℕ) (entries : List Entry) where
   -- the bytes up to the end of a piece have this fault, and these entries before it

@@ -2,9 +2,10 @@ use Rattle.std.proofs.Common.{rules, ◌≡◌, ◌<◌, ◌≤◌, ◌+◌, ◌
 use Rattle.std.specs.Option.{option_map}
 use Rattle.std.proofs.lemmas.List.{append_assoc, length-append, length-map, map_push, map-set}
 use Rattle.std.proofs.lemmas.Option.{slice_get-map}
+use Rattle.std.proofs.lemmas.Result.{IfOk-from_err}
 use Rattle.redo_logs.specs.Logs.{targets_of}
 use Rattle.redo_gather.specs.Private.Dealing.{AreDealt}
-use Rattle.redo_gather.proofs.DealingLemmas.{at_place, none_dealt, one_dealt, zip-none, zip-push}
+use Rattle.redo_gather.proofs.DealingLemmas.{all_dealt, at_place, none_dealt, one_dealt, zip-none, zip-push}
 use Rattle.redo_gather.proofs.gathering.deal.Goals as goal
 
 pub loop-reader-init : goal.loop-reader-init
@@ -49,3 +50,40 @@ loop-reader-preserved g c =
           (subst (λ given. AreDealt tells c.args.senders given (slice_set (map (λ share. share.items) shares) (length (zip targets (map tells yielded)) % c.args.senders) c.push.new.self.items))
           (sym (ap (zip targets) (map_push tells yielded reader) ∙ pushed.0)) dealt),
     )
+
+pub returns-in_err-shares : goal.returns-in_err-shares
+returns-in_err-shares g c = IfOk-from_err _ _ c.from_residual.ensures.0
+
+pub returns-in_err-target : goal.returns-in_err-target
+returns-in_err-target g c = IfOk-from_err _ _ c.from_residual-in_err-target.ensures.0
+
+pub returns-in_err-push : goal.returns-in_err-push
+returns-in_err-push g c = IfOk-from_err _ _ c.from_residual-in_err-push.ensures.0
+
+pub name-requires : goal.name-requires
+name-requires g c =
+    let kept = c.loop-reader.invariant in
+    omega (arith, kept.0, ap length kept.1, ap length c.in-Some.ensures.steps.0, length-append c.loop-reader.yielded c.loop-reader.reader-iterator.rest.items, c.requires.readers)
+
+pub nonzero_rem-sender : goal.nonzero_rem-sender
+nonzero_rem-sender g c =
+    let kept = c.loop-reader.invariant in
+    let some : 0 < length c.args.readers.items =
+    omega (arith, ap length kept.1, ap length c.in-Some.ensures.steps.0, length-append c.loop-reader.yielded c.loop-reader.reader-iterator.rest.items) in
+    c.requires.senders some
+
+pub index_mut-requires : goal.index_mut-requires
+index_mut-requires g c =
+    let kept = c.loop-reader.invariant in
+    let shares = c.loop-reader.shares.items in
+    let within : c.loop-reader.number % c.args.senders < length shares =
+    omega (arith, ap length kept.1, ap length c.in-Some.ensures.steps.0, length-append c.loop-reader.yielded c.loop-reader.reader-iterator.rest.items, c.requires.senders, kept.2.0, length-map shares (λ share. share.items)) in
+    omega (arith, within, c.loop-reader.shares.ok)
+
+pub returns : goal.returns
+returns g c =
+    let kept = c.loop-reader.invariant in
+    let left = c.loop-reader.reader-iterator.rest in
+    let none : length left.items ≡ 0 = omega (arith, c.in-None.ensures.steps.0, left.ok) in
+    subst (λ read. AreDealt g.R.Feed.tells c.args.senders (zip (targets_of c.args.table.now) (map g.R.Feed.tells read)) (map (λ share. share.items) c.loop-reader.shares.items))
+    (all_dealt c.args.readers.items c.loop-reader.yielded left.items kept.1 none) kept.2

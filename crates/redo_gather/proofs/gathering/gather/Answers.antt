@@ -1,35 +1,58 @@
-use Rattle.std.proofs.Common.{map, sym, ap, ◌∙◌, subst}
-use Rattle.redo_logs.specs.Logs.{new_log, targets_of}
+use Rattle.std.proofs.Common.{◌≡◌, ℕ, ◌≤◌, length, map, sym, ap, ◌∙◌, subst, arith}
+use Rattle.std.proofs.lemmas.List.{length-map}
+use Rattle.std.proofs.lemmas.Result.{err_from_is_err_and}
+use Rattle.redo_logs.specs.Logs.{most, new_log, targets_of}
 use Rattle.redo_gather.specs.Private.Collecting.{IsGathered}
 use Rattle.redo_gather.proofs.EnteringLemmas.{targets-entered}
+use Rattle.redo_gather.proofs.GatheredLemmas.{none_asked}
 use Rattle.redo_gather.proofs.gathering.gather.Goals as goal
+
+pub enter_all-requires : goal.enter_all-requires
+enter_all-requires g c = record { distinct = c.requires.distinct; size = c.requires.size }
+
+pub returns-in_err-table : goal.returns-in_err-table
+returns-in_err-table g c =
+    let given = err_from_is_err_and c.from_residual.result c.from_residual.ensures.1 in
+    rw (given.1, given.2) (record { logs = tt; targets = tt; ended = tt; fault = tt; number = tt; no_memory = tt })
+
+pub returns-then-senders-eq0 : goal.returns-then-senders-eq0
+returns-then-senders-eq0 g c =
+    let empty : length c.in_ok-table.table ≡ 0 = omega (arith, c.senders.ensures.limits, c.len.ensures.len, c.min-senders.ensures, c.if-senders-eq0.true) in
+    let gathered = none_asked g.R.Feed.tells c.args.plan.now.max_bytes c.args.names.items c.args.readers.items c.in_ok-table.table c.in_ok-table.ensures c.requires.readers empty in record {
+      logs = gathered.logs;
+      targets = gathered.targets;
+      ended = gathered.ended;
+      fault = tt;
+      number = tt;
+      no_memory = tt;
+    }
 
 pub gather_by-requires-clause-begins : goal.gather_by-requires-clause-begins
 gather_by-requires-clause-begins g c κs within =
     c.in_ok-table.ensures ∙ ap (map new_log) (sym (ap targets_of c.in_ok-table.ensures ∙ targets-entered c.args.names.items))
 
-pub returns-clause-logs : goal.returns-clause-logs
-returns-clause-logs g c =
+pub gather_by-requires-clause-readers : goal.gather_by-requires-clause-readers
+gather_by-requires-clause-readers g c κs within = c.requires.readers ∙ sym (ap length c.in_ok-table.ensures ∙ length-map c.args.names.items new_log)
+
+pub gather_by-requires-clause-size : goal.gather_by-requires-clause-size
+gather_by-requires-clause-size g c κs within =
+    subst (λ (n : ℕ). n ≤ most) (sym (ap length c.in_ok-table.ensures ∙ length-map c.args.names.items new_log)) c.requires.size
+
+pub gather_by-requires-clause-senders : goal.gather_by-requires-clause-senders
+gather_by-requires-clause-senders g c κs within =
+    let limits = c.senders.ensures.limits in (
+      omega (arith, c.if-senders-eq0.false),
+      omega (arith, limits.1, c.min-senders.ensures),
+    )
+
+pub returns : goal.returns
+returns g c =
     let targets = ap targets_of c.in_ok-table.ensures ∙ targets-entered c.args.names.items in
-    (subst (λ names. IsGathered c.args.plan.now.max_bytes names (map g.R.Feed.tells c.args.readers.items) c.gather_by.result) targets c.gather_by.ensures.gathered).logs
-
-pub returns-clause-targets : goal.returns-clause-targets
-returns-clause-targets g c =
-    let targets = ap targets_of c.in_ok-table.ensures ∙ targets-entered c.args.names.items in
-    (subst (λ names. IsGathered c.args.plan.now.max_bytes names (map g.R.Feed.tells c.args.readers.items) c.gather_by.result) targets c.gather_by.ensures.gathered).targets
-
-pub returns-clause-fault : goal.returns-clause-fault
-returns-clause-fault g c =
-    let targets = ap targets_of c.in_ok-table.ensures ∙ targets-entered c.args.names.items in
-    (subst (λ names. IsGathered c.args.plan.now.max_bytes names (map g.R.Feed.tells c.args.readers.items) c.gather_by.result) targets c.gather_by.ensures.gathered).fault
-
-pub returns-clause-ended : goal.returns-clause-ended
-returns-clause-ended g c = c.gather_by.ensures.gathered.ended
-
-pub returns-clause-number : goal.returns-clause-number
-returns-clause-number g c =
-    let targets = ap targets_of c.in_ok-table.ensures ∙ targets-entered c.args.names.items in
-    (subst (λ names. IsGathered c.args.plan.now.max_bytes names (map g.R.Feed.tells c.args.readers.items) c.gather_by.result) targets c.gather_by.ensures.gathered).number
-
-pub returns-clause-no_memory : goal.returns-clause-no_memory
-returns-clause-no_memory g c = c.gather_by.ensures.no_memory
+    let gathered = subst (λ names. IsGathered c.args.plan.now.max_bytes names (map g.R.Feed.tells c.args.readers.items) c.gather_by.result) targets c.gather_by.ensures.gathered in record {
+      logs = gathered.logs;
+      targets = gathered.targets;
+      ended = gathered.ended;
+      fault = gathered.fault;
+      number = gathered.number;
+      no_memory = c.gather_by.ensures.no_memory;
+    }

@@ -1,8 +1,6 @@
 use Rattle.std.proofs.Common.{rules, ◌≡◌, length, map, sym, ◌∙◌, subst}
-use Rattle.std.specs.List.{AllByRecursion}
 use Rattle.std.proofs.lemmas.List.{length-map}
 use Rattle.redo_logs.specs.Logs.{Log, targets_of}
-use Rattle.redo_wire.specs.Mailbox.{AreEndsOf, Collector, IsOpened, Poster}
 use Rattle.redo_wire.proofs.EndLemmas.{ends_of_one}
 use Rattle.redo_gather.specs.Private.Collecting.{IsGathered}
 use Rattle.redo_gather.proofs.ReadyLemmas.{all_owed}
@@ -10,8 +8,7 @@ use Rattle.redo_gather.proofs.gathering.gather_by.Goals as goal
 
 pub scoped-collector-requires : goal.scoped-collector-requires
 scoped-collector-requires g c =
-    let one = subst (λ (m : Collector). AllByRecursion (λ (end : Poster). end.mailbox ≡ m.mailbox) c.in_ok-mailbox.ends.items) (sym c.in_ok-collector.ensures.0)
-    (ends_of_one c.in_ok-mailbox.mailbox.mailbox c.in_ok-mailbox.ends.items c.in_ok-mailbox.ensures.posts) in
+    let one = ends_of_one c.in_ok-collector.collector.mailbox.mailbox c.in_ok-collector.ends.items c.in_ok-collector.ensures.posts in
     let limit = c.max_bytes-max_bytes.ensures.limits in
     search (rules, one, limit)
 
@@ -22,9 +19,9 @@ returns-clause-gathered g c =
     let told = map tells c.args.readers.items in
     let same : length targets ≡ length told = length-map c.args.table (λ (log : Log). log.target) ∙ sym c.requires.readers ∙ sym (length-map c.args.readers.items tells) in
     let limit = c.max_bytes-max_bytes.ensures.value in
-    let made = c.in_ok-collector.ensures in
+    let opened = c.in_ok-collector.ensures in
     subst (λ max_bytes. IsGathered max_bytes targets told c.finish.result) limit
     (c.finish.ensures.gathered c.max_bytes-max_bytes.result targets told
-    (all_owed tells c.max_bytes-max_bytes.result c.capacity.result c.args.senders targets told c.in_ok-mailbox.ends.items (map (λ share. share.items) c.in_ok-shares.shares.items) c.in_ok-collector.collector
-    c.scoped-collector.result c.scoped-collector.ensures.1 (subst (IsOpened c.capacity.result c.args.senders) (sym made.0) c.in_ok-mailbox.ensures.takes) (made.1 ∙ c.requires.begins) made.2 same
-    c.requires.senders.0 (subst (λ (m : Collector). AreEndsOf m.mailbox c.in_ok-mailbox.ends.items) (sym made.0) c.in_ok-mailbox.ensures.posts) c.in_ok-shares.ensures))
+    (all_owed tells c.max_bytes-max_bytes.result c.capacity.result c.args.senders targets told c.in_ok-collector.ends.items (map (λ share. share.items) c.in_ok-shares.shares.items) c.in_ok-collector.collector
+    c.scoped-collector.result c.scoped-collector.ensures.1 opened.takes (opened.begins.0 ∙ c.requires.begins) opened.begins.1 same
+    c.requires.senders.0 opened.posts c.in_ok-shares.ensures))

@@ -1,73 +1,48 @@
-use Rattle.std.proofs.Common.{◌≡◌, ◌<◌, ℕ, length, map, Some, List, [], refl, sym, ap, ◌∙◌, subst, arith}
-use Rattle.redo_line.specs.Feed.{SomeStream}
-use Rattle.redo_line.specs.Log.{fault_of, log_of}
-use Rattle.redo_logs.specs.Logs.{Log, changed}
-use Rattle.redo_gather.specs.Private.Storing.{completed}
-use Rattle.redo_gather.specs.Streams.{SomeStreams, fault_among}
-use Rattle.redo_gather.proofs.GatheredLemmas.{Gathered, none_gathered, of_stream}
-use Rattle.redo_gather.proofs.OwedLemmas.{is_fault, is_log, no_fault_left}
-use Rattle.redo_gather.proofs.TurnLemmas.{below_names, below_logs, log_runs, one_more_read, fault_read, all_logs, all_of_names, all_whole}
+use Rattle.std.proofs.Common.{◌≢◌, ℕ, ◌≤◌, List, Ok, length, map, sym, ap, ◌∙◌, subst}
+use Rattle.std.specs.Result.{result_and}
+use Rattle.std.proofs.lemmas.List.{length-map}
+use Rattle.std.proofs.lemmas.Result.{err_from_is_err_and}
+use Rattle.redo_line.specs.declared.stream_fault.StreamFault.TheVariants.{OutOfMemory}
+use Rattle.redo_logs.specs.Logs.{Log, most, new_log, targets_of}
+use Rattle.redo_gather.specs.Private.Collecting.{IsGathered}
+use Rattle.redo_gather.proofs.EnteringLemmas.{targets-entered}
+use Rattle.redo_gather.proofs.GatheredLemmas.{fault_of_and}
 use Rattle.redo_gather.proofs.plain.gather_plain.Goals as goal
 
-pub loop-reader-init : goal.loop-reader-init
-loop-reader-init g c = (
-  omega (arith, c.as_mut_slice-buf.ensures.len, c.in_ok-room.ensures.len),
-  record {
-    readers_are = sym c.into_iter-reader-iterator.ensures.into_iter_gives.0;
-    number_is = refl;
-    gathered = subst (Gathered c.args.max_bytes c.args.names.items []) (sym c.in_ok-table.ensures) (none_gathered c.args.max_bytes c.args.names.items);
-  },
-)
+pub returns-in_err-room : goal.returns-in_err-room
+returns-in_err-room g c =
+    let given = err_from_is_err_and c.from_residual.result c.from_residual.ensures.1 in
+    rw (given.1, given.2) (record { logs = tt; targets = tt; ended = tt; fault = tt; number = tt; no_memory = tt })
 
-pub name-requires : goal.name-requires
-name-requires g c = below_logs g.R.Feed.tells _ _ _ _ _ _ _ c.loop-reader.invariant.1 c.requires.readers _ _ c.in-Some.ensures.steps.0
+pub enter_all-requires : goal.enter_all-requires
+enter_all-requires g c = record { distinct = c.requires.distinct; size = c.requires.size }
 
-pub returns-in-Some-fault-clause-fault : goal.returns-in-Some-fault-clause-fault
-returns-in-Some-fault-clause-fault g c =
-    let told = g.R.Feed.tells c.in-Some.reader in
-    let max_bytes = c.args.max_bytes in
-    let log = c.read_stream-log.result in
-    let fault = c.in-Some-fault.fault in
-    of_stream (List Log) c.loop-reader.number fault
-    (λ number fault. SomeStreams (map g.R.Feed.tells c.args.readers.items) (λ streams. fault_among max_bytes c.args.names.items streams ≡ Some (number, fault)))
-    (λ other.
-    fault_read g.R.Feed.tells _ _ _ _ _ _ _ c.loop-reader.invariant.1 c.requires.readers _ _ c.in-Some.ensures.steps.0 _ c.name.ensures fault
-    (subst (λ (target : List ℕ). SomeStream told (λ stream. fault_of target max_bytes stream ≡ Some fault)) c.in_ok-target.ensures
-    (is_fault max_bytes (c.in_ok-target.target, told) log.entries log.fault c.read_stream-log.ensures.owed fault c.in-Some-fault.is other)))
-    c.of.result c.of.ensures
+pub returns-in_err-table : goal.returns-in_err-table
+returns-in_err-table g c =
+    let given = err_from_is_err_and c.from_residual-in_err-table.result c.from_residual-in_err-table.ensures.1 in
+    rw (given.1, given.2) (record { logs = tt; targets = tt; ended = tt; fault = tt; number = tt; no_memory = tt })
 
-pub returns-in-Some-fault-clause-number : goal.returns-in-Some-fault-clause-number
-returns-in-Some-fault-clause-number g c =
-    let below = below_names g.R.Feed.tells _ _ _ _ _ _ _ c.loop-reader.invariant.1 c.requires.readers _ _ c.in-Some.ensures.steps.0 in
-    of_stream (List Log) c.loop-reader.number c.in-Some-fault.fault (λ number fault. number < length c.args.names.items) (λ other. below) c.of.result c.of.ensures
+pub gather_into-requires-clause-begins : goal.gather_into-requires-clause-begins
+gather_into-requires-clause-begins g c =
+    c.in_ok-table.ensures ∙ ap (map new_log) (sym (ap targets_of c.in_ok-table.ensures ∙ targets-entered c.args.names.items))
 
-pub returns-in-Some-fault-clause-no_memory : goal.returns-in-Some-fault-clause-no_memory
-returns-in-Some-fault-clause-no_memory g c = of_stream (List Log) c.loop-reader.number c.in-Some-fault.fault _ (λ other. other) c.of.result c.of.ensures
+pub gather_into-requires-clause-readers : goal.gather_into-requires-clause-readers
+gather_into-requires-clause-readers g c = c.requires.readers ∙ sym (ap length c.in_ok-table.ensures ∙ length-map c.args.names.items new_log)
 
-pub store-requires : goal.store-requires
-store-requires g c =
-    log_runs g.R.Feed.tells _ _ _ _ _ _ _ c.loop-reader.invariant.1 c.requires.readers _ _ c.in-Some.ensures.steps.0 _ c.name.ensures
+pub gather_into-requires-clause-size : goal.gather_into-requires-clause-size
+gather_into-requires-clause-size g c = subst (λ (n : ℕ). n ≤ most) (sym (ap length c.in_ok-table.ensures ∙ length-map c.args.names.items new_log)) c.requires.size
 
-pub loop-reader-preserved : goal.loop-reader-preserved
-loop-reader-preserved g c =
-    let told = g.R.Feed.tells c.in-Some.reader in
-    let log = c.read_stream-log.result in
-    let none = no_fault_left log.fault c.in_default.not-Some in (
-      omega (arith, c.read_stream-log.ensures.buf, c.loop-reader.invariant.0),
-      one_more_read g.R.Feed.tells _ _ _ _ _ _ _ c.loop-reader.invariant.1 c.requires.readers _ _ c.in-Some.ensures.steps.0 _ c.name.ensures log.entries c.store.new.table
-          (record {
-            entries_are =
-                subst (λ (target : List ℕ). SomeStream told (λ stream. log_of target c.args.max_bytes stream ≡ Some log.entries)) c.in_ok-target.ensures
-                (is_log c.args.max_bytes (c.in_ok-target.target, told) log.entries log.fault c.read_stream-log.ensures.owed none);
-            table_is = c.in_ok-store.ensures.stored ∙ ap (λ fault. changed c.loop-reader.number (completed log.entries fault) c.loop-reader.table) none;
-          }),
-    )
-
-pub returns-clause-logs : goal.returns-clause-logs
-returns-clause-logs g c = all_logs g.R.Feed.tells _ _ _ _ _ _ _ c.loop-reader.invariant.1 c.requires.readers (omega (arith, c.in-None.ensures.steps.0, c.loop-reader.reader-iterator.rest.ok))
-
-pub returns-clause-targets : goal.returns-clause-targets
-returns-clause-targets g c = all_of_names g.R.Feed.tells _ _ _ _ _ _ _ c.loop-reader.invariant.1 c.requires.readers (omega (arith, c.in-None.ensures.steps.0, c.loop-reader.reader-iterator.rest.ok))
-
-pub returns-clause-ended : goal.returns-clause-ended
-returns-clause-ended g c = all_whole g.R.Feed.tells _ _ _ _ _ _ _ c.loop-reader.invariant.1 c.requires.readers (omega (arith, c.in-None.ensures.steps.0, c.loop-reader.reader-iterator.rest.ok))
+pub returns : goal.returns
+returns g c =
+    let targets = ap targets_of c.in_ok-table.ensures ∙ targets-entered c.args.names.items in
+    let told = map g.R.Feed.tells c.args.readers.items in
+    let of_names = subst (λ names. IsGathered c.args.max_bytes names told (result_and c.gather_into.result (Ok c.gather_into.new.table))) targets c.gather_into.ensures.gathered in
+    rw c.and.ensures
+    (record {
+      logs = of_names.logs;
+      targets = of_names.targets;
+      ended = of_names.ended;
+      fault = of_names.fault;
+      number = of_names.number;
+      no_memory = fault_of_and (Unit {0}) (List Log) (λ number fault. fault ≢ OutOfMemory) c.gather_into.result c.gather_into.new.table c.gather_into.ensures.no_memory;
+    })

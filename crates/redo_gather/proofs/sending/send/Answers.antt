@@ -1,7 +1,8 @@
-use Rattle.std.proofs.Common.{ℕ, List, ◌∷◌, [], ◌++◌, map, sym, ap, ◌∙◌, subst}
+use Rattle.std.proofs.Common.{◌≡◌, ℕ, List, ◌∷◌, [], ◌++◌, length, map, refl, sym, ap, ◌∙◌, subst, arith}
 use Rattle.std.proofs.lemmas.List.{append_assoc, map_push}
 use Rattle.redo_gather.specs.Sending.{HasSent, numbered}
-use Rattle.redo_gather.proofs.PostedLemmas.{one_sent}
+use Rattle.redo_gather.proofs.DealingLemmas.{all_dealt}
+use Rattle.redo_gather.proofs.PostedLemmas.{nothing_posted, one_sent}
 use Rattle.redo_gather.proofs.sending.send.Goals as goal
 
 pub loop-stream-preserved : goal.loop-stream-preserved
@@ -14,3 +15,13 @@ loop-stream-preserved g c =
       subst (λ share. HasSent c.args.max_bytes share c.args.end c.send_stream.new.end) (sym (map_push (numbered tells) yielded item))
           (one_sent c.args.max_bytes (map (numbered tells) yielded) c.in-Some.stream (c.in-Some.target, tells c.in-Some.reader) c.args.end c.loop-stream.end c.send_stream.new.end kept.1 c.send_stream.ensures),
     )
+
+pub loop-stream-init : goal.loop-stream-init
+loop-stream-init g c = (sym c.into_iter-stream-iterator.ensures.into_iter_gives.0, ([], nothing_posted c.args.end, refl))
+
+pub returns : goal.returns
+returns g c =
+    let kept = c.loop-stream.invariant in
+    let left = c.loop-stream.stream-iterator.rest in
+    let none : length left.items ≡ 0 = omega (arith, c.in-None.ensures.steps.0, left.ok) in
+    subst (λ share. HasSent c.args.max_bytes (map (numbered g.R.Feed.tells) share) c.args.end c.loop-stream.end) (all_dealt c.args.share.items c.loop-stream.yielded left.items kept.0 none) kept.1

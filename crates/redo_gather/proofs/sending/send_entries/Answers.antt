@@ -1,90 +1,37 @@
-use Rattle.std.proofs.Common.{◌<◌, [], ◌∷◌, ◌++◌, None, Some, length, take, arith, refl, sym, ap, ◌∙◌}
-use Rattle.std.proofs.lemmas.List.{append-nil, length-append, length-take}
+use Rattle.std.proofs.Common.{[], ◌∷◌, ◌++◌, None, Some, refl, sym}
+use Rattle.std.proofs.lemmas.List.{append-nil}
 use Rattle.std.proofs.lemmas.Result.{err_from_is_err_and}
-use Rattle.redo_gather.proofs.PostedLemmas.{lines_posted, nothing_posted}
-use Rattle.redo_gather.proofs.ReadingLemmas.{at_end, at_failure, at_refusal, no_memory_left, none_read, one_piece, within}
+use Rattle.redo_gather.proofs.PostedLemmas.{lines_posted}
+use Rattle.redo_gather.proofs.ReadingLemmas.{at_end}
 use Rattle.redo_gather.proofs.sending.send_entries.Goals as goal
 
-pub returns-then-is_empty : goal.returns-then-is_empty
-returns-then-is_empty g c = record {
-  entries = [];
-  posted = nothing_posted c.args.end.now;
-  owed =
-      no_memory_left c.args.scan.target c.args.scan.max_bytes _ _ (g.R.Feed.tells c.args.reader.now) c.args.scan []
-      (none_read _ c.args.scan [] c.requires.begins c.requires.read) (record { target_is = refl; limit_is = refl });
-}
-
-pub returns-in-Err : goal.returns-in-Err
-returns-in-Err g c =
-    let kept = c.reads.invariant in
-    record {
-      entries = kept.4.0;
-      posted = kept.4.1;
-      owed = at_failure c.args.scan.target c.args.scan.max_bytes _ _ _ c.reads.scan kept.4.0 kept.4.2 kept.2 _ _ c.in-Err.ensures.gives;
-    }
-
-pub reads-smaller : goal.reads-smaller
-reads-smaller g c =
-    let kept = c.reads.invariant in
-    let now = c.in_ok-send_piece-in-Ok.ensures.posted.read kept.4.0 kept.4.2.read in
-    let some : 0 < c.in-Ok.n = let nonzero = c.in-Ok.n-test.1 in omega (arith, nonzero) in
-    let limit = within c.args.scan.target c.args.scan.max_bytes _ _ (g.R.Feed.tells c.reads.reader) c.reads.scan kept.4.0 kept.4.2 kept.2 in
-    let taken = ap (λ s. length s.bytes) now.0 ∙ length-append c.reads.scan.bytes (take c.in-Ok.n c.pull.new.buf) in
-    let piece = length-take c.in-Ok.n c.pull.new.buf in
-    omega (arith, some, limit, taken, piece, c.in-Ok.ensures.bound)
-
-pub reads-preserved : goal.reads-preserved
-reads-preserved g c =
-    let kept = c.reads.invariant in
-    let sent = c.in_ok-send_piece-in-Ok.ensures.posted in
-    let now = sent.read kept.4.0 kept.4.2.read in
-    let some : 0 < c.in-Ok.n = let nonzero = c.in-Ok.n-test.1 in omega (arith, nonzero) in
-    let buf = c.pull.new.buf in
-    let taken = ap (λ s. length s.bytes) now.0 ∙ length-append c.reads.scan.bytes (take c.in-Ok.n buf) in (
-      c.requires.callable,
-      c.pull.auto.buf ∙ kept.1,
-      record { target_is = ap (λ s. s.target) now.0 ∙ kept.2.target_is; limit_is = ap (λ s. s.max_bytes) now.0 ∙ kept.2.limit_is },
-      (let turns = kept.3 in let piece = length-take c.in-Ok.n buf in omega (arith, turns, some, taken, piece, c.in-Ok.ensures.bound)),
-      (
-        kept.4.0 ++ sent.entries,
-        lines_posted c.args.stream c.args.end.now c.reads.end c.send_piece.new.end kept.4.0 sent.entries kept.4.1 sent.posted,
-        one_piece c.args.scan.target c.args.scan.max_bytes _ _ _ c.reads.scan kept.4.0 kept.4.2 kept.2 c.in-Ok.n buf some c.in-Ok.ensures.gives c.send_piece.new.scan (kept.4.0 ++ sent.entries) now.0 now.1,
-      ),
-    )
-
-pub returns-in_err-send_piece-in-Ok : goal.returns-in_err-send_piece-in-Ok
-returns-in_err-send_piece-in-Ok g c =
-    let kept = c.reads.invariant in
-    let sent = c.in_err-send_piece-in-Ok.ensures in
-    let some : 0 < c.in-Ok.n = let nonzero = c.in-Ok.n-test.1 in omega (arith, nonzero) in
+pub returns-in_err-send_pieces : goal.returns-in_err-send_pieces
+returns-in_err-send_pieces g c =
     let given = err_from_is_err_and c.from_residual.result c.from_residual.ensures.1 in
-    rw (given.1, given.2)
-    (record {
-      entries = kept.4.0 ++ sent.posted.entries;
-      posted = lines_posted c.args.stream c.args.end.now c.reads.end c.send_piece.new.end kept.4.0 sent.posted.entries kept.4.1 sent.posted.posted;
-      owed =
-          at_refusal c.args.scan.target c.args.scan.max_bytes _ _ _ c.reads.scan kept.4.0 kept.4.2 kept.2 c.in-Ok.n c.pull.new.buf some c.in-Ok.ensures.gives (kept.4.0 ++ sent.posted.entries)
-          c.in_err-send_piece-in-Ok.field-0.0 sent.reads_nothing (sent.posted.refused kept.4.0 kept.4.2.read);
-    })
+    let sent = c.in_err-send_pieces.ensures in
+    rw (given.1, given.2) (record { entries = sent.entries; posted = sent.posted; owed = sent.owed })
+
+pub returns-in_err-last : goal.returns-in_err-last
+returns-in_err-last g c =
+    let no = c.in_err-last.ensures.rest c.in_ok-send_pieces.ensures.ended.read.fine.refused_none in
+    absurd (cc (no))
 
 pub returns-in-Some : goal.returns-in-Some
 returns-in-Some g c =
-    let kept = c.reads.invariant in
+    let sent = c.in_ok-send_pieces.ensures in
     record {
-      entries = kept.4.0 ++ c.in-Some.last ∷ [];
-      posted = lines_posted c.args.stream c.args.end.now c.reads.end c.post.new.end kept.4.0 (c.in-Some.last ∷ []) kept.4.1 c.post.ensures;
-      owed =
-          at_end c.args.scan.target c.args.scan.max_bytes _ _ _ c.reads.scan kept.4.0 kept.4.2 kept.2 c.pull.new.buf (rw c.in-Ok-eq0.field-0-test at c.in-Ok-eq0.ensures.gives) (Some c.in-Some.last) _
-          (rw c.in-Some.is at c.in_ok-last.ensures.log kept.4.2.read.fine.refused_none) refl;
+      entries = sent.entries ++ c.in-Some.last ∷ [];
+      posted = lines_posted c.args.stream c.args.end.now c.send_pieces.new.end c.post.new.end sent.entries (c.in-Some.last ∷ []) sent.posted c.post.ensures;
+      owed = at_end _ c.args.scan _ _ sent.ended (Some c.in-Some.last) _ (rw c.in-Some.is at c.in_ok-last.ensures.log sent.ended.read.fine.refused_none) refl;
     }
 
 pub returns-in_default : goal.returns-in_default
 returns-in_default g c =
-    let kept = c.reads.invariant in
+    let sent = c.in_ok-send_pieces.ensures in
     record {
-      entries = kept.4.0;
-      posted = kept.4.1;
+      entries = sent.entries;
+      posted = sent.posted;
       owed =
-          at_end c.args.scan.target c.args.scan.max_bytes _ _ _ c.reads.scan kept.4.0 kept.4.2 kept.2 c.pull.new.buf (rw c.in-Ok-eq0.field-0-test at c.in-Ok-eq0.ensures.gives) None kept.4.0
-          (rw c.in_default.is at c.in_ok-last.ensures.log kept.4.2.read.fine.refused_none) (sym (append-nil kept.4.0));
+          at_end _ c.args.scan _ _ sent.ended None sent.entries (rw c.in_default.is at c.in_ok-last.ensures.log sent.ended.read.fine.refused_none)
+          (sym (append-nil sent.entries));
     }

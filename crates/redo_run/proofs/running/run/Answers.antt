@@ -1,6 +1,5 @@
-use Rattle.std.proofs.Common.{◌≡◌, ℕ, ◌<◌, Err, length, map, take, refl, sym, ap, ◌∙◌}
-use Rattle.std.proofs.lemmas.Option.{none-some}
-use Rattle.std.proofs.lemmas.Result.{err_from_is_err_and}
+use Rattle.std.proofs.Common.{◌≡◌, ℕ, ◌<◌, length, map, take, refl, ◌∙◌, inr}
+use Rattle.std.proofs.lemmas.Result.{IfOk-weaker, err_from_is_err_and}
 use Rattle.redo_line.specs.Sink.{adds}
 use Rattle.redo_index.specs.Index.{names_of}
 use Rattle.redo_run.specs.Run.{bytes_of_words, question}
@@ -13,28 +12,35 @@ returns-in_err-targets-clause-fault g c =
     rw (given.1, given.2)
     (told_word (question c.args.index.now c.args.plan.now c.args.options.now c.args.asked.now) (map g.R.Feed.tells c.args.readers.items) c.in_err-targets.field-0.0 c.in_err-targets.ensures.refused)
 
-pub unreachable-requires : goal.unreachable-requires
-unreachable-requires g c =
-    let known = all_known c.in_ok-table.table (names_of c.args.index.now) c.deref.result.now (bytes_of_words c.args.asked.now) (c.in_ok-table.ensures.targets ∙ c.in_ok-names.ensures.names)
-    (c.deref.ensures.value ∙ c.in_ok-targets.ensures.targets) in
-    none-some c.in-Err-Unknown.field-0-0 (sym known ∙ (c.in-Err-Unknown.ensures.unknown c.in-Err-Unknown.field-0-0).0 (ap Err c.in-Err-Unknown.field-0-is))
-
-pub returns-in-Ok-clause-ok : goal.returns-in-Ok-clause-ok
-returns-in-Ok-clause-ok g c =
-    some_text (question c.args.index.now c.args.plan.now c.args.options.now c.args.asked.now) (map g.R.Feed.tells c.args.readers.items) (λ text. g.W.Sink.tells c.view.new.out ≡ adds (g.W.Sink.tells c.args.out.now) text 0)
-    c.args.plan.now.max_bytes c.in_ok-names.names.items c.deref.result.now c.in_ok-table.table refl c.in_ok-names.ensures.names c.in_ok-targets.ensures.known
-    (c.deref.ensures.value ∙ c.in_ok-targets.ensures.targets) c.logs_unless_fault.ensures c.in_ok-table.ensures.logs c.in-Ok.ensures.ok
-
-pub returns-in-Err-Write-clause-write : goal.returns-in-Err-Write-clause-write
-returns-in-Err-Write-clause-write g c _ =
-    some_text (question c.args.index.now c.args.plan.now c.args.options.now c.args.asked.now) (map g.R.Feed.tells c.args.readers.items)
-    (λ text. (n : ℕ) × (n < length text) × (g.W.Sink.tells c.view.new.out ≡ adds (g.W.Sink.tells c.args.out.now) (take n text) 1)) c.args.plan.now.max_bytes c.in_ok-names.names.items c.deref.result.now c.in_ok-table.table
-    refl c.in_ok-names.ensures.names c.in_ok-targets.ensures.known (c.deref.ensures.value ∙ c.in_ok-targets.ensures.targets) c.logs_unless_fault.ensures c.in_ok-table.ensures.logs
-    (c.in-Err-Write.ensures.write (ap Err c.in-Err-Write.field-0-is))
-
 pub returns-in_err-table-clause-fault : goal.returns-in_err-table-clause-fault
 returns-in_err-table-clause-fault g c =
     let given = err_from_is_err_and c.from_residual-in_err-table.result c.from_residual-in_err-table.ensures.1 in
     rw (given.1, given.2)
-    (told_stream (question c.args.index.now c.args.plan.now c.args.options.now c.args.asked.now) (map g.R.Feed.tells c.args.readers.items) c.args.plan.now.max_bytes c.in_ok-names.names.items c.in_err-table.field-0.0
-    refl c.in_ok-names.ensures.names c.in_ok-targets.ensures.known c.in_err-table.ensures.fault)
+    (told_stream (question c.args.index.now c.args.plan.now c.args.options.now c.args.asked.now) (map g.R.Feed.tells c.args.readers.items) c.args.plan.now.max_bytes (names_of c.args.index.now) c.in_err-table.field-0.0
+    refl refl c.in_ok-targets.ensures.known c.in_err-table.ensures.fault)
+
+pub show-requires-clause-known : goal.show-requires-clause-known
+show-requires-clause-known g c =
+    all_known c.in_ok-table.table (names_of c.args.index.now) c.deref.result.now (bytes_of_words c.args.asked.now) c.in_ok-table.ensures.targets
+    (c.deref.ensures.value ∙ c.in_ok-targets.ensures.targets)
+
+pub returns-clause-ok : goal.returns-clause-ok
+returns-clause-ok g c =
+    IfOk-weaker c.show.result _ _
+    (λ _ wrote.
+    some_text (question c.args.index.now c.args.plan.now c.args.options.now c.args.asked.now) (map g.R.Feed.tells c.args.readers.items) (λ text. g.W.Sink.tells c.show.new.out ≡ adds (g.W.Sink.tells c.args.out.now) text 0)
+    c.args.plan.now.max_bytes (names_of c.args.index.now) c.deref.result.now c.in_ok-table.table refl refl c.in_ok-targets.ensures.known
+    (c.deref.ensures.value ∙ c.in_ok-targets.ensures.targets) c.logs_unless_fault.ensures c.in_ok-table.ensures.logs wrote)
+    c.show.ensures.ok
+
+pub returns-clause-write : goal.returns-clause-write
+returns-clause-write g c failed =
+    some_text (question c.args.index.now c.args.plan.now c.args.options.now c.args.asked.now) (map g.R.Feed.tells c.args.readers.items)
+    (λ text. (n : ℕ) × (n < length text) × (g.W.Sink.tells c.show.new.out ≡ adds (g.W.Sink.tells c.args.out.now) (take n text) 1)) c.args.plan.now.max_bytes (names_of c.args.index.now) c.deref.result.now c.in_ok-table.table
+    refl refl c.in_ok-targets.ensures.known (c.deref.ensures.value ∙ c.in_ok-targets.ensures.targets) c.logs_unless_fault.ensures c.in_ok-table.ensures.logs (c.show.ensures.write failed)
+
+pub returns-clause-memory : goal.returns-clause-memory
+returns-clause-memory g c refused =
+    inr (some_text (question c.args.index.now c.args.plan.now c.args.options.now c.args.asked.now) (map g.R.Feed.tells c.args.readers.items)
+    (λ text. (n : ℕ) × (g.W.Sink.tells c.show.new.out ≡ adds (g.W.Sink.tells c.args.out.now) (take n text) 0)) c.args.plan.now.max_bytes (names_of c.args.index.now) c.deref.result.now c.in_ok-table.table
+    refl refl c.in_ok-targets.ensures.known (c.deref.ensures.value ∙ c.in_ok-targets.ensures.targets) c.logs_unless_fault.ensures c.in_ok-table.ensures.logs (c.show.ensures.memory refused))

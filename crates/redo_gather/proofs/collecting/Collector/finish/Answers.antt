@@ -1,26 +1,15 @@
-use Rattle.std.proofs.Common.{◌<◌, zip, sym, subst}
-use Rattle.std.specs.List.{AllByRecursion}
-use Rattle.redo_wire.specs.Mailbox.{Mailbox}
-use Rattle.redo_gather.specs.Private.Collecting.{Owes}
+use Rattle.std.proofs.Common.{◌≢◌, List, sym, subst}
+use Rattle.redo_line.specs.declared.stream_fault.StreamFault.TheVariants.{OutOfMemory}
+use Rattle.redo_logs.specs.Logs.{Log}
+use Rattle.redo_gather.specs.GatherFault.{IfStreamFault}
+use Rattle.redo_gather.specs.Private.Collecting.{IsGathered}
+use Rattle.redo_gather.proofs.GatheredLemmas.{fault_of_and}
 use Rattle.redo_gather.proofs.collecting.Collector.finish.Goals as goal
 
-pub drain-requires-after_bounds : goal.drain-requires-after_bounds
-drain-requires-after_bounds g c κs within = c.all_met.ensures.0 c.if-not-all_met.false
-
-pub returns-clause-gathered : goal.returns-clause-gathered
-returns-clause-gathered g c max_bytes names told owed =
-    let stays = c.drain.ensures.stays in
-    c.answer.ensures.gathered max_bytes names told
-    (record {
-      owed = record {
-        count = owed.count;
-        some = subst (λ (m : Mailbox). 0 < m.senders) (sym stays.0) owed.some;
-        owed =
-            subst (λ (m : Mailbox). AllByRecursion (Owes max_bytes m.senders (zip names told)) c.drain.new.self.mailbox.met) (sym stays.0)
-            (subst (AllByRecursion (Owes max_bytes c.args.self.mailbox.mailbox.senders (zip names told))) (sym stays.1) owed.owed);
-        holds = c.drain.ensures.holds names owed.holds;
-      };
-      met = c.drain.ensures.met;
-      whole = c.drain.ensures.whole;
-      own = c.drain.ensures.own;
-    })
+pub returns : goal.returns
+returns g c = record {
+  gathered = λ max_bytes names told taken. subst (IsGathered max_bytes names told) (sym c.and.ensures) (c.close.ensures.gathered max_bytes names told taken);
+  no_memory =
+      subst (λ result. IfStreamFault {A = List Log} result (λ number fault. fault ≢ OutOfMemory)) (sym c.and.ensures)
+      (fault_of_and (Unit {0}) (List Log) (λ number fault. fault ≢ OutOfMemory) c.close.result c.close.new.self.table c.close.ensures.no_memory);
+}

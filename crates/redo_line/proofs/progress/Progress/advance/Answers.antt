@@ -1,8 +1,10 @@
-use Rattle.std.proofs.Common.{◌≡◌, ◌⊎◌, inr, ◌+◌, drop, refl, sym, ◌∙◌}
+use Rattle.std.proofs.Common.{◌≡◌, ◌⊎◌, inr, ℕ, ◌+◌, ◌-◌, List, None, Some, length, take, drop, refl, sym, ap, ◌∙◌}
 use Rattle.std.proofs.lemmas.List.{take_rest}
+use Rattle.std.proofs.lemmas.Option.{none-some}
+use Rattle.redo_line.specs.declared.stream_fault.StreamFault.{StreamFault}
 use Rattle.redo_line.specs.declared.stream_fault.StreamFault.TheVariants.{OutOfMemory}
 use Rattle.redo_line.specs.Private.CutLine.{line_bytes}
-use Rattle.redo_line.specs.Private.Progress.{Refuses}
+use Rattle.redo_line.specs.Private.Progress.{Progress, Refuses, first_byte_fault}
 use Rattle.redo_line.proofs.ScanLemmas.{next_line_fits}
 use Rattle.redo_line.proofs.ScanSteps.{handed_on, no_entry, refuses_first, refuses_bad, line_found, refuses_long, all_taken}
 use Rattle.redo_line.proofs.progress.Progress.advance.Goals as goal
@@ -51,3 +53,22 @@ returns-in_ok-self-inside-in-Some-2-clause-found c u after =
           put.entry c.next_line.new.self c.in_ok-self-inside-in-Some-2.field-0 put.is (rw c.in-Some-2.is at c.in_ok-line.ensures.line_kept) put.closing_is;
       put = put.put;
     }
+
+-- where the first byte of what is left is at no fault, it isn't at one in the piece either
+none_at_once : (self : Progress) (piece : List ℕ) (from : ℕ) (fault : StreamFault) → first_byte_fault self (take (length piece - from) (drop from piece)) ≡ None → first_byte_fault self (drop from piece) ≡ Some fault → ⊥
+none_at_once self piece from fault none first = none-some fault (sym none ∙ ap (first_byte_fault self) (take_rest piece from) ∙ first)
+
+pub returns-in_err-line-clause-at_once : goal.returns-in_err-line-clause-at_once
+returns-in_err-line-clause-at_once c fault first = absurd (none_at_once c.args.self.now c.args.piece.now c.args.from fault (sym c.first_byte_fault.ensures ∙ c.in_default.is) first)
+
+pub returns-in_err-self-inside-in-Some-2-clause-at_once : goal.returns-in_err-self-inside-in-Some-2-clause-at_once
+returns-in_err-self-inside-in-Some-2-clause-at_once c fault first = absurd (none_at_once c.args.self.now c.args.piece.now c.args.from fault (sym c.first_byte_fault.ensures ∙ c.in_default.is) first)
+
+pub returns-then-allowed-left-clause-at_once : goal.returns-then-allowed-left-clause-at_once
+returns-then-allowed-left-clause-at_once c fault first = absurd (none_at_once c.args.self.now c.args.piece.now c.args.from fault (sym c.first_byte_fault.ensures ∙ c.in_default.is) first)
+
+pub returns-in_ok-self-inside-in-Some-2-clause-at_once : goal.returns-in_ok-self-inside-in-Some-2-clause-at_once
+returns-in_ok-self-inside-in-Some-2-clause-at_once c fault first = absurd (none_at_once c.args.self.now c.args.piece.now c.args.from fault (sym c.first_byte_fault.ensures ∙ c.in_default.is) first)
+
+pub returns-else-allowed-left-clause-at_once : goal.returns-else-allowed-left-clause-at_once
+returns-else-allowed-left-clause-at_once c fault first = absurd (none_at_once c.args.self.now c.args.piece.now c.args.from fault (sym c.first_byte_fault.ensures ∙ c.in_default.is) first)

@@ -1,6 +1,7 @@
-use Rattle.std.proofs.Common.{ℕ, ◌≤◌, ◌^◌, sym, subst}
-use Rattle.std.proofs.lemmas.Option.{same_Some}
+use Rattle.std.proofs.Common.{ℕ, ◌≤◌, ◌^◌, sym, ap, subst, ◌∙◌}
+use Rattle.std.proofs.lemmas.Option.{none-some, same_Some}
 use Rattle.redo_line.specs.declared.stream_fault.StreamFault.TheVariants.{Read}
+use Rattle.redo_line.specs.Scan.{Scanned}
 use Rattle.redo_line.proofs.FirstByteLemmas.{known_of}
 use Rattle.redo_line.proofs.ScanEnds.{not_read}
 use Rattle.redo_line.proofs.scan.Scan.step_into.Goals as goal
@@ -38,3 +39,12 @@ returns-in-Ok-None-clause-at_once c fault first =
     let known = known_of c.self.inside.progress c.self.inside.history.bytes _ c.self.inside.refused c.args.self.now fault c.self.view_is (c.self.invariant.after c.in_default.is) first in
     let told = c.in-Ok-None.ensures.at_once fault known in
     absurd (cc)
+
+pub returns-in-Ok-Some-clause-again : goal.returns-in-Ok-Some-clause-again
+returns-in-Ok-Some-clause-again c fault is = absurd (none-some fault (sym c.in_default.is ∙ ap (λ (scanned : Scanned). scanned.refused) c.self.view_is ∙ is))
+
+pub returns-in-Ok-None-clause-again : goal.returns-in-Ok-None-clause-again
+returns-in-Ok-None-clause-again c fault is = absurd (none-some fault (sym c.in_default.is ∙ ap (λ (scanned : Scanned). scanned.refused) c.self.view_is ∙ is))
+
+pub returns-in-Err-clause-again : goal.returns-in-Err-clause-again
+returns-in-Err-clause-again c fault is = absurd (none-some fault (sym c.in_default.is ∙ ap (λ (scanned : Scanned). scanned.refused) c.self.view_is ∙ is))

@@ -1,0 +1,175 @@
+//! Gates that count what they are told, or hold who tells it until so much was told.
+use crate::gate::comes_in_time;
+use redo_gather::Gate;
+use std::alloc::{AllocError, Global};
+use std::sync::Wait;
+use std::sync::atomic::{AtomicU64, Ordering};
+use std::thread;
+
+/// A gate that lets the first reads of so many streams begin only once all of them are about to.
+#[derive(Drop)]
+pub struct Starting {
+    streams: u64,
+    there: AtomicU64,
+    let_go: AtomicU64,
+}
+
+impl Starting {
+    pub fn new(streams: u64) -> Starting {
+        Starting {
+            streams,
+            there: AtomicU64::new(0),
+            let_go: AtomicU64::new(0),
+        }
+    }
+
+    /// How many were let go as the last one came.
+    pub fn let_go(&self) -> u64 {
+        self.let_go.load(Ordering::SeqCst)
+    }
+}
+
+impl Gate for Starting {
+    fn before_read<R: Wait>(&self, _rt: &R, _stream: u32, turn: u64) {
+        if turn != 1 {
+            return;
+        }
+        self.there.fetch_add(1, Ordering::SeqCst);
+        if comes_in_time(&self.there, self.streams) {
+            self.let_go.fetch_add(1, Ordering::SeqCst);
+        }
+    }
+
+    fn taken<R: Wait>(&self, _rt: &R, _stream: u32, _lines: u64) {}
+
+    fn over<R: Wait>(&self, _rt: &R, _stream: u32) {}
+}
+
+/// A gate that holds who takes the first entry of the one stream until that was read so often, and for a while
+/// more, and then notes how often it was.
+#[derive(Drop)]
+pub struct Filling {
+    until: u64,
+    reads: AtomicU64,
+    noted: AtomicU64,
+}
+
+impl Filling {
+    pub fn new(until: u64) -> Filling {
+        Filling {
+            until,
+            reads: AtomicU64::new(0),
+            noted: AtomicU64::new(0),
+        }
+    }
+
+    pub fn noted(&self) -> u64 {
+        self.noted.load(Ordering::SeqCst)
+    }
+}
+
+impl Gate for Filling {
+    fn before_read<R: Wait>(&self, _rt: &R, _stream: u32, turn: u64) {
+        self.reads.store(turn, Ordering::SeqCst);
+    }
+
+    fn taken<R: Wait>(&self, _rt: &R, _stream: u32, lines: u64) {
+        if lines != 1 || !comes_in_time(&self.reads, self.until) {
+            return;
+        }
+        for _ in 0..10_000 {
+            thread::yield_now();
+        }
+        self.noted
+            .store(self.reads.load(Ordering::SeqCst), Ordering::SeqCst);
+    }
+
+    fn over<R: Wait>(&self, _rt: &R, _stream: u32) {}
+}
+
+/// How often a gate was told of each kind of event of a stream.
+#[derive(Drop)]
+struct Told {
+    reads: AtomicU64,
+    entries: AtomicU64,
+    ends: AtomicU64,
+}
+
+/// A gate that counts what it is told of each stream, and what isn't the next of its kind there.
+#[derive(Drop)]
+pub struct Counting {
+    told: Vec<Told>,
+    wrong: AtomicU64,
+}
+
+impl Counting {
+    pub fn new(alloc: Global, streams: usize) -> Result<Counting, AllocError> {
+        let mut told = Vec::new(alloc);
+        for _ in 0..streams {
+            told.push(Told {
+                reads: AtomicU64::new(0),
+                entries: AtomicU64::new(0),
+                ends: AtomicU64::new(0),
+            })?;
+        }
+        Ok(Counting {
+            told,
+            wrong: AtomicU64::new(0),
+        })
+    }
+
+    /// How many reads, entries and ends of a stream were told.
+    pub fn told_of(&self, stream: usize) -> Option<(u64, u64, u64)> {
+        let told = self.told.get(stream)?;
+        Some((
+            told.reads.load(Ordering::SeqCst),
+            told.entries.load(Ordering::SeqCst),
+            told.ends.load(Ordering::SeqCst),
+        ))
+    }
+
+    /// How often something was told that wasn't the next of its kind.
+    pub fn wrong(&self) -> u64 {
+        self.wrong.load(Ordering::SeqCst)
+    }
+
+    fn expect(&self, is_right: bool) {
+        if !is_right {
+            self.wrong.fetch_add(1, Ordering::SeqCst);
+        }
+    }
+
+    // What the gate was told of a stream, which is not over.
+    fn running(&self, stream: u32) -> Option<&Told> {
+        let told = self.told.get(stream as usize)?;
+        (told.ends.load(Ordering::SeqCst) == 0).then_some(told)
+    }
+}
+
+/// Whether a number is the next one of a count, which it becomes.
+fn is_next(count: &AtomicU64, number: u64) -> bool {
+    count.fetch_add(1, Ordering::SeqCst).checked_add(1) == Some(number)
+}
+
+impl Gate for Counting {
+    fn before_read<R: Wait>(&self, _rt: &R, stream: u32, turn: u64) {
+        match self.running(stream) {
+            Some(told) => self.expect(is_next(&told.reads, turn)),
+            None => self.expect(false),
+        }
+    }
+
+    fn taken<R: Wait>(&self, _rt: &R, stream: u32, lines: u64) {
+        match self.running(stream) {
+            Some(told) => self.expect(is_next(&told.entries, lines)),
+            None => self.expect(false),
+        }
+    }
+
+    fn over<R: Wait>(&self, _rt: &R, stream: u32) {
+        match self.running(stream) {
+            Some(told) => self.expect(is_next(&told.ends, 1)),
+            None => self.expect(false),
+        }
+    }
+}
