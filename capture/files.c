@@ -228,26 +228,39 @@ void become(char **command) {
 int ended_by;
 
 static volatile pid_t child;
+static volatile sig_atomic_t is_begun;
 
-/* What a terminal sends comes to the child too. */
+/* What a terminal sends comes to the child too, once that has begun. */
 static void hand_on(int signal) {
-  if (signal != SIGINT && signal != SIGQUIT && child > 0) kill(child, signal);
+  int is_of_terminal = signal == SIGINT || signal == SIGQUIT;
+  if (child > 0 && !(is_begun && is_of_terminal)) kill(child, signal);
 }
 
+/* What comes while the command begins is held back, so that there is a process to hand it on to. */
 int run(char **command, const char *log, int both) {
   static const int kinds[] = {SIGHUP, SIGINT, SIGQUIT, SIGTERM};
+  sigset_t held, former;
+  sigemptyset(&held);
+  for (int i = 0; i < 4; i++) sigaddset(&held, kinds[i]);
+  sigprocmask(SIG_BLOCK, &held, &former);
   for (int i = 0; i < 4; i++) {
     struct sigaction action = {.sa_handler = hand_on, .sa_flags = SA_RESTART}, before;
     if (sigaction(kinds[i], NULL, &before) == 0 && before.sa_handler != SIG_IGN) sigaction(kinds[i], &action, NULL);
   }
+  posix_spawnattr_t attributes;
+  posix_spawnattr_init(&attributes);
+  posix_spawnattr_setsigmask(&attributes, &former);
+  posix_spawnattr_setflags(&attributes, POSIX_SPAWN_SETSIGMASK);
   posix_spawn_file_actions_t actions;
   posix_spawn_file_actions_init(&actions);
   if (log) posix_spawn_file_actions_addopen(&actions, 2, log, O_WRONLY | O_APPEND | O_CREAT, 0666);
   if (both) posix_spawn_file_actions_adddup2(&actions, 2, 1);
   pid_t process;
-  int status, error = posix_spawnp(&process, command[0], &actions, NULL, command, environ);
+  int status, error = posix_spawnp(&process, command[0], &actions, &attributes, command, environ);
   if (error) cannot_run(command[0], error);
   child = process;
+  sigprocmask(SIG_SETMASK, &former, NULL);
+  is_begun = 1;
   while (waitpid(process, &status, 0) < 0)
     if (errno != EINTR) fail(1, "%s: cannot be waited for", command[0]);
   child = 0;
