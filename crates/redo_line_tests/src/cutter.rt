@@ -15,8 +15,7 @@ fn expect_line(rt: &impl Abort, cut: Cut, want: &[u8], place: usize) {
 }
 
 fn expect_bytes(rt: &impl Abort, bytes: &[u8], upto: usize, want: &[u8], place: usize) {
-    assert_eq!(rt; bytes, want);
-    assert_eq!(rt; upto, place);
+    assert_eq!(rt; (bytes, upto), (want, place));
 }
 
 #[test]

@@ -1,4 +1,6 @@
 //! The readers and writers in memory, and those of std under their wrappers.
+ghost use Rattle.std.specs.Prelude.{◌<◌, length};
+
 use redo_line::{Broken, Feed, Pieces, Reading, Sink, Taker, Writing};
 use std::alloc::{AllocError, Global};
 use std::io;
@@ -41,8 +43,8 @@ fn reads_come_in_turn_and_then_an_end(rt: HostRuntime) -> Result<(), Fail> {
 fn reads_come_in_turn_and_then_a_failed_one(rt: HostRuntime) -> Result<(), Fail> {
     let mut reader = two_reads(rt.alloc(), true)?;
     expect_two_reads(&rt, &mut reader);
-    expect_broken(&rt, &mut reader);
-    expect_broken(&rt, &mut reader);
+    expect_pulled(&rt, &mut reader, Err(Broken));
+    expect_pulled(&rt, &mut reader, Err(Broken));
     Ok(())
 }
 
@@ -52,23 +54,25 @@ fn expect_two_reads(rt: &impl Abort, reader: &mut impl Feed) {
     expect_read(rt, reader, b"f");
 }
 
-fn expect_broken(rt: &impl Abort, reader: &mut impl Feed) {
+fn expect_pulled(rt: &impl Abort, reader: &mut impl Feed, want: Result<usize, Broken>) {
     let mut buf = [0u8; 3];
-    assert_eq!(rt; reader.pull(&mut buf), Err(Broken));
+    assert_eq!(rt; reader.pull(&mut buf), want);
 }
 
 #[test]
 fn a_writer_takes_what_it_has_room_for(rt: HostRuntime) -> Result<(), Fail> {
     let mut writer = Taker::new(rt.alloc(), 5, 3)?;
-    expect_pushed(&rt, &mut writer, Ok(3));
-    expect_pushed(&rt, &mut writer, Ok(2));
-    expect_pushed(&rt, &mut writer, Err(Broken));
+    expect_pushed(&rt, &mut writer, b"abcd", Ok(3));
+    expect_pushed(&rt, &mut writer, b"abcd", Ok(2));
+    expect_pushed(&rt, &mut writer, b"abcd", Err(Broken));
     expect_taken(&rt, &writer, b"abcab");
     Ok(())
 }
 
-fn expect_pushed(rt: &impl Abort, writer: &mut Taker, want: Result<usize, Broken>) {
-    assert_eq!(rt; writer.push(b"abcd"), want);
+fn expect_pushed(rt: &impl Abort, writer: &mut impl Sink, bytes: &[u8], want: Result<usize, Broken>)
+    requires { 0 < length bytes.now }
+{
+    assert_eq!(rt; writer.push(bytes), want);
 }
 
 fn expect_taken(rt: &impl Abort, writer: &Taker, bytes: &[u8]) {
@@ -78,7 +82,7 @@ fn expect_taken(rt: &impl Abort, writer: &Taker, bytes: &[u8]) {
 #[test]
 fn a_writer_may_take_nothing(rt: HostRuntime) -> Result<(), Fail> {
     let mut writer = Taker::new(rt.alloc(), 5, 0)?;
-    assert_eq!(rt; writer.push(b"a"), Ok(0));
+    expect_pushed(&rt, &mut writer, b"a", Ok(0));
     expect_taken(&rt, &writer, b"");
     Ok(())
 }
@@ -118,16 +122,15 @@ impl Write for Interrupted {
 #[test]
 fn an_interrupted_read_is_a_failed_one(rt: HostRuntime) {
     let mut reader = Reading(Interrupted { calls: 0 });
-    let mut buf = [0u8; 3];
-    assert_eq!(rt; reader.pull(&mut buf), Ok(1));
-    assert_eq!(rt; reader.pull(&mut buf), Err(Broken));
-    assert_eq!(rt; reader.pull(&mut buf), Ok(1));
+    expect_pulled(&rt, &mut reader, Ok(1));
+    expect_pulled(&rt, &mut reader, Err(Broken));
+    expect_pulled(&rt, &mut reader, Ok(1));
 }
 
 #[test]
 fn an_interrupted_write_is_a_failed_one(rt: HostRuntime) {
     let mut writer = Writing(Interrupted { calls: 0 });
-    assert_eq!(rt; writer.push(b"abc"), Ok(1));
-    assert_eq!(rt; writer.push(b"bc"), Err(Broken));
-    assert_eq!(rt; writer.push(b"bc"), Ok(1));
+    expect_pushed(&rt, &mut writer, b"abc", Ok(1));
+    expect_pushed(&rt, &mut writer, b"bc", Err(Broken));
+    expect_pushed(&rt, &mut writer, b"bc", Ok(1));
 }

@@ -55,8 +55,17 @@ fn read(
     ended: bool,
 ) -> Result<Result<String, LineFault>, Fail> {
     let target = TargetName::resolve(alloc, None, target.as_bytes())?;
+    read_in(alloc, &target, bytes, ended)
+}
+
+fn read_in(
+    alloc: Global,
+    target: &TargetName,
+    bytes: &str,
+    ended: bool,
+) -> Result<Result<String, LineFault>, Fail> {
     let line = line(alloc, bytes)?.ok_or("no line")?;
-    match read_line(alloc, &target, line, ended) {
+    match read_line(alloc, target, line, ended) {
         Ok(entry) => Ok(Ok(entry_text(alloc, EntryRef::of(&entry))?)),
         Err(fault) => Ok(Err(fault)),
     }
@@ -70,8 +79,12 @@ fn expect(
     want: &str,
 ) -> Result<(), Fail> {
     let entry = read(rt.alloc(), target, bytes, ended)??;
-    assert_eq!(rt; entry.as_str(), want, "{bytes:?}");
+    expect_text(rt, &entry, want, bytes);
     Ok(())
+}
+
+fn expect_text(rt: &impl Abort, entry: &str, want: &str, bytes: &str) {
+    assert_eq!(rt; entry, want, "{bytes:?}");
 }
 
 #[test]

@@ -150,6 +150,8 @@ fn expect_at(
     place: Option<usize>,
     value: Option<u32>,
 ) {
-    assert_eq!(rt; map.get_index_of(name), place);
-    assert_eq!(rt; map.get(name).copied(), value);
+    assert_eq!(rt;
+        (map.get_index_of(name), map.get(name).copied()),
+        (place, value)
+    );
 }

@@ -1,5 +1,5 @@
 //! A scan over the pieces of a stream: its entries, or its fault and the entries before it.
-use redo_given::{cut_into_reads, cuts, entry_text};
+use redo_given::{Cut, cut_into_reads, cuts, entry_text};
 use redo_line::{Entries, Entry, Scan, Step, StreamFault, TargetName};
 use redo_logs::{EntryRef, LogState, LogTable};
 use std::alloc::{AllocError, Global};
@@ -13,8 +13,12 @@ struct Scanned {
     fault: Option<StreamFault>,
 }
 
-fn add(alloc: Global, entries: &mut String, entry: &Entry) -> Result<(), AllocError> {
-    entries.push_str(&entry_text(alloc, EntryRef::of(entry))?)?;
+fn add(alloc: Global, entries: &mut String, entry: Entry) -> Result<(), AllocError> {
+    add_text(alloc, entries, EntryRef::of(&entry))
+}
+
+fn add_text(alloc: Global, entries: &mut String, entry: EntryRef<'_>) -> Result<(), AllocError> {
+    entries.push_str(&entry_text(alloc, entry)?)?;
     entries.push_str("\n")
 }
 
@@ -27,7 +31,7 @@ fn take(alloc: Global, scan: &mut Scan, piece: &[u8], scanned: &mut Scanned) -> 
         }
         match scan.step(piece, from) {
             Ok(Step::Found { entry, upto }) => {
-                add(alloc, &mut scanned.entries, &entry)?;
+                add(alloc, &mut scanned.entries, entry)?;
                 from = upto;
             }
             Ok(Step::More) => return Ok(()),
@@ -52,7 +56,7 @@ fn new_scan(alloc: Global, target: &str, max_bytes: u64) -> Result<Scan, Fail> {
 /// Adds the unended line, or the fault.
 fn finish(alloc: Global, scan: Scan, scanned: &mut Scanned) -> Result<(), AllocError> {
     match scan.finish() {
-        Ok(Some(last)) => add(alloc, &mut scanned.entries, &last)?,
+        Ok(Some(last)) => add(alloc, &mut scanned.entries, last)?,
         Ok(None) => {}
         Err(fault) => scanned.fault = Some(fault),
     }
@@ -118,21 +122,24 @@ fn scan_together(alloc: Global, mut scan: Scan, pieces: &[Vec<u8>]) -> Result<Sc
     Ok(scanned)
 }
 
-fn table_of_one(alloc: Global) -> Result<LogTable, Fail> {
-    let mut table = LogTable::new(alloc);
-    table.enter(TargetName::resolve(alloc, None, b"one")?)?;
-    Ok(table)
-}
-
 /// Takes pieces, up to the last.
 fn take_all_together(alloc: Global, scan: &mut Scan, pieces: &[Vec<u8>]) -> Result<Scanned, Fail> {
-    let mut table = table_of_one(alloc)?;
+    take_into(alloc, scan, pieces, &mut LogTable::new(alloc))
+}
+
+/// The same, into a table that has no log yet.
+fn take_into(
+    alloc: Global,
+    scan: &mut Scan,
+    pieces: &[Vec<u8>],
+    table: &mut LogTable,
+) -> Result<Scanned, Fail> {
+    table.enter(TargetName::resolve(alloc, None, b"one")?)?;
     let mut fault = None;
     for piece in pieces {
-        let met = take_together(alloc, scan, piece, &mut table)?;
-        fault = fault.or(met);
+        fault = fault.or(take_together(alloc, scan, piece, table)?);
     }
-    let entries = first_entries(alloc, &table)?;
+    let entries = first_entries(alloc, table)?;
     Ok(Scanned { entries, fault })
 }
 
@@ -143,8 +150,7 @@ fn first_entries(alloc: Global, table: &LogTable) -> Result<String, AllocError> 
         let Some(entry) = table.entry(0, place) else {
             break;
         };
-        entries.push_str(&entry_text(alloc, entry)?)?;
-        entries.push_str("\n")?;
+        add_text(alloc, &mut entries, entry)?;
     }
     Ok(entries)
 }
@@ -159,11 +165,24 @@ fn expect(
     fault: Option<StreamFault>,
 ) -> Result<(), Fail> {
     for cut in &cuts(rt.alloc(), &[("", stream, false)])? {
-        let pieces = cut_into_reads(rt.alloc(), stream.as_bytes(), *cut)?;
-        expect_entries(rt, target, max_bytes, &pieces, entries, fault)?;
-        expect_together(rt, target, max_bytes, &pieces, entries, fault)?;
+        expect_cut(rt, target, max_bytes, stream, *cut, entries, fault)?;
     }
     Ok(())
+}
+
+/// The same of one cut.
+fn expect_cut(
+    rt: &(impl Abort + AllocGlobal),
+    target: &str,
+    max_bytes: u64,
+    stream: &str,
+    cut: Cut,
+    entries: &str,
+    fault: Option<StreamFault>,
+) -> Result<(), Fail> {
+    let pieces = cut_into_reads(rt.alloc(), stream.as_bytes(), cut)?;
+    expect_entries(rt, target, max_bytes, &pieces, entries, fault)?;
+    expect_together(rt, target, max_bytes, &pieces, entries, fault)
 }
 
 /// These are found in these pieces, one by one.
@@ -195,8 +214,7 @@ fn expect_together(
 }
 
 fn expect_scanned(rt: &impl Abort, scanned: &Scanned, entries: &str, fault: Option<StreamFault>) {
-    assert_eq!(rt; scanned.fault, fault, "{entries:?}");
-    assert_eq!(rt; scanned.entries.as_str(), entries);
+    assert_eq!(rt; (scanned.fault, scanned.entries.as_str()), (fault, entries));
 }
 
 /// A target, its stream, and the entries of it.

@@ -1,7 +1,7 @@
 //! The table of logs: what its calls answer, and what they leave.
 use redo_given::{entry_text, line, logs_text};
 use redo_line::{StreamFault, TargetName, read_line};
-use redo_logs::{LogState, LogTable, NumberedEntry, TableFault};
+use redo_logs::{LogState, LogTable, Numbered, NumberedEntry, TableFault};
 use std::alloc::Global;
 use std::process::Abort;
 use std::test::Fail;
@@ -10,13 +10,11 @@ fn name(alloc: Global, text: &str) -> Result<TargetName, Fail> {
     Ok(TargetName::resolve(alloc, None, text.as_bytes())?)
 }
 
-/// A table of the logs of `a` and `b`.
-fn table_of_two(alloc: Global) -> Result<LogTable, Fail> {
-    let mut table = LogTable::new(alloc);
-    for text in ["a", "b"] {
-        table.enter(name(alloc, text)?)?;
-    }
-    Ok(table)
+/// Enters the logs of `a` and `b`.
+fn enter_both(alloc: Global, table: &mut LogTable) -> Result<(), Fail> {
+    table.enter(name(alloc, "a")?)?;
+    table.enter(name(alloc, "b")?)?;
+    Ok(())
 }
 
 /// Adds the entry of a line to a log.
@@ -24,12 +22,12 @@ fn add(alloc: Global, table: &mut LogTable, number: u32, text: &str) -> Result<(
     if number >= table.len() {
         return Err("no such log".into());
     }
+    let LogState::Running = table.state(number) else {
+        return Err("the log doesn't run".into());
+    };
     let line = line(alloc, text)?.ok_or("no line")?;
     let entry = read_line(alloc, table.name(number), line, true)?;
-    match table.state(number) {
-        LogState::Running => Ok(table.add(number, entry)?),
-        _ => Err("the log doesn't run".into()),
-    }
+    Ok(table.add(number, entry)?)
 }
 
 /// Ends a log, or fails it where there is a fault.
@@ -55,8 +53,12 @@ fn add_all(alloc: Global, table: &mut LogTable, number: u32, texts: &[&str]) -> 
 
 /// The table has these logs.
 fn expect(rt: &(impl Abort + AllocGlobal), table: &LogTable, text: &str) -> Result<(), Fail> {
-    assert_eq!(rt; logs_text(rt.alloc(), table)?.as_str(), text);
+    expect_text(rt, logs_text(rt.alloc(), table)?.as_str(), text);
     Ok(())
+}
+
+fn expect_text(rt: &impl Abort, text: &str, want: &str) {
+    assert_eq!(rt; text, want);
 }
 
 /// The first fault, and whether all logs have ended.
@@ -66,8 +68,10 @@ fn expect_ends(
     first: Option<(u32, StreamFault)>,
     all_ended: bool,
 ) {
-    assert_eq!(rt; table.first_fault(), first);
-    assert_eq!(rt; table.all_ended(), all_ended);
+    assert_eq!(rt;
+        (table.first_fault(), table.all_ended()),
+        (first, all_ended)
+    );
 }
 
 fn expect_entered(
@@ -139,8 +143,7 @@ fn find_all(rt: &(impl Abort + AllocGlobal), table: &LogTable) -> Result<(), Fai
 
 #[test]
 fn a_log_has_the_entries_that_were_added(rt: HostRuntime) -> Result<(), Fail> {
-    let mut table = table_of_two(rt.alloc())?;
-    add_to_both(&rt, &mut table)
+    add_to_both(&rt, &mut LogTable::new(rt.alloc()))
 }
 
 /// Lines that say different things.
@@ -152,6 +155,7 @@ static SAID: [&str; 4] = [
 ];
 
 fn add_to_both(rt: &(impl Abort + AllocGlobal), table: &mut LogTable) -> Result<(), Fail> {
+    enter_both(rt.alloc(), table)?;
     add(rt.alloc(), table, 0, "x")?;
     add_all(rt.alloc(), table, 1, &SAID)?;
     expect(
@@ -163,32 +167,35 @@ fn add_to_both(rt: &(impl Abort + AllocGlobal), table: &mut LogTable) -> Result<
 
 #[test]
 fn an_entry_is_shown_by_its_place(rt: HostRuntime) -> Result<(), Fail> {
-    let mut table = table_of_two(rt.alloc())?;
-    add_one_entry(&rt, &mut table)
+    add_one_entry(&rt, &mut LogTable::new(rt.alloc()))
 }
 
 fn add_one_entry(rt: &(impl Abort + AllocGlobal), table: &mut LogTable) -> Result<(), Fail> {
+    enter_both(rt.alloc(), table)?;
     add(rt.alloc(), table, 0, "x")?;
     expect_entry(rt, table)?;
-    assert!(rt; table.entry(0, 1).is_none());
-    assert!(rt; table.entry(2, 0).is_none());
+    expect_no_entry(rt, table, 0, 1);
+    expect_no_entry(rt, table, 2, 0);
     Ok(())
+}
+
+fn expect_no_entry(rt: &impl Abort, table: &LogTable, i: u32, k: usize) {
+    assert!(rt; table.entry(i, k).is_none());
 }
 
 fn expect_entry(rt: &(impl Abort + AllocGlobal), table: &LogTable) -> Result<(), Fail> {
     let first = table.entry(0, 0).ok_or("no entry")?;
-    let text = entry_text(rt.alloc(), first)?;
-    assert_eq!(rt; text.as_str(), "text|x");
+    expect_text(rt, entry_text(rt.alloc(), first)?.as_str(), "text|x");
     Ok(())
 }
 
 #[test]
 fn a_log_ends_or_fails(rt: HostRuntime) -> Result<(), Fail> {
-    let mut table = table_of_two(rt.alloc())?;
-    end_and_fail(&rt, &mut table)
+    end_and_fail(&rt, &mut LogTable::new(rt.alloc()))
 }
 
 fn end_and_fail(rt: &(impl Abort + AllocGlobal), table: &mut LogTable) -> Result<(), Fail> {
+    enter_both(rt.alloc(), table)?;
     add(rt.alloc(), table, 0, "x")?;
     expect_ends(rt, table, None, false);
     close(table, 0, None)?;
@@ -200,11 +207,11 @@ fn end_and_fail(rt: &(impl Abort + AllocGlobal), table: &mut LogTable) -> Result
 
 #[test]
 fn the_first_fault_is_that_of_the_least_number(rt: HostRuntime) -> Result<(), Fail> {
-    let mut table = table_of_two(rt.alloc())?;
-    fail_both(&rt, &mut table)
+    fail_both(&rt, &mut LogTable::new(rt.alloc()))
 }
 
-fn fail_both(rt: &impl Abort, table: &mut LogTable) -> Result<(), Fail> {
+fn fail_both(rt: &(impl Abort + AllocGlobal), table: &mut LogTable) -> Result<(), Fail> {
+    enter_both(rt.alloc(), table)?;
     let fault = StreamFault::BadRecord { line: 9 };
     close(table, 1, Some(StreamFault::Read))?;
     close(table, 0, Some(fault))?;
@@ -214,11 +221,11 @@ fn fail_both(rt: &impl Abort, table: &mut LogTable) -> Result<(), Fail> {
 
 #[test]
 fn all_logs_have_ended(rt: HostRuntime) -> Result<(), Fail> {
-    let mut table = table_of_two(rt.alloc())?;
-    end_both(&rt, &mut table)
+    end_both(&rt, &mut LogTable::new(rt.alloc()))
 }
 
-fn end_both(rt: &impl Abort, table: &mut LogTable) -> Result<(), Fail> {
+fn end_both(rt: &(impl Abort + AllocGlobal), table: &mut LogTable) -> Result<(), Fail> {
+    enter_both(rt.alloc(), table)?;
     close(table, 1, None)?;
     close(table, 0, None)?;
     expect_ends(rt, table, None, true);
@@ -230,14 +237,9 @@ fn all_logs_of_an_empty_table_have_ended(rt: HostRuntime) {
     expect_ends(&rt, &LogTable::new(rt.alloc()), None, true);
 }
 
-/// A table whose first log has two texts, then one that was added behind another log's, and a mention.
-fn table_of_lines(alloc: Global) -> Result<LogTable, Fail> {
-    let mut table = table_of_two(alloc)?;
-    add_lines(alloc, &mut table)?;
-    Ok(table)
-}
-
-fn add_lines(alloc: Global, table: &mut LogTable) -> Result<(), Fail> {
+/// Enters both logs. The first has two texts, then one that was added behind the other's, and a mention.
+fn enter_lines(alloc: Global, table: &mut LogTable) -> Result<(), Fail> {
+    enter_both(alloc, table)?;
     add_all(alloc, table, 0, &["x", "yy"])?;
     add(alloc, table, 1, "other")?;
     add_all(alloc, table, 0, &["z", "@@REDO:do:1:1@@ b", ""])
@@ -257,16 +259,16 @@ static LINES: [(u32, usize, &str, usize); 8] = [
 
 #[test]
 fn lines_of_texts_are_had_together(rt: HostRuntime) -> Result<(), Fail> {
-    let table = table_of_lines(rt.alloc())?;
-    expect_lines(&rt, &table);
-    Ok(())
+    expect_lines(&rt, &mut LogTable::new(rt.alloc()))
 }
 
-fn expect_lines(rt: &impl Abort, table: &LogTable) {
+fn expect_lines(rt: &(impl Abort + AllocGlobal), table: &mut LogTable) -> Result<(), Fail> {
+    enter_lines(rt.alloc(), table)?;
     let logs = table.numbered();
     for (i, k, lines, count) in &LINES {
         expect_these(rt, logs.lines(*i, *k), (lines.as_bytes(), *count));
     }
+    Ok(())
 }
 
 fn expect_these(rt: &impl Abort, found: (&[u8], usize), want: (&[u8], usize)) {
@@ -275,20 +277,22 @@ fn expect_these(rt: &impl Abort, found: (&[u8], usize), want: (&[u8], usize)) {
 
 #[test]
 fn a_mention_has_the_number_of_its_name(rt: HostRuntime) -> Result<(), Fail> {
-    let table = table_of_lines(rt.alloc())?;
-    expect_mention(&rt, &table)
+    expect_mention(&rt, &mut LogTable::new(rt.alloc()))
 }
 
-fn expect_mention(rt: &impl Abort, table: &LogTable) -> Result<(), Fail> {
-    let logs = table.numbered();
+fn expect_mention(rt: &(impl Abort + AllocGlobal), table: &mut LogTable) -> Result<(), Fail> {
+    enter_lines(rt.alloc(), table)?;
+    expect_numbers(rt, &table.numbered())
+}
+
+fn expect_numbers(rt: &impl Abort, logs: &Numbered<'_>) -> Result<(), Fail> {
     let Some(NumberedEntry::Mention { name, .. }) = logs.entry(0, 3) else {
         return Err("no mention".into());
     };
     if name >= logs.names() || logs.len() < 2 {
         return Err("no name of this number".into());
     }
-    assert_eq!(rt; logs.name(name).bytes(), b"b".as_slice());
-    assert_eq!(rt; logs.log_of(name), Some(1));
-    assert_eq!(rt; logs.target(1), name);
+    expect_these(rt, (logs.name(name).bytes(), logs.target(1)), (b"b", name));
+    expect_place(rt, logs.log_of(name), Some(1), "b");
     Ok(())
 }

@@ -13,9 +13,13 @@ const LENGTH: u32 = 1_000_000;
 /// Views the chain from its first log, and prints the answer and how many bytes were written.
 pub fn view_chain(rt: &impl Print, alloc: Global) -> io::Result<()> {
     let mut table = LogTable::new(alloc);
-    if let Some(number) = first_refused(alloc, &mut table) {
-        return println!(rt; "{number} was refused");
+    match first_refused(alloc, &mut table) {
+        Some(number) => println!(rt; "{number} was refused"),
+        None => view_from_first(rt, alloc, &table),
     }
+}
+
+fn view_from_first(rt: &impl Print, alloc: Global, table: &LogTable) -> io::Result<()> {
     let Some(first) = numbered(alloc, 0) else {
         return println!(rt; "no memory for the target");
     };
@@ -23,7 +27,7 @@ pub fn view_chain(rt: &impl Print, alloc: Global) -> io::Result<()> {
         return println!(rt; "a log hasn't ended");
     }
     let mut out = Counter { bytes: 0 };
-    let answer = view(alloc, &table, &DEEP, &[first], &mut out);
+    let answer = view(alloc, table, &DEEP, &[first], &mut out);
     println!(rt; "view: {answer:?}")?;
     println!(rt; "bytes: {}", out.bytes)
 }

@@ -1,7 +1,7 @@
 //! The calls that the command is made of, and the command with a writer whose flush fails.
 use redo_line::{Pieces, StreamFault};
 use redo_log_cli::{
-    Failure, RunFault, command, fault_line, help_text, read_index, read_names, read_words,
+    Failure, Index, RunFault, command, fault_line, help_text, read_index, read_names, read_words,
 };
 use std::alloc::{AllocError, Global};
 use std::io;
@@ -58,23 +58,37 @@ fn two_reads(alloc: Global) -> Result<Pieces, AllocError> {
 
 /// The line of a stream's fault, and that of an unknown word.
 pub fn fault_lines(rt: &impl Print, alloc: Global) -> io::Result<()> {
-    let (Ok(index), Ok(word)) = (
-        read_index(alloc, b"7 d/a\n1 b\n".as_slice()),
-        b"nope".to_vec(alloc),
-    ) else {
-        return println!(rt; "no memory for the index and the word");
-    };
+    match index_and_word(alloc) {
+        Some((index, word)) => {
+            tell_fault_of_stream(rt, alloc, &index)?;
+            tell_fault_of_word(rt, alloc, &index, word)
+        }
+        None => println!(rt; "no memory for the index and the word"),
+    }
+}
+
+fn index_and_word(alloc: Global) -> Option<(Index, Vec<u8>)> {
+    let index = read_index(alloc, b"7 d/a\n1 b\n".as_slice()).ok()?;
+    Some((index, b"nope".to_vec(alloc).ok()?))
+}
+
+fn tell_fault_of_stream(rt: &impl Print, alloc: Global, index: &Index) -> io::Result<()> {
     if index.len() < 2 {
         return println!(rt; "a short index");
     }
     let fault = StreamFault::BadRecord { line: 20 };
-    let of_stream = RunFault::Stream { number: 1, fault };
-    tell_line(rt, fault_line(alloc, &Failure::Run(of_stream), &index, &[]))?;
-    let of_word = RunFault::Unknown { place: 0 };
-    tell_line(
-        rt,
-        fault_line(alloc, &Failure::Run(of_word), &index, &[word]),
-    )
+    let failure = Failure::Run(RunFault::Stream { number: 1, fault });
+    tell_line(rt, fault_line(alloc, &failure, index, &[]))
+}
+
+fn tell_fault_of_word(
+    rt: &impl Print,
+    alloc: Global,
+    index: &Index,
+    word: Vec<u8>,
+) -> io::Result<()> {
+    let failure = Failure::Run(RunFault::Unknown { place: 0 });
+    tell_line(rt, fault_line(alloc, &failure, index, &[word]))
 }
 
 fn tell_line(rt: &impl Print, line: Result<Vec<u8>, AllocError>) -> io::Result<()> {

@@ -96,8 +96,17 @@ pub fn gathered(alloc: Global, given: &Streams) -> Result<LogTable, Missing>
     ensures { IfOk result (λ table. list_all has_ended table ≡ true) }
 {
     let (index, readers) = captured(alloc, given)?;
-    let names = index.names(alloc).map_err(|_| Missing::Memory)?;
-    gather_plain(alloc, names, readers, MAX_BYTES).map_err(Missing::Logs)
+    gathered_of(alloc, &index, readers)
+}
+
+fn gathered_of(alloc: Global, index: &Index, readers: Vec<Pieces>) -> Result<LogTable, Missing>
+    requires { length readers.items ≡ length index.now }
+    ensures { IfOk result (λ table. list_all has_ended table ≡ true) }
+{
+    match index.names(alloc) {
+        Ok(names) => gather_plain(alloc, names, readers, MAX_BYTES).map_err(Missing::Logs),
+        Err(_) => Err(Missing::Memory),
+    }
 }
 
 fn gathered_by<T: AllocGlobal + Threads + Wait + Sync>(
@@ -105,12 +114,25 @@ fn gathered_by<T: AllocGlobal + Threads + Wait + Sync>(
     given: &Streams,
     plan: &Plan,
 ) -> Result<LogTable, Missing> {
+    let (index, readers) = captured(rt.alloc(), given)?;
+    gathered_of_by(rt, &index, readers, plan)
+}
+
+fn gathered_of_by<T: AllocGlobal + Threads + Wait + Sync>(
+    rt: &T,
+    index: &Index,
+    readers: Vec<Pieces>,
+    plan: &Plan,
+) -> Result<LogTable, Missing>
+    requires { length readers.items ≡ length index.now }
+{
     let alloc = rt.alloc();
-    let (index, readers) = captured(alloc, given)?;
-    let Ok(names) = index.names(alloc) else {
-        return Err(Missing::Memory);
-    };
-    redo_gather::gather(rt, alloc, names, readers, plan, &Free).map_err(Missing::Logs)
+    match index.names(alloc) {
+        Ok(names) => {
+            redo_gather::gather(rt, alloc, names, readers, plan, &Free).map_err(Missing::Logs)
+        }
+        Err(_) => Err(Missing::Memory),
+    }
 }
 
 /// An index of the targets, with a reader for each, which gives 16 bytes at once.
@@ -118,11 +140,18 @@ pub fn captured(alloc: Global, given: &Streams) -> Result<(Index, Vec<Pieces>), 
     ensures { IfOk result (λ captured. length captured.1.items ≡ length captured.0) }
 {
     let index = read_index(alloc, given.index).map_err(|_| Missing::Memory)?;
-    let readers = readers(alloc, given).map_err(|_| Missing::Memory)?;
-    if readers.len() != index.len() as usize {
-        return Err(Missing::Reader);
-    }
+    let readers = so_many_readers(alloc, given, index.len() as usize)?;
     Ok((index, readers))
+}
+
+fn so_many_readers(alloc: Global, given: &Streams, count: usize) -> Result<Vec<Pieces>, Missing>
+    ensures { IfOk result (λ readers. length readers.items ≡ count) }
+{
+    match readers(alloc, given) {
+        Ok(readers) if readers.len() == count => Ok(readers),
+        Ok(_) => Err(Missing::Reader),
+        Err(_) => Err(Missing::Memory),
+    }
 }
 
 fn readers(alloc: Global, given: &Streams) -> Result<Vec<Pieces>, AllocError> {

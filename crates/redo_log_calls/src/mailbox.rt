@@ -2,7 +2,7 @@
 ghost use Rattle.std.specs.Prelude.{◌≡◌};
 
 use redo_given::{Two, rest, two_ended};
-use redo_wire::{Item, PostEnd, What};
+use redo_wire::{Item, PostEnd, TakeEnd, What};
 use std::io;
 use std::sync::Wait;
 
@@ -24,16 +24,40 @@ fn post_and_take(rt: &(impl Print + Wait), two: Two) -> io::Result<()> {
         mut first,
         mut second,
     } = two;
-    post(rt, &mut first, 5)?;
-    post(rt, &mut second, 6)?;
+    post_three(rt, &mut mailbox, &mut first, &mut second)?;
+    meet(rt, &mut mailbox, first)?;
+    meet(rt, &mut mailbox, second)?;
+    tell_rest(rt, &mut mailbox)
+}
+
+/// Posts two items, takes one, and posts one more.
+fn post_three(
+    rt: &(impl Print + Wait),
+    mailbox: &mut TakeEnd,
+    first: &mut PostEnd,
+    second: &mut PostEnd,
+) -> io::Result<()>
+    ensures mailbox { mailbox.new.mailbox ≡ mailbox.old.mailbox }
+    ensures first { first.new.mailbox ≡ first.old.mailbox }
+    ensures second { second.new.mailbox ≡ second.old.mailbox }
+{
+    post(rt, first, 5)?;
+    post(rt, second, 6)?;
     println!(rt; "take: {:?}", mailbox.take(rt))?;
-    post(rt, &mut first, 7)?;
-    mailbox.meet(rt, first);
-    println!(rt; "all_met: {}", mailbox.all_met())?;
-    mailbox.meet(rt, second);
-    println!(rt; "all_met: {}", mailbox.all_met())?;
+    post(rt, first, 7)
+}
+
+fn meet(rt: &(impl Print + Wait), mailbox: &mut TakeEnd, end: PostEnd) -> io::Result<()>
+    requires { end.mailbox ≡ mailbox.old.mailbox }
+    ensures { mailbox.new.mailbox ≡ mailbox.old.mailbox }
+{
+    mailbox.meet(rt, end);
+    println!(rt; "all_met: {}", mailbox.all_met())
+}
+
+fn tell_rest(rt: &(impl Print + Wait), mailbox: &mut TakeEnd) -> io::Result<()> {
     for _ in 0..3 {
-        match rest(rt, &mut mailbox) {
+        match rest(rt, mailbox) {
             Ok(item) => println!(rt; "rest: {item:?}")?,
             Err(_) => println!(rt; "not all are met")?,
         }

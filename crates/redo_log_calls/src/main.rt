@@ -291,9 +291,18 @@ fn step(rt: &impl Print, alloc: Global) -> io::Result<()> {
         return println!(rt; "resolve: no memory");
     };
     let mut scan = Scan::new(alloc, target, 1000);
+    tell_pieces(rt, &mut scan)?;
+    tell_finish(rt, scan)
+}
+
+fn tell_pieces(rt: &impl Print, scan: &mut Scan) -> io::Result<()> {
     for piece in [b"@@REDO:do:7:".as_slice(), b"1@@ b\nhello\nrest".as_slice()] {
-        tell_steps(rt, &mut scan, piece)?;
+        tell_steps(rt, scan, piece)?;
     }
+    Ok(())
+}
+
+fn tell_finish(rt: &impl Print, scan: Scan) -> io::Result<()> {
     match scan.finish() {
         Ok(last) => println!(rt; "finish: {last:?}"),
         Err(fault) => println!(rt; "finish: {fault:?}"),
@@ -351,15 +360,22 @@ fn scan_of_input(rt: &(impl Input + Print + AllocGlobal)) -> io::Result<()> {
 fn scan_stream(rt: &impl Print, mut scan: Scan, stream: &[u8], size: usize) -> io::Result<()>
     requires { 0 < size }
 {
-    for piece in stream.chunks(size) {
-        if !scan_piece(rt, &mut scan, piece)? {
-            break;
-        }
-    }
+    scan_pieces(rt, &mut scan, stream, size)?;
     match scan.finish() {
         Ok(last) => println!(rt; "{last:?}"),
         Err(fault) => println!(rt; "{fault:?}"),
     }
+}
+
+fn scan_pieces(rt: &impl Print, scan: &mut Scan, stream: &[u8], size: usize) -> io::Result<()>
+    requires { 0 < size }
+{
+    for piece in stream.chunks(size) {
+        if !scan_piece(rt, scan, piece)? {
+            break;
+        }
+    }
+    Ok(())
 }
 
 /// The most bytes, the size of a piece, the target and the stream.

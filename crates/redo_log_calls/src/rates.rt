@@ -33,15 +33,23 @@ pub fn rates(rt: &(impl AllocGlobal + Clock + Print + Threads + Wait + Sync)) ->
     println!(rt; "| senders | lines an item | capacity 1 | 64 | 1,024 |\n|---|---|---|---|---|")?;
     for at_once in AT_ONCE {
         for senders in SENDERS {
-            print!(rt; "| {senders} | {at_once} |")?;
-            for capacity in CAPACITIES {
-                let rate = rate(rt, senders, capacity, at_once)?;
-                print!(rt; " {rate:.2} |")?;
-            }
-            println!(rt)?;
+            row(rt, senders, at_once)?;
         }
     }
     Ok(())
+}
+
+fn row<T: AllocGlobal + Clock + Print + Threads + Wait + Sync>(
+    rt: &T,
+    senders: usize,
+    at_once: usize,
+) -> io::Result<()> {
+    print!(rt; "| {senders} | {at_once} |")?;
+    for capacity in CAPACITIES {
+        let rate = rate(rt, senders, capacity, at_once)?;
+        print!(rt; " {rate:.2} |")?;
+    }
+    println!(rt)
 }
 
 /// Millions of items a second.

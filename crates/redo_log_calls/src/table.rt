@@ -11,11 +11,15 @@ const MOST: u32 = 1_048_575;
 /// Two logs: one gets an entry and ends, the other fails.
 pub fn table(rt: &impl Print, alloc: Global) -> io::Result<()> {
     let mut table = LogTable::new(alloc);
-    if fill(rt, alloc, &mut table)? {
-        end(&mut table, 0);
-        fail_second(&mut table);
-        tell(rt, &table)?;
-        tell_ends(rt, &table)?;
+    fill_and_end(rt, alloc, &mut table)
+}
+
+fn fill_and_end(rt: &impl Print, alloc: Global, table: &mut LogTable) -> io::Result<()> {
+    if fill(rt, alloc, table)? {
+        end(table, 0);
+        fail_second(table);
+        tell(rt, table)?;
+        tell_ends(rt, table)?;
     }
     Ok(())
 }
@@ -38,11 +42,15 @@ fn tell_ends(rt: &impl Print, table: &LogTable) -> io::Result<()> {
 /// As many logs as a table may hold, then one more, and one that it holds.
 pub fn full_table(rt: &impl Print, alloc: Global) -> io::Result<()> {
     let mut table = LogTable::new(alloc);
-    if let Some(number) = first_refused(alloc, &mut table) {
-        return println!(rt; "{number} was refused");
+    match first_refused(alloc, &mut table) {
+        Some(number) => println!(rt; "{number} was refused"),
+        None => tell_full(rt, alloc, &mut table),
     }
+}
+
+fn tell_full(rt: &impl Print, alloc: Global, table: &mut LogTable) -> io::Result<()> {
     println!(rt; "len: {}", table.len())?;
-    tell_refused(rt, alloc, &mut table)?;
+    tell_refused(rt, alloc, table)?;
     println!(rt; "len: {}", table.len())
 }
 

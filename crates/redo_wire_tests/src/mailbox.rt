@@ -3,7 +3,7 @@ ghost use Rattle.std.specs.Prelude.{◌≡◌, IfOk};
 
 use redo_given::{Posts, Two, exchange, item_text, line, rest, two_ended};
 use redo_line::{Entries, Entry};
-use redo_wire::{Item, PostEnd, What};
+use redo_wire::{Item, PostEnd, TakeEnd, What};
 use std::alloc::{AllocError, Global};
 use std::process::Abort;
 use std::sync::Wait;
@@ -35,19 +35,37 @@ fn expect(
     item: Option<Item>,
     want: Option<&str>,
 ) -> Result<(), Fail> {
-    let text = match &item {
-        Some(item) => Some(item_text(rt.alloc(), item)?),
-        None => None,
+    expect_item(rt, item.as_ref(), want)
+}
+
+fn expect_item(
+    rt: &(impl Abort + AllocGlobal),
+    item: Option<&Item>,
+    want: Option<&str>,
+) -> Result<(), Fail> {
+    let Some(item) = item else {
+        expect_text(rt, None, want);
+        return Ok(());
     };
-    assert_eq!(rt; text.as_deref(), want);
+    expect_text(rt, Some(item_text(rt.alloc(), item)?.as_str()), want);
     Ok(())
 }
 
-fn post<R: AllocGlobal + Wait>(rt: &R, end: &mut PostEnd, text: &str) -> Result<Option<Item>, Fail>
+fn expect_text(rt: &impl Abort, text: Option<&str>, want: Option<&str>) {
+    assert_eq!(rt; text, want);
+}
+
+/// What is left of this line, once this end has posted it, is this.
+fn post<R: Abort + AllocGlobal + Wait>(
+    rt: &R,
+    end: &mut PostEnd,
+    text: &str,
+    left: Option<&str>,
+) -> Result<(), Fail>
     ensures { end.new.mailbox ≡ end.old.mailbox }
 {
     let item = item(rt.alloc(), end.number(), text)?;
-    Ok(end.post(rt, item).err())
+    expect(rt, end.post(rt, item).err(), left)
 }
 
 #[test]
@@ -57,18 +75,46 @@ fn two_ends_post_and_are_met(rt: HostRuntime) -> Result<(), Fail> {
         mut first,
         mut second,
     } = two_ended(rt.alloc(), 2)?;
-    expect(&rt, post(&rt, &mut first, "A")?, None)?;
-    expect(&rt, post(&rt, &mut second, "B")?, None)?;
-    expect(&rt, mailbox.take(&rt), Some("7 of 0: A"))?;
-    expect(&rt, mailbox.take(&rt), Some("7 of 1: B"))?;
-    expect(&rt, post(&rt, &mut first, "C")?, None)?;
-    assert!(rt; !mailbox.all_met());
-    mailbox.meet(&rt, first);
-    assert!(rt; !mailbox.all_met());
-    mailbox.meet(&rt, second);
-    assert!(rt; mailbox.all_met());
-    expect(&rt, rest(&rt, &mut mailbox)?, Some("7 of 0: C"))?;
-    expect(&rt, rest(&rt, &mut mailbox)?, None)
+    post_three(&rt, &mut mailbox, &mut first, &mut second)?;
+    meet_both(&rt, &mut mailbox, first, second);
+    expect_rest(&rt, &mut mailbox)
+}
+
+/// The first end posts twice, the second once, and the first item of each is taken.
+fn post_three<R: Abort + AllocGlobal + Wait>(
+    rt: &R,
+    mailbox: &mut TakeEnd,
+    first: &mut PostEnd,
+    second: &mut PostEnd,
+) -> Result<(), Fail>
+    ensures mailbox { mailbox.new.mailbox ≡ mailbox.old.mailbox }
+    ensures first { first.new.mailbox ≡ first.old.mailbox }
+    ensures second { second.new.mailbox ≡ second.old.mailbox }
+{
+    post(rt, first, "A", None)?;
+    post(rt, second, "B", None)?;
+    expect(rt, mailbox.take(rt), Some("7 of 0: A"))?;
+    expect(rt, mailbox.take(rt), Some("7 of 1: B"))?;
+    post(rt, first, "C", None)
+}
+
+fn meet_both<R: Abort + Wait>(rt: &R, mailbox: &mut TakeEnd, first: PostEnd, second: PostEnd)
+    requires { (first.mailbox ≡ mailbox.old.mailbox) × (second.mailbox ≡ mailbox.old.mailbox) }
+{
+    expect_all_met(rt, mailbox, false);
+    mailbox.meet(rt, first);
+    expect_all_met(rt, mailbox, false);
+    mailbox.meet(rt, second);
+    expect_all_met(rt, mailbox, true);
+}
+
+fn expect_all_met(rt: &impl Abort, mailbox: &TakeEnd, all_met: bool) {
+    assert!(rt; mailbox.all_met() == all_met);
+}
+
+fn expect_rest<R: Abort + AllocGlobal + Wait>(rt: &R, mailbox: &mut TakeEnd) -> Result<(), Fail> {
+    expect(rt, rest(rt, mailbox)?, Some("7 of 0: C"))?;
+    expect(rt, rest(rt, mailbox)?, None)
 }
 
 #[test]
@@ -79,23 +125,45 @@ fn what_nobody_can_take_is_handed_back(rt: HostRuntime) -> Result<(), Fail> {
         second: _,
     } = two_ended(rt.alloc(), 1)?;
     drop(mailbox);
-    expect(&rt, post(&rt, &mut first, "A")?, Some("7 of 0: A"))?;
-    expect(&rt, post(&rt, &mut first, "B")?, Some("7 of 0: B"))
+    expect_handed_back(&rt, &mut first)
+}
+
+fn expect_handed_back<R: Abort + AllocGlobal + Wait>(
+    rt: &R,
+    end: &mut PostEnd,
+) -> Result<(), Fail> {
+    post(rt, end, "A", Some("7 of 0: A"))?;
+    post(rt, end, "B", Some("7 of 0: B"))
 }
 
 #[test]
 fn there_is_none_once_all_ends_are_gone(rt: HostRuntime) -> Result<(), Fail> {
     let Two {
         mut mailbox,
-        mut first,
+        first,
         second,
     } = two_ended(rt.alloc(), 3)?;
-    expect(&rt, post(&rt, &mut first, "A")?, None)?;
+    post_and_drop(&rt, first, second)?;
+    take_one(&rt, &mut mailbox)
+}
+
+/// Posts at the first end, and drops both.
+fn post_and_drop<R: Abort + AllocGlobal + Wait>(
+    rt: &R,
+    mut first: PostEnd,
+    second: PostEnd,
+) -> Result<(), Fail> {
+    let posted = post(rt, &mut first, "A", None);
     drop(first);
     drop(second);
-    expect(&rt, mailbox.take(&rt), Some("7 of 0: A"))?;
-    expect(&rt, mailbox.take(&rt), None)?;
-    assert!(rt; !mailbox.all_met());
+    posted
+}
+
+/// Takes the only item of a mailbox whose ends are gone.
+fn take_one<R: Abort + AllocGlobal + Wait>(rt: &R, mailbox: &mut TakeEnd) -> Result<(), Fail> {
+    expect(rt, mailbox.take(rt), Some("7 of 0: A"))?;
+    expect(rt, mailbox.take(rt), None)?;
+    expect_all_met(rt, mailbox, false);
     Ok(())
 }
 
@@ -181,10 +249,15 @@ fn expect_all<T: Abort + AllocGlobal + Threads + Wait + Sync>(
         posts.push(items)?;
     }
     let taken = exchange(rt, capacity, posts, most_items)?;
+    expect_taken(rt, &taken, load)
+}
+
+/// These are the items of the senders of a load, and of no other.
+fn expect_taken(rt: &(impl Abort + AllocGlobal), taken: &[Item], load: Load) -> Result<(), Fail> {
     for sender in 0..load.senders {
-        expect_of(rt, sender, &taken, load)?;
+        expect_of(rt, sender, taken, load)?;
     }
-    for item in &taken {
+    for item in taken {
         assert!(rt; item.sender < load.senders, "{}", item.sender);
     }
     Ok(())
@@ -201,14 +274,31 @@ fn expect_of(
     let mut has_ended = false;
     for item in taken {
         if item.sender == sender {
-            let text = item_text(rt.alloc(), item)?;
-            assert_eq!(rt; text, load.text_at(rt.alloc(), sender, place)?);
-            assert!(rt; !has_ended, "{text}");
+            expect_at(rt, item, load, place)?;
+            expect_ended(rt, sender, has_ended, false);
             has_ended = load.lines_at(place).is_none();
             place = place.saturating_add(1);
         }
     }
-    assert!(rt; has_ended, "sender {sender}");
+    expect_ended(rt, sender, has_ended, true);
+    Ok(())
+}
+
+/// Whether the sender has ended is this.
+fn expect_ended(rt: &impl Abort, sender: u32, has_ended: bool, want: bool) {
+    assert!(rt; has_ended == want, "sender {sender}");
+}
+
+/// This is the item of its sender at this place.
+fn expect_at(
+    rt: &(impl Abort + AllocGlobal),
+    item: &Item,
+    load: Load,
+    place: u32,
+) -> Result<(), Fail> {
+    let text = item_text(rt.alloc(), item)?;
+    let want = load.text_at(rt.alloc(), item.sender, place)?;
+    expect_text(rt, Some(&text), Some(&want));
     Ok(())
 }
 

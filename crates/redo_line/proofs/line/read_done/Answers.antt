@@ -1,4 +1,4 @@
-use Rattle.std.proofs.Common.{refl, sym, subst}
+use Rattle.std.proofs.Common.{rules, refl, sym, subst}
 use Rattle.redo_line.specs.Entry.{done}
 use Rattle.redo_line.specs.Private.Line.{ReadsInto}
 use Rattle.redo_line.proofs.ReadingLemmas.{done_by_parts, refused_into, refused_name}
@@ -11,3 +11,9 @@ returns-in_err-resolve_to c =
     subst (λ read. ReadsInto c.from_residual.result read c.args.entries.now c.args.entries.now) (sym parts)
     (refused_into c.from_residual.result _ _ _ _ c.from_residual.ensures
     (refused_name (λ mentioned. done target c.in-Some-read_status.status mentioned) target name c.in_err-resolve_to.field-0.0 c.in_err-resolve_to.ensures.empty) refl)
+
+pub returns-in_ok-push_closing : goal.returns-in_ok-push_closing
+returns-in_ok-push_closing c = search rules
+
+pub returns-in_ok-push_done : goal.returns-in_ok-push_done
+returns-in_ok-push_done c = search rules

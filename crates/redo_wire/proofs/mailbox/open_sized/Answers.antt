@@ -1,4 +1,4 @@
-use Rattle.std.proofs.Common.{◌≡◌, ◌<◌, ◌+◌, sym, ◌∙◌, ap, subst, replicate, false, arith}
+use Rattle.std.proofs.Common.{rules, ◌≡◌, ◌<◌, ◌+◌, sym, ◌∙◌, ap, subst, replicate, false, arith}
 use Rattle.redo_wire.proofs.Moves.{begins}
 use Rattle.redo_wire.proofs.Opening.{AreMade, all_collect, ends_at, one_made, sizes_at}
 use Rattle.redo_wire.proofs.mailbox.open_sized.Goals as goal
@@ -23,3 +23,9 @@ pub invariant_of-result : goal.invariant_of-result
 invariant_of-result g c =
     let all : c.loop-number.number ≡ g.S.Size.senders = omega (arith, c.loop-number-test.false, c.requires.senders, c.loop-number.auto.number-end) in
     all_collect _ _ _ _ _ _ _ all c.loop-number.invariant _ (c.in_ok-met.ensures.items_if_clones_equal (λ x is. is) ∙ ap (λ n. replicate n false) c.requires.senders)
+
+pub loop-number-init : goal.loop-number-init
+loop-number-init g c = search rules
+
+pub invariant_of-end : goal.invariant_of-end
+invariant_of-end g c = search rules
