@@ -1,4 +1,4 @@
-use Rattle.std.proofs.Common.{◌≡◌, ℕ, ◌<◌, length, map, take, refl, ◌∙◌, inr}
+use Rattle.std.proofs.Common.{rules, ◌≡◌, ℕ, ◌<◌, length, map, take, refl, ◌∙◌, inr}
 use Rattle.std.proofs.lemmas.Result.{IfOk-weaker, err_from_is_err_and}
 use Rattle.redo_line.specs.Sink.{adds}
 use Rattle.redo_index.specs.Index.{names_of}
@@ -44,3 +44,9 @@ returns-clause-memory g c refused =
     inr (some_text (question c.args.index.now c.args.plan.now c.args.options.now c.args.asked.now) (map g.R.Feed.tells c.args.readers.items)
     (λ text. (n : ℕ) × (g.W.Sink.tells c.show.new.out ≡ adds (g.W.Sink.tells c.args.out.now) (take n text) 0)) c.args.plan.now.max_bytes (names_of c.args.index.now) c.deref.result.now c.in_ok-table.table
     refl refl c.in_ok-targets.ensures.known (c.deref.ensures.value ∙ c.in_ok-targets.ensures.targets) c.logs_unless_fault.ensures c.in_ok-table.ensures.logs (c.show.ensures.memory refused))
+
+pub returns-in_err-table-clause-unwritten : goal.returns-in_err-table-clause-unwritten
+returns-in_err-table-clause-unwritten g c = search rules
+
+pub returns-in_err-table-clause-memory : goal.returns-in_err-table-clause-memory
+returns-in_err-table-clause-memory g c = search rules

@@ -29,3 +29,6 @@ loop-number-init g c = search rules
 
 pub invariant_of-end : goal.invariant_of-end
 invariant_of-end g c = search rules
+
+pub returns-clause-posts : goal.returns-clause-posts
+returns-clause-posts g c = search rules
