@@ -170,7 +170,7 @@ fn expect(
     Ok(())
 }
 
-/// The same of one cut.
+/// The same of one cut, where entries are found one by one, and where those of a piece are found together.
 fn expect_cut(
     rt: &(impl Abort + AllocGlobal),
     target: &str,
@@ -180,40 +180,16 @@ fn expect_cut(
     entries: &str,
     fault: Option<StreamFault>,
 ) -> Result<(), Fail> {
-    let pieces = cut_into_reads(rt.alloc(), stream.as_bytes(), cut)?;
-    expect_entries(rt, target, max_bytes, &pieces, entries, fault)?;
-    expect_together(rt, target, max_bytes, &pieces, entries, fault)
-}
-
-/// These are found in these pieces, one by one.
-fn expect_entries(
-    rt: &(impl Abort + AllocGlobal),
-    target: &str,
-    max_bytes: u64,
-    pieces: &[Vec<u8>],
-    entries: &str,
-    fault: Option<StreamFault>,
-) -> Result<(), Fail> {
-    let scanned = scan(rt.alloc(), new_scan(rt.alloc(), target, max_bytes)?, pieces)?;
-    expect_scanned(rt, &scanned, entries, fault);
+    let alloc = rt.alloc();
+    let pieces = cut_into_reads(alloc, stream.as_bytes(), cut)?;
+    let apart = scan(alloc, new_scan(alloc, target, max_bytes)?, &pieces)?;
+    expect_scanned(rt, apart, entries, fault);
+    let together = scan_together(alloc, new_scan(alloc, target, max_bytes)?, &pieces)?;
+    expect_scanned(rt, together, entries, fault);
     Ok(())
 }
 
-/// The same, those of a piece together.
-fn expect_together(
-    rt: &(impl Abort + AllocGlobal),
-    target: &str,
-    max_bytes: u64,
-    pieces: &[Vec<u8>],
-    entries: &str,
-    fault: Option<StreamFault>,
-) -> Result<(), Fail> {
-    let scanned = scan_together(rt.alloc(), new_scan(rt.alloc(), target, max_bytes)?, pieces)?;
-    expect_scanned(rt, &scanned, entries, fault);
-    Ok(())
-}
-
-fn expect_scanned(rt: &impl Abort, scanned: &Scanned, entries: &str, fault: Option<StreamFault>) {
+fn expect_scanned(rt: &impl Abort, scanned: Scanned, entries: &str, fault: Option<StreamFault>) {
     assert_eq!(rt; (scanned.fault, scanned.entries.as_str()), (fault, entries));
 }
 
