@@ -6,8 +6,8 @@ use Rattle.std.proofs.lemmas.List.{append_assoc, append-nil, length-map}
 use Rattle.std.proofs.lemmas.Option.{none-some, slice_get-map}
 use Rattle.redo_line.specs.declared.entry.Entry.{Entry}
 use Rattle.redo_line.specs.declared.stream_fault.StreamFault.TheVariants.{OutOfMemory}
-use Rattle.redo_line.specs.Feed.{Stream}
-use Rattle.redo_line.proofs.GaveLemmas.{weaker}
+use Rattle.redo_device.specs.Feed.{Stream}
+use Rattle.redo_device.proofs.GaveLemmas.{weaker}
 use Rattle.redo_logs.specs.declared.log_state.LogState.{LogState}
 use Rattle.redo_logs.specs.declared.log_state.LogState.TheVariants.{Ended, Failed, Running}
 use Rattle.redo_logs.specs.Logs.{Log, changed, new_log, with_entries}

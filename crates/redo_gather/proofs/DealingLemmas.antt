@@ -3,7 +3,7 @@ use Rattle.std.proofs.Common.{◌≡◌, ◌≢◌, ◌⊎◌, inl, inr, ℕ, ze
 use Rattle.std.proofs.lemmas.Bool.{eq-eqb}
 use Rattle.std.proofs.lemmas.Bool.Decides.{eqb_tells}
 use Rattle.std.proofs.lemmas.List.{append-nil, length-replicate, length-set, map_push}
-use Rattle.redo_line.specs.Feed.{Stream}
+use Rattle.redo_device.specs.Feed.{Stream}
 use Rattle.redo_gather.specs.Owed.{Given}
 use Rattle.redo_gather.specs.Private.Dealing.{AreDealt, AreEmpty, share_from}
 use Rattle.redo_gather.specs.Sending.{Numbered, numbered}

@@ -5,7 +5,7 @@ use Rattle.std.specs.Result.{result_and}
 use Rattle.std.proofs.lemmas.List.{append_assoc, append-nil, length-append, length-map}
 use Rattle.redo_line.specs.declared.stream_fault.StreamFault.{StreamFault}
 use Rattle.redo_line.specs.declared.stream_fault.StreamFault.TheVariants.{BadRecord, AfterClose, TooLong, Read, OutOfMemory}
-use Rattle.redo_line.specs.Feed.{Stream}
+use Rattle.redo_device.specs.Feed.{Stream}
 use Rattle.redo_line.specs.Log.{fault_of, log_of}
 use Rattle.redo_logs.specs.declared.log_state.LogState.TheVariants.{Running}
 use Rattle.redo_logs.specs.Logs.{Log, new_log, targets_of, states_of, changed, has_ended}

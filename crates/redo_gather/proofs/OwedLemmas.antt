@@ -3,9 +3,9 @@ use Rattle.std.proofs.Common.{◌≡◌, ◌≢◌, inl, inr, ℕ, List, Option,
 use Rattle.redo_line.specs.declared.entry.Entry.{Entry}
 use Rattle.redo_line.specs.declared.stream_fault.StreamFault.{StreamFault}
 use Rattle.redo_line.specs.declared.stream_fault.StreamFault.TheVariants.{OutOfMemory}
-use Rattle.redo_line.specs.Feed.{Stream, SomeStream}
+use Rattle.redo_device.specs.Feed.{Stream, SomeStream}
 use Rattle.redo_line.specs.Log.{entries_of, fault_of, log_of, part_of, unless_fault}
-use Rattle.redo_line.proofs.GaveLemmas.{weaker}
+use Rattle.redo_device.proofs.GaveLemmas.{weaker}
 use Rattle.redo_gather.specs.Owed.{Given, IsOwed, IsOwedFor, IsWhole, log_or_part, told_entries}
 
 -- a stream without a fault is told as its log

@@ -3,7 +3,7 @@ use Rattle.std.proofs.Common.{◌≡◌, ℕ, zero, suc, ◌≤◌, false, List,
 use Rattle.std.specs.List.{AllByRecursion}
 use Rattle.std.proofs.lemmas.List.{length-append}
 use Rattle.std.proofs.lemmas.Option.{none-some}
-use Rattle.redo_line.specs.Feed.{Stream}
+use Rattle.redo_device.specs.Feed.{Stream}
 use Rattle.redo_logs.specs.Logs.{new_log}
 use Rattle.redo_wire.specs.Mailbox.{AreEndsOf, IsOpened, Mailbox, Poster}
 use Rattle.redo_gather.specs.declared.collecting.Collector.{Collector as Collecting}

@@ -6,7 +6,7 @@ use Rattle.std.proofs.lemmas.List.{length-map}
 use Rattle.std.proofs.lemmas.Option.{slice_get_within}
 use Rattle.redo_line.specs.declared.entry.Entry.{Entry}
 use Rattle.redo_line.specs.declared.stream_fault.StreamFault.{StreamFault}
-use Rattle.redo_line.specs.Feed.{Stream, SomeStream}
+use Rattle.redo_device.specs.Feed.{Stream, SomeStream}
 use Rattle.redo_line.specs.Log.{fault_of, unless_fault}
 use Rattle.redo_logs.specs.Logs.{Log, behind_one, fault_in, first_failed, first_fault, has_ended, states_of, targets_of}
 use Rattle.redo_logs.proofs.LeastFault.{found_there}

@@ -4,7 +4,7 @@ use Rattle.std.specs.Option.{option_map}
 use Rattle.std.specs.List.{list_all}
 use Rattle.redo_line.specs.declared.entry.Entry.{Entry}
 use Rattle.redo_line.specs.declared.stream_fault.StreamFault.{StreamFault}
-use Rattle.redo_line.specs.Feed.{Stream, SomeStream}
+use Rattle.redo_device.specs.Feed.{Stream, SomeStream}
 use Rattle.redo_line.specs.Log.{fault_of, unless_fault}
 use Rattle.redo_logs.specs.Logs.{Log, first_fault, behind_one, targets_of, has_ended}
 use Rattle.redo_gather.specs.Streams.{IsTold, AreTold, whole_log, log_with, fault_with, in_front, logs_of, fault_among}

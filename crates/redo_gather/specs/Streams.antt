@@ -4,7 +4,7 @@ use Rattle.std.specs.Prelude.{◌≡◌, ◌↔◌, ℕ, List, [], ◌∷◌, Op
 use Rattle.std.specs.Option.{option_map}
 use Rattle.redo_line.specs.declared.entry.Entry.{Entry}
 use Rattle.redo_line.specs.declared.stream_fault.StreamFault.{StreamFault}
-use Rattle.redo_line.specs.Feed.{Stream}
+use Rattle.redo_device.specs.Feed.{Stream}
 use Rattle.redo_line.specs.Log.{log_of, fault_of}
 use Rattle.redo_logs.specs.declared.log_state.LogState.TheVariants.{Ended}
 use Rattle.redo_logs.specs.Logs.{Log, first_fault}

@@ -1,6 +1,6 @@
 ghost use Rattle.std.specs.Prelude.{◌≡◌, ◌≢◌, ℕ, ◌≤◌, ◌^◌, List, [], ◌∷◌, ◌++◌, Option, false, Ok, IfOk};
 ghost use Rattle.std.specs.Result.{result_and};
-ghost use Rattle.redo_line.specs.Feed.{Stream};
+ghost use Rattle.redo_device.specs.Feed.{Stream};
 ghost use Rattle.redo_line.specs.declared.stream_fault.StreamFault.TheVariants.{OutOfMemory};
 ghost use Rattle.redo_wire.specs.declared.item.Item.{Item};
 ghost use Rattle.redo_wire.specs.Mailbox.{AreAllMet, AreEndsOf, AreOfSenders, AreWhole, IsOpened, meets};

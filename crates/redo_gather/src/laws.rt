@@ -1,6 +1,6 @@
 //! Laws about the definitions alone: their contracts are theorems, and their bodies are empty.
 ghost use Rattle.std.specs.Prelude.{◌≡◌, ℕ, List, Some, map};
-ghost use Rattle.redo_line.specs.Feed.{Stream};
+ghost use Rattle.redo_device.specs.Feed.{Stream};
 ghost use Rattle.redo_gather.specs.Streams.{AreTold, HasLogsUnlessFault, TellsFault, TellsLogs};
 
 /// Streams have logs, or a fault among them, and not both.

@@ -10,7 +10,7 @@ use std::alloc::Global;
 
 /// What was read of a stream: the entries of its log and no fault, or those before its fault and the
 /// fault. Where there was no memory, it has some of the first entries and that for its fault.
-#[derive(Debug, Drop)]
+#[derive(Drop)]
 pub struct StreamLog {
     pub entries: Entries,
     pub fault: Option<StreamFault>,

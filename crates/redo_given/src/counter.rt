@@ -3,7 +3,7 @@ ghost use Rattle.std.specs.Prelude.{None};
 use redo_line::{Broken, Sink};
 
 /// A writer that takes all bytes, and counts them.
-#[derive(Debug, Drop)]
+#[derive(Drop)]
 pub struct Counter {
     pub bytes: u64,
 }

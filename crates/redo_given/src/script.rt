@@ -1,6 +1,6 @@
 //! A reader that answers as a test says, and counts its reads.
 ghost use Rattle.std.specs.Prelude.{◌≡◌, None};
-ghost use Rattle.redo_line.specs.Feed.{Pulls};
+ghost use Rattle.redo_device.specs.Feed.{Pulls};
 
 use redo_line::{Broken, Feed};
 use std::sync::atomic::{AtomicU64, Ordering};

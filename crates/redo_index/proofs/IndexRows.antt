@@ -1,7 +1,7 @@
 -- Examples of indexes, computed: the lines, and what they list, or which one is refused.
 use Rattle.std.proofs.Common.{◌≡◌, ℕ, List, [], ◌∷◌, None, refl}
 use Rattle.std.specs.Prelude.{codes}
-use Rattle.redo_line.specs.Names.{from_back, normal}
+use Rattle.redo_name.specs.Names.{from_back, normal}
 use Rattle.redo_index.specs.declared.index_fault.IndexFault.TheVariants.{BadLine, FidTwice, NameTwice}
 use Rattle.redo_line.specs.Decimal.{number}
 use Rattle.redo_index.specs.declared.listed.Listed.{Listed}

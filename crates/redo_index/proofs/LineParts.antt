@@ -4,7 +4,7 @@ use Rattle.std.proofs.lemmas.List.{take_all, drop_all, length-drop}
 use Rattle.std.proofs.lemmas.List.Sums.{position_or_len_is}
 use Rattle.std.specs.List.{position_or_len}
 use Rattle.memchr.specs.Find.{Passes, Nowhere, NoneBefore, is_byte}
-use Rattle.redo_line.specs.Names.{normal}
+use Rattle.redo_name.specs.Names.{normal}
 use Rattle.redo_index.specs.Index.{is_space, both, number_of, listed_by}
 
 fails : (test : Bool) → ¬ (test ≡ true) → test ≡ false

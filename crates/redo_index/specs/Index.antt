@@ -4,7 +4,7 @@ use Rattle.std.specs.List.{list_any, before_first, after_first, IsDistinct}
 use Rattle.std.specs.Cmp.Lexicographic.{pointwise}
 use Rattle.redo_line.specs.Decimal.{are_digits}
 use Rattle.redo_line.specs.Decimal as decimal
-use Rattle.redo_line.specs.Names.{normal}
+use Rattle.redo_name.specs.Names.{normal}
 use Rattle.redo_index.specs.declared.index_fault.IndexFault.{IndexFault}
 use Rattle.redo_index.specs.declared.index_fault.IndexFault.TheVariants.{BadLine, FidTwice, NameTwice, TooMany}
 use Rattle.redo_index.specs.declared.listed.Listed.{Listed}

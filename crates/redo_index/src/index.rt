@@ -20,7 +20,7 @@ const MOST: usize = 1_048_575;
 
 /// The targets of a capture directory: for each its number and its name, in the order in which
 /// they are listed. No number and no name stands in it twice, and it lists at most 1,048,575.
-#[derive(Debug, Drop)]
+#[derive(Drop)]
 pub struct Index {
     numbers: IndexSet<u32>,
     names: IndexSet<TargetName>,

@@ -9,7 +9,7 @@ use Rattle.redo_line.specs.declared.entry.Entry.{Entry}
 use Rattle.redo_line.specs.declared.entry.Entry.TheVariants as entry
 use Rattle.redo_line.specs.Entries.{AreWithin, IsNameAt, IsWithin, entries_at, entry_at}
 use Rattle.redo_line.specs.Lines.{line_feed}
-use Rattle.redo_line.specs.Names.{IsNormal}
+use Rattle.redo_name.specs.Names.{IsNormal}
 
 -- what others begin with
 abbrev pub IsFront : {A : Type 0} → List A → List A → Type 0

@@ -9,7 +9,7 @@ use Rattle.redo_line.specs.declared.entry.Entry.TheVariants.{Text, Mention, Note
 use Rattle.redo_line.specs.declared.entry.How.{How}
 use Rattle.redo_line.specs.declared.record.Kind.{Kind}
 use Rattle.redo_line.specs.declared.record.Kind.TheVariants as kind
-use Rattle.redo_line.specs.Names.{normal}
+use Rattle.redo_name.specs.Names.{normal}
 use Rattle.redo_line.specs.Parts.{parted, behind}
 use Rattle.redo_line.specs.Record.{mark, space, kind_of, FitsKind, Fields, IsRecord, fields_of, status_of}
 use Rattle.redo_line.specs.Entry.{done, Says, IsCandidate, IsRecordEntry, IsEntry, done_parted, said, record_entry, line_entry, entry_of}

@@ -9,7 +9,7 @@ use Rattle.redo_line.specs.declared.stream_fault.StreamFault.TheVariants.{BadRec
 use Rattle.redo_line.specs.Entry.{entry_of}
 use Rattle.redo_line.specs.Laws.{IsMetEarly}
 use Rattle.redo_line.specs.Fault.{ending_fault}
-use Rattle.redo_line.specs.Feed.{Stream}
+use Rattle.redo_device.specs.Feed.{Stream}
 use Rattle.redo_line.specs.Lines.{with_line_feed, ended, rest, unended}
 use Rattle.redo_line.specs.Log.{stream_of, line_entries, entries_of, first_fault, line_fault, or_else, fault_of, lines_before, part_of, unless_fault, log_of}
 use Rattle.redo_line.specs.Private.Progress.{closed_by}

@@ -10,14 +10,14 @@ use Rattle.redo_line.specs.declared.entry.Entry.{Entry}
 use Rattle.redo_line.specs.declared.entry.Entry.TheVariants.{Text}
 use Rattle.redo_line.specs.declared.line.LineFault.{LineFault}
 use Rattle.redo_line.specs.declared.line.LineFault.TheVariants.{BadRecord, OutOfMemory}
-use Rattle.redo_line.specs.declared.name.NameFault.{NameFault}
-use Rattle.redo_line.specs.declared.name.NameFault.TheVariants as name
+use Rattle.redo_name.specs.declared.name.NameFault.{NameFault}
+use Rattle.redo_name.specs.declared.name.NameFault.TheVariants as name
 use Rattle.redo_line.specs.declared.record.Kind.{Kind}
 use Rattle.redo_line.specs.Entry.{behind_mark, line_entry, done, done_parted, said, record_entry, entry_of}
 use Rattle.redo_line.specs.Line.{bad_name}
 use Rattle.redo_line.specs.Private.Line.{IsRefused, ReadsInto}
 use Rattle.redo_line.specs.Private.Record.{kind_and_text}
-use Rattle.redo_line.specs.Names.{normal}
+use Rattle.redo_name.specs.Names.{normal}
 use Rattle.redo_line.specs.Record.{mark, colon, at_sign, space, Fields, kind_of, fields_of, status_of}
 use Rattle.redo_line.proofs.RecordLemmas.{fields_read}
 use Rattle.redo_line.proofs.Stripping.{behind_begins, behind_none}

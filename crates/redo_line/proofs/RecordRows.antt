@@ -6,7 +6,7 @@ use Rattle.redo_line.specs.declared.entry.Entry.{Entry}
 use Rattle.redo_line.specs.declared.entry.Entry.TheVariants.{Text, Mention, Done, Closing, Note}
 use Rattle.redo_line.specs.declared.entry.How.TheVariants.{Made, Waiting, Locked, Unlocked, Unchanged}
 use Rattle.redo_line.specs.Decimal.{number}
-use Rattle.redo_line.specs.Names.{from_back, normal}
+use Rattle.redo_name.specs.Names.{from_back, normal}
 use Rattle.redo_line.specs.Parts.{parted, behind}
 use Rattle.redo_line.specs.Record.{fields_of, status_of}
 use Rattle.redo_line.specs.Entry.{record_entry, entry_of}

@@ -7,7 +7,7 @@ use Rattle.redo_line.specs.declared.entries.Layout.{Layout}
 use Rattle.redo_line.specs.declared.entry.Entry.{Entry}
 use Rattle.redo_line.specs.declared.entry.Entry.TheVariants as entry
 use Rattle.redo_line.specs.Lines.{line_feed}
-use Rattle.redo_line.specs.Names.{IsNormal}
+use Rattle.redo_name.specs.Names.{IsNormal}
 
 module _ (bytes names : List ℕ) where
   -- the entry that stands there

@@ -1,12 +1,11 @@
 -- What the laws say, where it takes more than a line.
-use Rattle.std.specs.Prelude.{◌≡◌, ◌≢◌, ℕ, Bool, true, false, List, ◌∷◌, [], ◌++◌, Option, None, Some, IfSome, map, replicate}
+use Rattle.std.specs.Prelude.{◌≡◌, ℕ, Bool, true, List, ◌∷◌, [], ◌++◌, Option, None, Some, IfSome, map}
 use Rattle.redo_line.specs.declared.entry.Entry.{Entry}
 use Rattle.redo_line.specs.declared.stream_fault.StreamFault.{StreamFault}
 use Rattle.redo_line.specs.declared.stream_fault.StreamFault.TheVariants.{BadRecord, AfterClose, TooLong, Read, OutOfMemory}
-use Rattle.redo_line.specs.Feed.{Stream}
+use Rattle.redo_device.specs.Feed.{Stream}
 use Rattle.redo_line.specs.Lines.{AreLines}
 use Rattle.redo_line.specs.Log.{stream_of, closes, entries_of, fault_of, part_of, log_of}
-use Rattle.redo_line.specs.Names.{slash, dot, dot_dot, from_back, is_absolute, normal}
 use Rattle.redo_line.specs.Scan.{fault_so_far, entries_so_far}
 
 -- whatever has this property is what was found
@@ -16,30 +15,6 @@ IsOnly {A} P found = (other : A) → P other → found ≡ Some other
 -- these bytes are cut into these lines and this rest, and in no other way
 abbrev pub IsOnlyCutting : List ℕ → List (List ℕ) → List ℕ → Type 0
 IsOnlyCutting bytes lines last = (others : List (List ℕ)) (other : List ℕ) → AreLines bytes others other → (others ≡ lines) × (other ≡ last)
-
--- a segment that names something itself
-abbrev pub IsOrdinary : List ℕ → Type 0
-IsOrdinary segment = (segment ≢ []) × (segment ≢ dot) × (segment ≢ dot_dot)
-
--- a segment that changes nothing, wherever it stands
-abbrev pub Goes : List ℕ → Type 0
-Goes segment = (front behind : List (List ℕ)) → from_back (front ++ segment ∷ behind) ≡ from_back (front ++ behind)
-
--- a segment that is gone where `..` stands right behind it
-abbrev pub GoesWithUpward : List ℕ → Type 0
-GoesWithUpward segment = (front behind : List (List ℕ)) → from_back (front ++ segment ∷ dot_dot ∷ behind) ≡ from_back (front ++ behind)
-
--- so many `..`, and these segments behind them, all stay
-abbrev pub Stay : ℕ → List (List ℕ) → Type 0
-Stay ups kept = from_back (replicate ups dot_dot ++ kept) ≡ record { kept = kept; count = ups }
-
--- a name that is relative to where it stands
-abbrev pub IsRelative : List ℕ → Type 0
-IsRelative name = (name ≢ []) × (is_absolute name ≡ false)
-
--- a name in the log of a target in a directory is that of the directory and the name
-abbrev pub StandsIn : List ℕ → List ℕ → List ℕ → Type 0
-StandsIn front last name = normal (Some (front ++ slash ∷ last)) name ≡ normal None (front ++ slash ∷ name)
 
 -- a fault that is met before the stream is at its end
 abbrev pub IsMetEarly : StreamFault → Type 0

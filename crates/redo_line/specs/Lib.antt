@@ -3,16 +3,11 @@ pub mod Decimal
 pub mod Entries
 pub mod Entry
 pub mod Fault
-pub mod Feed
 pub mod Laws
 pub mod Line
 pub mod Lines
 pub mod Log
-pub mod Names
 pub mod Parts
-pub mod Pieces
 pub mod Private
 pub mod Record
 pub mod Scan
-pub mod Sink
-pub mod Taker

@@ -1,6 +1,6 @@
 -- What reading a line answers.
-use Rattle.redo_line.specs.declared.name.NameFault.{NameFault}
-use Rattle.redo_line.specs.declared.name.NameFault.TheVariants as name
+use Rattle.redo_name.specs.declared.name.NameFault.{NameFault}
+use Rattle.redo_name.specs.declared.name.NameFault.TheVariants as name
 use Rattle.redo_line.specs.declared.line.LineFault.{LineFault}
 use Rattle.redo_line.specs.declared.line.LineFault.TheVariants.{BadRecord, OutOfMemory}
 

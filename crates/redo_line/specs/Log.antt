@@ -4,7 +4,7 @@ use Rattle.redo_line.specs.declared.entry.Entry.{Entry}
 use Rattle.redo_line.specs.declared.entry.Entry.TheVariants.{Text, Mention, Done, Closing, Note}
 use Rattle.redo_line.specs.declared.stream_fault.StreamFault.{StreamFault}
 use Rattle.redo_line.specs.declared.stream_fault.StreamFault.TheVariants.{BadRecord, AfterClose, TooLong, Read, OutOfMemory}
-use Rattle.redo_line.specs.Feed.{Stream}
+use Rattle.redo_device.specs.Feed.{Stream}
 use Rattle.redo_line.specs.Fault.{ending_fault}
 use Rattle.redo_line.specs.Lines.{ended, rest, unended, all_lines}
 use Rattle.redo_line.specs.Entry.{entry_of}

@@ -1,7 +1,5 @@
 -- What only clauses of private functions cite: it helps to prove the others, and nobody has to believe it.
 pub mod CutLine
 pub mod Line
-pub mod Path
-pub mod Pieces
 pub mod Progress
 pub mod Record

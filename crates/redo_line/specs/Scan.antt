@@ -6,7 +6,7 @@ use Rattle.redo_line.specs.declared.scan.Step.{Step}
 use Rattle.redo_line.specs.declared.scan.Step.TheVariants.{Found, More}
 use Rattle.redo_line.specs.declared.stream_fault.StreamFault.{StreamFault}
 use Rattle.redo_line.specs.declared.stream_fault.StreamFault.TheVariants.{BadRecord, AfterClose, TooLong, Read, OutOfMemory}
-use Rattle.redo_line.specs.Feed.{Stream}
+use Rattle.redo_device.specs.Feed.{Stream}
 use Rattle.redo_line.specs.Lines.{ended, rest}
 use Rattle.redo_line.specs.Entry.{entry_of}
 use Rattle.redo_line.specs.Log.{stream_of, fault_of, part_of}

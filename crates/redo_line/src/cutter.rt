@@ -10,7 +10,7 @@ use std::marker::Model;
 use std::mem;
 
 /// What a cutter found in a piece.
-#[derive(Debug, Drop)]
+#[derive(Drop)]
 pub enum Cut {
     /// A line, and the place in the piece after its line feed.
     Line { bytes: LineText, upto: usize },
@@ -19,7 +19,7 @@ pub enum Cut {
 }
 
 // A line, without its line feed.
-#[derive(Debug, Drop)]
+#[derive(Drop)]
 pub enum Line<'a> {
     // It lies within a piece.
     Within(&'a [u8]),
@@ -51,7 +51,7 @@ impl<'a> Line<'a> {
 
 /// Cuts bytes that come in pieces into lines. A cutter is seen as what it keeps: the bytes that
 /// it took since the last line feed.
-#[derive(Debug, Drop)]
+#[derive(Drop)]
 pub struct Cutter {
     alloc: Global,
     kept: Vec<u8>,

@@ -1,14 +1,14 @@
 //! Entries in few pieces of memory.
 ghost use Rattle.std.specs.Prelude.{◌≡◌, ◌+◌, true, [], ◌∷◌, ◌++◌, length, IfOk, OnOk, OnErr};
 ghost use Rattle.redo_line.specs.Entries.{AreAt, IsLayout, IsWithin, entry_at};
-ghost use Rattle.redo_line.specs.Names.{IsNormal};
+ghost use Rattle.redo_name.specs.Names.{IsNormal};
 ghost use Rattle.redo_line.specs.Private.CutLine.{line_bytes};
 ghost use Rattle.redo_line.specs.declared.entry.Entry.TheVariants.{Text, Mention, Done, Closing, Note};
 
 use crate::cutter::Line;
 use crate::entry::{Entry, How};
 use crate::line_text::LineText;
-use crate::name::TargetName;
+use redo_name::TargetName;
 use std::alloc::{AllocError, Global};
 use std::marker::Model;
 
@@ -53,7 +53,7 @@ pub struct Entries {
 }
 
 /// What entries are made of.
-#[derive(Clone, Copy, Debug)]
+#[derive(Clone, Copy)]
 pub struct Layout<'a> {
     /// Their texts and kinds, one behind the other.
     pub bytes: &'a [u8],

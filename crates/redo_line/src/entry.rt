@@ -1,5 +1,5 @@
 use crate::line_text::LineText;
-use crate::name::TargetName;
+use redo_name::TargetName;
 
 /// How a record mentions a target: by its kind.
 #[derive(Clone, Copy, Debug, PartialEq, Eq)]

@@ -5,7 +5,7 @@ use std::marker::Model;
 
 /// The bytes that came so far. It is a list for contracts alone, and takes no bytes: no clause but
 /// those of its two calls ties it to anything.
-#[derive(Debug, Drop)]
+#[derive(Drop)]
 pub struct History {
     pub ghost bytes: { List ℕ },
 }

@@ -1,14 +1,11 @@
 //! Laws about the definitions alone: their contracts are theorems, and their bodies are empty.
-ghost use Rattle.std.specs.Prelude.{◌≡◌, ℕ, Bool, true, List, [], ◌++◌, Option, None, Some, IfSome, IsSome};
-ghost use Rattle.std.specs.List.{AllByRecursion};
+ghost use Rattle.std.specs.Prelude.{◌≡◌, ℕ, Bool, true, List, ◌++◌, None, Some, IfSome, IsSome};
+ghost use Rattle.redo_device.specs.Feed.{Stream};
 ghost use Rattle.redo_line.specs.declared.stream_fault.StreamFault.{StreamFault};
 ghost use Rattle.redo_line.specs.Entry.{IsEntry, entry_of};
-ghost use Rattle.redo_line.specs.Feed.{Stream};
-ghost use Rattle.redo_line.specs.Laws.{Goes, GoesWithUpward, IsOrdinary, IsRelative, StandsIn, Stay};
 ghost use Rattle.redo_line.specs.Laws.{IsOnly, IsOnlyCutting, HasEachEntry, ClosesLast, EarlyFaultStays, PartBeforeItStays, FailedReadIsFault, FailedReadLosesNone, EntriesLeadPart, EntriesLeadLog};
 ghost use Rattle.redo_line.specs.Lines.{AreLines, ended, rest};
 ghost use Rattle.redo_line.specs.Log.{IsFineLine, IsLeastFault, line_fault, log_of};
-ghost use Rattle.redo_line.specs.Names.{dot, is_absolute, normal, HasNoSlash, IsNormal};
 ghost use Rattle.redo_line.specs.Record.{Fields, IsRecord};
 
 /// Bytes are cut into lines and a rest in just one way.
@@ -21,28 +18,6 @@ pub fn one_cutting()
 pub fn cutting_goes_on()
     ensures lines { (before after : List ℕ) → ended (before ++ after) ≡ ended before ++ ended (rest before ++ after) }
     ensures last { (before after : List ℕ) → rest (before ++ after) ≡ rest (rest before ++ after) }
-{}
-
-/// Every normal form is its own normal form.
-pub fn normal_form_of_normal_form()
-    ensures { (of : Option (List ℕ)) (name value : List ℕ) → normal of name ≡ Some value → IsNormal value }
-{}
-
-/// Of a name's segments an empty one and `.` go; `..` goes, with an ordinary segment right before it; and
-/// where no such is left, `..` at the front and ordinary segments behind them, all stay.
-pub fn segments_of_a_name()
-    ensures empty { Goes [] }
-    ensures dot { Goes dot }
-    ensures upward { (segment : List ℕ) → IsOrdinary segment → GoesWithUpward segment }
-    ensures left { (ups : ℕ) (kept : List (List ℕ)) → AllByRecursion IsOrdinary kept → Stay ups kept }
-{}
-
-/// A name in the log of a target stands in the target's directory: for a target without a slash that is
-/// where it stands itself, and for another all before its last slash. An absolute name stands for itself.
-pub fn directory_of_a_name()
-    ensures beside { (target name : List ℕ) → HasNoSlash target → normal (Some target) name ≡ normal None name }
-    ensures within { (front last name : List ℕ) → HasNoSlash last → IsRelative name → StandsIn front last name }
-    ensures absolute { (of : Option (List ℕ)) (name : List ℕ) → is_absolute name ≡ true → normal of name ≡ normal None name }
 {}
 
 /// A record can be read in one way alone: it has one kind, pid, time and text.

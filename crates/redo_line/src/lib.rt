@@ -1,53 +1,37 @@
-//! Bytes in, entries out: the devices that a log is read from and written to, the cutting of what is
-//! read into lines, the names of targets, the records among the lines, and the scan of a stream.
+//! Bytes in, entries out: the cutting of what is read into lines, the records among these, and the
+//! scan of a stream.
 //!
 //! What the layers above use: a [`Scan`] gives the entries of a stream, or its fault and the entries
 //! before it, however the stream was cut into pieces. It stands on a [`Cutter`], which gives the
-//! lines of all the bytes that it took, and on [`read_line`], which gives what a line says. A
-//! [`Feed`] gives the bytes that it tells, a [`Sink`] takes what it answers, and a [`TargetName`] is
-//! always a normal form.
+//! lines of all the bytes that it took, and on [`read_line`], which gives what a line says. Devices
+//! and names are handed on from the crates that have them.
 #![tactic(auto)]
 
 mod cutter;
 mod decimal;
 mod entries;
 mod entry;
-mod failures;
-mod feed;
 mod history;
 mod laws;
 mod line;
 mod line_text;
-mod name;
-mod normal_form;
 mod parts;
-mod pieces;
 mod progress;
-mod reading;
 mod record;
 mod scan;
-mod sink;
 mod stream_fault;
-mod taker;
-mod writing;
 
 pub use cutter::{Cut, Cutter};
 pub use decimal::read_number;
 pub use entries::{Entries, EntryAt, Layout};
 pub use entry::{Entry, How};
-pub use feed::{Broken, Feed};
 pub use laws::{
-    an_entry_for_each_line, closing_stands_last, cutting_goes_on, directory_of_a_name, early_fault,
-    entries_stay, entry_of_a_line, failed_read, least_line_at_fault, normal_form_of_normal_form,
-    one_cutting, one_reading, segments_of_a_name,
+    an_entry_for_each_line, closing_stands_last, cutting_goes_on, early_fault, entries_stay,
+    entry_of_a_line, failed_read, least_line_at_fault, one_cutting, one_reading,
 };
 pub use line::{LineFault, read_line};
 pub use line_text::LineText;
-pub use name::{NameFault, TargetName};
-pub use pieces::Pieces;
-pub use reading::Reading;
+pub use redo_device::{Broken, Feed, Pieces, Reading, Sink, Taker, Writing, push_all};
+pub use redo_name::{NameFault, TargetName};
 pub use scan::{Scan, Step};
-pub use sink::{Sink, push_all};
 pub use stream_fault::StreamFault;
-pub use taker::Taker;
-pub use writing::Writing;

@@ -13,9 +13,9 @@ use crate::cutter::Line;
 use crate::entries::Entries;
 use crate::entry::Entry;
 use crate::line_text::LineText;
-use crate::name::{NameFault, TargetName, resolve_to};
 use crate::parts::split_at_first;
 use crate::record::{Kind, kind_of, read_fields, read_status};
+use redo_name::{NameFault, TargetName, resolve_to};
 use std::alloc::{AllocError, Global};
 
 // What a record begins with.

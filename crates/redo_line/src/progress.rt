@@ -11,13 +11,13 @@ use crate::cutter::{Cutter, Line};
 use crate::entries::Entries;
 use crate::line::{LineFault, read_into};
 use crate::line_text::LineText;
-use crate::name::TargetName;
 use crate::stream_fault::StreamFault;
+use redo_name::TargetName;
 use std::alloc::Global;
 use std::marker::Model;
 
 /// How far a stream was scanned, while nothing in it was refused.
-#[derive(Debug, Drop)]
+#[derive(Drop)]
 pub struct Progress {
     target: TargetName,
     max_bytes: u64,

@@ -8,14 +8,14 @@ ghost use Rattle.redo_line.specs.declared.stream_fault.StreamFault.TheVariants.{
 use crate::entries::Entries;
 use crate::entry::Entry;
 use crate::history::History;
-use crate::name::TargetName;
 use crate::progress::Progress;
 use crate::stream_fault::StreamFault;
+use redo_name::TargetName;
 use std::alloc::Global;
 use std::marker::Model;
 
 /// What a scan found in a piece.
-#[derive(Debug, Drop)]
+#[derive(Drop)]
 pub enum Step {
     /// The entry of a line, and the place in the piece after its line feed.
     Found { entry: Entry, upto: usize },
@@ -25,7 +25,7 @@ pub enum Step {
 
 /// Reads the log of a target from a stream that comes in pieces, up to the stream's fault. It is seen
 /// as the bytes that it took, with the target, the limit, and what it refused.
-#[derive(Debug, Drop)]
+#[derive(Drop)]
 pub struct Scan {
     alloc: Global,
     progress: Progress,

@@ -1,8 +1,8 @@
 -- What the answer of a run, and that of reading the index, say of the streams.
 use Rattle.std.proofs.Common.{◌≡◌, ◌⊎◌, inl, inr, ℕ, false, List, [], Option, None, Some, Result, Ok, Err, IfOk, IsErrAnd, refl, sym, ap, ◌∙◌, subst}
 use Rattle.std.specs.Global.{Vec}
-use Rattle.redo_line.specs.Feed.{Stream, SomeStream}
-use Rattle.redo_line.specs.Sink.{Taken}
+use Rattle.redo_device.specs.Feed.{Stream, SomeStream}
+use Rattle.redo_device.specs.Sink.{Taken}
 use Rattle.redo_gather.specs.Plan.{Numbers}
 use Rattle.redo_index.specs.declared.listed.Listed.{Listed}
 use Rattle.redo_index.specs.Index.{names_of}

@@ -2,11 +2,11 @@
 use Rattle.std.proofs.Common.{◌≡◌, ℕ, ◌-◌, ◌<◌, ◌≤◌, true, false, List, ◌++◌, Option, None, Some, IsSome, is_some, Ok, Err, length, take, sym, ap, arith}
 use Rattle.std.proofs.lemmas.Bool.{le-ltb, lt-ltb}
 use Rattle.std.proofs.lemmas.List.{length-append, length-take}
-use Rattle.redo_line.specs.declared.feed.Broken.{Broken}
+use Rattle.redo_device.specs.declared.feed.Broken.{Broken}
 use Rattle.redo_line.specs.declared.stream_fault.StreamFault.TheVariants.{TooLong, Read}
-use Rattle.redo_line.specs.Feed.{Stream, Pulls, SomeStream}
+use Rattle.redo_device.specs.Feed.{Stream, Pulls, SomeStream}
 use Rattle.redo_line.specs.Fault.{ending_fault}
-use Rattle.redo_line.proofs.GaveLemmas.{Gave, Gave-more, Gave-end, Gave-failed, Gave-longer, weaker}
+use Rattle.redo_device.proofs.GaveLemmas.{Gave, Gave-more, Gave-end, Gave-failed, Gave-longer, weaker}
 
 module _ (max_bytes : ℕ) where
   long_fault : (stream : Stream) → max_bytes < length stream.bytes → ending_fault max_bytes stream ≡ Some TooLong

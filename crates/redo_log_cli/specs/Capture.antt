@@ -1,6 +1,6 @@
 -- What the capture of a stream tells.
 use Rattle.std.specs.Prelude.{true, false, [], Option, None, Some}
-use Rattle.redo_line.specs.Feed.{Stream}
+use Rattle.redo_device.specs.Feed.{Stream}
 use Rattle.redo_log_cli.specs.declared.capture.Capture.{Capture}
 use Rattle.redo_log_cli.specs.declared.capture.Capture.TheVariants.{Open, Missing, Closed}
 

@@ -1,7 +1,7 @@
 -- What is told of the file `names`, and of the index that it holds.
 use Rattle.std.specs.Prelude.{◌≡◌, ℕ, List, None, IsSome}
 use Rattle.redo_line.specs.Fault.{ending_fault}
-use Rattle.redo_line.specs.Feed.{Stream}
+use Rattle.redo_device.specs.Feed.{Stream}
 
 -- how many bytes a log may have, and the file `names`
 abbrev pub most_bytes : ℕ

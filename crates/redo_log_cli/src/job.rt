@@ -19,7 +19,7 @@ const DEFAULT_SENDERS: u32 = 4;
 const DEFAULT_CAPACITY: u32 = 64;
 
 /// What the words of the command line ask for. Its numbers are in their limits, and it has a target.
-#[derive(Debug, Drop)]
+#[derive(Drop)]
 pub struct Job {
     options: Options,
     dir: String,

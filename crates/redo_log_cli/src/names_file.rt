@@ -1,5 +1,5 @@
 ghost use Rattle.std.specs.Prelude.{◌≡◌, ◌⊎◌, Err, IfOk, IfErr};
-ghost use Rattle.redo_line.specs.Feed.{SomeStream};
+ghost use Rattle.redo_device.specs.Feed.{SomeStream};
 ghost use Rattle.redo_log_cli.specs.declared.failure.Failure.TheVariants.{Memory, NamesRead};
 ghost use Rattle.redo_log_cli.specs.NamesFile.{AreAllOf, CannotBeRead};
 

@@ -1,7 +1,7 @@
 ghost use Rattle.std.specs.Prelude.{◌≡◌, ◌≢◌, ◌<◌, ◌⊎◌, Err, IfOk, IfErr, length, map};
 ghost use Rattle.std.specs.IoError.{error_kind};
 ghost use Rattle.redo_line.specs.declared.stream_fault.StreamFault.TheVariants as stream;
-ghost use Rattle.redo_line.specs.Feed.{SomeStream};
+ghost use Rattle.redo_device.specs.Feed.{SomeStream};
 ghost use Rattle.redo_run.specs.RunFault.{IfStreamFault, IfUnknown};
 ghost use Rattle.redo_log_cli.specs.declared.failure.Failure.TheVariants.{Memory};
 ghost use Rattle.redo_log_cli.specs.Failure.{IfOfStream, IfOfWord, IsOfNoRun, IsStatus, status_of};

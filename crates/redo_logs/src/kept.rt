@@ -3,7 +3,7 @@ ghost use Rattle.std.specs.Prelude.{◌≡◌, ◌+◌, ◌<◌, ◌≤◌, ◌^
 ghost use Rattle.std.specs.List.{AllByRecursion};
 ghost use Rattle.std.specs.Cmp.Lexicographic.{pointwise};
 ghost use Rattle.redo_line.specs.Entries.{IsWithin, entry_at};
-ghost use Rattle.redo_line.specs.Names.{IsNormal};
+ghost use Rattle.redo_name.specs.Names.{IsNormal};
 ghost use Rattle.redo_line.specs.declared.entry.Entry.TheVariants.{Note, Text};
 ghost use Rattle.redo_logs.specs.EntryRef.{entry_seen};
 ghost use Rattle.redo_logs.specs.Numbering.{IsNumbered, numbered_seen};
@@ -17,7 +17,7 @@ use std::alloc::{AllocError, Global};
 use std::marker::Model;
 
 /// An entry as a log keeps it: where its texts are, and which names it has.
-#[derive(Clone, Copy, Debug)]
+#[derive(Clone, Copy)]
 pub enum Record {
     Text {
         block: u32,
@@ -44,7 +44,7 @@ pub enum Record {
 const _: () = prove!(std::mem::size_of::<Record>() == 24);
 
 /// Where a note's kind and its text are, one behind the other.
-#[derive(Clone, Copy, Debug)]
+#[derive(Clone, Copy)]
 pub struct NoteAt {
     block: u32,
     start: usize,
@@ -78,7 +78,7 @@ impl<'a> Equivalent<TargetName> for NameBytes<'a> {
 }
 
 /// Texts and kinds stand in blocks, numbered from 0.
-#[derive(Debug, Drop)]
+#[derive(Drop)]
 pub struct Kept {
     // The first block.
     bytes: Vec<u8>,

@@ -19,7 +19,7 @@ use std::marker::Model;
 // How many logs a table may hold.
 const MOST: usize = 1_048_575;
 
-#[derive(Debug, Drop)]
+#[derive(Drop)]
 pub struct Log {
     // The number of its target's name.
     pub name: usize,
@@ -29,7 +29,7 @@ pub struct Log {
 
 /// The logs of a run, numbered from 0 in the order in which their targets were entered. No target has
 /// two logs, and there are at most 1,048,575.
-#[derive(Debug, Drop)]
+#[derive(Drop)]
 pub struct LogTable {
     alloc: Global,
     kept: Kept,

@@ -14,7 +14,7 @@ use redo_line::{How, TargetName};
 use std::marker::Model;
 
 /// An entry of a log, in which a mentioned target stands as the number of its name.
-#[derive(Clone, Copy, Debug)]
+#[derive(Clone, Copy)]
 pub enum NumberedEntry<'a> {
     /// Another target, or this one, comes up.
     Mention { how: How, name: usize },
@@ -24,7 +24,7 @@ pub enum NumberedEntry<'a> {
 
 /// The logs of a table while they are only read. Each name in them, that of a log's own target or one that
 /// an entry mentions, has a number, counted from 0, so that to go over entries no name is looked up by hash.
-#[derive(Debug, Drop)]
+#[derive(Drop)]
 pub struct Numbered<'a> {
     kept: &'a Kept,
     logs: &'a [Log],

@@ -6,7 +6,7 @@ use Rattle.std.specs.Cmp.Lexicographic.{pointwise}
 use Rattle.std.specs.List.{cons_option, position}
 use Rattle.std.proofs.lemmas.List.{append_assoc, length-map, length-take-le, map-append, take_more, take-append-drop}
 use Rattle.std.proofs.lemmas.List.Elements.{filter_map-append}
-use Rattle.redo_line.specs.Names.{normal}
+use Rattle.redo_name.specs.Names.{normal}
 use Rattle.redo_line.proofs.PlaceLemmas.{some_place, first_passes, none_passes}
 use Rattle.redo_view.specs.Expansion.{is_among}
 use Rattle.redo_run.specs.Run.{if_among, target_of, unknown_word, targets_named, bytes_of_words}

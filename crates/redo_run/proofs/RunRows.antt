@@ -6,10 +6,10 @@ use Rattle.std.specs.List.{AllByRecursion}
 use Rattle.redo_line.specs.declared.stream_fault.StreamFault.TheVariants.{BadRecord, AfterClose, TooLong, Read}
 use Rattle.redo_line.specs.Decimal.{number}
 use Rattle.redo_line.specs.Entry.{record_entry, entry_of}
-use Rattle.redo_line.specs.Feed.{Stream}
+use Rattle.redo_device.specs.Feed.{Stream}
 use Rattle.redo_line.specs.Lines.{line_feed, cutting, ended, rest}
 use Rattle.redo_line.specs.Log.{stream_of, first_fault}
-use Rattle.redo_line.specs.Names.{from_back, normal}
+use Rattle.redo_name.specs.Names.{from_back, normal}
 use Rattle.redo_line.specs.Parts.{parted, behind}
 use Rattle.redo_line.specs.Record.{fields_of, status_of}
 use Rattle.redo_view.specs.Expansion.{opened_within, opened_log}

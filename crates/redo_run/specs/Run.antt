@@ -3,8 +3,8 @@ use Rattle.std.specs.Prelude.{ℕ, List, Option, None, Some, Result, Ok, Err, is
 use Rattle.std.specs.Option.{option_map}
 use Rattle.std.specs.Global.{Vec}
 use Rattle.redo_line.specs.declared.stream_fault.StreamFault.{StreamFault}
-use Rattle.redo_line.specs.Feed.{Stream}
-use Rattle.redo_line.specs.Names.{normal}
+use Rattle.redo_device.specs.Feed.{Stream}
+use Rattle.redo_name.specs.Names.{normal}
 use Rattle.redo_logs.specs.Logs.{Log}
 use Rattle.redo_gather.specs.Plan.{Numbers}
 use Rattle.redo_gather.specs.Streams.{logs_of, fault_among}

@@ -1,8 +1,8 @@
 -- What a run tells or writes: of what it is asked, what its readers tell, and what its writer told before and tells
 -- afterwards.
 use Rattle.std.specs.Prelude.{◌≡◌, ℕ, ◌<◌, List, Option, Some, Ok, Err, length, take}
-use Rattle.redo_line.specs.Feed.{Stream}
-use Rattle.redo_line.specs.Sink.{Taken, adds}
+use Rattle.redo_device.specs.Feed.{Stream}
+use Rattle.redo_device.specs.Sink.{Taken, adds}
 use Rattle.redo_gather.specs.Streams.{SomeStreams}
 use Rattle.redo_run.specs.declared.run_fault.RunFault.{RunFault}
 use Rattle.redo_run.specs.Run.{Question, answer}

@@ -1,6 +1,6 @@
 //! Laws about the definitions alone: their contracts are theorems, and their bodies are empty.
 ghost use Rattle.std.specs.Prelude.{List, IsSome};
-ghost use Rattle.redo_line.specs.Feed.{Stream};
+ghost use Rattle.redo_device.specs.Feed.{Stream};
 ghost use Rattle.redo_run.specs.Run.{Question, answer};
 
 use redo_gather::logs_unless_fault;

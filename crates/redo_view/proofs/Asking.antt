@@ -6,9 +6,9 @@ use Rattle.std.specs.List.{IsDistinct, position_from}
 use Rattle.std.proofs.lemmas.Bool.{not-false}
 use Rattle.std.proofs.lemmas.Iterator.Adapters.{position_from-zero}
 use Rattle.std.proofs.lemmas.List.{append_assoc, append-nil, length-map, take_all, take_more, take-append-drop}
-use Rattle.redo_line.specs.declared.feed.Broken.{Broken}
-use Rattle.redo_line.specs.Sink.{Taken, Writes, adds}
-use Rattle.redo_line.proofs.WritesLemmas.{adds-adds}
+use Rattle.redo_device.specs.declared.feed.Broken.{Broken}
+use Rattle.redo_device.specs.Sink.{Taken, Writes, adds}
+use Rattle.redo_device.proofs.WritesLemmas.{adds-adds}
 use Rattle.redo_logs.specs.Logs.{IsTable, Log, targets_of}
 use Rattle.redo_logs.specs.Numbering.{Numbering}
 use Rattle.redo_view.specs.declared.options.Options.{Options}

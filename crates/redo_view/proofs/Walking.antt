@@ -9,8 +9,8 @@ use Rattle.std.proofs.Math.Seq.{take-append_seam}
 use Rattle.redo_line.specs.Lines.{with_line_feed}
 use Rattle.redo_line.specs.declared.entry.Entry.{Entry}
 use Rattle.redo_line.specs.declared.entry.Entry.TheVariants as entry
-use Rattle.redo_line.specs.Sink.{Taken, adds}
-use Rattle.redo_line.proofs.WritesLemmas.{adds-adds}
+use Rattle.redo_device.specs.Sink.{Taken, adds}
+use Rattle.redo_device.proofs.WritesLemmas.{adds-adds}
 use Rattle.redo_logs.specs.declared.numbered.NumberedEntry.{NumberedEntry}
 use Rattle.redo_logs.specs.declared.numbered.NumberedEntry.TheVariants.{Mention, Other}
 use Rattle.redo_logs.specs.Logs.{Log, entry_at, place_of}

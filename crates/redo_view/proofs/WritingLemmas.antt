@@ -3,10 +3,10 @@ use Rattle.std.proofs.Common.{◌≡◌, ℕ, zero, suc, ℤ, ◌+◌, ◌-◌, 
 use Rattle.std.specs.Prelude.{codes, pos, negsuc}
 use Rattle.std.specs.Result.{IsErr, IsErrAnd}
 use Rattle.std.proofs.lemmas.List.{append_assoc, replicate-append-replicate, take_all, take-replicate}
-use Rattle.redo_line.specs.declared.feed.Broken.{Broken}
+use Rattle.redo_device.specs.declared.feed.Broken.{Broken}
 use Rattle.redo_line.specs.Lines.{line_feed, with_line_feed}
-use Rattle.redo_line.specs.Sink.{Taken, adds, Writes}
-use Rattle.redo_line.proofs.WritesLemmas.{then, stops}
+use Rattle.redo_device.specs.Sink.{Taken, adds, Writes}
+use Rattle.redo_device.proofs.WritesLemmas.{then, stops}
 use Rattle.redo_view.specs.declared.stop.Stop.{Stop}
 use Rattle.redo_view.specs.declared.stop.Stop.TheVariants.{OutOfMemory}
 use Rattle.redo_view.specs.Private.Stopped.{Written}

@@ -12,7 +12,7 @@ use redo_logs::Numbered;
 use std::alloc::Global;
 
 // A log that is being shown, and which of its entries comes next.
-#[derive(Clone, Copy, Debug)]
+#[derive(Clone, Copy)]
 pub struct Frame {
     number: u32,
     next: usize,

@@ -1,6 +1,6 @@
 //! One entry of a log: its own text, and which log it opens.
 ghost use Rattle.std.specs.Prelude.{◌≡◌, ◌<◌, ◌^◌, false, length, IfOk, OnOk};
-ghost use Rattle.redo_line.specs.Sink.{Writes};
+ghost use Rattle.redo_device.specs.Sink.{Writes};
 ghost use Rattle.redo_logs.specs.declared.numbered.NumberedEntry.TheVariants.{Mention};
 ghost use Rattle.redo_logs.specs.Numbering.{IsNumbered};
 ghost use Rattle.redo_view.specs.Expansion.{mentions};
@@ -15,7 +15,7 @@ use redo_line::{Broken, How, Sink, TargetName};
 use redo_logs::{Numbered, NumberedEntry};
 
 /// What was shown so far.
-#[derive(Debug, Drop)]
+#[derive(Drop)]
 pub struct Seen {
     // By the number of a name, whether it was named.
     pub named: Vec<bool>,

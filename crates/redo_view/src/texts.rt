@@ -1,7 +1,7 @@
 //! The texts of entries, written part by part.
 ghost use Rattle.std.specs.Prelude.{◌≡◌, ◌<◌, ◌^◌, ◌++◌, [], codes, if◌then◌else◌};
 ghost use Rattle.redo_line.specs.Lines.{with_line_feed};
-ghost use Rattle.redo_line.specs.Sink.{Writes};
+ghost use Rattle.redo_device.specs.Sink.{Writes};
 ghost use Rattle.redo_logs.specs.EntryRef.{entry_seen};
 ghost use Rattle.redo_view.specs.Text.{spaces, indent, redo_line, remark, exit_remark, exit_text, note_text, entry_text};
 

@@ -1,6 +1,6 @@
 -- How streams are dealt to senders.
 use Rattle.std.specs.Prelude.{◌≡◌, ℕ, suc, ◌%◌, nat_eq, List, [], ◌∷◌, Option, Some, cond, length, map, replicate, slice_get}
-use Rattle.redo_line.specs.Feed.{Stream}
+use Rattle.redo_device.specs.Feed.{Stream}
 use Rattle.redo_wire.specs.Mailbox.{Poster}
 use Rattle.redo_gather.specs.Owed.{Given}
 use Rattle.redo_gather.specs.Sending.{Numbered, numbered}

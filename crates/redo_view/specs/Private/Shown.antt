@@ -1,6 +1,6 @@
 -- What a viewer has shown, by its marks and by what its writer tells.
 use Rattle.std.specs.Prelude.{◌≡◌, ℕ, Bool, List, Option, Some, Result, Ok, Err, map}
-use Rattle.redo_line.specs.Sink.{Taken, adds}
+use Rattle.redo_device.specs.Sink.{Taken, adds}
 use Rattle.redo_logs.specs.Logs.{place_of, targets_of}
 use Rattle.redo_logs.specs.Numbering.{Numbering}
 use Rattle.redo_view.specs.declared.options.Options.{Options}

@@ -1,6 +1,6 @@
 -- What was written of a text, by what is answered.
 use Rattle.std.specs.Prelude.{ℕ, List, Option, Result, Ok, Err}
-use Rattle.redo_line.specs.Sink.{Taken}
+use Rattle.redo_device.specs.Sink.{Taken}
 use Rattle.redo_view.specs.declared.stop.Stop.{Stop}
 use Rattle.redo_view.specs.declared.stop.Stop.TheVariants.{Write, OutOfMemory}
 use Rattle.redo_view.specs.Written.{WroteAll, WroteUntilFailed, WroteFront}

@@ -1,7 +1,7 @@
 use Rattle.std.proofs.Common.{◌≡◌, ℕ, ◌<◌, Some, List, refl, ap, ◌∙◌, subst}
 use Rattle.std.proofs.lemmas.List.{length-map}
 use Rattle.std.proofs.lemmas.Option.{slice_get_within}
-use Rattle.redo_line.specs.Feed.{SomeStream}
+use Rattle.redo_device.specs.Feed.{SomeStream}
 use Rattle.redo_line.specs.Log.{log_of}
 use Rattle.redo_logs.specs.declared.log_state.LogState.TheVariants.{Running}
 use Rattle.redo_logs.specs.Logs.{Log, changed, states_of}

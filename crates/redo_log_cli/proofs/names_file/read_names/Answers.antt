@@ -1,6 +1,6 @@
 use Rattle.std.proofs.Common.{◌≡◌, ◌+◌, ◌-◌, ◌<◌, ◌≤◌, ℕ, List, zero-le, arith, length, take, sym, ap, ◌∙◌, subst}
 use Rattle.std.proofs.lemmas.List.{length-append, length-take-le}
-use Rattle.redo_line.proofs.GaveLemmas.{Gave, Gave-none, Gave-more}
+use Rattle.redo_device.proofs.GaveLemmas.{Gave, Gave-none, Gave-more}
 use Rattle.redo_log_cli.specs.NamesFile.{most_bytes}
 use Rattle.redo_log_cli.proofs.FileLemmas.{file_ends, file_fails, file_is_long}
 use Rattle.redo_log_cli.proofs.names_file.read_names.Given.{Over}

@@ -1,5 +1,5 @@
 use Rattle.std.proofs.Common.{◌≡◌, ◌≤◌, ◌-◌, ◌+◌, length}
-use Rattle.redo_line.proofs.GaveLemmas.{Gave}
+use Rattle.redo_device.proofs.GaveLemmas.{Gave}
 use Rattle.redo_log_cli.specs.NamesFile.{most_bytes}
 use Rattle.redo_log_cli.proofs.names_file.read_names.Given as goal
 

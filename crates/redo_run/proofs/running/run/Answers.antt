@@ -1,6 +1,6 @@
 use Rattle.std.proofs.Common.{rules, ◌≡◌, ℕ, ◌<◌, length, map, take, refl, ◌∙◌, inr}
 use Rattle.std.proofs.lemmas.Result.{IfOk-weaker, err_from_is_err_and}
-use Rattle.redo_line.specs.Sink.{adds}
+use Rattle.redo_device.specs.Sink.{adds}
 use Rattle.redo_index.specs.Index.{names_of}
 use Rattle.redo_run.specs.Run.{bytes_of_words, question}
 use Rattle.redo_run.proofs.Answering.{told_word, told_stream, all_known, some_text}

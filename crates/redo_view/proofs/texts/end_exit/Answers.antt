@@ -4,7 +4,7 @@ use Rattle.std.specs.Prelude.{codes}
 use mir.Syntax.{w32}
 use Rattle.std.proofs.lemmas.Int.{to_z-of_z}
 use Rattle.redo_line.specs.Lines.{with_line_feed}
-use Rattle.redo_line.specs.Sink.{Writes, adds}
+use Rattle.redo_device.specs.Sink.{Writes, adds}
 use Rattle.redo_view.specs.Text.{exit_remark}
 use Rattle.redo_view.proofs.WritingLemmas.{at_first, in_midst, at_last, one_more, exit_parts}
 use Rattle.redo_view.proofs.texts.end_exit.Goals as goal

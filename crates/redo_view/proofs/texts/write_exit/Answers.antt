@@ -3,7 +3,7 @@ use mir.Syntax.{w32}
 use mir.Val.{of_z}
 use Rattle.std.proofs.lemmas.Int.{to_z-of_z}
 use Rattle.redo_line.specs.Lines.{with_line_feed}
-use Rattle.redo_line.specs.Sink.{Writes, adds}
+use Rattle.redo_device.specs.Sink.{Writes, adds}
 use Rattle.redo_view.specs.Text.{indent, exit_text, exit_remark}
 use Rattle.redo_view.proofs.WritingLemmas.{at_first, at_last, line_parts, exit_shown}
 use Rattle.redo_view.proofs.texts.write_exit.Goals as goal

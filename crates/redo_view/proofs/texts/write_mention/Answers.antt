@@ -1,6 +1,6 @@
 use Rattle.std.proofs.Common.{◌≡◌, ◌++◌, List, ℕ, Err, subst}
 use Rattle.redo_line.specs.Lines.{with_line_feed}
-use Rattle.redo_line.specs.Sink.{Writes, adds}
+use Rattle.redo_device.specs.Sink.{Writes, adds}
 use Rattle.redo_view.specs.Text.{indent, redo_line, remark}
 use Rattle.redo_view.proofs.WritingLemmas.{at_first, at_last, line_parts}
 use Rattle.redo_view.proofs.texts.write_mention.Goals as goal

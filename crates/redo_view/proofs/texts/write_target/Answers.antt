@@ -1,5 +1,5 @@
 use Rattle.std.proofs.Common.{ℕ, List, refl, subst}
-use Rattle.redo_line.specs.Sink.{Writes}
+use Rattle.redo_device.specs.Sink.{Writes}
 use Rattle.redo_line.specs.Lines.{with_line_feed}
 use Rattle.redo_view.specs.Text.{indent, redo_line}
 use Rattle.redo_view.proofs.WritingLemmas.{at_first, at_last}

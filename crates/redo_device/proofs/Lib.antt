@@ -1,0 +1,4 @@
+pub mod GaveLemmas
+mod PieceLemmas
+mod SinkLemmas
+pub mod WritesLemmas

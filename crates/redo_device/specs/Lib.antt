@@ -1,0 +1,5 @@
+pub mod Feed
+pub mod Pieces
+pub mod Private
+pub mod Sink
+pub mod Taker

@@ -1,0 +1,27 @@
+-- A reader in memory, as contracts see it.
+use Rattle.std.specs.Prelude.{◌≡◌, ℕ, Bool, List, [], ◌∷◌, length, take, drop, min, Result, Ok}
+use Rattle.std.specs.List.{flat_map}
+use Rattle.redo_device.specs.declared.feed.Broken.{Broken}
+use Rattle.redo_device.specs.Feed.{Stream, AtEnd}
+
+-- the reads that are still to come, in turn, and whether a failed read ends them
+pub record Reads : Type 0 where
+  pub reads : List (List ℕ)
+  pub fails : Bool
+
+-- the bytes of these reads
+abbrev pub stream_of : Reads → Stream
+stream_of to_come = record { bytes = flat_map (λ read. read) to_come.reads; fails = to_come.fails }
+
+-- the reads from the first one that has a byte
+abbrev pub from_first_byte : List (List ℕ) → List (List ℕ)
+from_first_byte [] = []
+from_first_byte ([] ∷ reads) = from_first_byte reads
+from_first_byte ((byte ∷ bytes) ∷ reads) = (byte ∷ bytes) ∷ reads
+
+-- one call gives what the buffer has room for of the first of these reads, and the rest of it comes in the next call
+abbrev pub GivesFirst : List (List ℕ) → Bool → Reads → Result ℕ Broken → List ℕ → Type 0
+GivesFirst [] fails after answer buffer = AtEnd fails answer × (after ≡ record { reads = []; fails = fails })
+GivesFirst (read ∷ reads) fails after answer buffer =
+    let n = min (length read) (length buffer) in
+    (answer ≡ Ok n) × (take n buffer ≡ take n read) × (after ≡ record { reads = drop n read ∷ reads; fails = fails })

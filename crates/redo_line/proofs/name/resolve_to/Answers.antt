@@ -1,6 +1,0 @@
-use Rattle.std.specs.Option.{option_copied}
-use Rattle.redo_line.proofs.NameLemmas.{normal_is_normal}
-use Rattle.redo_line.proofs.name.resolve_to.Goals as goal
-
-pub returns-clause-is_normal : goal.returns-clause-is_normal
-returns-clause-is_normal c = normal_is_normal (option_copied c.args.of) c.args.name.now c.normal_form.new.path.items c.in_ok-normal_form.ensures

@@ -1,0 +1,6 @@
+mod DirectoryLemmas
+mod NameLaws
+mod NameLemmas
+mod NameRows
+mod PathLemmas
+mod SegmentLemmas

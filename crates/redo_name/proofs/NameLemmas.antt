@@ -1,0 +1,190 @@
+-- Normal forms: what goes over segments from the back, and that what is left of a normal form is itself.
+use Rattle.std.proofs.Common.{◌≡◌, ◌≢◌, ℕ, zero, suc, ◌+◌, ◌<◌, Bool, true, false, cond, eqb, List, [], ◌∷◌, ◌++◌, Option, None, Some, length, replicate, refl, sym, ◌∙◌, ap, subst, arith}
+use Rattle.std.specs.List.{AllByRecursion, slice_split, onto_first, join_with_byte}
+use Rattle.std.proofs.lemmas.Bool.{ne_eqb, eqb-false, false≢true}
+use Rattle.std.proofs.lemmas.List.{append-nil}
+use Rattle.redo_name.specs.Private.Path.{IsLeft}
+use Rattle.redo_name.specs.Names.{slash, dot_dot, segments, is_absolute, without_last, Kind, Skipped, Upward, Ordinary, kind_of, Behind, taken_off, in_front, from_back, left_of, written, directory_of, normal, IsNormal, HasNoSlash}
+
+abbrev pub Each : List (List ℕ) → Type 0
+Each parts = AllByRecursion HasNoSlash parts
+
+abbrev pub AllOrdinary : List (List ℕ) → Type 0
+AllOrdinary parts = AllByRecursion (λ part. kind_of part ≡ Ordinary) parts
+
+abbrev pub cut : List ℕ → List (List ℕ)
+cut bytes = slice_split (λ byte. eqb byte slash) bytes
+
+pub cut-cons : (byte : ℕ) (bytes : List ℕ) (is : Bool) → eqb byte slash ≡ is → cut (byte ∷ bytes) ≡ cond is ([] ∷ cut bytes) (onto_first byte (cut bytes))
+cut-cons byte bytes is h = ap (λ b. cond b ([] ∷ cut bytes) (onto_first byte (cut bytes))) h
+
+-- a segment holds no slash
+onto_first-each : (byte : ℕ) (parts : List (List ℕ)) → byte ≢ slash → Each parts → Each (onto_first byte parts)
+onto_first-each byte [] ne each = ((ne, tt), tt)
+onto_first-each byte (part ∷ parts) ne each = ((ne, each.0), each.1)
+
+cond-each : (byte : ℕ) (bytes : List ℕ) (is : Bool) → eqb byte slash ≡ is → Each (cut bytes) → Each (cond is ([] ∷ cut bytes) (onto_first byte (cut bytes)))
+cond-each byte bytes true h each = (tt, each)
+cond-each byte bytes false h each = onto_first-each byte (cut bytes) (eqb-false byte slash h) each
+
+pub cut-each : (bytes : List ℕ) → Each (cut bytes)
+cut-each [] = (tt, tt)
+cut-each (byte ∷ bytes) = cond-each byte bytes (eqb byte slash) refl (cut-each bytes)
+
+-- bytes without a slash are one segment, and those up to a slash are the first
+pub cut-free : (part : List ℕ) → HasNoSlash part → cut part ≡ part ∷ []
+cut-free [] free = refl
+cut-free (byte ∷ part) free = cut-cons byte part false (ne_eqb byte slash free.0) ∙ ap (onto_first byte) (cut-free part free.1)
+
+pub cut-at : (part more : List ℕ) → HasNoSlash part → cut (part ++ slash ∷ more) ≡ part ∷ cut more
+cut-at [] more free = refl
+cut-at (byte ∷ part) more free = cut-cons byte (part ++ slash ∷ more) false (ne_eqb byte slash free.0) ∙ ap (onto_first byte) (cut-at part more free.1)
+
+-- segments that were joined are cut again
+pub cut-joined : (part : List ℕ) (parts : List (List ℕ)) → Each (part ∷ parts) → cut (join_with_byte slash (part ∷ parts)) ≡ part ∷ parts
+cut-joined part [] each = cut-free part each.0
+cut-joined part (next ∷ parts) each = cut-at part (join_with_byte slash (next ∷ parts)) each.0 ∙ ap (λ ps. part ∷ ps) (cut-joined next parts each.1)
+
+-- one segment, by its kind
+pub from_back-cons : (part : List ℕ) (parts : List (List ℕ)) (kind : Kind) → kind_of part ≡ kind → from_back (part ∷ parts) ≡ in_front kind part (from_back parts)
+unfolding from_back
+from_back-cons part parts kind is = ap (λ k. in_front k part (from_back parts)) is
+
+-- what stands in front goes by what is left behind it
+pub from_back-behind : (front a b : List (List ℕ)) → from_back a ≡ from_back b → from_back (front ++ a) ≡ from_back (front ++ b)
+unfolding from_back
+from_back-behind [] a b same = same
+from_back-behind (part ∷ front) a b same = ap (in_front (kind_of part) part) (from_back-behind front a b same)
+
+-- ordinary segments stay
+pub from_back-ordinary : (kept : List (List ℕ)) → AllOrdinary kept → from_back kept ≡ record { kept = kept; count = 0 }
+unfolding from_back
+from_back-ordinary [] all = refl
+from_back-ordinary (part ∷ kept) all = ap (λ k. in_front k part (from_back kept)) all.0 ∙ ap (in_front Ordinary part) (from_back-ordinary kept all.1)
+
+from_back-upward : (ups : ℕ) (kept : List (List ℕ)) → AllOrdinary kept → from_back (replicate ups dot_dot ++ kept) ≡ record { kept = kept; count = ups }
+unfolding from_back
+from_back-upward zero kept all = from_back-ordinary kept all
+from_back-upward (suc ups) kept all = ap (in_front Upward dot_dot) (from_back-upward ups kept all) ∙ ap (λ (n : ℕ). record { kept = kept; count = n }) (let e : ups + 1 ≡ suc ups = omega arith in e)
+
+-- going over it from the back leaves it as it is
+pub left_again : (absolute : Bool) (parts : List (List ℕ)) (ups : ℕ) (kept : List (List ℕ)) → IsLeft absolute parts ups kept → left_of absolute (from_back parts) ≡ parts
+left_again absolute parts ups kept left = ap (λ ps. left_of absolute (from_back ps)) left.is ∙ ap (left_of absolute) (from_back-upward ups kept left.ordinary) ∙ at_root absolute left.root ∙ sym left.is
+  where
+    at_root : (a : Bool) → (a ≡ true → ups ≡ 0) → left_of a (record { kept = kept; count = ups }) ≡ replicate ups dot_dot ++ kept
+    at_root true none = ap (λ (n : ℕ). replicate n dot_dot ++ kept) (sym (none refl))
+    at_root false none = refl
+
+-- what going over segments leaves
+behind-ordinary : (parts : List (List ℕ)) → Each parts → AllOrdinary (from_back parts).kept × Each (from_back parts).kept
+unfolding from_back
+behind-ordinary [] each = (tt, tt)
+behind-ordinary (part ∷ parts) each = by_kind (kind_of part) refl (behind-ordinary parts each.1)
+  where
+    one : (count : ℕ) → kind_of part ≡ Ordinary → AllOrdinary (from_back parts).kept × Each (from_back parts).kept
+        → AllOrdinary (taken_off part (from_back parts).kept count).kept × Each (taken_off part (from_back parts).kept count).kept
+    one zero is behind = ((is, behind.0), (each.0, behind.1))
+    one (suc count) is behind = behind
+
+    by_kind : (kind : Kind) → kind_of part ≡ kind → AllOrdinary (from_back parts).kept × Each (from_back parts).kept
+        → AllOrdinary (in_front kind part (from_back parts)).kept × Each (in_front kind part (from_back parts)).kept
+    by_kind Skipped is behind = behind
+    by_kind Upward is behind = behind
+    by_kind Ordinary is behind = one (from_back parts).count is behind
+
+pub each-append : (a b : List (List ℕ)) → Each a → Each b → Each (a ++ b)
+each-append [] b first behind = behind
+each-append (part ∷ a) b first behind = (first.0, each-append a b first.1 behind)
+
+pub each-upward : (ups : ℕ) (kept : List (List ℕ)) → Each kept → Each (replicate ups dot_dot ++ kept)
+each-upward zero kept each = each
+each-upward (suc ups) kept each = (((λ e. absurd (eqb-false 46 47 refl e)), ((λ e. absurd (eqb-false 46 47 refl e)), tt)), each-upward ups kept each)
+
+each-without_last : (parts : List (List ℕ)) → Each parts → Each (without_last parts)
+each-without_last [] each = tt
+each-without_last (part ∷ []) each = tt
+each-without_last (part ∷ next ∷ parts) each = (each.0, each-without_last (next ∷ parts) each.1)
+
+-- what is left of any segments is a list as it is left
+abbrev pub upward_of : Bool → Behind → ℕ
+upward_of true behind = 0
+upward_of false behind = behind.count
+
+pub left_is : (absolute : Bool) (parts : List (List ℕ)) → Each parts → IsLeft absolute (left_of absolute (from_back parts)) (upward_of absolute (from_back parts)) (from_back parts).kept
+left_is true parts each = let kept = behind-ordinary parts each in record { is = refl; root = λ e. refl; ordinary = kept.0; each = kept.1 }
+left_is false parts each =
+    let kept = behind-ordinary parts each in record { is = refl; root = λ e. absurd (false≢true e); ordinary = kept.0; each = each-upward (from_back parts).count (from_back parts).kept kept.1 }
+
+-- no segment that is left is empty
+abbrev NoneEmpty : List (List ℕ) → Type 0
+NoneEmpty parts = AllByRecursion (λ part. 0 < length part) parts
+
+ordinary-some : (part : List ℕ) → kind_of part ≡ Ordinary → 0 < length part
+ordinary-some [] is = cc
+ordinary-some (byte ∷ part) is = omega arith
+
+ordinary-none_empty : (kept : List (List ℕ)) → AllOrdinary kept → NoneEmpty kept
+ordinary-none_empty [] all = tt
+ordinary-none_empty (part ∷ kept) all = (ordinary-some part all.0, ordinary-none_empty kept all.1)
+
+upward-none_empty : (ups : ℕ) (kept : List (List ℕ)) → NoneEmpty kept → NoneEmpty (replicate ups dot_dot ++ kept)
+upward-none_empty zero kept some = some
+upward-none_empty (suc ups) kept some = (omega arith, upward-none_empty ups kept some)
+
+pub left_some : (absolute : Bool) (parts : List (List ℕ)) (ups : ℕ) (kept : List (List ℕ)) → IsLeft absolute parts ups kept → NoneEmpty parts
+left_some absolute parts ups kept left = subst NoneEmpty (sym left.is) (upward-none_empty ups kept (ordinary-none_empty kept left.ordinary))
+
+-- the name that is written from such a list is not empty, is absolute as the list is, and is cut into it again
+abbrev Rewritten : Bool → List (List ℕ) → List ℕ → Type 0
+Rewritten absolute parts name = (0 < length name) × (is_absolute name ≡ absolute) × (from_back (segments name) ≡ from_back parts)
+
+begins : (part more : List ℕ) → 0 < length part → HasNoSlash part → (0 < length (part ++ more)) × (is_absolute (part ++ more) ≡ false)
+begins [] more some free = absurd (omega arith)
+begins (byte ∷ part) more some free = (omega arith, ne_eqb byte slash free.0)
+
+joined_begins : (part : List ℕ) (parts : List (List ℕ)) → 0 < length part → HasNoSlash part → (0 < length (join_with_byte slash (part ∷ parts))) × (is_absolute (join_with_byte slash (part ∷ parts)) ≡ false)
+joined_begins part [] some free = let b = begins part [] some free in let e = append-nil part in (rw e at b.0, rw e at b.1)
+joined_begins part (next ∷ parts) some free = begins part (slash ∷ join_with_byte slash (next ∷ parts)) some free
+
+rewritten : (absolute : Bool) (parts : List (List ℕ)) → Each parts → NoneEmpty parts → Rewritten absolute parts (written absolute parts)
+unfolding from_back
+rewritten true [] each some = (omega arith, refl, refl)
+rewritten true (part ∷ parts) each some =
+    (omega arith, refl, ap from_back (cut-at [] (join_with_byte slash (part ∷ parts)) tt ∙ ap (λ ps. [] ∷ ps) (cut-joined part parts each)))
+rewritten false [] each some = (omega arith, refl, refl)
+rewritten false (part ∷ parts) each some =
+    let b = joined_begins part parts some.0 each.0 in (b.0, b.1, ap from_back (cut-joined part parts each))
+
+directory_alone : (absolute : Bool) → directory_of absolute None ≡ (absolute, [])
+directory_alone true = refl
+directory_alone false = refl
+
+normal_alone : (name : List ℕ) → 0 < length name → normal None name ≡ Some (written (is_absolute name) (left_of (is_absolute name) (from_back (segments name))))
+unfolding normal
+normal_alone [] some = absurd (omega arith)
+normal_alone (byte ∷ bytes) some =
+    ap (λ (directory : Bool × List (List ℕ)). Some (written directory.0 (left_of directory.0 (from_back (directory.1 ++ segments (byte ∷ bytes)))))) (directory_alone (is_absolute (byte ∷ bytes)))
+
+-- what is written from a list as it is left is a normal form
+pub written_normal : (absolute : Bool) (parts : List (List ℕ)) (ups : ℕ) (kept : List (List ℕ)) → IsLeft absolute parts ups kept → IsNormal (written absolute parts)
+written_normal absolute parts ups kept left =
+    let again = rewritten absolute parts left.each (left_some absolute parts ups kept left) in
+    normal_alone (written absolute parts) again.0
+    ∙ ap (λ a. Some (written a (left_of a (from_back (segments (written absolute parts)))))) again.1
+    ∙ ap (λ b. Some (written absolute (left_of absolute b))) again.2 ∙ ap (λ ps. Some (written absolute ps)) (left_again absolute parts ups kept left)
+
+directory-each : (absolute : Bool) (of : Option (List ℕ)) → Each (directory_of absolute of).1
+directory-each true of = tt
+directory-each false None = tt
+directory-each false (Some target) = each-without_last (segments target) (cut-each target)
+
+-- so every value is a normal form
+pub normal_is_normal : (of : Option (List ℕ)) (name value : List ℕ) → normal of name ≡ Some value → IsNormal value
+unfolding normal
+normal_is_normal of [] value is = cc
+normal_is_normal of (byte ∷ bytes) value is =
+    let directory = directory_of (is_absolute (byte ∷ bytes)) of in
+    let parts = directory.1 ++ segments (byte ∷ bytes) in
+    let each = each-append directory.1 (segments (byte ∷ bytes)) (directory-each (is_absolute (byte ∷ bytes)) of) (cut-each (byte ∷ bytes)) in
+    let same : written directory.0 (left_of directory.0 (from_back parts)) ≡ value = cc in
+    subst IsNormal same (written_normal directory.0 (left_of directory.0 (from_back parts)) (upward_of directory.0 (from_back parts)) (from_back parts).kept (left_is directory.0 parts each))

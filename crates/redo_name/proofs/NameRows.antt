@@ -1,0 +1,39 @@
+-- Examples of normal forms, computed: a target in whose log the name stands, or none, the name, and its normal form.
+use Rattle.std.proofs.Common.{◌≡◌, ℕ, List, [], ◌∷◌, Option, None, Some, refl}
+use Rattle.std.specs.Prelude.{codes}
+use Rattle.std.specs.List.{AllByRecursion}
+use Rattle.redo_name.specs.Names.{from_back, normal}
+
+record Row : Type 0 where
+  of : Option (List ℕ)
+  name : List ℕ
+  value : Option (List ℕ)
+
+abbrev row : Option (List ℕ) → List ℕ → Option (List ℕ) → Row
+row of name value = record { of = of; name = name; value = value }
+
+abbrev rows : List Row
+rows =
+    row None (codes "a//b/./c") (Some (codes "a/b/c")) ∷
+    row None (codes "a/") (Some (codes "a")) ∷
+    row None (codes "a/..") (Some (codes ".")) ∷
+    row None (codes "./") (Some (codes ".")) ∷
+    row None (codes "../../x") (Some (codes "../../x")) ∷
+    row None (codes "x/../../y") (Some (codes "../y")) ∷
+    row None (codes "/") (Some (codes "/")) ∷
+    row None (codes "/..//a/") (Some (codes "/a")) ∷
+    row None [] None ∷
+    row (Some (codes "all")) (codes "a.o") (Some (codes "a.o")) ∷
+    row (Some (codes "d/a")) (codes "../e//x") (Some (codes "e/x")) ∷
+    row (Some (codes "d/a")) (codes "b") (Some (codes "d/b")) ∷
+    row (Some (codes "d/e/a")) (codes "../../../x") (Some (codes "../x")) ∷
+    row (Some (codes "d/a")) (codes "/z") (Some (codes "/z")) ∷
+    row (Some (codes "/a")) (codes "../x") (Some (codes "/x")) ∷
+    row (Some (codes "/p/a")) (codes "b/../c") (Some (codes "/p/c")) ∷
+    row (Some (codes "../a")) (codes "b") (Some (codes "../b")) ∷
+    row (Some (codes ".")) (codes "b") (Some (codes "b")) ∷
+    row (Some (codes "..")) (codes "b") (Some (codes "b")) ∷ []
+
+computed : AllByRecursion (λ r. normal r.of r.name ≡ r.value) rows
+unfolding from_back normal
+computed = (refl, (refl, (refl, (refl, (refl, (refl, (refl, (refl, (refl, (refl, (refl, (refl, (refl, (refl, (refl, (refl, (refl, (refl, (refl, tt)))))))))))))))))))

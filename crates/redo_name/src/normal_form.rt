@@ -1,0 +1,91 @@
+//! The way of a normal form from the front: the segments that stay so far are kept as the bytes of
+//! the name that they make, without the first slash of a relative one.
+ghost use Rattle.std.specs.Prelude.{◌≡◌, ℕ, ◌↔◌, ◌≤◌, List, [], ◌∷◌, ◌++◌, IsTrue, OnOk, length, take};
+ghost use Rattle.redo_name.specs.Names.{slash, kind_of, Skipped, Upward, segments, HasNoSlash};
+ghost use Rattle.redo_name.specs.Private.Path.{Adds, EndsSo, with_separator};
+
+use bstr::ByteSlice;
+use memchr::memrchr;
+use std::alloc::AllocError;
+
+/// Adds the segments of a name to a path.
+pub fn add_segments(path: &mut Vec<u8>, absolute: bool, name: &[u8]) -> Result<(), AllocError>
+    ensures { OnOk result (Adds absolute path.old.items (segments name.now) path.new.items) }
+{
+    for segment in name.split_str(b"/") {
+        add_segment(path, absolute, segment)?;
+    }
+    Ok(())
+}
+
+fn add_segment(path: &mut Vec<u8>, absolute: bool, segment: &[u8]) -> Result<(), AllocError>
+    ensures { OnOk result (Adds absolute path.old.items (segment.now ∷ []) path.new.items) }
+{
+    if is_skipped(segment) {
+        return Ok(());
+    }
+    if is_upward(segment) {
+        return add_upward(path, absolute, segment);
+    }
+    push_segment(path, absolute, segment)
+}
+
+// Goes up: the last segment goes, if it can be taken off. Above the root there is nothing.
+fn add_upward(path: &mut Vec<u8>, absolute: bool, segment: &[u8]) -> Result<(), AllocError>
+    ensures { OnOk result (kind_of segment.now ≡ Upward → Adds absolute path.old.items (segment.now ∷ []) path.new.items) }
+{
+    match above_last(path) {
+        Some(above) => {
+            path.truncate(above);
+            Ok(())
+        }
+        None if absolute => Ok(()),
+        None => push_segment(path, absolute, segment),
+    }
+}
+
+// How many bytes of a path stand before its last segment, if there is one that can be taken off.
+fn above_last(path: &[u8]) -> Option<usize>
+    ensures { EndsSo path.now result }
+{
+    let (above, last) = last_segment(path);
+    if path.is_empty() || is_upward(last) {
+        return None;
+    }
+    Some(above)
+}
+
+fn push_segment(path: &mut Vec<u8>, absolute: bool, segment: &[u8]) -> Result<(), AllocError>
+    ensures { OnOk result (path.new.items ≡ with_separator absolute path.old.items ++ segment.now) }
+{
+    if absolute || !path.is_empty() {
+        path.push(b'/')?;
+    }
+    path.extend_from_slice(segment)
+}
+
+fn is_skipped(segment: &[u8]) -> bool
+    ensures { IsTrue result ↔ (kind_of segment.now ≡ Skipped) }
+{
+    segment.is_empty() || segment == b".".as_slice()
+}
+
+fn is_upward(segment: &[u8]) -> bool
+    ensures { IsTrue result ↔ (kind_of segment.now ≡ Upward) }
+{
+    segment == b"..".as_slice()
+}
+
+/// What stands behind the last slash, and how many bytes stand before it. Without a slash it is
+/// all, with nothing before it.
+pub fn last_segment(name: &[u8]) -> (usize, &[u8])
+    ensures slash { (front last : List ℕ) → HasNoSlash last → name.now ≡ front ++ slash ∷ last →
+        (result.0 ≡ length front) × (result.1.now ≡ last) }
+    ensures none { HasNoSlash name.now → (result.0 ≡ 0) × (result.1.now ≡ name.now) }
+    ensures bound { result.0 ≤ length name.now }
+{
+    match memrchr(b'/', name) {
+        Some(at) => (at, &name[at + 1..]),
+        None => (0, name),
+    }
+}
