@@ -86,7 +86,24 @@ fn gather_by<T: Threads + Wait + Sync, R: Feed + Send, G: Gate>(
     let shares = deal(alloc, &table, readers, senders)?;
     let (collector, ends) = Collector::open(alloc, table, plan.capacity(), senders)?;
     let max_bytes = plan.max_bytes();
-    let collector = thread::scope(
+    collect_all(rt, alloc, ends, shares, max_bytes, gate, collector).finish(rt, gate)
+}
+
+// Has what the senders of these ends read of their shares collected, and all of them joined.
+fn collect_all<T: Threads + Wait + Sync, R: Feed + Send, G: Gate>(
+    rt: &T,
+    alloc: Global,
+    ends: Vec<PostEnd>,
+    shares: Vec<Share<R>>,
+    max_bytes: u64,
+    gate: &G,
+    collector: Collector,
+) -> Collector
+    requires one { AllByRecursion (λ end. end.mailbox ≡ collector.mailbox.mailbox) ends.items }
+    requires limit { (1 ≤ max_bytes) × (max_bytes ≤ 2 ^ 40) }
+    ensures { Collects R.tells max_bytes ends.items (map (λ share. share.items) shares.items) collector result }
+{
+    thread::scope(
         thread::scope_env(),
         rt,
         |scope| -> Collector
@@ -108,8 +125,7 @@ fn gather_by<T: Threads + Wait + Sync, R: Feed + Send, G: Gate>(
             );
             collector
         },
-    );
-    collector.finish(rt, gate)
+    )
 }
 
 // Deals the streams of a table's targets to so many senders: number 0 to the first, and so on, round

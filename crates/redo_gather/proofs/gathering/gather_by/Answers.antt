@@ -6,11 +6,10 @@ use Rattle.redo_gather.specs.Private.Collecting.{IsGathered}
 use Rattle.redo_gather.proofs.ReadyLemmas.{all_owed}
 use Rattle.redo_gather.proofs.gathering.gather_by.Goals as goal
 
-pub scoped-collector-requires : goal.scoped-collector-requires
-scoped-collector-requires g c =
+pub collect_all-requires-clause-one : goal.collect_all-requires-clause-one
+collect_all-requires-clause-one g c =
     let one = ends_of_one c.in_ok-collector.collector.mailbox.mailbox c.in_ok-collector.ends.items c.in_ok-collector.ensures.posts in
-    let limit = c.max_bytes-max_bytes.ensures.limits in
-    search (rules, one, limit)
+    search (rules, one)
 
 pub returns-clause-gathered : goal.returns-clause-gathered
 returns-clause-gathered g c =
@@ -23,5 +22,5 @@ returns-clause-gathered g c =
     subst (λ max_bytes. IsGathered max_bytes targets told c.finish.result) limit
     (c.finish.ensures.gathered c.max_bytes-max_bytes.result targets told
     (all_owed tells c.max_bytes-max_bytes.result c.capacity.result c.args.senders targets told c.in_ok-collector.ends.items (map (λ share. share.items) c.in_ok-shares.shares.items) c.in_ok-collector.collector
-    c.scoped-collector.result c.scoped-collector.ensures.1 opened.takes (opened.begins.0 ∙ c.requires.begins) opened.begins.1 same
+    c.collect_all.result c.collect_all.ensures opened.takes (opened.begins.0 ∙ c.requires.begins) opened.begins.1 same
     c.requires.senders.0 opened.posts c.in_ok-shares.ensures))
