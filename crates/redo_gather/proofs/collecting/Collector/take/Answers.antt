@@ -12,3 +12,6 @@ loop-preserved g c =
       search rules,
       λ names holds. subst (λ items. Holds names items c.keep.new.self.table c.keep.new.self.refused) (sym taken) (c.keep.ensures.holds names c.loop.self.mailbox.taken (c.loop.invariant.4 names holds)),
     )
+
+pub returns-in_default-clause-holds : goal.returns-in_default-clause-holds
+returns-in_default-clause-holds g c = search rules
