@@ -9,3 +9,6 @@ returns-in-Err-Write-clause-write g c = search rules
 
 pub returns-in-Err-OutOfMemory-clause-memory : goal.returns-in-Err-OutOfMemory-clause-memory
 returns-in-Err-OutOfMemory-clause-memory g c = search rules
+
+pub returns-in-Err-OutOfMemory-clause-write : goal.returns-in-Err-OutOfMemory-clause-write
+returns-in-Err-OutOfMemory-clause-write g c = search rules

@@ -1,4 +1,4 @@
-use Rattle.std.proofs.Common.{◌∙◌, ap, refl}
+use Rattle.std.proofs.Common.{rules, ◌∙◌, ap, refl}
 use Rattle.redo_line.specs.Scan.{entries_so_far, fault_so_far}
 use Rattle.redo_line.proofs.ScanEnds.{none_found}
 use Rattle.redo_line.proofs.scan.Scan.new.Goals as goal
@@ -11,3 +11,6 @@ returns-clause-fine c = record {
   refused_none = refl;
   no_fault = ap (fault_so_far c.new.result.target c.new.result.max_bytes) c.none.ensures ∙ c.new.ensures.after.fine;
 }
+
+pub returns-clause-scan : goal.returns-clause-scan
+returns-clause-scan c = search rules

@@ -1,4 +1,4 @@
-use Rattle.std.proofs.Common.{◌≡◌, ℕ, List, sym, ap, subst, ◌∙◌}
+use Rattle.std.proofs.Common.{rules, ◌≡◌, ℕ, List, sym, ap, subst, ◌∙◌}
 use Rattle.redo_wire.specs.declared.item.Item.{Item}
 use Rattle.redo_wire.specs.Mailbox.{IsAmong, Met}
 use Rattle.redo_wire.specs.Private.Ends.{mailbox_of}
@@ -31,3 +31,6 @@ pub returns-clause-fronts : goal.returns-clause-fronts
 returns-clause-fronts g c =
     let knows = subst (λ v. (items : List Item) × KnowsOf v items) (sym c.learn_as.ensures.channel.2) c.learn_as.ensures.rule in
     fronts_known _ knows.0 knows.1
+
+pub returns-clause-met : goal.returns-clause-met
+returns-clause-met g c = search rules
