@@ -100,7 +100,11 @@ impl TargetName {
     }
 }
 
-/// The normal form of a name, by the rule of [`TargetName::resolve`], in the place of what a path was before.
+/// Makes a path the normal form of a name, by the rule of [`TargetName::resolve`], whatever it was
+/// before. The path then makes a name by [`TargetName::of_normal`].
+///
+/// Only an empty name is refused as `Empty`. After a refusal nothing is known of the path, and it
+/// may be used again.
 pub fn resolve_to(path: &mut Vec<u8>, of: Option<&TargetName>, name: &[u8]) -> Result<(), NameFault>
     ensures ok { OnOk result (normal (option_copied of.entry) name.now ≡ Some path.new.items) }
     ensures is_normal { OnOk result (IsNormal path.new.items) }
