@@ -1,3 +1,4 @@
+use Rattle.std.proofs.lemmas.Grind.{common_steps}
 use Rattle.std.proofs.Common.{inr, sym, ◌∙◌, ◌+◌, ◌<◌, length, nat_eq, arith}
 use Rattle.std.specs.Cmp.Lexicographic.{pointwise}
 use Rattle.std.specs.List.{list_any}
@@ -21,3 +22,9 @@ returns-then-len-gt-MOST-clause-refuses c listed holds =
     let grown = rw c.if-not-differs-2.false at c.in_ok-differs-2.ensures.len in
     let many : most < length c.args.names.now.keys + 1 = omega (arith, c.if-len-gt-MOST.true, c.len-2.ensures.len, grown) in
     inr (too_many c.args.numbers.now.keys c.args.names.now.keys listed holds c.args.line.now c.in-Some.field-0.number c.in-Some.field-0.target form new_number new_name many)
+
+pub returns-in_default-clause-refuses : goal.returns-in_default-clause-refuses
+returns-in_default-clause-refuses c = grind (arith, common_steps)
+
+pub returns-in_default-clause-holds : goal.returns-in_default-clause-holds
+returns-in_default-clause-holds c = grind (arith, common_steps)

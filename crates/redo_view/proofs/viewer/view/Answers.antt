@@ -12,3 +12,6 @@ returns-in-Err-OutOfMemory-clause-memory g c = search rules
 
 pub returns-in-Err-OutOfMemory-clause-write : goal.returns-in-Err-OutOfMemory-clause-write
 returns-in-Err-OutOfMemory-clause-write g c = search rules
+
+pub returns-in-Some-clause-unwritten : goal.returns-in-Some-clause-unwritten
+returns-in-Some-clause-unwritten g c = search rules

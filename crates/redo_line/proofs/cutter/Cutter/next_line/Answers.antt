@@ -1,4 +1,4 @@
-use Rattle.std.proofs.Common.{◌++◌, ap, ◌∙◌}
+use Rattle.std.proofs.Common.{◌++◌, rules, ap, ◌∙◌}
 use Rattle.redo_line.proofs.CutLemmas.{line_in, no_feed, none_in}
 use Rattle.redo_line.proofs.cutter.Cutter.next_line.Goals as goal
 
@@ -12,3 +12,6 @@ pub returns-in_ok-extend_from_slice-in-None-clause-more : goal.returns-in_ok-ext
 returns-in_ok-extend_from_slice-in-None-clause-more c =
     none_in c.args.self.now c.extend_from_slice.new.self.items c.args.piece.now c.in-None.ensures
     (c.in_ok-extend_from_slice-in-None.ensures.items ∙ ap (λ kept. kept ++ c.args.piece.now) c.self.view_is)
+
+pub returns-in_err-extend_from_slice-in-None-clause-err : goal.returns-in_err-extend_from_slice-in-None-clause-err
+returns-in_err-extend_from_slice-in-None-clause-err c = search rules
