@@ -21,7 +21,7 @@ const AFTER_HELP: &str = "Example:
   redo-log -r --dir captures all    the log of `all`, with those of the targets that it mentions
 
 Exit status:
-   0  the text was written, or this help
+   0  the text was written, or this help, or the version
    2  the command line is refused
    3  `names` is refused: a bad line, a number or a name twice, too many
    4  a log has a bad record, goes on behind its closing record, or is too long
@@ -52,9 +52,10 @@ pub fn read_words(alloc: Global, words: Vec<String>) -> Result<Job, WordsFault>
 }
 
 /// The help text: what the words of the command line are, with an example, and the statuses with which
-/// the program ends. It ends with a line feed.
+/// the program ends. It ends with a line feed. It has `--version`, which is no option of the command line:
+/// the program answers it where it is the only word.
 pub fn help_text(alloc: Global) -> Result<String, AllocError> {
-    let mut command = command(alloc)?;
+    let mut command = command(alloc)?.version("");
     command.render_help()
 }
 
