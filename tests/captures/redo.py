@@ -61,6 +61,11 @@ def log_of(folder, name):
     return text_of(folder, f".redo/log.{numbers[name]}")
 
 
+def touch(path):
+    """Gives a file a time that it didn't have."""
+    os.utime(path, ns=(0, os.stat(path).st_mtime_ns + 1_000_000))
+
+
 def kinds_of(folder, name):
     """The records of a log, without what differs from run to run, and its lines."""
     return re.sub(r"^@@REDO:([a-z]+):\d+:\d+\.\d{4}@@ ", r"\1 ", log_of(folder, name), flags=re.M)
@@ -189,7 +194,7 @@ def anew(checks, at):
     again("a source far below, by a target without a file", "all mid.x low phony")
     os.remove(os.path.join(folder, "other"))
     again("a target that is missing", "all other")
-    os.utime(os.path.join(folder, "other.do"), (1, 1))
+    touch(os.path.join(folder, "other.do"))
     again("a script", "all other")
     write(os.path.join(folder, "mid.x.do"), text_of(folder, "default.x.do"))
     again("a script that goes before", "all mid.x")
@@ -213,8 +218,7 @@ def anew(checks, at):
     checks.expect("a source that is gone: redo", (status, said), (1, failed(*ways)))
     text = "redo  all\nredo    mid.x\nredo      low\nredo        phony\nredo: no rule to make leaf\n"
     text += "redo        phony (exit 1)\nredo      low (exit 1)\nredo    mid.x (exit 1)\n"
-    text += "redo: the build is being stopped\n".join(["", ""]) if False else ""
-    checks.expect("a source that is gone", shown(folder, "-r", "all").replace("redo: the build is being stopped\n", ""), text)
+    checks.expect("a source that is gone", shown(folder, "-r", "all"), text)
 
 
 def refusals(checks, at):
@@ -279,3 +283,191 @@ def logs(checks, at):
     checks.expect("much from several at once: redo", redo(folder, "-j8"), (0, "", ""))
     text = "redo  all\n" + "".join(f"redo    {name}\n" + f"{name} says much\n" * 100000 for name in names.split())
     checks.expect("much from several at once", shown(folder, "-r", "all") == text, True)
+
+
+COUNTED = "echo + >>{0}/count; sleep 0.1; echo - >>{0}/count\n"
+
+
+def most_at_once(folder):
+    """How many of its scripts that count ran at the same time, at most; and how many ran."""
+    now, most, signs = 0, 0, text_of(folder, "count").split()
+    for sign in signs:
+        now += 1 if sign == "+" else -1
+        most = max(most, now)
+    os.remove(os.path.join(folder, "count"))
+    return most, len(signs) // 2
+
+
+def jobs(checks, at):
+    groups = " ".join(f"group{number}" for number in range(4))
+    folder = project(at("jobs"), all_do=f"redo-ifchange {groups}\n", Makefile="all: ; +@redo\nalone: ; @redo\n")
+    write(os.path.join(folder, "default.do"), "redo-ifchange $1.1.leaf $1.2.leaf $1.3.leaf $1.4.leaf &\nredo-ifchange $1.5.leaf; wait\n")
+    write(os.path.join(folder, "default.leaf.do"), COUNTED.format(folder))
+    for words, most in (([], 1), (["-j1"], 1), (["-j3"], 3), (["-j64"], 20)):
+        checks.expect(f"jobs {words}: redo", redo(folder, *words), (0, "", ""))
+        found = most_at_once(folder)
+        checks.expect(f"jobs {words}", (found[0] <= most, found[0] > 1, found[1]), (True, most > 1, 20))
+        touch(os.path.join(folder, "default.leaf.do"))
+
+    def below_make(what, most, command=("make", "-s", "-j3", "all"), **more):
+        done = subprocess.run(command, cwd=folder, env=settings(more.pop("flags", None)), capture_output=True, text=True, **more)
+        checks.expect(f"{what}: make", (done.returncode, done.stderr), (0, ""))
+        found = most_at_once(folder)
+        checks.expect(what, (found[0] <= most, found[0] > 1, found[1]), (True, most > 1, 20))
+        touch(os.path.join(folder, "default.leaf.do"))
+
+    below_make("below make", 3)
+    below_make("below a make of one job", 1, ("make", "-s", "all"))
+    below_make("not below make's jobs", 1, ("make", "-s", "-j3", "alone"))
+    reading, writing = os.pipe()
+    os.write(writing, b"abc")
+    for option in ("--jobserver-auth", "--jobserver-fds"):
+        flags = {"MAKEFLAGS": f" -j {option}={reading},{writing}"}
+        below_make(f"jobs by {option}", 4, ("redo",), flags=flags, pass_fds=(reading, writing))
+    os.mkfifo(at("fifo"))
+    fifo = os.open(at("fifo"), os.O_RDWR)
+    os.write(fifo, b"xy")
+    below_make("jobs by a fifo", 3, ("redo",), flags={"MAKEFLAGS": f"k -j4 --jobserver-auth=fifo:{at('fifo')}"})
+    checks.expect("tokens are given back", [sorted(os.read(reading, 9)), sorted(os.read(fifo, 9))], [sorted(b"abc"), sorted(b"xy")])
+    below_make("no such descriptors", 1, ("redo",), flags={"MAKEFLAGS": " -j --jobserver-auth=97,98"})
+    for end in (reading, writing, fifo):
+        os.close(end)
+
+    folder = project(at("deep"), t100_do="echo 100 >&2\n")
+    write(os.path.join(folder, "default.do"), "redo-ifchange t$((${1#t} + 1))\necho ${1#t} >&2\n")
+    checks.expect("a chain of 100: redo", redo(folder, "-j4", "t0"), (0, "", ""))
+    lines = [f"redo  {'  ' * number}t{number}\n" for number in range(101)] + [f"{number}\n" for number in range(100, -1, -1)]
+    checks.expect("a chain of 100", shown(folder, "-r", "t0"), "".join(lines))
+
+
+def is_running(process):
+    try:
+        with open(f"/proc/{process}/stat", encoding="utf-8") as file:
+            return file.read().rpartition(")")[2].split()[0] != "Z"
+    except FileNotFoundError:
+        return False
+
+
+def of_a_terminal():
+    os.setsid()
+    signal.signal(signal.SIGINT, signal.SIG_DFL)
+
+
+def signals(checks, at):
+    script = "echo half >$3; echo half; echo $1 begun >&2; echo $$ >$1.process; sleep 60 & wait; echo no >&2\n"
+    for what, number, end in (
+        ("by the terminal", signal.SIGINT, os.killpg),
+        ("the first redo alone", signal.SIGINT, os.kill),
+        ("asked to end", signal.SIGTERM, os.kill),
+    ):
+        folder = project(at(what), all_do="echo $$ >all.process; redo-ifchange x y\n", x_do=script, y_do="redo-ifchange z\n", z_do=script)
+        build = started(folder, "-j4", preexec_fn=of_a_terminal)
+        wait_until(what, lambda: all(os.path.exists(os.path.join(folder, f"{name}.process")) for name in "xz"))
+        time.sleep(0.2)
+        end(build.pid, number)
+        checks.expect(f"{what}: redo", build.wait(timeout=20), -number)
+        left = [name for name in ("all", "x", "z") if is_running(text_of(folder, f"{name}.process").strip())]
+        checks.expect(f"{what}: what still runs", left, [])
+        checks.expect(f"{what}: what is left", [name for name in files_of(folder) if not name.endswith((".do", ".process"))], [])
+        text = re.sub(r"redo *[a-z]+ \(exit -\d+\)\n|redo: .*\n", "", shown(folder, "-r", "all"))
+        checks.expect(f"{what}: its captures", text, "redo  all\nredo    x\nx begun\nredo    y\nredo      z\nz begun\n")
+        checks.expect(f"{what}: a log is closed", kinds_of(folder, "x"), f"x begun\ndone -{int(number)} x\n")
+        build.stderr.close()
+
+
+def below(process):
+    """The processes that a process began, near and far."""
+    listed = subprocess.run(["ps", "-e", "-o", "pid=,ppid="], capture_output=True, text=True, check=True).stdout.split()
+    parents = dict(zip(map(int, listed[::2]), map(int, listed[1::2])))
+    found = [process]
+    for above in found:
+        found += [child for child, parent in parents.items() if parent == above]
+    return found[1:]
+
+
+def killed(checks, at):
+    """Builds of which one process is killed, the first redo or another one, and which are then built again."""
+    rng = random.Random(43)
+    names = [f"t{number}" for number in range(12)]
+    folder = project(at("killed"), all_do=f"redo-ifchange {' '.join(names)}\n", shared_do="sleep 0.1; echo shared >&2; echo shared\n")
+    write(os.path.join(folder, "default.do"), "echo $1 begun >&2; redo-ifchange shared; echo half; sleep 0.05; echo $1 ended >&2; echo whole\n")
+    text = "redo  all\n" + "".join(f"redo    {name}\n{name} begun\n{name} ended\n" for name in names)
+    text = text.replace("t0 begun\n", "t0 begun\nredo      shared\nshared\n")
+    sources = files_of(folder)
+    for turn in range(14):
+        for name in ["shared", *names]:
+            if os.path.exists(os.path.join(folder, name)):
+                os.remove(os.path.join(folder, name))
+        build = started(folder, "-j4")
+        time.sleep(0.1 + rng.random() * 0.7)
+        others = below(build.pid)
+        victim = build.pid if turn % 2 == 0 or not others else rng.choice(others)
+        try:
+            os.kill(victim, signal.SIGKILL)
+        except ProcessLookupError:
+            victim = "none, it was over"
+        build.communicate()
+        wait_until("what was left behind", lambda: not any(map(is_running, others)))
+        if os.path.exists(os.path.join(folder, ".redo/log.1")):
+            checks.expect(f"killed, {turn}: its captures", isinstance(shown(folder, "-r", "all"), str), True)
+        checks.expect(f"killed, {turn}: again", redo(folder, "-j4", "all"), (0, "", ""))
+        made = {name: text_of(folder, name) for name in files_of(folder) if name not in sources}
+        checks.expect(f"killed, {turn}: what is made", made, {"shared": "shared\n", **dict.fromkeys(names, "half\nwhole\n")})
+        checks.expect(f"killed, {turn}: the text", shown(folder, "-ru", "all"), text)
+
+
+def at_once(checks, at):
+    wait = "touch begun; until [ -e go ]; do sleep 0.01; done; echo made >&2; echo made\n"
+    folder = project(at("once"), all_do="redo-ifchange x\n", x_do=wait)
+    first = started(folder)
+    wait_until("begun", lambda: os.path.exists(os.path.join(folder, "begun")))
+    second = subprocess.Popen(["redo-ifchange", "all"], cwd=folder, env=settings(), stderr=subprocess.PIPE, text=True)
+    checks.expect("two at once: the second waits", second.stderr.readline(), f"redo: waits for another redo, process {first.pid}\n")
+    write(os.path.join(folder, "go"), "")
+    checks.expect("two at once", [build.communicate(timeout=20)[1] for build in (first, second)] + [first.wait(), second.wait()], ["", "", 0, 0])
+    checks.expect("two at once: made once", shown(folder, "-r", "all"), "redo  all\nredo    x\nmade\n")
+
+
+def moments(checks, at):
+    """Captures at 200 random moments of builds that run: each is accepted, and has a front of the lines of each target."""
+    names = [f"d{number % 5}/t{number}" for number in range(40)]
+    folder = project(at("moments"), all_do=f"redo-ifchange {' '.join(names)}\necho all >&2\n", shared_do="sleep 0.1; echo shared >&2\n")
+    say = "for word in 1 2 3 4 5; do printf \"$1 $word\" >&2; redo-ifchange ../shared; echo >&2; sleep 0.0$word; done\n"
+    write(os.path.join(folder, "default.do"), "")
+    for number in range(5):
+        write(os.path.join(folder, f"d{number}/default.do"), say)
+    rng, refused, views = random.Random(7), [], 0
+    while views < 200:
+        build = started(folder, "-j6")
+        while build.poll() is None and views < 200:
+            time.sleep(rng.random() * 0.02)
+            if os.path.exists(os.path.join(folder, ".redo/log.1")):
+                text = shown(folder, "-r", "--debug-locks", "all")
+                views += 1
+                if not isinstance(text, str) or "\0" in text:
+                    refused.append(text)
+        checks.expect("moments: a build", (build.communicate()[1], build.returncode), ("", 0))
+        for number in range(5):
+            touch(os.path.join(folder, f"d{number}/default.do"))
+    checks.expect("captures at 200 moments", refused, [])
+    lines = "".join(f"redo    {name}\n" + "".join(f"{os.path.basename(name)} {word}\n" for word in range(1, 6)) + "\n" * 0 for name in names)
+    text = f"redo  all\n{lines}all\n".replace("t0 1\n", "t0 1\nredo      shared\nshared\n", 1)
+    checks.expect("the whole in the end", re.sub("\n\n+", "\n", shown(folder, "-r", "-u", "all")), text)
+
+
+def full_device(checks, at):
+    """A file system of 64 KiB, or where none can be had, files that can't grow past 8 KiB."""
+    folder = at("full")
+    os.mkdir(folder)
+    scripts = "echo 'redo-ifchange x y' >all.do; echo 'yes x | head -c 200000 >&2; echo x' >x.do; echo 'echo y >&2; yes y | head -c 200000' >y.do"
+    run = f"cd {folder}; {scripts}; redo -k; echo $?; {PROGRAM} -r --dir .redo all; echo $?; ls"
+    command = ["sh", "-c", f"trap '' XFSZ; ulimit -f 16; {run}"]
+    if subprocess.run(["unshare", "-rm", "true"], stderr=subprocess.DEVNULL).returncode == 0:
+        command = ["unshare", "-rm", "sh", "-c", f"mount -t tmpfs -o size=64k none {folder} && {run}"]
+    done = subprocess.run(command, env=settings(), capture_output=True, text=True, timeout=60)
+    statuses = re.findall(r"^\d+$", done.stdout, re.M)
+    checks.expect("a full device: redo, and redo-log", (statuses, "x failed with status 1" in done.stderr), (["1", "0"], True))
+    checks.expect("a full device: what is left", done.stdout.splitlines()[-3:], ["all.do", "x.do", "y.do"])
+
+
+PARTS = (promises, anew, refusals, logs, jobs, signals, killed, at_once, moments, full_device)
