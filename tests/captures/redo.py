@@ -285,7 +285,7 @@ def logs(checks, at):
     checks.expect("much from several at once", shown(folder, "-r", "all") == text, True)
 
 
-COUNTED = "echo + >>{0}/count; sleep 0.1; echo - >>{0}/count\n"
+COUNTED = "echo + >>{0}/count; sleep 0.04; echo - >>{0}/count\n"
 
 
 def most_at_once(folder):
@@ -303,7 +303,7 @@ def jobs(checks, at):
     folder = project(at("jobs"), all_do=f"redo-ifchange {groups}\n", Makefile="all: ; +@redo\nalone: ; @redo\n")
     write(os.path.join(folder, "default.do"), "redo-ifchange $1.1.leaf $1.2.leaf $1.3.leaf $1.4.leaf &\nredo-ifchange $1.5.leaf; wait\n")
     write(os.path.join(folder, "default.leaf.do"), COUNTED.format(folder))
-    for words, most in (([], 1), (["-j1"], 1), (["-j3"], 3), (["-j64"], 20)):
+    for words, most in (([], 1), (["-j3"], 3), (["-j64"], 20)):
         checks.expect(f"jobs {words}: redo", redo(folder, *words), (0, "", ""))
         found = most_at_once(folder)
         checks.expect(f"jobs {words}", (found[0] <= most, found[0] > 1, found[1]), (True, most > 1, 20))
@@ -333,11 +333,11 @@ def jobs(checks, at):
     for end in (reading, writing, fifo):
         os.close(end)
 
-    folder = project(at("deep"), t100_do="echo 100 >&2\n")
+    folder = project(at("deep"), t60_do="echo 60 >&2\n")
     write(os.path.join(folder, "default.do"), "redo-ifchange t$((${1#t} + 1))\necho ${1#t} >&2\n")
-    checks.expect("a chain of 100: redo", redo(folder, "-j4", "t0"), (0, "", ""))
-    lines = [f"redo  {'  ' * number}t{number}\n" for number in range(101)] + [f"{number}\n" for number in range(100, -1, -1)]
-    checks.expect("a chain of 100", shown(folder, "-r", "t0"), "".join(lines))
+    checks.expect("a chain of 60: redo", redo(folder, "-j4", "t0"), (0, "", ""))
+    lines = [f"redo  {'  ' * number}t{number}\n" for number in range(61)] + [f"{number}\n" for number in range(60, -1, -1)]
+    checks.expect("a chain of 60", shown(folder, "-r", "t0"), "".join(lines))
 
 
 def is_running(process):
@@ -470,4 +470,85 @@ def full_device(checks, at):
     checks.expect("a full device: what is left", done.stdout.splitlines()[-3:], ["all.do", "x.do", "y.do"])
 
 
-PARTS = (promises, anew, refusals, logs, jobs, signals, killed, at_once, moments, full_device)
+OBJECT = """redo-ifchange $2.c config.h
+cc -Wall -fdiagnostics-plain-output -MD -MF $3.d -MT x -c -o $3 $2.c || status=$?
+set -- "$3.d" ${status:-0}
+[ $2 = 0 ] || { rm -f "$1"; exit $2; }
+needs=$(sed 's/^x://; s/\\\\$//' "$1")
+rm "$1"
+redo-ifchange $needs
+"""
+
+
+def c_project(folder, count):
+    """C files, of which each third has a warning, that include generated headers; what they need the compiler finds."""
+    names = [f"f{number:02}" for number in range(count)]
+    folder = project(folder, all_do="redo-ifchange program\n", config_h_do='sleep 0.2; echo "config: guessed" >&2; echo "#define LIMIT 3"\n')
+    write(os.path.join(folder, "default.o.do"), OBJECT)
+    os.rename(os.path.join(folder, "config_h.do"), os.path.join(folder, "config.h.do"))
+    objects = " ".join(f"{name}.o" for name in names)
+    write(os.path.join(folder, "program.do"), f"redo-ifchange {objects} main.o\ncc -o $3 {objects} main.o\n")
+    write(os.path.join(folder, "main.c"), "int f00(int);\nint main(void) { return f00(0); }\n")
+    for number, name in enumerate(names):
+        write(os.path.join(folder, f"h{number % 4}.h"), f"#define H{number % 4} {number % 4}\n")
+        unused = "int unused; " if number % 3 == 0 else ""
+        code = f'#include "config.h"\n#include "h{number % 4}.h"\nint {name}(int n) {{ {unused}return n + H{number % 4} + LIMIT; }}\n'
+        write(os.path.join(folder, f"{name}.c"), code)
+    return folder, names
+
+
+def message(folder, name):
+    """What the compiler says of a file."""
+    command = ["cc", "-Wall", "-fdiagnostics-plain-output", "-c", "-o", "/dev/null", f"{name}.c"]
+    return subprocess.run(command, cwd=folder, env=settings(), capture_output=True, text=True).stderr
+
+
+def same_text(checks, at):
+    for count in (1, 4, 16):
+        folder, names = c_project(at(f"c{count}"), 9)
+        jobs = f"-j{count}"
+        checks.expect(f"C, {jobs}: redo", redo(folder, jobs), (0, "", ""))
+        warnings = {name: message(folder, name) for name in names[::3]}
+        checks.expect("C: the compiler warns", all("unused" in warning for warning in warnings.values()), True)
+        inside = "redo        config.h\nconfig: guessed\n"
+        objects = [f"redo      {name}.o\n" + (inside if name == "f00" else "") + warnings.get(name, "") for name in names]
+        text = "redo  all\nredo    program\n" + "".join(objects) + "redo      main.o\n"
+        checks.expect(f"C, {jobs}", shown(folder, "-r", "all"), text)
+        checks.expect(f"C, {jobs}: again", (redo(folder, jobs), shown(folder, "-r", "all")), ((0, "", ""), "redo  all\n"))
+        checks.expect(f"C, {jobs}: all that is there", shown(folder, "-r", "-u", "all"), text)
+
+        touch(os.path.join(folder, "h2.h"))
+        text = "redo  all\nredo    program\nredo      f02.o\nredo      f06.o\n" + warnings["f06"]
+        checks.expect(f"C, {jobs}: a header is touched", (redo(folder, jobs), shown(folder, "-r", "all")), ((0, "", ""), text))
+
+        for name in ("f01", "f07"):
+            write(os.path.join(folder, f"{name}.c"), text_of(folder, f"{name}.c") + "}\n")
+        status, _, said = redo(folder, jobs, "-k")
+        lines = failed(("f01.o", 1), ("f07.o", 1), ("program", 1), ("all", 1))
+        checks.expect(f"C, {jobs}: two are broken: redo", (status, sorted(said.splitlines())), (1, sorted(lines.splitlines())))
+        text = "redo  all\nredo    program\nredo      f01.o\n" + message(folder, "f01") + "redo      f07.o\n" + message(folder, "f07")
+        text += "redo      f01.o (exit 1)\nredo      f07.o (exit 1)\nredo    program (exit 1)\n"
+        checks.expect(f"C, {jobs}: two are broken", shown(folder, "-r", "all"), text)
+    a_book(checks, at)
+
+
+def a_book(checks, at):
+    """Chapters of text, each with a list of all chapters that is made once."""
+    chapters = [f"chapters/{number}" for number in range(1, 7)]
+    for count in (1, 4, 16):
+        folder = project(at(f"book{count}"), all_do="redo-ifchange book.txt\n")
+        write(os.path.join(folder, "book.txt.do"), f"redo-ifchange {' '.join(f'{name}.page' for name in chapters)}\ncat {' '.join(f'{name}.page' for name in chapters)}\n")
+        write(os.path.join(folder, "default.page.do"), 'redo-ifchange "$2.txt" contents\ngrep -n TODO "$2.txt" >&2 || true\ncat contents "$2.txt"\n')
+        write(os.path.join(folder, "contents.do"), "for file in chapters/*.txt; do redo-ifchange $file; head -n 1 $file; done\necho contents >&2\n")
+        for number, name in enumerate(chapters, 1):
+            write(os.path.join(folder, f"{name}.txt"), f"Chapter {number}\n" + ("TODO\n" if number % 2 else "text\n"))
+        checks.expect(f"a book, -j{count}: redo", redo(folder, f"-j{count}"), (0, "", ""))
+        pages = [f"redo      {name}.page\n" + ("2:TODO\n" if number % 2 else "") for number, name in enumerate(chapters, 1)]
+        pages[0] = "redo      chapters/1.page\nredo        contents\ncontents\n2:TODO\n"
+        checks.expect(f"a book, -j{count}", shown(folder, "-r", "all"), "redo  all\nredo    book.txt\n" + "".join(pages))
+        checks.expect(f"a book, -j{count}: it is whole", text_of(folder, "book.txt").count("Chapter"), 42)
+        locks = shown(folder, "-r", "--debug-locks", "all")
+        checks.expect(f"a book, -j{count}: locks", "contents (WAITING)" in locks, count > 1)
+
+
+PARTS = (same_text, promises, anew, refusals, logs, jobs, signals, killed, at_once, moments, full_device)
