@@ -551,4 +551,21 @@ def a_book(checks, at):
         checks.expect(f"a book, -j{count}: locks", "contents (WAITING)" in locks, count > 1)
 
 
-PARTS = (same_text, promises, anew, refusals, logs, jobs, signals, killed, at_once, moments, full_device)
+def readme(checks, at):
+    """The example of README.md, with the output of each of its commands."""
+    block = "".join(re.findall(r"^    (.*\n)", contents("examples/redo/README.md"), re.M))
+    runs = re.findall(r"^\$ (.*)\n((?:(?!\$ ).*\n)*)", block, re.M)
+    folder = project(at("readme"))
+    for words, output in runs:
+        command, *rest = words.split()
+        if command == "cat":
+            write(os.path.join(folder, rest[0]), output)
+        elif command == "redo":
+            checks.expect(f"README.md: {words}", redo(folder, *rest), (0, output, ""))
+        else:
+            found = shown(folder, *[word for word in rest if word not in ("--dir", ".redo")])
+            checks.expect(f"README.md: {words}", found, output)
+    checks.expect("README.md: commands", [words.split()[0] for words, _ in runs], ["cat"] * 5 + ["redo"] + ["redo-log"] * 2)
+
+
+PARTS = (readme, same_text, promises, anew, refusals, logs, jobs, signals, killed, at_once, moments, full_device)
