@@ -299,21 +299,21 @@ def most_at_once(folder):
 
 
 def jobs(checks, at):
-    groups = " ".join(f"group{number}" for number in range(4))
+    groups = " ".join(f"group{number}" for number in range(3))
     folder = project(at("jobs"), all_do=f"redo-ifchange {groups}\n", Makefile="all: ; +@redo\nalone: ; @redo\n")
-    write(os.path.join(folder, "default.do"), "redo-ifchange $1.1.leaf $1.2.leaf $1.3.leaf $1.4.leaf &\nredo-ifchange $1.5.leaf; wait\n")
+    write(os.path.join(folder, "default.do"), "redo-ifchange $1.1.leaf $1.2.leaf $1.3.leaf &\nredo-ifchange $1.4.leaf; wait\n")
     write(os.path.join(folder, "default.leaf.do"), COUNTED.format(folder))
-    for words, most in (([], 1), (["-j3"], 3), (["-j64"], 20)):
+    for words, most in (([], 1), (["-j3"], 3), (["-j64"], 12)):
         checks.expect(f"jobs {words}: redo", redo(folder, *words), (0, "", ""))
         found = most_at_once(folder)
-        checks.expect(f"jobs {words}", (found[0] <= most, found[0] > 1, found[1]), (True, most > 1, 20))
+        checks.expect(f"jobs {words}", (found[0] <= most, found[0] > 1, found[1]), (True, most > 1, 12))
         touch(os.path.join(folder, "default.leaf.do"))
 
     def below_make(what, most, command=("make", "-s", "-j3", "all"), **more):
         done = subprocess.run(command, cwd=folder, env=settings(more.pop("flags", None)), capture_output=True, text=True, **more)
         checks.expect(f"{what}: make", (done.returncode, done.stderr), (0, ""))
         found = most_at_once(folder)
-        checks.expect(what, (found[0] <= most, found[0] > 1, found[1]), (True, most > 1, 20))
+        checks.expect(what, (found[0] <= most, found[0] > 1, found[1]), (True, most > 1, 12))
         touch(os.path.join(folder, "default.leaf.do"))
 
     below_make("below make", 3)
@@ -333,11 +333,11 @@ def jobs(checks, at):
     for end in (reading, writing, fifo):
         os.close(end)
 
-    folder = project(at("deep"), t60_do="echo 60 >&2\n")
+    folder = project(at("deep"), t40_do="echo 40 >&2\n")
     write(os.path.join(folder, "default.do"), "redo-ifchange t$((${1#t} + 1))\necho ${1#t} >&2\n")
-    checks.expect("a chain of 60: redo", redo(folder, "-j4", "t0"), (0, "", ""))
-    lines = [f"redo  {'  ' * number}t{number}\n" for number in range(61)] + [f"{number}\n" for number in range(60, -1, -1)]
-    checks.expect("a chain of 60", shown(folder, "-r", "t0"), "".join(lines))
+    checks.expect("a chain of 40: redo", redo(folder, "-j4", "t0"), (0, "", ""))
+    lines = [f"redo  {'  ' * number}t{number}\n" for number in range(41)] + [f"{number}\n" for number in range(40, -1, -1)]
+    checks.expect("a chain of 40", shown(folder, "-r", "t0"), "".join(lines))
 
 
 def is_running(process):
@@ -377,8 +377,13 @@ def signals(checks, at):
 
 def below(process):
     """The processes that a process began, near and far."""
-    listed = subprocess.run(["ps", "-e", "-o", "pid=,ppid="], capture_output=True, text=True, check=True).stdout.split()
-    parents = dict(zip(map(int, listed[::2]), map(int, listed[1::2])))
+    parents = {}
+    for number in filter(str.isdigit, os.listdir("/proc")):
+        try:
+            with open(f"/proc/{number}/stat", encoding="utf-8", errors="replace") as file:
+                parents[int(number)] = int(file.read().rpartition(")")[2].split()[1])
+        except OSError:
+            continue
     found = [process]
     for above in found:
         found += [child for child, parent in parents.items() if parent == above]
@@ -394,7 +399,7 @@ def killed(checks, at):
     text = "redo  all\n" + "".join(f"redo    {name}\n{name} begun\n{name} ended\n" for name in names)
     text = text.replace("t0 begun\n", "t0 begun\nredo      shared\nshared\n")
     sources = files_of(folder)
-    for turn in range(14):
+    for turn in range(8):
         for name in ["shared", *names]:
             if os.path.exists(os.path.join(folder, name)):
                 os.remove(os.path.join(folder, name))
@@ -505,7 +510,7 @@ def message(folder, name):
 
 def same_text(checks, at):
     for count in (1, 4, 16):
-        folder, names = c_project(at(f"c{count}"), 9)
+        folder, names = c_project(at(f"c{count}"), 8)
         jobs = f"-j{count}"
         checks.expect(f"C, {jobs}: redo", redo(folder, jobs), (0, "", ""))
         warnings = {name: message(folder, name) for name in names[::3]}
