@@ -112,6 +112,11 @@ d default.do e/z e/z ok
 """
     checks.expect("which script, where it runs, and its words", shown(folder, "-r", "all"), text)
 
+    folder = project(at("path"), all_do="redo-ifchange x\n", x_do="echo x >&2\n")
+    plain = {"PATH": PATH.partition(os.pathsep)[2]}
+    done = subprocess.run([os.path.join(EXAMPLE, "redo")], cwd=folder, env={**settings(), **plain}, capture_output=True, text=True)
+    checks.expect("by its path", (done.returncode, done.stderr, shown(folder, "-r", "all")), (0, "", "redo  all\nredo    x\nx\n"))
+
     folder = project(
         at("output"),
         said_do="echo said\n",
