@@ -154,6 +154,8 @@ d default.do e/z e/z ok
     checks.expect("a script that fails now", redo(folder, "said")[0], 1)
     checks.expect("leaves the target as it was", text_of(folder, "said"), "said\n")
     write(os.path.join(folder, "said.do"), ":\n")
+    write(os.path.join(folder, "given.do"), "rm $1; echo anew\n")
+    checks.expect("a script that removes the target first", (redo(folder, "given"), text_of(folder, "given")), ((0, "", ""), "anew\n"))
     checks.expect("a script that makes no file now", redo(folder, "said")[0], 0)
     checks.expect("removes the target", os.path.exists(os.path.join(folder, "said")), False)
 
@@ -265,16 +267,19 @@ def refusals(checks, at):
 def logs(checks, at):
     folder = project(
         at("lines"),
-        all_do="printf one >&2; redo-ifchange a b\nprintf '@@REDO:do:7:1@@ x\\n@@RE' >&2; sleep 0.1; printf 'DO:bad\\n@@REDO:\\n@@' >&2\nredo-ifchange a\nprintf two >&2",
+        all_do="echo $$ >process; printf one >&2; redo-ifchange a b\nprintf '@@REDO:do:7:1@@ x\\n@@RE' >&2; sleep 0.1; printf 'DO:bad\\n@@REDO:\\n@@' >&2\nredo-ifchange a\nprintf two >&2",
         a_do="echo opened >/dev/stderr; echo piped | tee /dev/stderr >/dev/null; exec 2>/dev/stderr; echo last >/proc/self/fd/2\n",
         b_do="echo b\n",
     )
+    began = time.time() - 0.001
     checks.expect("lines: redo", redo(folder, "-j1"), (0, "", ""))
     wanted = "one\ndo a\ndone 0 a\ndo b\ndone 0 b\n @@REDO:do:7:1@@ x\n@@RE DO:bad\n @@REDO:\n@@\ndo a\ndone 0 a\ntwo\ndone 0 all\n"
     checks.expect("records begin lines, and lines of a script are none", kinds_of(folder, "all"), wanted)
     checks.expect("a script that opens standard error", kinds_of(folder, "a"), "opened\npiped\nlast\ndone 0 a\n")
     records = re.findall(r"^@@REDO:\w+:(\d+):(\d+\.\d+)@@", log_of(folder, "all"), re.M)
-    checks.expect("records are of one process, in the order of time", (len({pid for pid, _ in records}), sorted(records)), (1, records))
+    checks.expect("records are of the script's process", {pid for pid, _ in records}, {text_of(folder, "process").strip()})
+    times = [float(when) for _, when in records]
+    checks.expect("and of their time", (sorted(times), 0 <= times[0] - began, times[-1] <= time.time()), (times, True, True))
 
     loop = "(trap 'echo pipe >broken' PIPE; echo begun >&2; until [ -e go ]; do echo more >&2; sleep 0.01; done; echo end >&2; echo ended >ended) &\n"
     folder = project(at("left"), all_do="redo-ifchange a\nredo-ifchange b\n", a_do=loop + "sleep 0.2\n",
