@@ -421,13 +421,15 @@ def killed(checks, at):
             os.kill(victim, signal.SIGKILL)
         except ProcessLookupError:
             victim = "none, it was over"
-        build.communicate()
-        wait_until("what was left behind", lambda: not any(map(is_running, others)))
+        build.wait()
+        build.stderr.close()
         if os.path.exists(os.path.join(folder, ".redo/log.1")):
             checks.expect(f"killed, {turn}: its captures", isinstance(shown(folder, "-r", "all"), str), True)
+        left = [process for process in others if turn % 2 == 0 and is_running(process)]
         checks.expect(f"killed, {turn}: again", redo(folder, "-j4", "all"), (0, "", ""))
         made = {name: text_of(folder, name) for name in files_of(folder) if name not in sources}
         checks.expect(f"killed, {turn}: what is made", made, {"shared": "shared\n", **dict.fromkeys(names, "half\nwhole\n")})
+        checks.expect(f"killed, {turn}: what still runs", list(filter(is_running, left)), [])
         checks.expect(f"killed, {turn}: the text", shown(folder, "-ru", "all"), text)
 
 
@@ -470,7 +472,7 @@ def moments(checks, at):
     checks.expect("the whole in the end", re.sub("\n\n+", "\n", shown(folder, "-r", "-u", "all")), text)
 
 
-def full_device(checks, at):
+def no_space(checks, at):
     """A file system of 64 KiB, or where none can be had, files that can't grow past 8 KiB."""
     folder = at("full")
     os.mkdir(folder)
@@ -583,4 +585,4 @@ def readme(checks, at):
     checks.expect("README.md: commands", [words.split()[0] for words, _ in runs], ["cat"] * 5 + ["redo"] + ["redo-log"] * 2)
 
 
-PARTS = (readme, same_text, promises, anew, refusals, logs, jobs, signals, killed, at_once, moments, full_device)
+PARTS = (readme, same_text, promises, anew, refusals, logs, jobs, signals, killed, at_once, moments, no_space)
