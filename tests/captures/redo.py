@@ -364,7 +364,7 @@ def of_a_terminal():
 
 
 def signals(checks, at):
-    script = "echo half >$3; echo half; echo $1 begun >&2; echo $$ >$1.process; sleep 60 & wait; echo no >&2\n"
+    script = "echo half >$3; echo half; echo $1 begun >&2; sh -c 'echo $$ >$0.process; exec sleep 60' $1; echo no >&2\n"
     for what, number, end in (
         ("by the terminal", signal.SIGINT, os.killpg),
         ("the first redo alone", signal.SIGINT, os.kill),
