@@ -485,6 +485,11 @@ def no_space(checks, at):
     statuses = re.findall(r"^\d+$", done.stdout, re.M)
     checks.expect("a full device: redo, and redo-log", (statuses, "x failed with status 1" in done.stderr), (["1", "0"], True))
     checks.expect("a full device: what is left", done.stdout.splitlines()[-3:], ["all.do", "x.do", "y.do"])
+    folder = project(at("begun"), all_do="echo x\n")
+    done = subprocess.run(["sh", "-c", "trap '' XFSZ; ulimit -f 0; exec redo"], cwd=folder, env=settings(), capture_output=True, text=True)
+    checks.expect("no space from the beginning", (done.returncode, files_of(folder)), (1, ["all.do"]))
+    checks.expect("no space from the beginning: what is told", done.stderr, "redo: [Errno 27] File too large\n")
+    checks.expect("and then there is", (redo(folder), text_of(folder, "all")), ((0, "", ""), "x\n"))
 
 
 OBJECT = """redo-ifchange $2.c config.h
