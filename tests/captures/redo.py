@@ -317,21 +317,21 @@ def most_at_once(folder):
 
 
 def jobs(checks, at):
-    groups = " ".join(f"group{number}" for number in range(3))
+    groups = " ".join(f"group{number}" for number in range(2))
     folder = project(at("jobs"), all_do=f"redo-ifchange {groups}\n", Makefile="all: ; +@redo\nalone: ; @redo\n")
     write(os.path.join(folder, "default.do"), "redo-ifchange $1.1.leaf $1.2.leaf $1.3.leaf &\nredo-ifchange $1.4.leaf; wait\n")
     write(os.path.join(folder, "default.leaf.do"), COUNTED.format(folder))
-    for words, most in (([], 1), (["-j3"], 3), (["-j64"], 12)):
+    for words, most in (([], 1), (["-j3"], 3), (["-j64"], 8)):
         checks.expect(f"jobs {words}: redo", redo(folder, *words), (0, "", ""))
         found = most_at_once(folder)
-        checks.expect(f"jobs {words}", (found[0] <= most, found[0] > 1, found[1]), (True, most > 1, 12))
+        checks.expect(f"jobs {words}", (found[0] <= most, found[0] > 1, found[1]), (True, most > 1, 8))
         touch(os.path.join(folder, "default.leaf.do"))
 
     def below_make(what, most, command=("make", "-s", "-j3", "all"), **more):
         done = subprocess.run(command, cwd=folder, env=settings(more.pop("flags", None)), capture_output=True, text=True, **more)
         checks.expect(f"{what}: make", (done.returncode, done.stderr), (0, ""))
         found = most_at_once(folder)
-        checks.expect(what, (found[0] <= most, found[0] > 1, found[1]), (True, most > 1, 12))
+        checks.expect(what, (found[0] <= most, found[0] > 1, found[1]), (True, most > 1, 8))
         touch(os.path.join(folder, "default.leaf.do"))
 
     below_make("below make", 3)
@@ -417,7 +417,7 @@ def killed(checks, at):
     text = "redo  all\n" + "".join(f"redo    {name}\n{name} begun\n{name} ended\n" for name in names)
     text = text.replace("t0 begun\n", "t0 begun\nredo      shared\nshared\n")
     sources = files_of(folder)
-    for turn in range(8):
+    for turn in range(6):
         for name in ["shared", *names]:
             if os.path.exists(os.path.join(folder, name)):
                 os.remove(os.path.join(folder, name))
@@ -455,7 +455,7 @@ def at_once(checks, at):
 
 def moments(checks, at):
     """Captures at 200 random moments of builds that run: each is accepted, and has a front of the lines of each target."""
-    names = [f"d{number % 5}/t{number}" for number in range(40)]
+    names = [f"d{number % 5}/t{number}" for number in range(25)]
     folder = project(at("moments"), all_do=f"redo-ifchange {' '.join(names)}\necho all >&2\n", shared_do="sleep 0.1; echo shared >&2\n")
     say = "for word in 1 2 3 4 5; do printf \"$1 $word\" >&2; redo-ifchange ../shared; echo >&2; sleep 0.0$word; done\n"
     write(os.path.join(folder, "default.do"), "")
