@@ -7,6 +7,8 @@
 PREFIX ?= /usr/local
 TO = $(DESTDIR)$(PREFIX)
 CFLAGS ?= -O2
+# What runs for each line of a recipe begins sooner without shared libraries: where the C library is there so.
+STATIC = $(shell echo 'int main(void) { return 0; }' | $(CC) -static -x c -o /dev/null - 2>/dev/null && echo -static)
 VERSION = $(shell sed -n 's/^const VERSION.*redo-log \([0-9.]*\).*/\1/p' crates/redo_log/src/main.rt)
 
 .PHONY: run check build install install-capture
@@ -30,7 +32,7 @@ install: build install-capture
 
 install-capture:
 	install -d '$(TO)/bin' '$(TO)/libexec/redo-log'
-	$(CC) -std=gnu11 -Wall -Wextra -DVERSION='"$(VERSION)"' $(CFLAGS) $(LDFLAGS) -o '$(TO)/bin/redo-log-capture' capture/*.c
+	$(CC) -std=gnu11 -Wall -Wextra -DVERSION='"$(VERSION)"' $(CFLAGS) $(STATIC) $(LDFLAGS) -o '$(TO)/bin/redo-log-capture' capture/*.c
 	ln -sf ../../bin/redo-log-capture '$(TO)/libexec/redo-log/sh'
 	install -D -m 644 -t '$(TO)/share/redo-log' capture/capture.mk capture/recipe
 	install -D -m 644 docs/redo-log-capture.1 '$(TO)/share/man/man1/redo-log-capture.1'
