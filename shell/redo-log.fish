@@ -6,7 +6,7 @@
 # all have in common is completed as ever.
 function __redo_log_names
     set -l option
-    set -l directory .
+    set -l directory
     for word in (commandline -opc)[2..]
         if test "$option" = --dir
             set directory (string replace -r '^~/' ~/ -- $word)
@@ -19,6 +19,13 @@ function __redo_log_names
             else if contains -- $word -- --dir --senders --capacity
                 set option $word
             end
+        end
+    end
+    # Where no directory is said, and there are no captures here, redo-log takes those of `capture`.
+    if test -z "$directory"
+        set directory .
+        if not test -e names; and test -e capture/names
+            set directory capture
         end
     end
     test -f "$directory/names"; or return
