@@ -24,6 +24,7 @@ void note(const char *format, ...) {
   va_list values;
   va_start(values, format);
   say(format, values);
+  va_end(values);
 }
 
 void fail(int status, const char *format, ...) {
@@ -44,7 +45,9 @@ static char *printed(const char *format, va_list values) {
 char *text(const char *format, ...) {
   va_list values;
   va_start(values, format);
-  return printed(format, values);
+  char *result = printed(format, values);
+  va_end(values);
+  return result;
 }
 
 char *path_of(const char *file) { return text("%s/%s", at, file); }
@@ -115,6 +118,7 @@ void append_line(const char *path, const char *format, ...) {
   va_list values;
   va_start(values, format);
   char *line = text("%s\n", printed(format, values));
+  va_end(values);
   append(path, line, strlen(line));
 }
 

@@ -115,7 +115,7 @@ static _Noreturn void end_as_command(void) {
 static void prepare(const char *directory, int both, const char *shown) {
   char program[PATH_MAX];
   ssize_t size = readlink("/proc/self/exe", program, sizeof program - 1);
-  if (size < 0) fail(1, "cannot read /proc/self/exe");
+  if (size <= 0) fail(1, "cannot read /proc/self/exe");
   program[size] = 0;
   const char *others = getenv("MAKEFILES");
   setenv("MAKEFILES", text("%s %s", rules_of(program), others ? others : ""), 1);
@@ -123,16 +123,16 @@ static void prepare(const char *directory, int both, const char *shown) {
   unsetenv("CAPTURE_LEADER");
   unsetenv("CAPTURE_UP");
   if (both) setenv("CAPTURE_BOTH", "yes", 1); else unsetenv("CAPTURE_BOTH");
-  if (place) setenv("CAPTURE_PLACE", place, 1); else unsetenv("CAPTURE_PLACE");
   if (shown) setenv("CAPTURE_SHOW", shown, 1); else unsetenv("CAPTURE_SHOW");
   set_environment(identity(getpid()), directory);
   at = getenv("CAPTURE_AT");
+  expect_directory(directory);
+  make_place();
+  if (place) setenv("CAPTURE_PLACE", place, 1); else unsetenv("CAPTURE_PLACE");
 }
 
 static _Noreturn void capture(char **command, const char *directory, int both, const char *shown) {
-  make_place();
   prepare(directory, both, shown);
-  expect_directory(directory);
   int listening = shown ? listen_for_recipes() : -1, error = start(command, -1, 0);
   while (!error && await(listening, -1) != ENDED) show_next(listening);
   remove_place();

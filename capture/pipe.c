@@ -27,12 +27,21 @@ static char first[2 * PIECE], *kept = first;
 static size_t held, room = sizeof first;
 static int is_within_line, error;
 
-/* Adds the front of what is kept to the log, unless another run has the directory. */
+/* Adds to the log, unless another run has the directory. */
+static int add(const char *bytes, size_t size) {
+  int lock = try_lock(lock_path);
+  if (lock < 0) return -1;
+  int result = is_book_of(book_path, own_run) ? try_append(log_path, 0, bytes, size) : 0, cause = errno;
+  unlock(lock);
+  errno = cause;
+  return result;
+}
+
+/* Takes the front of what is kept to the log. */
 static void put(size_t size) {
-  int lock = error || size == 0 ? -1 : try_lock(lock_path);
-  if (!error && size > 0 && (lock < 0 || (is_book_of(book_path, own_run) && try_append(log_path, 0, kept, size) < 0))) error = errno;
-  if (lock >= 0) unlock(lock);
-  if (size > 0) is_within_line = kept[size - 1] != '\n';
+  if (size == 0) return;
+  if (!error && add(kept, size) < 0) error = errno;
+  is_within_line = kept[size - 1] != '\n';
   held -= size;
   memmove(kept, kept + size, held);
 }
@@ -78,7 +87,8 @@ static void close_others(int kept_open) {
   closedir(files);
 }
 
-/* Listens until nobody has the other end any more. Nothing of the build is held by that, and nobody waits for it. */
+/* Listens until nobody has the other end any more. Nothing of the build is held by that, and nobody waits for it. Where it can't
+   even reach the root, it can't reach the log. */
 static _Noreturn void stay_behind(int pipe) {
   sigset_t all;
   sigfillset(&all);

@@ -6,7 +6,7 @@ import signal
 import subprocess
 import sys
 
-from builds import TOOL, log_of, make, project, ran, shown, wait_for, wait_until, write
+from builds import TOOL, log_of, make, of_a_terminal, project, ran, said, shown, wait_for, wait_until, write
 from checks import TOP, environment
 
 OPENED = {
@@ -235,4 +235,22 @@ def much_is_said(checks, at):
     checks.expect("a line of 20 MB", (text[:20000001] == "x" * 20000000 + "\n", text.count("\n")), (True, 2))
 
 
-PARTS = (opened_anew, killed_by_signals, as_make_starts_them, many_needs, surroundings, makes_anything, behind_the_build, in_mid_line, much_is_said)
+def no_leftovers(checks, at):
+    """A build's own folder in TMPDIR is gone with it, however it ends; and where there can be none there, it is elsewhere."""
+    folder, temporary = project(at("project"), "all: ; @echo said >&2; exit $(E)\nwaits: ; @touch begun; exec sleep 60\n"), at("temporary")
+    os.mkdir(temporary)
+    more = {"TMPDIR": temporary}
+    for words, status in ((["make", "E=0"], 0), (["make", "E=1"], 2), (["nope"], 127), (["--dir", "Makefile", "make"], 1), (["make", "-n"], 0)):
+        done = ran(folder, [TOOL, *words], more)
+        checks.expect(f"nothing is left of {words}", (done[0], os.listdir(temporary)), (status, []))
+    build = subprocess.Popen([TOOL, "make", "waits"], cwd=folder, env=environment(more), stderr=subprocess.DEVNULL, preexec_fn=of_a_terminal)
+    wait_for(os.path.join(folder, "begun"))
+    checks.expect("it is there until then", len(os.listdir(temporary)), 1)
+    os.killpg(build.pid, signal.SIGINT)
+    checks.expect("nothing is left of a build that is interrupted", (build.wait(timeout=30), os.listdir(temporary)), (-signal.SIGINT, []))
+    for place in ("nowhere", at("with space"), "", at("x" * 120)):
+        told = said("all", 1, "said\n")
+        checks.expect(f"TMPDIR={place}", ran(folder, [TOOL, "make", "E=1"], {"TMPDIR": place})[2].startswith(told), True)
+
+
+PARTS = (opened_anew, killed_by_signals, as_make_starts_them, many_needs, surroundings, makes_anything, behind_the_build, in_mid_line, much_is_said, no_leftovers)
