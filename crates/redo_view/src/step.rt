@@ -42,8 +42,8 @@ pub fn show_entry<W: Sink>(
     ensures opens { IfOk result (λ inner. inner ≡ opened_after logs.now options.now seen.old.opened.items entry.entry) }
 {
     match entry {
-        NumberedEntry::Mention { how, name } => {
-            show_mention(logs, options, depth, how, name, seen, out)
+        NumberedEntry::Mention { pid, how, name } => {
+            show_mention(logs, options, depth, pid, how, name, seen, out)
         }
         NumberedEntry::Other(other) => {
             write_entry(options, depth, other, out)?;
@@ -56,6 +56,7 @@ fn show_mention<W: Sink>(
     logs: &Numbered<'_>,
     options: &Options,
     depth: usize,
+    pid: u32,
     how: How,
     name: usize,
     seen: &mut Seen,
@@ -64,15 +65,16 @@ fn show_mention<W: Sink>(
     requires depth { depth < 2 ^ 60 }
     requires name { name < length logs.now.names }
     requires fits { Fits logs.now seen.old }
-    ensures text { Written (W.tells out.old) (W.tells out.new) (own_text logs.now options.now depth seen.old (Mention how name)) result }
-    ensures named { OnOk result (seen.new.named.items ≡ named_after logs.now options.now seen.old.named.items (Mention how name)) }
+    ensures text { Written (W.tells out.old) (W.tells out.new) (own_text logs.now options.now depth seen.old (Mention pid how name)) result }
+    ensures named { OnOk result (seen.new.named.items ≡ named_after logs.now options.now seen.old.named.items (Mention pid how name)) }
     ensures opened { seen.new.opened.items ≡ seen.old.opened.items }
-    ensures opens { IfOk result (λ inner. inner ≡ opened_after logs.now options.now seen.old.opened.items (Mention how name)) }
+    ensures opens { IfOk result (λ inner. inner ≡ opened_after logs.now options.now seen.old.opened.items (Mention pid how name)) }
 {
     if !is_mention(options, how) {
         return Ok(None);
     }
-    write_line(options, depth, how, logs.name(name), seen.named[name], out)?;
+    let named = seen.named[name];
+    write_line(options, depth, pid, how, logs.name(name), named, out)?;
     seen.named[name] = true;
     Ok(log_to_open(logs, options, name, &seen.opened))
 }
@@ -90,20 +92,21 @@ fn is_mention(options: &Options, how: How) -> bool
 fn write_line<W: Sink>(
     options: &Options,
     depth: usize,
+    pid: u32,
     how: How,
     name: &TargetName,
     was_named: bool,
     out: &mut W,
 ) -> Result<(), Broken>
     requires { depth < 2 ^ 60 }
-    ensures { Writes (W.tells out.old) (W.tells out.new) (line_of options.now depth how name.now was_named) result }
+    ensures { Writes (W.tells out.old) (W.tells out.new) (line_of options.now depth pid how name.now was_named) result }
 {
     if options.debug_locks {
-        write_mention(depth, how, name, out)
+        write_mention(options, depth, pid, how, name, out)
     } else if was_named {
         Ok(())
     } else {
-        write_target(depth, name, out)
+        write_target(options, depth, Some(pid), name, out)
     }
 }
 
