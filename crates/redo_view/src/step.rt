@@ -2,11 +2,10 @@
 ghost use Rattle.std.specs.Prelude.{◌≡◌, ◌<◌, ◌^◌, false, length, IfOk, OnOk};
 ghost use Rattle.redo_device.specs.Sink.{Writes};
 ghost use Rattle.redo_logs.specs.declared.numbered.NumberedEntry.TheVariants.{Mention};
-ghost use Rattle.redo_logs.specs.Numbering.{IsNumbered};
 ghost use Rattle.redo_view.specs.Expansion.{mentions};
 ghost use Rattle.redo_view.specs.Private.Shown.{Begins};
 ghost use Rattle.redo_view.specs.Private.Stopped.{Written};
-ghost use Rattle.redo_view.specs.Private.Step.{Fits, is_marked, marked, line_of, own_text, named_after, opened_by, opened_after};
+ghost use Rattle.redo_view.specs.Private.Step.{Fits, IsStep, is_marked, marked, line_of, own_text, named_after, opened_by, opened_after};
 
 use crate::options::Options;
 use crate::stop::Stop;
@@ -23,8 +22,8 @@ pub struct Seen {
     pub opened: Vec<bool>,
 }
 
-/// Shows an entry, and names the target that it mentions. Answers the number of the log that is to be
-/// opened then.
+/// Shows an entry that is no text, and names the target that it mentions. Answers the number of the log that
+/// is to be opened then.
 pub fn show_entry<W: Sink>(
     logs: &Numbered<'_>,
     options: &Options,
@@ -34,7 +33,7 @@ pub fn show_entry<W: Sink>(
     out: &mut W,
 ) -> Result<Option<u32>, Stop>
     requires depth { depth < 2 ^ 60 }
-    requires entry { IsNumbered logs.now.names entry }
+    requires entry { IsStep logs.now.names entry }
     requires fits { Fits logs.now seen.old }
     ensures text { Written (W.tells out.old) (W.tells out.new) (own_text logs.now options.now depth seen.old entry.entry) result }
     ensures named { OnOk result (seen.new.named.items ≡ named_after logs.now options.now seen.old.named.items entry.entry) }

@@ -3,6 +3,7 @@ ghost use Rattle.std.specs.Prelude.{◌≡◌, ◌<◌, ◌^◌, ◌++◌, [], S
 ghost use Rattle.redo_line.specs.Lines.{with_line_feed};
 ghost use Rattle.redo_device.specs.Sink.{Writes};
 ghost use Rattle.redo_logs.specs.EntryRef.{entry_seen};
+ghost use Rattle.redo_view.specs.Private.Step.{StandsAlone};
 ghost use Rattle.redo_view.specs.Text.{spaces, in_six_places, pid_column, indent, redo_line, remark, exit_remark, exit_text, note_text, entry_text};
 
 use crate::options::Options;
@@ -16,22 +17,22 @@ const INDENT: &[u8] = b"redo                                                    
 // As many spaces are written at once.
 const SPACES: &[u8] = &[b' '; 4096];
 
-/// Writes the text of an entry that mentions nothing; of one that does it writes nothing.
+/// Writes the text of an entry that is neither a text nor a mention.
 pub fn write_entry<W: Sink>(
     options: &Options,
     depth: usize,
     entry: EntryRef<'_>,
     out: &mut W,
 ) -> Result<(), Broken>
-    requires { depth < 2 ^ 60 }
+    requires depth { depth < 2 ^ 60 }
+    requires alone { StandsAlone (entry_seen entry) }
     ensures { Writes (W.tells out.old) (W.tells out.new) (entry_text options.now depth (entry_seen entry.entry)) result }
 {
     match entry {
-        EntryRef::Text(line) => write_text(options, line, out),
         EntryRef::Done { pid, status, name } => write_exit(options, depth, pid, status, name, out),
         EntryRef::Note { pid, kind, text } => write_note(options, depth, pid, kind, text, out),
-        EntryRef::Mention { .. } => Ok(()),
         EntryRef::Closing { .. } => Ok(()),
+        EntryRef::Text(_) | EntryRef::Mention { .. } => unreachable!(),
     }
 }
 
@@ -87,16 +88,6 @@ fn ended_remark(how: How) -> &'static [u8]
         How::Locked => b" (locked...)\n",
         How::Unlocked => b" (...unlocked!)\n",
         How::Unchanged => b" (unchanged)\n",
-    }
-}
-
-fn write_text<W: Sink>(options: &Options, line: &[u8], out: &mut W) -> Result<(), Broken>
-    ensures { Writes (W.tells out.old) (W.tells out.new) (if options.now.details then with_line_feed line.now else []) result }
-{
-    if options.details {
-        end_line(line, out)
-    } else {
-        Ok(())
     }
 }
 

@@ -1,8 +1,10 @@
 -- What one entry adds, by what a viewer has marked: of each name, by its number, whether it was named, and of each log, by its
 -- number, whether it was opened.
-use Rattle.std.specs.Prelude.{◌≡◌, ℕ, Bool, true, false, List, [], ◌++◌, Option, None, Some, length, nat_eq, slice_index_or, slice_set, if◌then◌else◌}
+use Rattle.std.specs.Prelude.{◌≡◌, ℕ, ◌<◌, ⊤, Bool, true, false, List, [], ◌++◌, Option, None, Some, length, nat_eq, slice_index_or, slice_set, if◌then◌else◌}
 use Rattle.std.specs.Cmp.Lexicographic.{pointwise}
 use Rattle.std.specs.List.{IsDistinct}
+use Rattle.redo_line.specs.declared.entry.Entry.{Entry}
+use Rattle.redo_line.specs.declared.entry.Entry.TheVariants as entry
 use Rattle.redo_line.specs.declared.entry.How.{How}
 use Rattle.redo_logs.specs.Logs.{IsTable, place_of}
 use Rattle.redo_logs.specs.declared.numbered.NumberedEntry.{NumberedEntry}
@@ -36,6 +38,19 @@ line_of options depth pid how name was_named =
 abbrev pub if_new : List Bool → Option ℕ → Option ℕ
 if_new opened None = None
 if_new opened (Some number) = if is_marked opened number then None else Some number
+
+-- an entry that is neither a text, whose line is written with those behind it, nor a mention
+abbrev pub StandsAlone : Entry → Type 0
+StandsAlone (entry.Text line) = ⊥
+StandsAlone (entry.Mention pid how name) = ⊥
+StandsAlone (entry.Done pid status name) = ⊤
+StandsAlone (entry.Closing pid status) = ⊤
+StandsAlone (entry.Note pid kind text) = ⊤
+
+-- an entry that is no text, and what is mentioned has a number
+abbrev pub IsStep : List (List ℕ) → NumberedEntry → Type 0
+IsStep names (Mention pid how name) = name < length names
+IsStep names (Other other) = StandsAlone (entry_seen other)
 
 module _ (numbering : Numbering) (options : Options) where
   -- the text of an entry, without that of a log that it opens
