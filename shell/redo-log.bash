@@ -83,8 +83,8 @@ _redo_log() {
     --dir:* | :--dir=*) compopt -o dirnames ;;
     --senders:* | --capacity:*) ;;
     :-*)
-      mapfile -t COMPREPLY < <(compgen -W '-r --recursive -u --unchanged --no-details --debug-locks --dir --senders
-        --capacity -h --help -V --version' -- "$typed")
+      mapfile -t COMPREPLY < <(compgen -W '-r --recursive -u --unchanged --no-details --debug-locks --debug-pids --dir
+        --senders --capacity -h --help -V --version' -- "$typed")
       ;;
     *) mapfile -t COMPREPLY < <(_redo_log_names) ;;
   esac

@@ -50,10 +50,13 @@ exit_text options depth pid (pos zero) name = []
 exit_text options depth pid (pos (suc status)) name = redo_line options depth (Some pid) (name ++ exit_remark (pos (suc status)))
 exit_text options depth pid (negsuc status) name = redo_line options depth (Some pid) (name ++ exit_remark (negsuc status))
 
+abbrev pub check_text : Options → ℕ → ℕ → List ℕ → List ℕ
+check_text options depth pid text = redo_line options depth (Some pid) (codes "(" ++ text ++ codes ")")
+
 -- a check is a redo line, and any other note a line without indent
 abbrev pub note_text : Options → ℕ → ℕ → List ℕ → List ℕ → List ℕ
 note_text options depth pid kind text =
-    if bytes_eq kind (codes "check") then redo_line options depth (Some pid) (codes "(" ++ text ++ codes ")") else codes "redo: " ++ with_line_feed text
+    if bytes_eq kind (codes "check") then check_text options depth pid text else codes "redo: " ++ with_line_feed text
 
 -- the text of an entry that mentions nothing
 abbrev pub entry_text : Options → ℕ → Entry → List ℕ

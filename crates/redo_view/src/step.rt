@@ -35,7 +35,7 @@ pub fn show_entry<W: Sink>(
     requires depth { depth < 2 ^ 60 }
     requires entry { IsStep logs.now.names entry }
     requires fits { Fits logs.now seen.old }
-    ensures text { Written (W.tells out.old) (W.tells out.new) (own_text logs.now options.now depth seen.old entry.entry) result }
+    ensures own { Written (W.tells out.old) (W.tells out.new) (own_text logs.now options.now depth seen.old entry.entry) result }
     ensures named { OnOk result (seen.new.named.items ≡ named_after logs.now options.now seen.old.named.items entry.entry) }
     ensures opened { seen.new.opened.items ≡ seen.old.opened.items }
     ensures opens { IfOk result (λ inner. inner ≡ opened_after logs.now options.now seen.old.opened.items entry.entry) }
@@ -64,7 +64,7 @@ fn show_mention<W: Sink>(
     requires depth { depth < 2 ^ 60 }
     requires name { name < length logs.now.names }
     requires fits { Fits logs.now seen.old }
-    ensures text { Written (W.tells out.old) (W.tells out.new) (own_text logs.now options.now depth seen.old (Mention pid how name)) result }
+    ensures own { Written (W.tells out.old) (W.tells out.new) (own_text logs.now options.now depth seen.old (Mention pid how name)) result }
     ensures named { OnOk result (seen.new.named.items ≡ named_after logs.now options.now seen.old.named.items (Mention pid how name)) }
     ensures opened { seen.new.opened.items ≡ seen.old.opened.items }
     ensures opens { IfOk result (λ inner. inner ≡ opened_after logs.now options.now seen.old.opened.items (Mention pid how name)) }

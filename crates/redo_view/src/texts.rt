@@ -4,7 +4,7 @@ ghost use Rattle.redo_line.specs.Lines.{with_line_feed};
 ghost use Rattle.redo_device.specs.Sink.{Writes};
 ghost use Rattle.redo_logs.specs.EntryRef.{entry_seen};
 ghost use Rattle.redo_view.specs.Private.Step.{StandsAlone};
-ghost use Rattle.redo_view.specs.Text.{spaces, in_six_places, pid_column, indent, redo_line, remark, exit_remark, exit_text, note_text, entry_text};
+ghost use Rattle.redo_view.specs.Text.{spaces, in_six_places, pid_column, indent, redo_line, remark, exit_remark, exit_text, check_text, note_text, entry_text};
 
 use crate::options::Options;
 use itoa::Buffer;
@@ -152,7 +152,7 @@ fn write_check<W: Sink>(
     out: &mut W,
 ) -> Result<(), Broken>
     requires { depth < 2 ^ 60 }
-    ensures { Writes (W.tells out.old) (W.tells out.new) (redo_line options.now depth (Some pid) (codes "(" ++ text.now ++ codes ")")) result }
+    ensures { Writes (W.tells out.old) (W.tells out.new) (check_text options.now depth pid text.now) result }
 {
     begin_line(options, depth, pid, b"(", out)?;
     push_all(out, text)?;
