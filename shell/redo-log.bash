@@ -87,8 +87,8 @@ _redo_log() {
     --dir:* | :--dir=*) [[ $typed == */ && -d ${typed#--dir=}.capture ]] || compopt -o dirnames ;;
     --senders:* | --capacity:*) ;;
     :-*)
-      mapfile -t COMPREPLY < <(compgen -W '-r --recursive -u --unchanged --no-details --debug-locks --dir --senders
-        --capacity -h --help -V --version' -- "$typed")
+      mapfile -t COMPREPLY < <(compgen -W '-r --recursive -u --unchanged --no-details --debug-locks --debug-pids --dir
+        --senders --capacity -h --help -V --version' -- "$typed")
       ;;
     *) mapfile -t COMPREPLY < <(_redo_log_names) ;;
   esac

@@ -53,6 +53,7 @@ complete -c redo-log -s r -l recursive -d 'Show the logs of mentioned targets to
 complete -c redo-log -s u -l unchanged -d 'Show targets that needed no rebuild too'
 complete -c redo-log -l no-details -d 'Leave out the text lines of logs'
 complete -c redo-log -l debug-locks -d 'Show messages on waiting and locking'
+complete -c redo-log -l debug-pids -d 'Show in front of each redo line the pid of its record'
 complete -c redo-log -l dir -x -a '(__fish_complete_directories (commandline -ct))' -d 'The capture directory'
 complete -c redo-log -l senders -x -d 'How many senders read logs, 1 to 64'
 complete -c redo-log -l capacity -x -d 'How many items may wait, 1 to 65536'
