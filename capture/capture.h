@@ -36,8 +36,8 @@ int write_all(int file, const char *bytes, size_t size);
 int try_append(const char *path, int flags, const char *bytes, size_t size);
 void append(const char *path, const char *bytes, size_t size);
 void append_line(const char *path, const char *format, ...);
-/* Ends the last line of a file with a line feed, if it has none. */
-void end_line(const char *path);
+/* Whether a file ends in the middle of a line. */
+int is_within_line(const char *path);
 /* Writes over the front of a file. */
 void write_over(const char *path, const char *bytes);
 /* Puts a new file in place of another one, whole. */
@@ -125,7 +125,8 @@ void ask_to_show(unsigned number, int status, const char *name);
 
 /* recipe.c and finish.c */
 
-_Noreturn void recipe(char **command);
+/* Runs a command as a recipe of the target that CAPTURE says. Of make it may be one that is none. */
+_Noreturn void recipe(char **command, int is_of_make);
 /* Does what can be done only when the run that the book is of has ended. Answers the targets that failed, of which nothing
    that they led to did, and how many they are. */
 struct failures { char **names; unsigned count; };

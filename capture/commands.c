@@ -83,7 +83,7 @@ int start(char **command, int file, int both) {
   }
   waiting = former;
   sigdelset(&waiting, SIGCHLD);
-  sigaddset(&former, SIGCHLD);
+  if (!error) sigaddset(&former, SIGCHLD);
   sigprocmask(SIG_SETMASK, &former, NULL);
   is_begun = !error;
   return error;

@@ -122,13 +122,14 @@ void append_line(const char *path, const char *format, ...) {
   append(path, line, strlen(line));
 }
 
-void end_line(const char *path) {
-  char last;
+int is_within_line(const char *path) {
+  char last = '\n';
   int file = open(path, O_RDONLY | O_CLOEXEC);
-  if (file < 0) return;
+  if (file < 0) return 0;
   off_t size = lseek(file, 0, SEEK_END);
-  if (size > 0 && pread(file, &last, 1, size - 1) == 1 && last != '\n') append(path, "\n", 1);
+  if (size > 0 && pread(file, &last, 1, size - 1) < 1) last = '\n';
   close(file);
+  return last != '\n';
 }
 
 void write_over(const char *path, const char *bytes) {

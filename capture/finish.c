@@ -118,8 +118,8 @@ static void put_in_order(struct entry *leader) {
 static void close_log(const struct entry *target) {
   char *log = log_of(target->number);
   const char *name = target->name[0] == '/' ? target->name : leaf(target->name);
-  end_line(log);
-  append_line(log, "@@REDO:done:%d:%lld@@ %d %s", target->process, target->ended, target->status, name);
+  append_line(log, "%s@@REDO:done:%d:%lld@@ %d %s", is_within_line(log) ? "\n" : "", target->process, target->ended,
+              target->status, name);
 }
 
 /* Those that failed, of which nothing that they led to did. */

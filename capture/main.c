@@ -150,13 +150,14 @@ static _Noreturn void as_shell(char **words, int count) {
   if (!command) fail(1, "out of memory");
   for (char *part = strtok_r(parts, " ", &left); part; part = strtok_r(NULL, " ", &left)) *end++ = part;
   memcpy(end, words, count * sizeof *words);
-  recipe(command);
+  recipe(command, 1);
 }
 
 int main(int count, char **words) {
   hold_standard_files();
   if (strcmp(leaf(words[0]), "sh") == 0) as_shell(words + 1, count - 1);
-  if (count > 2 && strcmp(words[1], "--recipe") == 0) recipe(words + 2);
+  if (count > 2 && strcmp(words[1], "--line") == 0) recipe(words + 2, 1);
+  if (count > 2 && strcmp(words[1], "--recipe") == 0) recipe(words + 2, 0);
 
   const char *directory = "capture", *shown = "failed";
   int both = 0, finishes = 0;

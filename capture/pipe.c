@@ -25,7 +25,7 @@ static char *lock_path, *book_path, *log_path;
 /* What was read and isn't in the log yet; whether the log ends with the front of a line; and what couldn't be written. */
 static char first[2 * PIECE], *kept = first;
 static size_t held, room = sizeof first;
-static int is_within_line, error;
+static int is_unended, error;
 
 /* Adds to the log, unless another run has the directory. */
 static int add(const char *bytes, size_t size) {
@@ -41,7 +41,7 @@ static int add(const char *bytes, size_t size) {
 static void put(size_t size) {
   if (size == 0) return;
   if (!error && add(kept, size) < 0) error = errno;
-  is_within_line = kept[size - 1] != '\n';
+  is_unended = kept[size - 1] != '\n';
   held -= size;
   memmove(kept, kept + size, held);
 }
@@ -74,7 +74,7 @@ static ssize_t take(int pipe) {
 /* Ends what was said last as a line. */
 static void end_what_was_said(void) {
   put(held);
-  if (!is_within_line) return;
+  if (!is_unended) return;
   kept[held++] = '\n';
   put(held);
 }

@@ -132,17 +132,6 @@ static void list(void) {
   if (try_append(names, O_CREAT, line, strlen(line)) < 0) unlink(target.file), cannot_write(names);
 }
 
-/* Whether a file ends in the middle of a line. */
-static int is_within_line(const char *path) {
-  char last = '\n';
-  int file = open(path, O_RDONLY | O_CLOEXEC);
-  if (file < 0) return 0;
-  off_t size = lseek(file, 0, SEEK_END);
-  if (size > 0 && pread(file, &last, 1, size - 1) < 1) last = '\n';
-  close(file);
-  return last != '\n';
-}
-
 /* Writes a record for the leader's log, which stands there until the run has ended. */
 static void tell_leader(const char *kind, const char *status) {
   char *log = log_of(leader ? leader : 1);
@@ -261,10 +250,10 @@ static void run(char **command, int pipe) {
   close(pipe);
 }
 
-void recipe(char **command) {
+void recipe(char **command, int is_of_make) {
   char *capture = getenv("CAPTURE"), *needs = capture ? strstr(capture, " : ") : NULL;
   if (!needs || needs == capture) become(command); /* what $(shell ..) runs has no target */
-  if (makes_nothing() || is_function()) become(command);
+  if (makes_nothing() || (is_of_make && is_function())) become(command);
   if (strchr(capture, '\n')) fail(1, "a name with a line feed: %s", capture);
   if (!getenv("CAPTURE_RUN")) set_run();
   at = getenv("CAPTURE_AT"), own_run = getenv("CAPTURE_RUN");

@@ -140,6 +140,7 @@ a:
 	@python3 -SE probe.py told directly 'a b' \\c
 	@: ; python3 -SE probe.py told "by $$0 $$# $$-"
 	-+@python3 -SE probe.py told marked
+	@./unmarked told "by no kernel"
 sub: a
 	@$(MAKE) -C d -f ../Makefile inner
 inner:
@@ -153,6 +154,9 @@ def probed(folder, command, before):
     project(folder, PROBING)
     os.makedirs(os.path.join(folder, "d"))
     os.symlink(os.path.join(TOP, "tests/captures/probe.py"), os.path.join(folder, "probe.py"))
+    # A script that no kernel begins, so that a shell has to.
+    write(os.path.join(folder, "unmarked"), 'python3 -SE probe.py "$@"\n')
+    os.chmod(os.path.join(folder, "unmarked"), 0o755)
     words = environment({"SESSION": str(os.getsid(0)), "GROUP": str(os.getpgrp()), "PWD": folder})
     done = subprocess.run(command, cwd=folder, env=words, stdin=subprocess.DEVNULL, stdout=subprocess.DEVNULL, stderr=subprocess.DEVNULL, preexec_fn=before, timeout=60)
     # make gives files of its own names by chance.
@@ -168,7 +172,7 @@ def surroundings(checks, at):
             different = [(line, other) for line, other in zip(sides[0][1], sides[1][1]) if line != other]
             what = f"a recipe's surroundings, {name}, {words}"
             checks.expect(what, (sides[1][0], len(sides[1][1]), different[:3]), (sides[0][0], len(sides[0][1]), []))
-            checks.expect(f"{what}: all recipes", sum(line.startswith("('words'") for line in sides[0][1]), 5)
+            checks.expect(f"{what}: all recipes", sum(line.startswith("('words'") for line in sides[0][1]), 6)
 
 
 def makes_anything(checks, at):
