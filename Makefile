@@ -1,3 +1,4 @@
+# make try              builds the program without a proof, in a minute, and runs it on the sample captures
 # make run              proves and builds the program, and runs it on the sample captures
 # make check            everything that a change has to pass
 # make install          proves and builds the program, and installs it below $(PREFIX): its launcher as bin/redo-log, its
@@ -11,7 +12,13 @@ CFLAGS ?= -O2
 STATIC = $(shell echo 'int main(void) { return 0; }' | $(CC) -static -x c -o /dev/null - 2>/dev/null && echo -static)
 VERSION = $(shell sed -n 's/^const VERSION.*redo-log \([0-9.]*\).*/\1/p' crates/redo_log/src/main.rt)
 
-.PHONY: run check build install install-capture
+.PHONY: try run check build install install-capture
+
+try:
+	@told=$$(mktemp) && cd crates/redo_log && \
+	if rt try -- --dir '$(CURDIR)/sample' all 2>"$$told"; then \
+	  rm "$$told"; echo 'Nothing of this was proved: make run proves the program first, which takes up to half an hour.'; \
+	else cat "$$told"; rm "$$told"; exit 1; fi
 
 run:
 	cd crates/redo_log && rt run -- --dir ../../sample all
