@@ -209,6 +209,9 @@ static void end(int status) {
   unlock(held);
 }
 
+/* Whether the recipe has removed the directory: then it may go on as it would without a capture. */
+static int is_removed(void) { return access(path_of(".capture/run"), F_OK) < 0 && errno == ENOENT; }
+
 /* Where a make was told of this as its shell, with no redo-log-capture in front, the run is that of the first make. */
 static void set_run(void) {
   const char *directory = getenv("CAPTURE_DIR");
@@ -274,10 +277,14 @@ void recipe(char **command, int is_of_make) {
   if (pipe2(ends, O_CLOEXEC) < 0) fail(1, "no pipe: %s", strerror(errno));
   run(command, ends[1]);
   int error = listen_to_command(ends[0], own_run, target.number);
-  end(status_of_command);
-  errno = error;
-  if (error) cannot_write(log_of(target.number));
-  ask_to_show(target.number, status_of_command, name);
+  if (is_removed()) {
+    note("%s was removed, with what was captured", at);
+  } else {
+    end(status_of_command);
+    errno = error;
+    if (error) cannot_write(log_of(target.number));
+    ask_to_show(target.number, status_of_command, name);
+  }
   if (signal_of_command) end_by(signal_of_command);
   exit(status_of_command);
 }

@@ -239,6 +239,19 @@ def much_is_said(checks, at):
     checks.expect("a line of 20 MB", (text[:20000001] == "x" * 20000000 + "\n", text.count("\n")), (True, 2))
 
 
+def removed(checks, at):
+    """A recipe may remove the capture directory; what runs later is captured."""
+    makefile = "all: clean x\n\t@echo all >&2\nclean: first\n\t@echo cleaned >&2; rm -rf capture\nfirst x: ; @echo $@ >&2\n"
+    folder = project(at("clean"), makefile)
+    told = f"redo-log-capture: {folder}/capture was removed, with what was captured\n"
+    checks.expect("the captures are removed: make", make(folder), (0, "", told))
+    checks.expect("what runs later", shown(folder, "all"), "redo  all\nredo    x\nx\nall\n")
+    checks.expect("the last recipe removes them", make(folder, "clean"), (0, "", told + "redo-log-capture: no recipe was captured\n"))
+    folder = project(at("fails"), "all: ; @rm -rf capture; kill -9 $$$$\n")
+    told = told.replace("clean/", "fails/") + "make: *** [Makefile:1: all] Killed\nredo-log-capture: no recipe was captured\n"
+    checks.expect("and fails", make(folder), (2, "", told))
+
+
 def no_leftovers(checks, at):
     """A build's own folder in TMPDIR is gone with it, however it ends; and where there can be none there, it is elsewhere."""
     folder, temporary = project(at("project"), "all: ; @echo said >&2; exit $(E)\nwaits: ; @touch begun; exec sleep 60\n"), at("temporary")
@@ -257,4 +270,4 @@ def no_leftovers(checks, at):
         checks.expect(f"TMPDIR={place}", ran(folder, [TOOL, "make", "E=1"], {"TMPDIR": place})[2].startswith(told), True)
 
 
-PARTS = (opened_anew, killed_by_signals, as_make_starts_them, many_needs, surroundings, makes_anything, behind_the_build, in_mid_line, much_is_said, no_leftovers)
+PARTS = (opened_anew, killed_by_signals, as_make_starts_them, many_needs, surroundings, makes_anything, behind_the_build, in_mid_line, much_is_said, removed, no_leftovers)
