@@ -113,19 +113,27 @@ def uncaptured(checks, at):
 
 def refused_directories(checks, at):
     """A directory that can't be written is told of before anything is started."""
-    folder = project(at("refused"), "all: ; @touch made\n")
+    folder = project(at("refused"), "all: ; @touch $(TO)\n")
     text = "redo-log-capture: cannot write {}: {}\n".format
     checks.expect("below a file", make(folder, options=["--dir", "Makefile/x"]), (1, "", text("Makefile/x", "Not a directory")))
     checks.expect("a file", make(folder, options=["--dir", "Makefile"]), (1, "", text("Makefile", "Not a directory")))
     os.makedirs(os.path.join(folder, "locked/old/.capture"))
     os.chmod(os.path.join(folder, "locked/old"), 0o555)
     os.chmod(os.path.join(folder, "locked"), 0o555)
+    os.makedirs(os.path.join(folder, "open"))
+    os.chmod(os.path.join(folder, "open"), 0o777)
     os.chmod(PREFIX, 0o755)
     nobody = (lambda: os.setuid(65534)) if os.getuid() == 0 else None
+
+    def answer(directory):
+        command = [TOOL, "--dir", directory, "make", "TO=open/made"]
+        done = subprocess.run(command, cwd=folder, env=environment(), capture_output=True, text=True, preexec_fn=nobody)
+        return done.returncode, done.stderr
+
     for directory in ("locked/new", "locked/old", "locked/new/deep"):
-        done = subprocess.run([TOOL, "--dir", directory, "make"], cwd=folder, env=environment(), capture_output=True, text=True, preexec_fn=nobody)
-        checks.expect(f"no leave to write {directory}", (done.returncode, done.stderr), (1, text(directory, "Permission denied")))
-    checks.expect("nothing was made", os.path.exists(os.path.join(folder, "made")), False)
+        checks.expect(f"no leave to write {directory}", answer(directory), (1, text(directory, "Permission denied")))
+    checks.expect("nothing was made", os.path.exists(os.path.join(folder, "open/made")), False)
+    checks.expect("leave to write another one", (answer("open/new"), os.path.exists(os.path.join(folder, "open/made"))), ((0, ""), True))
 
 
 PARTS = (what_failed, below, live, last_words, uncaptured, refused_directories)
