@@ -1,13 +1,15 @@
-/* What the parts of redo-log-capture share. Memory is never freed: each process is soon over. */
+/* What the parts of redo-log-capture share. Memory is not freed where it is little: each process is soon over. */
 #include <stddef.h>
-#include <stdio.h>
 
 /* A capture directory has the files that redo-log reads, and `.capture`, with
-     lock       who holds it (flock) may read and write the others
+     lock       who holds it (flock) may read and write the others, and add to a log
      run        the book of the last run: which that is, a process and when it began; then what came of each target
      last       the last number that a target got
+     spaces     is there once a target with a space in its name is
      targets/   what is known of each target, in a file of its own, so that no line has to go over a list */
 extern const char *at;
+
+/* files.c: files, and lines on standard error */
 
 /* A line on standard error, and the end. */
 _Noreturn void fail(int status, const char *format, ...);
@@ -20,28 +22,48 @@ extern int unwritten;
 char *text(const char *format, ...);
 char *path_of(const char *file); /* in the capture directory */
 char *log_of(unsigned number);
+/* The last part of a path. */
+const char *leaf(const char *path);
+/* A word as it has to be written for a shell. */
+char *quoted(const char *word);
 
 /* All of a file, with a NUL behind it; or NULL, if there is none. */
 char *contents(const char *path, size_t *size);
-/* Adds to a file. What there was no room for is taken off again, and told by -1, or as what can't be written. */
-int try_append(const char *path, const char *bytes, size_t size);
+/* Writes all of it, or answers -1. */
+int write_all(int file, const char *bytes, size_t size);
+/* Adds to a file, which is made if the flags say so. What there was no room for is taken off again, and told by -1, or as
+   what can't be written. */
+int try_append(const char *path, int flags, const char *bytes, size_t size);
 void append(const char *path, const char *bytes, size_t size);
 void append_line(const char *path, const char *format, ...);
+/* Whether a file ends in the middle of a line. */
+int is_within_line(const char *path);
 /* Writes over the front of a file. */
 void write_over(const char *path, const char *bytes);
 /* Puts a new file in place of another one, whole. */
 void replace(const char *path, const char *bytes, size_t size);
+/* With those that it stands in. */
+void make_directory(const char *path);
+/* Why a directory can't be made or written, if it can't; its path begins at the root. */
+const char *refusal_of(const char *directory);
+/* No file that this process opens gets the number of a standard one that was closed. */
+void hold_standard_files(void);
 
+/* Waits for the lock; try_lock makes no file, and answers -1 where it can't be had. */
 int lock(void);
+int try_lock(const char *path);
 void unlock(int held);
+
+/* targets.c: runs, and what is known of targets */
 
 /* A process and when that began, as numbers of processes come again. */
 char *identity(int process);
 int is_running(const char *identity);
 /* The run that the book is of, or an empty string. */
 char *run_of_book(void);
+/* Whether the book at this path is of this run. */
+int is_book_of(const char *path, const char *run);
 
-/* What is known of a target. */
 struct target {
   unsigned number; /* 0 for one that isn't listed */
   char *run;       /* the last that made it */
@@ -50,31 +72,62 @@ struct target {
 };
 struct target look_up(const char *name);
 void keep(struct target target, const char *name);
-
-/* With those that it stands in. */
-void make_directory(const char *path);
 void forget_targets(void);
 
-/* The last part of a path. */
-const char *leaf(const char *path);
-
-/* A word as it has to be written for a shell. */
-char *quoted(const char *word);
-
-/* What stands for the process and the time in records that are there only until the run has ended. */
+/* What stands for the process and the time in records that are there only until the run has ended: mentions of what a recipe
+   leads to. One that had to be put in the middle of a line has `.0` behind the time. */
 char *mark_of(const char *run);
+/* Where the next of these begins, or the end; and where the bytes go on behind it. */
+struct marked { const char *from, *to; };
+struct marked find_marked(const char *from, const char *end, const char *mark);
 
 /* What all lines of recipes of a run are to know: which it is, where it began, and the capture directory. */
 void set_environment(const char *run, const char *directory);
 
-_Noreturn void become(char **command);
-/* Runs a command, and tells its status as a shell does: with standard error into `log`, if there is one, and with
-   standard output there too, if it says so. */
-int run(char **command, const char *log, int both);
-/* The signal that ended the command, or 0. */
-extern int ended_by;
+/* commands.c: a command that is run, and waited for */
 
-_Noreturn void recipe(char **command);
-/* Does what can be done only when the run that the book is of has ended. Answers the names of targets that failed, of which
-   nothing that they led to did; or an empty string. */
-char *finish(void);
+_Noreturn void become(char **command);
+/* Starts a command: with standard error, and standard output too if it says so, into a file, if one is given. The error, if it
+   can't be started. */
+int start(char **command, int file, int both);
+_Noreturn void cannot_run(const char *command, int error);
+/* Waits until the command has ended, there is something to read of a file, or so many milliseconds are over; -1 stands for no
+   file, and for any time. */
+enum event { ENDED, READABLE, SILENT };
+enum event await(int file, int milliseconds);
+/* As a shell tells it: 128 and more where a signal ended the command, which is 0 otherwise. */
+extern int status_of_command, signal_of_command;
+/* Ends as by this signal, but leaves no core. */
+void end_by(int signal);
+
+/* direct.c: lines that need no shell */
+
+/* The words of a line that make would run without a shell, or NULL. */
+char **words_of(const char *line);
+
+/* pipe.c: what a recipe says */
+
+/* Adds what a command says to the log of a target, until it has ended; and goes on, behind the back of this process, as long as
+   it has left something behind which may say more. Answers what couldn't be written, as an error, or 0. */
+int listen_to_command(int pipe, const char *run, unsigned number);
+
+/* show.c: what a recipe said, shown by the process that runs the build */
+
+/* A directory that is there as long as the build; or NULL, if none can be made. */
+extern char *place;
+void make_place(void);
+void remove_place(void);
+/* Where processes of recipes ask for their logs to be shown, or -1; and one of them is answered. */
+int listen_for_recipes(void);
+void show_next(int listening);
+/* Of a recipe: has what it said shown, if that is asked for, and waits for it. */
+void ask_to_show(unsigned number, int status, const char *name);
+
+/* recipe.c and finish.c */
+
+/* Runs a command as a recipe of the target that CAPTURE says. Of make it may be one that is none. */
+_Noreturn void recipe(char **command, int is_of_make);
+/* Does what can be done only when the run that the book is of has ended. Answers the targets that failed, of which nothing
+   that they led to did, and how many they are. */
+struct failures { char **names; unsigned count; };
+struct failures finish(void);

@@ -1,26 +1,29 @@
 /* What is known only when a run has ended: its own log, what the makes of recipes made, and the closing records. */
 #define _GNU_SOURCE
 #include "capture.h"
+#include <stdio.h>
 #include <stdlib.h>
 #include <string.h>
-#include <time.h>
 #include <unistd.h>
 
 /* A target that is listed, and what the book says of it. */
 struct entry {
   char *name;
-  unsigned number, leader; /* the leader is 0 for one that this run didn't make */
-  unsigned records;        /* in front of its log */
-  int is_named, status;    /* the status is -1 for one that didn't end */
-  int led_to_failure;
-  char *led;               /* records of what its recipe led to */
+  unsigned number, is_begun; /* in this run */
+  unsigned leader;           /* 0 for the run */
+  unsigned records;          /* in front of its log */
+  int is_named, status;      /* the status is -1 for one that didn't end */
+  int process;               /* that make began for its last line */
+  long long began, ended;    /* when its first line did, and its last */
+  int is_leader, led_to_failure;
+  char *led;                 /* records of what its recipe led to */
   size_t led_size;
   FILE *led_stream;
 };
 
 static struct entry *entries; /* by number */
 static unsigned last;
-static char *stamp, *mark;
+static char *mark;
 
 static int by_name(const void *left, const void *right) {
   return strcmp((*(struct entry *const *)left)->name, (*(struct entry *const *)right)->name);
@@ -45,113 +48,124 @@ static void read_names(void) {
   }
 }
 
+/* Lines as recipe.c writes them. */
 static void read_book(char *book) {
   char *left;
   for (char *line = strtok_r(book, "\n", &left); line; line = strtok_r(NULL, "\n", &left)) {
     char event[8];
-    unsigned number, first, second;
-    int count = sscanf(line, "%7s %u %u %u", event, &number, &first, &second);
-    if (count < 2 || number > last) continue;
-    struct entry *entry = &entries[number];
-    if (count == 4 && strcmp(event, "began") == 0) entry->leader = first, entry->records = second;
-    if (count == 2 && strcmp(event, "named") == 0) entry->is_named = 1;
-    if (count == 2 && strcmp(event, "again") == 0) entry->status = -1;
-    if (count == 3 && strcmp(event, "ended") == 0) entry->status = first;
+    struct entry new = {.is_begun = 1};
+    if (sscanf(line, "%7s %u", event, &new.number) < 2 || new.number == 0 || new.number > last) continue;
+    struct entry *entry = &entries[new.number];
+    if (strcmp(event, "named") == 0) entry->is_named = 1;
+    if (sscanf(line, "began %*u %d %lld %u %u", &new.process, &new.began, &new.leader, &new.records) == 4)
+      entry->is_begun = 1, entry->process = new.process, entry->began = new.began, entry->leader = new.leader, entry->records = new.records;
+    if (sscanf(line, "again %*u %d", &new.process) == 1) entry->process = new.process, entry->status = -1;
+    if (sscanf(line, "ended %*u %d %lld %d", &new.process, &new.ended, &new.status) == 3)
+      entry->process = new.process, entry->ended = new.ended, entry->status = new.status;
   }
 }
+
+/* The log of what a recipe was led to by. */
+static struct entry *leader_of(const struct entry *led) { return &entries[led->leader ? led->leader : 1]; }
 
 /* The name of a target, as the log of its leader says it. */
 static char *path_to(const struct entry *led) {
   char *path = led->name;
   if (path[0] == '/') return path;
-  for (const char *name = entries[led->leader].name; (name = strchr(name, '/')); name++) path = text("../%s", path);
+  for (const char *name = leader_of(led)->name; (name = strchr(name, '/')); name++) path = text("../%s", path);
   return path;
 }
 
 static void mention(const struct entry *led) {
-  struct entry *leader = &entries[led->leader];
+  struct entry *leader = leader_of(led);
   char *path = path_to(led);
   if (!leader->led_stream) leader->led_stream = open_memstream(&leader->led, &leader->led_size);
-  fprintf(leader->led_stream, "@@REDO:do:%s@@ %s\n", stamp, path);
-  if (led->status >= 0) fprintf(leader->led_stream, "@@REDO:done:%s@@ %d %s\n", stamp, led->status, path);
+  if (!leader->led_stream) fail(1, "out of memory");
+  fprintf(leader->led_stream, "@@REDO:do:%d:%lld@@ %s\n", leader->process, led->began, path);
+  if (led->status >= 0)
+    fprintf(leader->led_stream, "@@REDO:done:%d:%lld@@ %d %s\n", leader->process, led->ended, led->status, path);
 }
 
-/* Where the next record begins that was to stand there only until now, or the end. */
-static char *find_marked(char *from, char *end) {
-  char *sign = text(":%s@@ ", mark);
-  for (char *found = from; (found = memmem(found, end - found, sign, strlen(sign))); found++) {
-    if (found - from >= 9 && memcmp(found - 9, "@@REDO:do", 9) == 0) return found - 9;
-    if (found - from >= 11 && memcmp(found - 11, "@@REDO:done", 11) == 0) return found - 11;
-  }
-  return end;
-}
-
-static char *behind_line(char *from, char *end) {
-  char *feed = memchr(from, '\n', end - from);
+static const char *behind_line(const char *from, const char *end) {
+  const char *feed = memchr(from, '\n', end - from);
   return feed ? feed + 1 : end;
 }
 
-/* Writes a log anew: records of what the target needs, and of what its recipe led to; what it said; and the end. */
-static void close_log(struct entry *target) {
-  char *path = log_of(target->number), *out;
+/* Writes the log of a leader anew: records of what the target needs, and of what its recipe led to; and what it said. */
+static void put_in_order(struct entry *leader) {
+  char *path = log_of(leader->number), *out;
   size_t size = 0, out_size;
-  char *log = contents(path, &size);
-  if (!log) log = text("");
-  char *end = log + size, *at_line = log;
+  const char *log = contents(path, &size);
+  if (!log) log = "";
+  const char *from = log, *end = log + size;
   FILE *stream = open_memstream(&out, &out_size);
   if (!stream) fail(1, "out of memory");
-  for (unsigned i = 0; i < target->records; i++) at_line = behind_line(at_line, end);
-  fwrite(log, 1, at_line - log, stream);
-  if (target->led) fwrite(target->led, 1, target->led_size, stream);
-  while (at_line < end) {
-    char *marked = find_marked(at_line, end);
-    fwrite(at_line, 1, marked - at_line, stream);
-    at_line = behind_line(marked, end);
+  for (unsigned i = 0; i < leader->records; i++) from = behind_line(from, end);
+  fwrite(log, 1, from - log, stream);
+  if (leader->led) fwrite(leader->led, 1, leader->led_size, stream);
+  while (from < end) {
+    struct marked marked = find_marked(from, end, mark);
+    fwrite(from, 1, marked.from - from, stream);
+    from = marked.to;
   }
-  fflush(stream);
-  if (out_size > 0 && out[out_size - 1] != '\n') fputc('\n', stream);
-  const char *name = target->name[0] == '/' ? target->name : leaf(target->name);
-  if (target->leader != 0 && target->status >= 0)
-    fprintf(stream, "@@REDO:done:%s@@ %d %s\n", stamp, target->status, name);
   if (fclose(stream) != 0) fail(1, "out of memory");
   replace(path, out, out_size);
-  free(log);
+  if (size > 0) free((char *)log);
   free(out);
 }
 
-static char *failed(struct entry **sorted, unsigned count) {
-  char *names = "";
-  unsigned listed = 0, more = 0;
-  for (unsigned i = 0; i < count; i++)
-    if (sorted[i]->status > 0 && sorted[i]->leader != sorted[i]->number) entries[sorted[i]->leader].led_to_failure = 1;
-  for (unsigned i = 0; i < count; i++) {
-    if (sorted[i]->status <= 0 || sorted[i]->led_to_failure) continue;
-    if (listed == 3) more++;
-    else names = text("%s%s%s", names, listed++ > 0 ? ", " : "", sorted[i]->name);
-  }
-  return more > 0 ? text("%s and %u more", names, more) : names;
+/* What is said behind this comes into no log: the book is that of no run any more. */
+static void close_log(const struct entry *target) {
+  char *log = log_of(target->number);
+  const char *name = target->name[0] == '/' ? target->name : leaf(target->name);
+  append_line(log, "%s@@REDO:done:%d:%lld@@ %d %s", is_within_line(log) ? "\n" : "", target->process, target->ended,
+              target->status, name);
 }
 
-char *finish(void) {
+/* Those that failed, of which nothing that they led to did. */
+static struct failures failures_among(struct entry **sorted, unsigned count) {
+  struct failures failed = {calloc(count + 1, sizeof *failed.names), 0};
+  if (!failed.names) fail(1, "out of memory");
+  for (unsigned i = 0; i < count; i++)
+    if (sorted[i]->status > 0 && sorted[i]->leader != sorted[i]->number) entries[sorted[i]->leader].led_to_failure = 1;
+  for (unsigned i = 0; i < count; i++)
+    if (sorted[i]->status > 0 && !sorted[i]->led_to_failure) failed.names[failed.count++] = sorted[i]->name;
+  return failed;
+}
+
+/* The targets of the run, by name; and who leads to another one. */
+static unsigned sort_begun(struct entry **sorted) {
+  unsigned count = 0;
+  for (unsigned number = 1; number <= last; number++) {
+    if (!entries[number].is_begun) continue;
+    sorted[count++] = &entries[number];
+    if (leader_of(&entries[number]) != &entries[number]) leader_of(&entries[number])->is_leader = 1;
+  }
+  qsort(sorted, count, sizeof *sorted, by_name);
+  return count;
+}
+
+struct failures finish(void) {
   int held = lock();
   char *book = contents(path_of(".capture/run"), NULL), *run = run_of_book();
-  stamp = text("%d:%lld", getpid(), (long long)time(NULL)), mark = mark_of(run);
+  mark = mark_of(run);
   read_names();
   read_book(book);
   char *ended = text("ended %s\n", run); /* so that no log is closed twice */
   replace(path_of(".capture/run"), ended, strlen(ended));
+  if (!entries[1].is_begun) entries[1].process = getpid();
 
   struct entry **sorted = calloc(last, sizeof *sorted);
-  unsigned count = 0;
-  for (unsigned number = 1; number <= last; number++)
-    if (entries[number].leader != 0) sorted[count++] = &entries[number];
-  qsort(sorted, count, sizeof *sorted, by_name);
+  if (!sorted) fail(1, "out of memory");
+  unsigned count = sort_begun(sorted);
   for (unsigned i = 0; i < count; i++)
-    if (!sorted[i]->is_named && sorted[i]->leader != sorted[i]->number) mention(sorted[i]);
+    if (!sorted[i]->is_named && leader_of(sorted[i]) != sorted[i]) mention(sorted[i]);
   for (unsigned number = 1; number <= last; number++) {
-    if (entries[number].led_stream) fclose(entries[number].led_stream);
-    if (number == 1 || entries[number].leader != 0) close_log(&entries[number]);
+    struct entry *target = &entries[number];
+    if (target->led_stream && fclose(target->led_stream) != 0) fail(1, "out of memory");
+    if (target->is_leader) put_in_order(target);
+    if (target->is_begun && target->status >= 0) close_log(target);
   }
   unlock(held);
-  return failed(sorted, count);
+  return failures_among(sorted, count);
 }

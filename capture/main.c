@@ -4,6 +4,7 @@
 #include <ctype.h>
 #include <limits.h>
 #include <signal.h>
+#include <stdio.h>
 #include <stdlib.h>
 #include <string.h>
 #include <unistd.h>
@@ -20,13 +21,15 @@ static const char help[] =
     "Options:\n"
     "      --dir <DIR>  The capture directory [default: capture]\n"
     "      --both       Capture standard output too\n"
+    "      --live       Show what each recipe said, once it has ended\n"
+    "      --quiet      Show nothing of that; without it, what the recipes said that failed is shown\n"
     "      --finish     Finish the logs of a build that was killed, or run without this command in front\n"
     "  -h, --help       Print help\n"
     "  -V, --version    Print the version\n"
     "\n"
     "Example:\n"
     "  redo-log-capture make -j8 all      captures a build\n"
-    "  redo-log -r --dir capture all      shows it\n"
+    "  redo-log -r all                    shows it, where the capture directory is `capture`\n"
     "\n"
     "Exit status: that of the command; or else\n"
     "    1  the captures can't be written\n"
@@ -56,32 +59,63 @@ static _Noreturn void finish_left(const char *directory) {
   exit(0);
 }
 
-/* A line on a build that failed, or of which there is nothing to show. */
-static void tell(int status, const char *directory, int is_captured, const char *failed) {
-  char *way = text("to read it: redo-log -r --dir %s all", quoted(directory));
+/* A capture directory has to be one that can be written, and a new one or one that has captures. */
+static void expect_directory(const char *directory) {
+  const char *refusal = refusal_of(at);
+  if (refusal) fail(1, "cannot write %s: %s", directory, refusal);
+  if (access(path_of("names"), F_OK) == 0 && access(path_of(".capture"), F_OK) < 0)
+    fail(1, "%s/names is there already, and no capture wrote it", directory);
+}
+
+/* The command that shows these logs: redo-log looks for `capture` where there are no captures here. */
+static char *way_to(const char *directory, const char *options, char **names, unsigned count) {
+  int is_found = strcmp(directory, "capture") == 0 && access("names", F_OK) < 0, is_dashed = 0;
+  char *way = text("redo-log%s%s", options, is_found ? "" : text(" --dir %s", quoted(directory)));
+  for (unsigned i = 0; i < count; i++) is_dashed |= names[i][0] == '-';
+  if (is_dashed) way = text("%s --", way);
+  for (unsigned i = 0; i < count; i++) way = text("%s %s", way, quoted(names[i]));
+  return way;
+}
+
+/* As many as are named in a line. */
+enum { MOST_NAMED = 10 };
+
+static void tell_failed(struct failures failed, const char *directory, const char *whole) {
+  char *names = "";
+  for (unsigned i = 0; i < failed.count && i < MOST_NAMED; i++) names = text("%s%s%s", names, i > 0 ? ", " : "", failed.names[i]);
+  if (failed.count > MOST_NAMED)
+    note("%s and %u more failed", names, failed.count - MOST_NAMED);
+  else
+    note("%s failed; to read %s: %s", names, failed.count > 1 ? "them" : "it", way_to(directory, "", failed.names, failed.count));
+  note("to read all: %s", whole);
+}
+
+/* What came of a build that failed, or of which there is nothing to show. */
+static void tell(int status, const char *directory, const char *command, int is_captured) {
+  char *all[] = {"all"}, *whole = way_to(directory, " -r", all, 1);
+  struct failures failed = is_captured ? finish() : (struct failures){NULL, 0};
   if (!is_captured && access(path_of("names"), F_OK) < 0)
-    note("nothing was captured: no recipe ran");
+    note("no recipe was captured");
   else if (!is_captured && status != 0 && strncmp(run_of_book(), "ended", 5) == 0)
-    note("nothing was captured: no recipe ran; %s has an earlier build", directory);
-  else if (is_captured && status != 0 && *failed)
-    note("%s failed; %s", failed, way);
+    note("no recipe was captured; %s has an earlier build", directory);
+  else if (is_captured && status != 0 && failed.count > 0)
+    tell_failed(failed, directory, whole);
   else if (is_captured && status != 0)
-    note("captured in %s; %s", directory, way);
+    note("no recipe failed: %s itself told why; to read all: %s", leaf(command), whole);
 }
 
 /* As the command did, so that an interrupt ends a script that this is part of. */
-static _Noreturn void end_as_command(int status) {
-  if (ended_by == SIGHUP || ended_by == SIGINT || ended_by == SIGQUIT || ended_by == SIGTERM) {
-    signal(ended_by, SIG_DFL);
-    kill(getpid(), ended_by);
-  }
-  exit(status);
+static _Noreturn void end_as_command(void) {
+  int kind = signal_of_command;
+  if (kind == SIGHUP || kind == SIGINT || kind == SIGQUIT || kind == SIGTERM) end_by(kind);
+  exit(status_of_command);
 }
 
-static _Noreturn void capture(char **command, const char *directory, int both) {
+/* What the recipes of the build are to know, and the makes that run them. */
+static void prepare(const char *directory, int both, const char *shown) {
   char program[PATH_MAX];
   ssize_t size = readlink("/proc/self/exe", program, sizeof program - 1);
-  if (size < 0) fail(1, "cannot read /proc/self/exe");
+  if (size <= 0) fail(1, "cannot read /proc/self/exe");
   program[size] = 0;
   const char *others = getenv("MAKEFILES");
   setenv("MAKEFILES", text("%s %s", rules_of(program), others ? others : ""), 1);
@@ -89,14 +123,23 @@ static _Noreturn void capture(char **command, const char *directory, int both) {
   unsetenv("CAPTURE_LEADER");
   unsetenv("CAPTURE_UP");
   if (both) setenv("CAPTURE_BOTH", "yes", 1); else unsetenv("CAPTURE_BOTH");
+  if (shown) setenv("CAPTURE_SHOW", shown, 1); else unsetenv("CAPTURE_SHOW");
   set_environment(identity(getpid()), directory);
   at = getenv("CAPTURE_AT");
+  expect_directory(directory);
+  make_place();
+  if (place) setenv("CAPTURE_PLACE", place, 1); else unsetenv("CAPTURE_PLACE");
+}
 
-  int status = run(command, NULL, 0);
-  if (status != 0) unwritten = status;
-  int is_captured = strcmp(run_of_book(), getenv("CAPTURE_RUN")) == 0;
-  tell(status, directory, is_captured, is_captured ? finish() : "");
-  end_as_command(status);
+static _Noreturn void capture(char **command, const char *directory, int both, const char *shown) {
+  prepare(directory, both, shown);
+  int listening = shown ? listen_for_recipes() : -1, error = start(command, -1, 0);
+  while (!error && await(listening, -1) != ENDED) show_next(listening);
+  remove_place();
+  if (error) cannot_run(command[0], error);
+  if (status_of_command != 0) unwritten = status_of_command;
+  tell(status_of_command, directory, command[0], is_book_of(path_of(".capture/run"), getenv("CAPTURE_RUN")));
+  end_as_command();
 }
 
 /* Where make has this as its shell, the words are for the shell in its place. */
@@ -107,20 +150,24 @@ static _Noreturn void as_shell(char **words, int count) {
   if (!command) fail(1, "out of memory");
   for (char *part = strtok_r(parts, " ", &left); part; part = strtok_r(NULL, " ", &left)) *end++ = part;
   memcpy(end, words, count * sizeof *words);
-  recipe(command);
+  recipe(command, 1);
 }
 
 int main(int count, char **words) {
+  hold_standard_files();
   if (strcmp(leaf(words[0]), "sh") == 0) as_shell(words + 1, count - 1);
-  if (count > 2 && strcmp(words[1], "--recipe") == 0) recipe(words + 2);
+  if (count > 2 && strcmp(words[1], "--line") == 0) recipe(words + 2, 1);
+  if (count > 2 && strcmp(words[1], "--recipe") == 0) recipe(words + 2, 0);
 
-  const char *directory = "capture";
+  const char *directory = "capture", *shown = "failed";
   int both = 0, finishes = 0;
   for (words++; *words && **words == '-'; words++) {
     char *word = *words;
     if (strcmp(word, "-h") == 0 || strcmp(word, "--help") == 0) print(help);
     if (strcmp(word, "-V") == 0 || strcmp(word, "--version") == 0) print("redo-log-capture " VERSION "\n");
     if (strcmp(word, "--both") == 0) both = 1;
+    else if (strcmp(word, "--live") == 0) shown = "all";
+    else if (strcmp(word, "--quiet") == 0) shown = NULL;
     else if (strcmp(word, "--finish") == 0) finishes = 1;
     else if (strcmp(word, "--dir") == 0) directory = words[1] ? *++words : "";
     else if (strncmp(word, "--dir=", 6) == 0) directory = word + 6;
@@ -131,5 +178,5 @@ int main(int count, char **words) {
   if (finishes && *words) fail(2, "--finish: runs no command: %s", *words);
   if (finishes) finish_left(directory);
   if (!*words) fail(2, "no command is said; --help tells how");
-  capture(words, directory, both);
+  capture(words, directory, both, shown);
 }

@@ -3,6 +3,7 @@
 #include "capture.h"
 #include <errno.h>
 #include <fcntl.h>
+#include <stdio.h>
 #include <stdlib.h>
 #include <string.h>
 #include <sys/stat.h>
@@ -13,9 +14,9 @@
 static char *own_run, *name, *up;
 static struct target target;
 
-/* The leader is the target whose recipe runs the make that this belongs to, or 1, for the run. Until the run ends, its
-   log mentions this target, as `path_for_leader`. */
-static unsigned leader = 1;
+/* The leader is the target whose recipe runs the make that this belongs to, or 0, for the run, whose log is that of the target
+   1. Until the run ends, that log mentions this target, as `path_for_leader`. */
+static unsigned leader;
 static char *path_for_leader;
 
 /* The name of a target, as make has it here, from where the build began. */
@@ -76,7 +77,11 @@ static void mention(struct front *front, const char *known) {
 }
 
 /* Whether a name that is listed goes on like this: `list` keeps each front that a space ends. */
-static int goes_on(const char *known) { return access(look_up(text("%s ", known)).file, F_OK) == 0; }
+static int goes_on(const char *known) {
+  static int has_spaces = -1;
+  if (has_spaces < 0) has_spaces = access(path_of(".capture/spaces"), F_OK) == 0;
+  return has_spaces && access(look_up(text("%s ", known)).file, F_OK) == 0;
+}
 
 /* A name with spaces comes as several words. */
 static void mention_needs(struct front *front, const char *needs) {
@@ -93,7 +98,7 @@ static void mention_needs(struct front *front, const char *needs) {
 }
 
 /* Begins the run, if no other has the directory. */
-static void start(const char *book) {
+static void begin_run(const char *book) {
   char *names = path_of("names");
   struct stat listed;
   if (!is_running(own_run)) fail(1, "the build that this belongs to has ended");
@@ -114,6 +119,7 @@ static void start(const char *book) {
 /* A process may be killed between any two of these steps: then the number is lost, and nothing has it twice. */
 static void list(void) {
   for (char *space = name; (space = strchr(space, ' ')); space++) {
+    write_over(path_of(".capture/spaces"), "");
     char *front = text("%.*s", (int)(space - name) + 1, name);
     struct target known = look_up(front);
     if (access(known.file, F_OK) < 0) keep(known, front);
@@ -123,24 +129,38 @@ static void list(void) {
   write_over(last, text("%u\n", target.number));
   keep(target, name);
   char *line = text("%u %s\n", target.number, name);
-  if (try_append(names, line, strlen(line)) < 0) unlink(target.file), cannot_write(names);
+  if (try_append(names, O_CREAT, line, strlen(line)) < 0) unlink(target.file), cannot_write(names);
 }
 
-/* Writes records for the leader's log, which stand there until the run has ended. */
+/* Writes a record for the leader's log, which stands there until the run has ended. */
 static void tell_leader(const char *kind, const char *status) {
-  if (leader == target.number) return;
-  append_line(log_of(leader), "@@REDO:%s:%s@@ %s%s", kind, mark_of(own_run), status, path_for_leader);
+  char *log = log_of(leader ? leader : 1);
+  if ((leader ? leader : 1) == target.number) return;
+  int is_within = is_within_line(log);
+  append_line(log, "%s@@REDO:%s:%s%s@@ %s%s", is_within ? "\n" : "", kind, mark_of(own_run), is_within ? ".0" : "", status,
+              path_for_leader);
 }
 
-/* The log is a new file: what an earlier run left behind has the one that was. */
-static void begin_first(const char *needs) {
+/* What is needed. Where it is much, make wrote it to a file, once for all lines of the recipe. */
+static char *needs_of(char *given) {
+  const char *folder = getenv("CAPTURE_PLACE");
+  if (given[0] != '@' || !folder || strncmp(given + 1, folder, strlen(folder)) != 0) return given;
+  char *needs = contents(given + 1, NULL);
+  if (!needs) fail(1, "cannot read %s", given + 1);
+  unlink(given + 1);
+  needs[strcspn(needs, "\n")] = 0;
+  return needs;
+}
+
+/* The log is a new file: who reads the one that was goes on with that. */
+static void begin_first(char *needs) {
   char *records, *book, *log = log_of(target.number);
   size_t records_size, book_size;
   struct front front = {open_memstream(&records, &records_size), open_memstream(&book, &book_size), 0,
                         text("%d:%lld", getpid(), (long long)time(NULL))};
   if (!front.records || !front.book) fail(1, "out of memory");
-  mention_needs(&front, needs);
-  fprintf(front.book, "began %u %u %u\n", target.number, leader, front.count);
+  mention_needs(&front, needs_of(needs));
+  fprintf(front.book, "began %u %d %lld %u %u\n", target.number, getpid(), (long long)time(NULL), leader, front.count);
   if (fclose(front.records) != 0 || fclose(front.book) != 0) fail(1, "out of memory");
   if (unlink(log) < 0 && errno != ENOENT) cannot_write(log);
   append(log, records, records_size);
@@ -162,11 +182,11 @@ static void take_directory(void) {
   if (is_new) write_over(path_of(".gitignore"), "*\n");
 }
 
-static void begin(const char *needs) {
+static void begin(char *needs) {
   take_directory();
   int held = lock();
   char *book = run_of_book();
-  if (strcmp(book, own_run) != 0) start(book);
+  if (strcmp(book, own_run) != 0) begin_run(book);
   target = look_up(name);
   if (target.number == 0) list();
   if (strcmp(target.run, own_run) != 0) {
@@ -174,31 +194,23 @@ static void begin(const char *needs) {
   } else {
     target.status = -1;
     keep(target, name);
-    append_line(path_of(".capture/run"), "again %u", target.number);
+    append_line(path_of(".capture/run"), "again %u %d", target.number, getpid());
   }
   unlock(held);
-}
-
-/* The next line of the recipe, and the record that closes the log, have to begin a line. */
-static void end_line(const char *log) {
-  char last;
-  int file = open(log, O_RDONLY | O_CLOEXEC);
-  if (file < 0) return;
-  off_t size = lseek(file, 0, SEEK_END);
-  if (size > 0 && pread(file, &last, 1, size - 1) == 1 && last != '\n') append(log, "\n", 1);
-  close(file);
 }
 
 static void end(int status) {
   int held = lock();
   if (strcmp(run_of_book(), own_run) != 0) fail(1, "%s is in use by a later make", at);
-  end_line(log_of(target.number));
   target.status = status;
   keep(target, name);
-  append_line(path_of(".capture/run"), "ended %u %d", target.number, status);
+  append_line(path_of(".capture/run"), "ended %u %d %lld %d", target.number, getpid(), (long long)time(NULL), status);
   if (status != 0) tell_leader("done", text("%d ", status));
   unlock(held);
 }
+
+/* Whether the recipe has removed the directory: then it may go on as it would without a capture. */
+static int is_removed(void) { return access(path_of(".capture/run"), F_OK) < 0 && errno == ENOENT; }
 
 /* Where a make was told of this as its shell, with no redo-log-capture in front, the run is that of the first make. */
 static void set_run(void) {
@@ -213,11 +225,38 @@ static int makes_nothing(void) {
   return letters > 0 && (memchr(flags, 'n', letters) || memchr(flags, 't', letters) || memchr(flags, 'q', letters));
 }
 
-void recipe(char **command) {
-  const char *capture = getenv("CAPTURE");
-  const char *needs = capture ? strstr(capture, " : ") : NULL;
+/* make since 4.4 tells also what `$(shell ..)` runs of the target whose recipe it stands in. Its standard output is a pipe of its
+   own, which no recipe has. */
+static int is_function(void) {
+  struct stat own, of_make;
+  if (fstat(1, &own) < 0 || !S_ISFIFO(own.st_mode)) return 0;
+  return stat(text("/proc/%d/fd/1", getppid()), &of_make) == 0 && own.st_ino != of_make.st_ino;
+}
+
+/* The shell gives what it runs a PWD of its own. */
+static void set_own_directory(void) {
+  const char *kept = getenv("CAPTURE_PWD");
+  if (kept && *kept) setenv("PWD", kept, 1);
+  else if (kept) unsetenv("PWD");
+}
+
+/* Runs what make would run, with or without a shell; what it says comes through this pipe. */
+static void run(char **command, int pipe) {
+  int is_default = strcmp(command[0], "/bin/sh") == 0 && command[1] && command[2] && !command[3];
+  int is_plain = is_default && (strcmp(command[1], "-c") == 0 || strcmp(command[1], "-ec") == 0);
+  char **words = is_plain ? words_of(command[2]) : NULL;
+  int both = getenv("CAPTURE_BOTH") != NULL;
+  set_own_directory();
+  int error = words ? start(words, pipe, both) : ENOEXEC;
+  if (error) error = start(command, pipe, both);
+  if (error) cannot_run(command[0], error);
+  close(pipe);
+}
+
+void recipe(char **command, int is_of_make) {
+  char *capture = getenv("CAPTURE"), *needs = capture ? strstr(capture, " : ") : NULL;
   if (!needs || needs == capture) become(command); /* what $(shell ..) runs has no target */
-  if (makes_nothing()) become(command);
+  if (makes_nothing() || (is_of_make && is_function())) become(command);
   if (strchr(capture, '\n')) fail(1, "a name with a line feed: %s", capture);
   if (!getenv("CAPTURE_RUN")) set_run();
   at = getenv("CAPTURE_AT"), own_run = getenv("CAPTURE_RUN");
@@ -226,15 +265,26 @@ void recipe(char **command) {
 
   name = normal(text("%.*s", (int)(needs - capture), capture));
   up = way_up_from(name);
-  leader = *led_by ? atoi(led_by) : 1;
+  leader = *led_by ? atoi(led_by) : 0;
   path_for_leader = spelled(name, leader_up);
-  if (!path_for_leader) leader = 1, path_for_leader = name;
+  if (!path_for_leader) leader = 0, path_for_leader = name;
   begin(needs + 3);
 
   unsetenv("CAPTURE");
   setenv("CAPTURE_LEADER", text("%u", target.number), 1);
   setenv("CAPTURE_UP", up, 1);
-  int status = run(command, log_of(target.number), getenv("CAPTURE_BOTH") != NULL);
-  end(status);
-  exit(status);
+  int ends[2];
+  if (pipe2(ends, O_CLOEXEC) < 0) fail(1, "no pipe: %s", strerror(errno));
+  run(command, ends[1]);
+  int error = listen_to_command(ends[0], own_run, target.number);
+  if (is_removed()) {
+    note("%s was removed, with what was captured", at);
+  } else {
+    end(status_of_command);
+    errno = error;
+    if (error) cannot_write(log_of(target.number));
+    ask_to_show(target.number, status_of_command, name);
+  }
+  if (signal_of_command) end_by(signal_of_command);
+  exit(status_of_command);
 }

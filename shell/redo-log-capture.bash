@@ -9,7 +9,7 @@ _redo_log_capture() {
         ((place++))
         [[ ${COMP_WORDS[place]} == = ]] && ((place++))
         ;;
-      --both | --finish) ;;
+      --both | --live | --quiet | --finish) ;;
       --)
         ((place++))
         break
@@ -20,7 +20,8 @@ _redo_log_capture() {
 
   COMPREPLY=()
   if ((place > COMP_CWORD)); then
-    compopt -o dirnames
+    # Captures have no directory but one that they hide.
+    [[ $2 == */ && -d $2.capture ]] || compopt -o dirnames
   elif ((place < COMP_CWORD)); then
     if declare -F _command_offset >/dev/null; then
       _command_offset "$place"
@@ -28,7 +29,7 @@ _redo_log_capture() {
       compopt -o default
     fi
   elif [[ $2 == -* ]]; then
-    mapfile -t COMPREPLY < <(compgen -W '--dir --both --finish -h --help -V --version' -- "$2")
+    mapfile -t COMPREPLY < <(compgen -W '--dir --both --live --quiet --finish -h --help -V --version' -- "$2")
   else
     mapfile -t COMPREPLY < <(compgen -c -- "$2")
   fi

@@ -57,7 +57,7 @@ _redo_log_names() {
 }
 
 _redo_log() {
-  local words quote line=${COMP_LINE:0:COMP_POINT} typed start word option= dir=.
+  local words quote line=${COMP_LINE:0:COMP_POINT} typed start word option= dir=
   _redo_log_words "$line"
   typed=${words[-1]}
   unset 'words[-1]'
@@ -74,17 +74,21 @@ _redo_log() {
         ;;
     esac
   done
+  # Where no directory is said, and there are no captures here, redo-log takes those of `capture`.
+  [[ -z $dir && ! -e names && -e capture/names ]] && dir=capture
+  dir=${dir:-.}
   # What is replaced is $2, the end of what was typed: it begins behind an open quote, or a character as `:`.
   _redo_log_words "${line:0:${#line}-${#2}}"
   start=${words[-1]}
 
   COMPREPLY=()
   case $option:$typed in
-    --dir:* | :--dir=*) compopt -o dirnames ;;
+    # Captures have no directory but one that they hide.
+    --dir:* | :--dir=*) [[ $typed == */ && -d ${typed#--dir=}.capture ]] || compopt -o dirnames ;;
     --senders:* | --capacity:*) ;;
     :-*)
-      mapfile -t COMPREPLY < <(compgen -W '-r --recursive -u --unchanged --no-details --debug-locks --dir --senders
-        --capacity -h --help -V --version' -- "$typed")
+      mapfile -t COMPREPLY < <(compgen -W '-r --recursive -u --unchanged --no-details --debug-locks --debug-pids --dir
+        --senders --capacity -h --help -V --version' -- "$typed")
       ;;
     *) mapfile -t COMPREPLY < <(_redo_log_names) ;;
   esac

@@ -6,7 +6,7 @@
 # all have in common is completed as ever.
 function __redo_log_names
     set -l option
-    set -l directory .
+    set -l directory
     for word in (commandline -opc)[2..]
         if test "$option" = --dir
             set directory (string replace -r '^~/' ~/ -- $word)
@@ -19,6 +19,13 @@ function __redo_log_names
             else if contains -- $word -- --dir --senders --capacity
                 set option $word
             end
+        end
+    end
+    # Where no directory is said, and there are no captures here, redo-log takes those of `capture`.
+    if test -z "$directory"
+        set directory .
+        if not test -e names; and test -e capture/names
+            set directory capture
         end
     end
     test -f "$directory/names"; or return
@@ -46,6 +53,7 @@ complete -c redo-log -s r -l recursive -d 'Show the logs of mentioned targets to
 complete -c redo-log -s u -l unchanged -d 'Show targets that needed no rebuild too'
 complete -c redo-log -l no-details -d 'Leave out the text lines of logs'
 complete -c redo-log -l debug-locks -d 'Show messages on waiting and locking'
+complete -c redo-log -l debug-pids -d 'Show in front of each redo line the pid of its record'
 complete -c redo-log -l dir -x -a '(__fish_complete_directories (commandline -ct))' -d 'The capture directory'
 complete -c redo-log -l senders -x -d 'How many senders read logs, 1 to 64'
 complete -c redo-log -l capacity -x -d 'How many items may wait, 1 to 65536'

@@ -21,9 +21,9 @@ def environment(more=None):
     return {**kept, "LC_ALL": "C.UTF-8", **(more or {})}
 
 
-def install_capture(prefix):
+def install_capture(prefix, *words):
     """Installs redo-log-capture there, and gives its path."""
-    subprocess.run(["make", "-s", "install-capture", f"PREFIX={prefix}"], cwd=TOP, env=environment(), check=True)
+    subprocess.run(["make", "-s", "install-capture", f"PREFIX={prefix}", *words], cwd=TOP, env=environment(), check=True)
     return os.path.join(prefix, "bin/redo-log-capture")
 
 

@@ -102,7 +102,7 @@ def name_for(rng, own, targets):
 
 # ---- Lines of a log --------------------------------------------------------------------------------------------------
 
-GOOD_PIDS = [b"7", b"7", b"4711", b"0", b"007", b"0000000000", b"0000000007", b"4294967295", b"0429496729", b"1234567890"]
+GOOD_PIDS = [b"7", b"7", b"4711", b"0", b"007", b"0000000000", b"0000000007", b"4294967295", b"4294967295", b"0429496729", b"1234567890", b"12345", b"99999", b"123456", b"0000123456", b"999999", b"1000000", b"01000000"]
 BAD_PIDS = [b"", b"4294967296", b"4294967300", b"9999999999", b"00000000007", b"04294967295", b"-1", b"+1", b"7a", b" 7", b"7 ", b"0x7", b"7.0", b"\xb2"]
 GOOD_TIMES = [b"1", b"1.0000", b"1.5", b"0", b"00.0", b"1.123456789", b"1.000000000", b"12345678901234567890", b"99999999999999999999", b"18446744073709551616.999999999"]
 BAD_TIMES = [b"", b"1.", b".5", b".", b"1.1234567890", b"123456789012345678901", b"000000000000000000001", b"-1", b"+1", b"1,5", b"1.0.0", b"1.-5", b"1 ", b"1e3", b"1:1", b"1.5s"]
@@ -379,6 +379,8 @@ def some_options(rng, senders, capacities):
         options.append([b"--no-details"])
     if rng.random() < 0.35:
         options.append([b"--debug-locks"])
+    if rng.random() < 0.35:
+        options.append([b"--debug-pids"])
     if rng.random() < 0.9:
         options.append([b"--senders", rng.choice(senders)])
     if rng.random() < 0.9:
@@ -414,7 +416,7 @@ def break_words(rng, options, asked):
     elif how == "no target":
         return [], rng.choice([[], [], [b"--"]])
     elif how == "twice":
-        again = rng.choice([[b"-r"], [b"--unchanged"], [b"--dir", b"."], [b"--senders", b"2"], [b"--capacity", b"1"], [b"--debug-locks"]])
+        again = rng.choice([[b"-r"], [b"--unchanged"], [b"--dir", b"."], [b"--senders", b"2"], [b"--capacity", b"1"], [b"--debug-locks"], [b"--debug-pids"]])
         options[:] = [words for words in options if words[0] not in (b"-r", b"--recursive", b"-u", b"--unchanged", *again)]
         options += [again, [again[0], *again[1:]]]
     else:

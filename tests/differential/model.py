@@ -59,20 +59,24 @@ class Text(NamedTuple):
 
 
 class Mention(NamedTuple):
+    pid: int
     kind: bytes
     target: bytes
 
 
 class Closed(NamedTuple):
+    pid: int
     status: int
 
 
 class Done(NamedTuple):
+    pid: int
     target: bytes
     status: int
 
 
 class Note(NamedTuple):
+    pid: int
     kind: bytes
     text: bytes
 
@@ -91,21 +95,21 @@ def entry_of(line: Line, target: bytes) -> Optional[Entry]:
     record = RECORD.fullmatch(line.content)
     if record is None or int(record["pid"]) > LARGEST_PID:
         return None
-    kind, text = record["kind"], record["text"]
+    pid, kind, text = int(record["pid"]), record["kind"], record["text"]
     if kind in KINDS_WITH_A_NAME:
-        return Mention(kind, name_in_log(text, target)) if text != b"" else None
+        return Mention(pid, kind, name_in_log(text, target)) if text != b"" else None
     if kind == b"done":
-        return done_entry_of(text, target)
-    return Note(kind, text)
+        return done_entry_of(pid, text, target)
+    return Note(pid, kind, text)
 
 
-def done_entry_of(text: bytes, target: bytes) -> Optional[Entry]:
+def done_entry_of(pid: int, text: bytes, target: bytes) -> Optional[Entry]:
     parts = DONE_TEXT.fullmatch(text)
     if parts is None:
         return None
     status = int(parts["status"])
     name = name_in_log(parts["name"], target)
-    return Closed(status) if name == target else Done(name, status)
+    return Closed(pid, status) if name == target else Done(pid, name, status)
 
 
 # ---- format.md, "The end of a log, and its faults" -------------------------------------------------------------------
@@ -263,6 +267,10 @@ class CommandLine:
         return "debug-locks" in self.given
 
     @property
+    def debug_pids(self) -> bool:
+        return "debug-pids" in self.given
+
+    @property
     def directory(self) -> bytes:
         return self.given.get("dir", b".")
 
@@ -273,7 +281,7 @@ class CommandLine:
 
 
 LETTERS = {b"r": "recursive", b"u": "unchanged"}
-FLAGS = ["recursive", "unchanged", "no-details", "debug-locks"]
+FLAGS = ["recursive", "unchanged", "no-details", "debug-locks", "debug-pids"]
 GREATEST_NUMBER = {"senders": 64, "capacity": 65_536}  # neither of these two changes the answer
 WITH_A_VALUE = ["dir", *GREATEST_NUMBER]
 
@@ -369,11 +377,14 @@ class Showing:
     def show_all(self, targets: list[bytes]) -> bytes:
         for target in targets:
             if target not in self.opened:
-                self.redo_line(0, target)
+                self.redo_line(0, None, target)
                 self.open_log(target, 1)
         return self.text
 
-    def redo_line(self, depth: int, text: bytes):
+    def redo_line(self, depth: int, pid: Optional[int], text: bytes):
+        """The line of a record with this pid, or of a target that is asked for."""
+        if self.asked.debug_pids:
+            self.text += (b"-" if pid is None else b"%d" % pid).ljust(6) + b" "
         self.text += b"redo" + b"  " + b"  " * depth + text + b"\n"
 
     def open_log(self, target: bytes, depth: int):
@@ -403,20 +414,20 @@ class Showing:
         if entry.kind == b"unchanged" and not self.asked.unchanged:
             return
         if self.asked.debug_locks:
-            self.redo_line(depth, entry.target + LOCK_MESSAGES[entry.kind])
+            self.redo_line(depth, entry.pid, entry.target + LOCK_MESSAGES[entry.kind])
         elif entry.target not in self.named:
-            self.redo_line(depth, entry.target)
+            self.redo_line(depth, entry.pid, entry.target)
         self.named.add(entry.target)
         if self.asked.recursive and entry.target in self.log_of_target and entry.target not in self.opened:
             self.open_log(entry.target, depth + 1)
 
     def show_done(self, entry: Done, depth: int):
         if entry.status != 0:
-            self.redo_line(depth, entry.target + b" (exit %d)" % entry.status)  # it names no target
+            self.redo_line(depth, entry.pid, entry.target + b" (exit %d)" % entry.status)  # it names no target
 
     def show_note(self, entry: Note, depth: int):
         if entry.kind == b"check":
-            self.redo_line(depth, b"(" + entry.text + b")")
+            self.redo_line(depth, entry.pid, b"(" + entry.text + b")")
         else:
             self.text += b"redo: " + entry.text + b"\n"
 

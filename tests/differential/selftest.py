@@ -35,17 +35,20 @@ ENTRIES = [
     (b"", Text(b"")),
     (b"x @@REDO:do:7:1@@ a", Text(b"x @@REDO:do:7:1@@ a")),
     (b"@@REDO", Text(b"@@REDO")),
-    (b"@@REDO:do:7:1.0000@@ a", Mention(b"do", b"a")),
-    (b"@@REDO:do:007:1@@ ./a b", Mention(b"do", b"a b")),
-    (b"@@REDO:waiting:7:1@@ d/x", Mention(b"waiting", b"d/x")),
-    (b"@@REDO:locked:7:1@@ x", Mention(b"locked", b"x")),
-    (b"@@REDO:unlocked:7:1@@ x", Mention(b"unlocked", b"x")),
-    (b"@@REDO:unchanged:7:1@@ x", Mention(b"unchanged", b"x")),
-    (b"@@REDO:done:7:1@@ 2 b", Done(b"b", 2)),
-    (b"@@REDO:done:7:1@@ -11 b", Done(b"b", -11)),
-    (b"@@REDO:done:7:1@@ 0 ./all", Closed(0)),
-    (b"@@REDO:x-y_z:4294967295:1.123456789@@ ", Note(b"x-y_z", b"")),
-    (b"@@REDO:check:7:12345678901234567890@@ b", Note(b"check", b"b")),
+    (b"@@REDO:do:7:1.0000@@ a", Mention(7, b"do", b"a")),
+    (b"@@REDO:do:007:1@@ ./a b", Mention(7, b"do", b"a b")),
+    (b"@@REDO:do:0:1@@ a", Mention(0, b"do", b"a")),
+    (b"@@REDO:do:4294967295:1@@ a", Mention(4294967295, b"do", b"a")),
+    (b"@@REDO:waiting:7:1@@ d/x", Mention(7, b"waiting", b"d/x")),
+    (b"@@REDO:locked:7:1@@ x", Mention(7, b"locked", b"x")),
+    (b"@@REDO:unlocked:7:1@@ x", Mention(7, b"unlocked", b"x")),
+    (b"@@REDO:unchanged:7:1@@ x", Mention(7, b"unchanged", b"x")),
+    (b"@@REDO:done:7:1@@ 2 b", Done(7, b"b", 2)),
+    (b"@@REDO:done:7:1@@ -11 b", Done(7, b"b", -11)),
+    (b"@@REDO:done:0000001230:1@@ 1 b", Done(1230, b"b", 1)),
+    (b"@@REDO:done:7:1@@ 0 ./all", Closed(7, 0)),
+    (b"@@REDO:x-y_z:4294967295:1.123456789@@ ", Note(4294967295, b"x-y_z", b"")),
+    (b"@@REDO:check:7:12345678901234567890@@ b", Note(7, b"check", b"b")),
     (b"@@REDO:", None),
     (b"@@REDO:do:7", None),
     (b"@@REDO::7:1@@ a", None),
@@ -153,8 +156,13 @@ model.MOST_NAMES = 1_048_575
 # ---- viewing.md, whole runs ------------------------------------------------------------------------------------------
 
 
+def written(kind, text, pid=b"7"):
+    return b"@@REDO:%s:%s:1@@ %s" % (kind, pid, text)
+
+
 def run(logs, words):
-    """Logs as a list of (target, lines); a line of kind and text is a record, None stands for a log that can't be read."""
+    """Logs as a list of (target, lines); a line of kind, text and pid, which is 7 if it isn't said, is a record, None stands
+    for a log that can't be read."""
     with tempfile.TemporaryDirectory() as directory:
         with open(os.path.join(directory, "names"), "wb") as file:
             for number, (target, _) in enumerate(logs, 1):
@@ -166,7 +174,7 @@ def run(logs, words):
                 continue
             with open(path, "wb") as file:
                 for line in lines:
-                    file.write((b"@@REDO:%s:7:1@@ %s" % line if isinstance(line, tuple) else line) + b"\n")
+                    file.write((written(*line) if isinstance(line, tuple) else line) + b"\n")
         return model.answer(directory, [b"--dir", b"."] + words)
 
 
@@ -207,6 +215,24 @@ shows(UNCHANGED, [b"-r", b"--no-details", b"-u", b"a"], b"redo  a\nredo    b\nre
 shows(UNCHANGED, [b"-r", b"-u", b"a"], b"redo  a\nredo    b\nB\nredo    (b)\nt\n")
 shows(UNCHANGED, [b"-r", b"-u", b"--debug-locks", b"a"], b"redo  a\nredo    b (unchanged)\nB\nredo    (b)\nt\n")
 
+PIDS = [(b"all", [(b"do", b"a", b"007"), (b"check", b"a", b"4294967295"), (b"warning", b"w", b"12"), b"t"])]
+shows(PIDS, [b"--debug-pids", b"all"], b"-      redo  all\n7      redo    a\n4294967295 redo    (a)\nredo: w\nt\n")
+OTHERS = [
+    (b"all", [(b"waiting", b"x", b"123456"), (b"do", b"x", b"1234567"), (b"done", b"-2 x", b"0"), (b"done", b"0 all", b"9")]),
+    (b"x", [(b"do", b"b", b"0000000042")]),
+]
+shows(
+    OTHERS,
+    [b"-r", b"--debug-pids", b"all", b"x"],
+    b"-      redo  all\n123456 redo    x\n42     redo      b\n0      redo    x (exit -2)\n",
+)
+shows(
+    OTHERS,
+    [b"--debug-locks", b"--debug-pids", b"all", b"x"],
+    b"-      redo  all\n123456 redo    x (WAITING)\n1234567 redo    x\n0      redo    x (exit -2)\n"
+    b"-      redo  x\n42     redo    b\n",
+)
+
 BAD = [(b"all", [b"@@REDO:"])]
 refuses(BAD, [b"all", b"nope"], 24, b"redo-log: nope: not known")
 refuses(BAD, [b""], 24, b"redo-log: : not known")
@@ -217,6 +243,7 @@ refuses([(b"a", [b"t"]), (b"b", [b"@@REDO:"])], [b"a"], 4, b"redo-log: b: line 1
 
 refuses(A_B, [], 2, b"redo-log: bad command line")
 refuses(A_B, [b"--nope", b"a"], 2, b"redo-log: bad command line")
+refuses(A_B, [b"--debug-pids", b"a", b"--debug-pids"], 2, b"redo-log: bad command line")
 refuses(A_B, [b"\xff"], 2, b"redo-log: bad command line")
 refuses([(b"a", []), (b"./a", [])], [b"a"], 3, b"redo-log: names: line 2: name listed twice")
 refuses([(b"a", [(b"done", b"0 a"), b""])], [b"./a"], 4, b"redo-log: a: line 2: after the closing record")

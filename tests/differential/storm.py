@@ -81,7 +81,7 @@ def with_long_name(rng, data):
     if rng.random() < 0.2:
         return data + b"%d " % rng.randrange(1, 1000) + text + b"\n"
     kind = rng.choice([*KINDS, b"done"])
-    return data + b"@@REDO:%s:7:1@@ " % kind + (b"0 " if kind == b"done" else b"") + text + b"\n"
+    return data + b"@@REDO:%s:%s:1@@ " % (kind, rng.choice(generate.GOOD_PIDS)) + (b"0 " if kind == b"done" else b"") + text + b"\n"
 
 
 def long_log(rng, data):
@@ -133,9 +133,9 @@ def many_logs(rng, directory):
         for other in mentioned(rng, shape, number, count):
             # In a log of a target with a directory a name without one is looked for there.
             text = name(other).split(b"/")[-1]
-            lines.insert(place_in(rng, lines), b"@@REDO:%s:7:1@@ %s" % (rng.choice(KINDS[:1] * 9 + KINDS), text))
+            lines.insert(place_in(rng, lines), b"@@REDO:%s:%s:1@@ %s" % (rng.choice(KINDS[:1] * 9 + KINDS), rng.choice(generate.GOOD_PIDS), text))
         if rng.random() < 0.2:
-            lines.append(b"@@REDO:done:7:1@@ %d t%d" % (rng.choice([0, 1]), number))
+            lines.append(b"@@REDO:done:%s:1@@ %d t%d" % (rng.choice(generate.GOOD_PIDS), rng.choice([0, 1]), number))
         if rng.random() < 0.95:
             with open(os.path.join(directory, f"log.{number + 1}"), "wb") as log:
                 log.write(b"".join(line + b"\n" for line in lines))

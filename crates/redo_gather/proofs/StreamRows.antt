@@ -1,9 +1,7 @@
 -- Examples of sets of streams, computed: the targets, their streams, and the logs or the least-numbered fault.
-use Rattle.std.proofs.Common.{◌≡◌, ℕ, true, false, List, [], ◌∷◌, ◌++◌, None, Some, pos, refl}
-use Rattle.std.specs.Prelude.{codes}
-use Rattle.std.specs.List.{AllByRecursion}
-use Rattle.redo_line.specs.declared.entry.Entry.TheVariants.{Text, Mention, Done}
-use Rattle.redo_line.specs.declared.entry.How.TheVariants.{Made}
+use Rattle.std.proofs.Common.{◌≡◌, ℕ, true, false, List, [], ◌∷◌, ◌++◌, None, Some, refl}
+use Rattle.std.specs.Prelude.{codes, filter_map}
+use Rattle.std.specs.List.{AllByRecursion, flat_map}
 use Rattle.redo_line.specs.declared.stream_fault.StreamFault.{StreamFault}
 use Rattle.redo_line.specs.declared.stream_fault.StreamFault.TheVariants.{BadRecord, Read}
 use Rattle.redo_line.specs.Decimal.{number}
@@ -23,22 +21,22 @@ line text = text ++ line_feed ∷ []
 abbrev bad : List ℕ
 bad = line (codes "@@REDO:do:7")
 
-abbrev all : Stream
+abbrev all : List (List ℕ)
 all =
-    stream_of (
-    line (codes "@@REDO:do:7:1.0000@@ a.o") ++ line (codes "@@REDO:do:7:1.0000@@ b.o") ++ line (codes "@@REDO:done:7:1.0000@@ 0 a.o") ++ line (codes "@@REDO:done:7:1.0000@@ 1 b.o") ++ line (codes "link")
-    ) false
-
-abbrev logs : List Log
-logs =
-    whole_log (codes "all") (
-    Mention Made (codes "a.o") ∷ Mention Made (codes "b.o") ∷ Done (pos 0) (codes "a.o") ∷ Done (pos 1) (codes "b.o") ∷ Text (codes "link") ∷ []
-    ) ∷
-    whole_log (codes "a.o") (Text (codes "cc a") ∷ []) ∷
-    whole_log (codes "b.o") (Text (codes "cc b") ∷ []) ∷
+    codes "@@REDO:do:7:1.0000@@ a.o" ∷ codes "@@REDO:do:7:1.0000@@ b.o" ∷ codes "@@REDO:done:7:1.0000@@ 0 a.o" ∷ codes "@@REDO:done:7:1.0000@@ 1 b.o" ∷ codes "link" ∷
     []
 
-these_logs : logs_of 1000 (codes "all" ∷ codes "a.o" ∷ codes "b.o" ∷ []) (all ∷ stream_of (line (codes "cc a")) false ∷ stream_of (line (codes "cc b")) false ∷ []) ≡ Some logs
+-- the log of a target whose stream has these lines
+abbrev lines_log : List ℕ → List (List ℕ) → Log
+lines_log target lines = whole_log target (filter_map (λ line. entry_of target line true) lines)
+
+abbrev logs : List Log
+logs = lines_log (codes "all") all ∷ lines_log (codes "d/a.o") (codes "cc a" ∷ codes "@@REDO:do:7:1.0000@@ b" ∷ []) ∷ lines_log (codes "b.o") (codes "cc b" ∷ []) ∷ []
+
+abbrev streams : List Stream
+streams = stream_of (flat_map line all) false ∷ stream_of (line (codes "cc a") ++ line (codes "@@REDO:do:7:1.0000@@ b")) false ∷ stream_of (line (codes "cc b")) false ∷ []
+
+these_logs : logs_of 1000 (codes "all" ∷ codes "d/a.o" ∷ codes "b.o" ∷ []) streams ≡ Some logs
 unfolding cutting ended rest first_fault entry_of record_entry fields_of status_of parted behind number normal from_back
 these_logs = refl
 

@@ -21,6 +21,7 @@ pub const PLAIN: Options = Options {
     unchanged: false,
     details: true,
     debug_locks: false,
+    debug_pids: false,
 };
 
 /// Logs are opened where they are mentioned.
@@ -62,6 +63,21 @@ const ALL: Options = Options {
 const ALL_LOCKS: Options = Options {
     debug_locks: true,
     ..ALL
+};
+
+const PIDS: Options = Options {
+    debug_pids: true,
+    ..PLAIN
+};
+
+const DEEP_PIDS: Options = Options {
+    debug_pids: true,
+    ..DEEP
+};
+
+const LOCKS_PIDS: Options = Options {
+    debug_pids: true,
+    ..LOCKS
 };
 
 /// The logs `all`, `a.o` and `b.o` of a build in which `b.o` failed.
@@ -229,3 +245,52 @@ pub const STATUSES: [Case; 1] = [(
     &["all"],
     "redo  all\nredo    c (exit -11)\nredo    d (exit 7)\n",
 )];
+
+/// Each target is mentioned twice, by other processes, and made by a third.
+const BY_OTHERS: [Given; 2] = [
+    (
+        "all",
+        "@@REDO:waiting:123456:1@@ x\n@@REDO:do:1234567:1@@ x\n@@REDO:done:0:1@@ -2 x\n\
+         @@REDO:done:9:1@@ 0 all\n",
+    ),
+    ("x", "@@REDO:do:41:1@@ all\n@@REDO:do:0000000042:1@@ b\nX\n"),
+];
+
+/// A redo line begins with the pid of the record that it shows, and that of a target that is asked for with a minus.
+pub const BY_PIDS: [Case; 5] = [
+    (
+        &[(
+            "all",
+            "@@REDO:do:007:1@@ a\n@@REDO:check:4294967295:1@@ a\n@@REDO:warning:12:1@@ w\nt\n",
+        )],
+        PIDS,
+        &["all"],
+        "-      redo  all\n7      redo    a\n4294967295 redo    (a)\nredo: w\nt\n",
+    ),
+    (
+        &BUILD,
+        DEEP_PIDS,
+        &["all"],
+        "-      redo  all\n7      redo    a.o\ncc a\n7      redo    b.o\ncc b\n\
+         7      redo    b.o (exit 1)\nlink\n",
+    ),
+    (
+        &BY_OTHERS,
+        DEEP_PIDS,
+        &["all", "x"],
+        "-      redo  all\n123456 redo    x\n42     redo      b\nX\n0      redo    x (exit -2)\n",
+    ),
+    (
+        &BY_OTHERS,
+        PIDS,
+        &["all", "x"],
+        "-      redo  all\n123456 redo    x\n0      redo    x (exit -2)\n\
+         -      redo  x\n42     redo    b\nX\n",
+    ),
+    (
+        &BY_OTHERS,
+        LOCKS_PIDS,
+        &["all"],
+        "-      redo  all\n123456 redo    x (WAITING)\n1234567 redo    x\n0      redo    x (exit -2)\n",
+    ),
+];

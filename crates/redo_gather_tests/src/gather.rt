@@ -141,14 +141,14 @@ static LOGS: &[(&[Given<'static>], &str)] = &[
     (&[], ""),
     (&[("all", "", false)], "all: Ended\n"),
     (&[("all", "x", false)], "all: Ended\ntext|x\n"),
-    (&[("a", CLOSING, false)], "a: Ended\nclosing|0\n"),
+    (&[("a", CLOSING, false)], "a: Ended\nclosing|7|0\n"),
     (
         &[("b", "b1\nb2", false), ("a", "", false), ("c", "\n", false)],
         "b: Ended\ntext|b1\ntext|b2\na: Ended\nc: Ended\ntext|\n",
     ),
     (
         &BUILD,
-        "all: Ended\ndo|a.o\ndo|b.o\ndone|0|a.o\ndone|1|b.o\ntext|link\n\
+        "all: Ended\ndo|7|a.o\ndo|7|b.o\ndone|7|0|a.o\ndone|7|1|b.o\ntext|link\n\
          a.o: Ended\ntext|cc a\nb.o: Ended\ntext|cc b\n",
     ),
 ];
@@ -208,7 +208,7 @@ fn the_fault_is_that_of_the_least_numbered_stream(rt: HostRuntime) -> Result<(),
 static LIMITED: &[(&str, &str, u64, Result<&str, StreamFault>)] = &[
     ("all", "abc\n", 4, Ok("all: Ended\ntext|abc\n")),
     ("all", "abc\nd", 4, Err(StreamFault::TooLong)),
-    ("a", CLOSING, 27, Ok("a: Ended\nclosing|0\n")),
+    ("a", CLOSING, 27, Ok("a: Ended\nclosing|7|0\n")),
     (
         "a",
         CLOSING_AND_MORE,

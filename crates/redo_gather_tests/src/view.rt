@@ -4,7 +4,8 @@ ghost use Rattle.std.specs.List.{list_all};
 ghost use Rattle.redo_logs.specs.Logs.{has_ended};
 
 use crate::cases::{
-    ASKED, BUILD, BUILD_TEXT, CHOSEN, Case, DEEP, Given, LOGS, MAX_BYTES, MENTIONS, PLAIN, STATUSES,
+    ASKED, BUILD, BUILD_TEXT, BY_PIDS, CHOSEN, Case, DEEP, Given, LOGS, MAX_BYTES, MENTIONS, PLAIN,
+    STATUSES,
 };
 use crate::gathered::gathered;
 use redo_gather::GatherFault;
@@ -114,6 +115,8 @@ static OF_OPTIONS: &[Case] = &CHOSEN;
 
 static OF_STATUSES: &[Case] = &STATUSES;
 
+static OF_PIDS: &[Case] = &BY_PIDS;
+
 #[test]
 fn a_log_is_shown_below_the_line_of_its_target(rt: HostRuntime) -> Result<(), Fail> {
     expect(&rt, OF_LOGS)
@@ -137,6 +140,11 @@ fn options_choose_what_is_shown(rt: HostRuntime) -> Result<(), Fail> {
 #[test]
 fn a_status_other_than_0_is_shown(rt: HostRuntime) -> Result<(), Fail> {
     expect(&rt, OF_STATUSES)
+}
+
+#[test]
+fn a_redo_line_begins_with_the_pid_of_its_record(rt: HostRuntime) -> Result<(), Fail> {
+    expect(&rt, OF_PIDS)
 }
 
 /// Targets, and the place of the first one that is unknown.

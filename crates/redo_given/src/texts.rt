@@ -1,4 +1,4 @@
-//! How a test writes an entry: as one word for what it is, and its parts. A log is a line of its
+//! How a test writes an entry: as one word for what it is, the pid of its record, and its parts. A log is a line of its
 //! target and its state, and then one for each entry.
 use redo_line::How;
 use redo_logs::{EntryRef, LogTable};
@@ -24,16 +24,18 @@ fn kind(how: How) -> &'static str {
 pub fn entry_text(alloc: Global, entry: EntryRef<'_>) -> Result<String, AllocError> {
     match entry {
         EntryRef::Text(line) => format!(in alloc; "text|{}", text(line)),
-        EntryRef::Mention { how, name } => {
-            format!(in alloc; "{}|{}", kind(how), text(name.bytes()))
+        EntryRef::Mention { pid, how, name } => {
+            format!(in alloc; "{}|{pid}|{}", kind(how), text(name.bytes()))
         }
-        EntryRef::Done { status, name } => {
-            format!(in alloc; "done|{status}|{}", text(name.bytes()))
+        EntryRef::Done { pid, status, name } => {
+            format!(in alloc; "done|{pid}|{status}|{}", text(name.bytes()))
         }
-        EntryRef::Closing { status } => format!(in alloc; "closing|{status}"),
-        EntryRef::Note { kind, text: note } => {
-            format!(in alloc; "note|{}|{}", text(kind), text(note))
-        }
+        EntryRef::Closing { pid, status } => format!(in alloc; "closing|{pid}|{status}"),
+        EntryRef::Note {
+            pid,
+            kind,
+            text: note,
+        } => { format!(in alloc; "note|{pid}|{}|{}", text(kind), text(note)) }
     }
 }
 

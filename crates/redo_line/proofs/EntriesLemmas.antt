@@ -46,22 +46,22 @@ module _ (bytes names bytes' names' : List ℕ) (more_bytes : IsFront bytes byte
   still_there : (place : EntryAt) → IsWithin bytes names place → IsWithin bytes' names' place
   still_there (Text start end) within =
       (within.0, ap (λ bs. slice_get bs end) more_bytes.1 ∙ get_front bytes more_bytes.0 end (slice_get_within bytes end line_feed within.1) ∙ within.1)
-  still_there (Mention how start end) within = name_grown start end within
-  still_there (Done status start end) within = name_grown start end within
-  still_there (Closing status) within = within
-  still_there (Note start middle end) within = (within.0, within.1, omega (arith, within.2, front_length bytes bytes' more_bytes))
+  still_there (Mention pid how start end) within = name_grown start end within
+  still_there (Done pid status start end) within = name_grown start end within
+  still_there (Closing pid status) within = within
+  still_there (Note pid start middle end) within = (within.0, within.1, omega (arith, within.2, front_length bytes bytes' more_bytes))
 
   still_one : (place : EntryAt) → IsWithin bytes names place → entry_at bytes' names' place ≡ entry_at bytes names place
   still_one (Text start end) within =
       let there : end ≤ length bytes = let below = slice_get_within bytes end line_feed within.1 in omega (arith, below) in
       ap entry.Text (range_grown bytes bytes' start end more_bytes within.0 there)
-  still_one (Mention how start end) within = ap (entry.Mention how) (range_grown names names' start end more_names within.0 within.1)
-  still_one (Done status start end) within = ap (entry.Done status) (range_grown names names' start end more_names within.0 within.1)
-  still_one (Closing status) within = refl
-  still_one (Note start middle end) within =
+  still_one (Mention pid how start end) within = ap (entry.Mention pid how) (range_grown names names' start end more_names within.0 within.1)
+  still_one (Done pid status start end) within = ap (entry.Done pid status) (range_grown names names' start end more_names within.0 within.1)
+  still_one (Closing pid status) within = refl
+  still_one (Note pid start middle end) within =
       let kind = range_grown bytes bytes' start middle more_bytes within.0 (omega (arith, within.1, within.2)) in
       let text = range_grown bytes bytes' middle end more_bytes within.1 within.2 in
-      λ i. entry.Note (kind i) (text i)
+      λ i. entry.Note pid (kind i) (text i)
 
   pub still_within : (places : List EntryAt) → AreWithin bytes names places → AreWithin bytes' names' places
   still_within [] within = within

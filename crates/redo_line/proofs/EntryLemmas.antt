@@ -10,6 +10,7 @@ use Rattle.redo_line.specs.declared.entry.How.{How}
 use Rattle.redo_line.specs.declared.record.Kind.{Kind}
 use Rattle.redo_line.specs.declared.record.Kind.TheVariants as kind
 use Rattle.redo_name.specs.Names.{normal}
+use Rattle.redo_line.specs.Decimal.{number}
 use Rattle.redo_line.specs.Parts.{parted, behind}
 use Rattle.redo_line.specs.Record.{mark, space, kind_of, FitsKind, Fields, IsRecord, fields_of, status_of}
 use Rattle.redo_line.specs.Entry.{done, Says, IsCandidate, IsRecordEntry, IsEntry, done_parted, said, record_entry, line_entry, entry_of}
@@ -27,18 +28,18 @@ unfolding normal
 has_normal of [] some = absurd (some refl)
 has_normal of (byte ∷ bytes) some = (_, refl)
 
--- what a record says is what is computed of its kind and text
-module _ (target : List ℕ) where
+-- what a record says is what is computed of its kind, pid and text
+module _ (target : List ℕ) (pid : ℕ) where
   abbrev mention : How → List ℕ → Option Entry
-  mention how mentioned = Some (Mention how mentioned)
+  mention how mentioned = Some (Mention pid how mentioned)
 
   abbrev done_named : ℤ → List ℕ → Option Entry
-  done_named status name = Some (done target status name)
+  done_named status name = Some (done target pid status name)
 
   abbrev done_written : List ℕ → ℤ → Option Entry
   done_written written status = option_and_then (done_named status) (normal (Some target) written)
 
-  done_cut : (text : List ℕ) (cut : Option (List ℕ × List ℕ)) (entry : Entry) (name : List ℕ) → parted space text ≡ cut → done_parted target cut ≡ Some entry → Says target kind.Done name text entry
+  done_cut : (text : List ℕ) (cut : Option (List ℕ × List ℕ)) (entry : Entry) (name : List ℕ) → parted space text ≡ cut → done_parted target pid cut ≡ Some entry → Says target kind.Done name pid text entry
   done_cut text None entry name cut so = absurd (none-some entry so)
   done_cut text (Some parts) entry name cut so =
       option_and_then_some (done_written parts.1) (status_of parts.0) entry so (λ status is so_status.
@@ -51,26 +52,26 @@ module _ (target : List ℕ) where
         whole = (are_parts space text parts cut).whole;
         status_is = status_read parts.0 status is;
         name_is = value_is;
-        entry_is = sym (same_Some (done target status value) entry last);
+        entry_is = sym (same_Some (done target pid status value) entry last);
       }))
 
-  says : (is : Kind) (name text : List ℕ) (entry : Entry) → said target is name text ≡ Some entry → Says target is name text entry
+  says : (is : Kind) (name text : List ℕ) (entry : Entry) → said target is name pid text ≡ Some entry → Says target is name pid text entry
   says (kind.Mention how) name text entry so =
-      option_and_then_some (mention how) (normal (Some target) text) entry so (λ mentioned is last. (mentioned, is, sym (same_Some (Mention how mentioned) entry last)))
+      option_and_then_some (mention how) (normal (Some target) text) entry so (λ mentioned is last. (mentioned, is, sym (same_Some (Mention pid how mentioned) entry last)))
   says kind.Done name text entry so = done_cut text (parted space text) entry name refl so
-  says kind.Note name text entry so = sym (same_Some (Note name text) entry so)
+  says kind.Note name text entry so = sym (same_Some (Note pid name text) entry so)
 
-  it_says : (is : Kind) (name text : List ℕ) (entry : Entry) → Says target is name text entry → said target is name text ≡ Some entry
+  it_says : (is : Kind) (name text : List ℕ) (entry : Entry) → Says target is name pid text entry → said target is name pid text ≡ Some entry
   it_says (kind.Mention how) name text entry (mentioned, is, entry_is) = ap (option_and_then (mention how)) is ∙ ap Some (sym entry_is)
   it_says kind.Done name text entry says =
-      ap (λ (bs : List ℕ). done_parted target (parted space bs)) says.whole
-      ∙ ap (done_parted target) (parted_at space says.status says.written (status-free says.status says.value says.status_is))
+      ap (λ (bs : List ℕ). done_parted target pid (parted space bs)) says.whole
+      ∙ ap (done_parted target pid) (parted_at space says.status says.written (status-free says.status says.value says.status_is))
       ∙ ap (option_and_then (done_written says.written)) (status_is says.status says.value says.status_is)
       ∙ ap (option_and_then (done_named says.value)) says.name_is ∙ ap Some (sym says.entry_is)
   it_says kind.Note name text entry is = ap Some (sym is)
 
   -- a text that says something fits its kind, and one that fits says something
-  says_fits : (is : Kind) (name text : List ℕ) (entry : Entry) → Says target is name text entry → FitsKind is text
+  says_fits : (is : Kind) (name text : List ℕ) (entry : Entry) → Says target is name pid text entry → FitsKind is text
   says_fits (kind.Mention how) name text entry (mentioned, is, entry_is) = named (Some target) text mentioned is
   says_fits kind.Done name text entry says = record {
     status = says.status;
@@ -82,11 +83,11 @@ module _ (target : List ℕ) where
   }
   says_fits kind.Note name text entry is = tt
 
-  fits_says : (is : Kind) (name text : List ℕ) → FitsKind is text → (entry : Entry) × Says target is name text entry
-  fits_says (kind.Mention how) name text fits = let value = has_normal (Some target) text fits in (Mention how value.0, (value.0, value.1, refl))
+  fits_says : (is : Kind) (name text : List ℕ) → FitsKind is text → (entry : Entry) × Says target is name pid text entry
+  fits_says (kind.Mention how) name text fits = let value = has_normal (Some target) text fits in (Mention pid how value.0, (value.0, value.1, refl))
   fits_says kind.Done name text fits =
       let value = has_normal (Some target) fits.name fits.some in (
-        done target fits.value value.0,
+        done target pid fits.value value.0,
         record {
           status = fits.status;
           value = fits.value;
@@ -98,19 +99,21 @@ module _ (target : List ℕ) where
           entry_is = refl;
         },
       )
-  fits_says kind.Note name text fits = (Note name text, refl)
+  fits_says kind.Note name text fits = (Note pid name text, refl)
 
+-- and what a line says, of the line
+module _ (target : List ℕ) where
   abbrev of_fields : Fields → Option Entry
-  of_fields fields = said target (kind_of fields.kind) fields.kind fields.text
+  of_fields fields = said target (kind_of fields.kind) fields.kind (number fields.pid) fields.text
 
   record_read : (line bytes : List ℕ) (entry : Entry) → line ≡ mark ++ bytes → record_entry target bytes ≡ Some entry → IsRecordEntry target line entry
   unfolding record_entry
   record_read line bytes entry begins so =
       option_and_then_some of_fields (fields_of bytes) entry so (λ fields is last.
-      let so_says = says (kind_of fields.kind) fields.kind fields.text entry last in
+      let so_says = says target (number fields.pid) (kind_of fields.kind) fields.kind fields.text entry last in
       record {
         fields = fields;
-        fields_are = fields_record line bytes fields begins is (says_fits (kind_of fields.kind) fields.kind fields.text entry so_says);
+        fields_are = fields_record line bytes fields begins is (says_fits target (number fields.pid) (kind_of fields.kind) fields.kind fields.text entry so_says);
         says = so_says;
       })
 
@@ -118,7 +121,7 @@ module _ (target : List ℕ) where
   unfolding record_entry
   record_is line bytes entry begins is =
       ap (option_and_then of_fields) (record_fields line bytes is.fields begins is.fields_are)
-      ∙ it_says (kind_of is.fields.kind) is.fields.kind is.fields.text entry is.says
+      ∙ it_says target (number is.fields.pid) (kind_of is.fields.kind) is.fields.kind is.fields.text entry is.says
 
   -- whether a line is a candidate
   candidate : (line bytes : List ℕ) → line ≡ mark ++ bytes → entry_of target line true ≡ record_entry target bytes
@@ -150,7 +153,7 @@ module _ (target : List ℕ) where
   pub record_has_entry : (line : List ℕ) (fields : Fields) → IsRecord line fields → IsSome (entry_of target line true)
   record_has_entry line fields is =
       let begins = record_begins line fields is in
-      let entry = fits_says (kind_of fields.kind) fields.kind fields.text is.text_fits in
+      let entry = fits_says target (number fields.pid) (kind_of fields.kind) fields.kind fields.text is.text_fits in
       let entry_is : entry_of target line true ≡ Some entry.0 =
       candidate line begins.0 begins.1 ∙ record_is line begins.0 entry.0 begins.1 (record { fields = fields; fields_are = is; says = entry.1 }) in
       subst IsSome (sym entry_is) refl

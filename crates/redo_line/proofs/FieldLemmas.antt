@@ -1,14 +1,24 @@
 -- The fields of a record, part by part.
-use Rattle.std.proofs.Common.{◌≡◌, ℕ, ◌&&◌, true, false, List, [], ◌∷◌, Option, None, Some, IfNone, refl, ap, ◌∙◌}
+use Rattle.std.proofs.Common.{◌≡◌, ℕ, ◌&&◌, Bool, true, false, List, [], ◌∷◌, Option, None, Some, IfNone, if◌then◌else◌, refl, ap, ◌∙◌}
 use Rattle.std.specs.Prelude.{option_map}
 use Rattle.std.proofs.lemmas.Bool.{and_left, and_right}
+use Rattle.std.proofs.lemmas.Option.{cond_some}
+use Rattle.redo_line.specs.Decimal.{number}
 use Rattle.redo_line.specs.Parts.{parted, behind}
 use Rattle.redo_line.specs.Record.{colon, at_sign, space, is_kind, is_pid, is_time, checked, fields_of}
-use Rattle.redo_line.specs.Private.Record.{kind_and_text}
+use Rattle.redo_line.specs.Private.Record.{parts_of, pid_of}
 
 pub if_none : {X : Type 0} (result : Option X) (P : Type 0) → P → IfNone result P
 if_none None P p = p
 if_none (Some x) P p = tt
+
+-- a pid that stands for nothing is none
+pub no_number : (pid : List ℕ) → pid_of pid ≡ None → is_pid pid ≡ false
+no_number pid none = by (is_pid pid) none
+  where
+    by : (is : Bool) → (if is then Some (number pid) else None) ≡ None → is ≡ false
+    by true none = absurd (cc)
+    by false none = refl
 
 -- parts that don't fit
 module _ (kind pid time : List ℕ) where
@@ -46,8 +56,11 @@ module _ (bytes : List ℕ) where
           unfolding fields_of
           fields_are = rw (kind_is, pid_is, time_is, text_is)
 
-          pub fields_found : is_kind kind ≡ true → is_pid pid ≡ true → is_time time ≡ true → option_map kind_and_text (fields_of bytes) ≡ Some (kind, text)
-          fields_found kind_fits pid_fits time_fits = ap (option_map kind_and_text) fields_are ∙ rw (kind_fits, pid_fits, time_fits) refl
+          pub fields_found : (value : ℕ) → is_kind kind ≡ true → pid_of pid ≡ Some value → is_time time ≡ true → option_map parts_of (fields_of bytes) ≡ Some (kind, value, text)
+          fields_found value kind_fits pid_stands time_fits =
+              let pid_is = cond_some (is_pid pid) (number pid) value pid_stands in
+              let pid_fits : is_pid pid ≡ true = pid_is.0 in
+              ap (option_map parts_of) fields_are ∙ rw (kind_fits, pid_fits, time_fits) (ap (λ (n : ℕ). Some (kind, n, text)) pid_is.1)
 
           pub fields_refused : (is_kind kind && is_pid pid && is_time time) ≡ false → fields_of bytes ≡ None
           fields_refused is = fields_are ∙ rw is

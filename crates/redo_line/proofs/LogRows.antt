@@ -44,12 +44,12 @@ logs =
     has_log (codes "all") most (line (codes "hello")) (Text (codes "hello") ∷ []) ∷
     has_log (codes "all") most (codes "x") (Text (codes "x") ∷ []) ∷
     has_log (codes "all") most (codes "@@REDO:do:7") (Text (codes "@@REDO:do:7") ∷ []) ∷
-    has_log (codes "a") most closing (Closing (pos 0) ∷ []) ∷
+    has_log (codes "a") most closing (Closing 7 (pos 0) ∷ []) ∷
     has_log (codes "a") most (codes "@@REDO:done:7:1.0000@@ 0 a") (Text (codes "@@REDO:done:7:1.0000@@ 0 a") ∷ []) ∷
-    has_log (codes "b") most (closing ++ codes "z") (Done (pos 0) (codes "a") ∷ Text (codes "z") ∷ []) ∷
-    has_log (codes "a") 27 closing (Closing (pos 0) ∷ []) ∷
+    has_log (codes "b") most (closing ++ codes "z") (Done 7 (pos 0) (codes "a") ∷ Text (codes "z") ∷ []) ∷
+    has_log (codes "a") 27 closing (Closing 7 (pos 0) ∷ []) ∷
     has_log (codes "all") 4 (line (codes "abc")) (Text (codes "abc") ∷ []) ∷
-    has_log (codes "d/a") most (line (codes "@@REDO:do:7:1@@ ../e//x") ++ line (codes "t")) (Mention Made (codes "e/x") ∷ Text (codes "t") ∷ []) ∷
+    has_log (codes "d/a") most (line (codes "@@REDO:do:7:1@@ ../e//x") ++ line (codes "t")) (Mention 7 Made (codes "e/x") ∷ Text (codes "t") ∷ []) ∷
     []
 
 these_logs : AllByRecursion (λ row. log_of row.target row.max_bytes (stream_of row.bytes false) ≡ Some row.log) logs
@@ -72,11 +72,11 @@ abbrev faults : List FaultRow
 faults =
     has_fault (codes "all") most (line (codes "ok") ++ bad) false (BadRecord 2) (Text (codes "ok") ∷ []) ∷
     has_fault (codes "all") most (bad ++ line (codes "ok")) false (BadRecord 1) [] ∷
-    has_fault (codes "a") most (closing ++ codes "z") false (AfterClose 2) (Closing (pos 0) ∷ []) ∷
-    has_fault (codes "a") most (closing ++ bad) false (AfterClose 2) (Closing (pos 0) ∷ []) ∷
-    has_fault (codes "a") most (closing ++ line (codes "t")) false (AfterClose 2) (Closing (pos 0) ∷ []) ∷
-    has_fault (codes "a") 28 (closing ++ codes "z") false (AfterClose 2) (Closing (pos 0) ∷ []) ∷
-    has_fault (codes "a") 27 (closing ++ codes "z") false TooLong (Closing (pos 0) ∷ []) ∷
+    has_fault (codes "a") most (closing ++ codes "z") false (AfterClose 2) (Closing 7 (pos 0) ∷ []) ∷
+    has_fault (codes "a") most (closing ++ bad) false (AfterClose 2) (Closing 7 (pos 0) ∷ []) ∷
+    has_fault (codes "a") most (closing ++ line (codes "t")) false (AfterClose 2) (Closing 7 (pos 0) ∷ []) ∷
+    has_fault (codes "a") 28 (closing ++ codes "z") false (AfterClose 2) (Closing 7 (pos 0) ∷ []) ∷
+    has_fault (codes "a") 27 (closing ++ codes "z") false TooLong (Closing 7 (pos 0) ∷ []) ∷
     has_fault (codes "a") 26 (closing ++ codes "z") false TooLong [] ∷
     has_fault (codes "a") 26 closing true TooLong [] ∷
     has_fault (codes "all") 4 (line (codes "abc") ++ codes "d") false TooLong (Text (codes "abc") ∷ []) ∷

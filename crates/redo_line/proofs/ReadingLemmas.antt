@@ -1,10 +1,9 @@
 -- What reading a line answers, by what it found.
-use Rattle.std.proofs.Common.{◌≡◌, ◌≢◌, ◌↔◌, ◌&&◌, Bool, false, ℕ, ◌-◌, ◌≤◌, true, List, [], ◌∷◌, ◌++◌, Option, None, Some, Result, Ok, Err, IsErr, IsErrAnd, length, take, drop, nat_eq, refl, sym, ap, ◌∙◌, subst, arith, ℤ}
+use Rattle.std.proofs.Common.{◌≡◌, ◌≢◌, ◌↔◌, ◌&&◌, Bool, false, ℕ, ◌-◌, true, List, [], ◌∷◌, Option, None, Some, Result, Ok, Err, IsErr, IsErrAnd, length, take, drop, nat_eq, refl, sym, ap, ◌∙◌, subst, ℤ}
 use Rattle.std.specs.Prelude.{option_map, option_and_then}
 use Rattle.std.proofs.lemmas.Bool.{and_parts}
 use Rattle.std.proofs.lemmas.Option.{same_Some, none-some}
-use Rattle.std.proofs.lemmas.List.{take_rest, take-append-drop, append_assoc, length-append}
-use Rattle.std.proofs.Math.Seq.{drop-append_seam}
+use Rattle.std.proofs.lemmas.List.{take_rest}
 use Rattle.std.specs.Cmp.Lexicographic.{pointwise}
 use Rattle.redo_line.specs.declared.entry.Entry.{Entry}
 use Rattle.redo_line.specs.declared.entry.Entry.TheVariants.{Text}
@@ -16,10 +15,10 @@ use Rattle.redo_line.specs.declared.record.Kind.{Kind}
 use Rattle.redo_line.specs.Entry.{behind_mark, line_entry, done, done_parted, said, record_entry, entry_of}
 use Rattle.redo_line.specs.Line.{bad_name}
 use Rattle.redo_line.specs.Private.Line.{IsRefused, ReadsInto}
-use Rattle.redo_line.specs.Private.Record.{kind_and_text}
+use Rattle.redo_line.specs.Private.Record.{parts_of}
 use Rattle.redo_name.specs.Names.{normal}
-use Rattle.redo_line.specs.Record.{mark, colon, at_sign, space, Fields, kind_of, fields_of, status_of}
-use Rattle.redo_line.proofs.RecordLemmas.{fields_read}
+use Rattle.redo_line.specs.Decimal.{number}
+use Rattle.redo_line.specs.Record.{mark, Fields, kind_of, fields_of, status_of}
 use Rattle.redo_line.proofs.Stripping.{behind_begins, behind_none}
 
 -- the entry that a name makes
@@ -50,9 +49,9 @@ pub named_read : (make : List ℕ → Entry) (target written mentioned : List �
 named_read make target written mentioned is = rw is refl
 
 -- a done record, by its parts
-pub done_by_parts : (target : List ℕ) (read : Option (List ℕ × List ℕ)) (status written : List ℕ) (value : ℤ) → read ≡ Some (status, written) → status_of status ≡ Some value
-    → done_parted target read ≡ of_name (λ mentioned. done target value mentioned) target written
-done_by_parts target read status written value parts is = rw (parts, is) refl
+pub done_by_parts : (target : List ℕ) (pid : ℕ) (read : Option (List ℕ × List ℕ)) (status written : List ℕ) (value : ℤ) → read ≡ Some (status, written) → status_of status ≡ Some value
+    → done_parted target pid read ≡ of_name (λ mentioned. done target pid value mentioned) target written
+done_by_parts target pid read status written value parts is = rw (parts, is) refl
 
 -- what stands behind the mark says what the line says
 pub at_mark : (target line : List ℕ) → pointwise nat_eq mark (take 7 line) ≡ true → entry_of target line true ≡ record_entry target (drop 7 line)
@@ -63,63 +62,30 @@ pub no_fields : (target bytes : List ℕ) → fields_of bytes ≡ None → recor
 unfolding record_entry
 no_fields target bytes is = rw is
 
-said_by : (target : List ℕ) (read : Option Fields) (kind text : List ℕ) → option_map kind_and_text read ≡ Some (kind, text)
-    → option_and_then (λ (fields : Fields). said target (kind_of fields.kind) fields.kind fields.text) read ≡ said target (kind_of kind) kind text
-said_by target None kind text is = absurd (cc)
-said_by target (Some fields) kind text is =
-    let same : kind_and_text fields ≡ (kind, text) = same_Some (kind_and_text fields) (kind, text) is in
-    ap (λ (parts : List ℕ × List ℕ). said target (kind_of parts.0) parts.0 parts.1) same
+said_by : (target : List ℕ) (read : Option Fields) (kind : List ℕ) (pid : ℕ) (text : List ℕ) → option_map parts_of read ≡ Some (kind, pid, text)
+    → option_and_then (λ (fields : Fields). said target (kind_of fields.kind) fields.kind (number fields.pid) fields.text) read ≡ said target (kind_of kind) kind pid text
+said_by target None kind pid text is = absurd (cc)
+said_by target (Some fields) kind pid text is =
+    let same : parts_of fields ≡ (kind, pid, text) = same_Some (parts_of fields) (kind, pid, text) is in
+    ap (λ (parts : List ℕ × ℕ × List ℕ). said target (kind_of parts.0) parts.0 parts.1 parts.2) same
 
-pub by_fields : (target bytes kind text : List ℕ) → option_map kind_and_text (fields_of bytes) ≡ Some (kind, text) → record_entry target bytes ≡ said target (kind_of kind) kind text
+pub by_fields : (target bytes kind : List ℕ) (pid : ℕ) (text : List ℕ) → option_map parts_of (fields_of bytes) ≡ Some (kind, pid, text) → record_entry target bytes ≡ said target (kind_of kind) kind pid text
 unfolding record_entry
-by_fields target bytes kind text is = said_by target (fields_of bytes) kind text is
+by_fields target bytes kind pid text is = said_by target (fields_of bytes) kind pid text is
 
 -- what `&line[7..]` shows
 pub behind_line : (shown line : List ℕ) → shown ≡ line → take (length shown - 7) (drop 7 shown) ≡ drop 7 line
 behind_line shown line is = take_rest shown 7 ∙ ap (drop 7) is
 
 -- what a record says, by its parts
-pub what_it_says : (target line shown kind text : List ℕ) (text_kind : Kind) → pointwise nat_eq mark (take 7 line) ≡ true → shown ≡ line
-    → option_map kind_and_text (fields_of (take (length shown - 7) (drop 7 shown))) ≡ Some (kind, text) → text_kind ≡ kind_of kind → entry_of target line true ≡ said target text_kind kind text
-what_it_says target line shown kind text text_kind begins shown_is parts is =
+pub what_it_says : (target line shown kind : List ℕ) (pid : ℕ) (text : List ℕ) (text_kind : Kind) → pointwise nat_eq mark (take 7 line) ≡ true → shown ≡ line
+    → option_map parts_of (fields_of (take (length shown - 7) (drop 7 shown))) ≡ Some (kind, pid, text) → text_kind ≡ kind_of kind → entry_of target line true ≡ said target text_kind kind pid text
+what_it_says target line shown kind pid text text_kind begins shown_is parts is =
     let bytes = take (length shown - 7) (drop 7 shown) in
-    at_mark target line begins ∙ ap (record_entry target) (sym (behind_line shown line shown_is)) ∙ by_fields target bytes kind text parts ∙ ap (λ k. said target k kind text) (sym is)
+    at_mark target line begins ∙ ap (record_entry target) (sym (behind_line shown line shown_is)) ∙ by_fields target bytes kind pid text parts ∙ ap (λ k. said target k kind pid text) (sym is)
 
 pub what_none_says : (target line bytes : List ℕ) → pointwise nat_eq mark (take 7 line) ≡ true → bytes ≡ drop 7 line → fields_of bytes ≡ None → entry_of target line true ≡ None
 what_none_says target line bytes begins bytes_are none = at_mark target line begins ∙ ap (record_entry target) (sym bytes_are) ∙ no_fields target bytes none
-
--- bytes stand at the end of a line
-abbrev pub Ends : List ℕ → List ℕ → Type 0
-Ends line text = (front : List ℕ) × (line ≡ front ++ text)
-
-text_behind : (fields : Fields) (bytes : List ℕ) → bytes ≡ fields.kind ++ colon ∷ (fields.pid ++ colon ∷ (fields.time ++ at_sign ∷ at_sign ∷ space ∷ fields.text))
-    → bytes ≡ (fields.kind ++ colon ∷ (fields.pid ++ colon ∷ fields.time ++ at_sign ∷ at_sign ∷ space ∷ [])) ++ fields.text
-text_behind fields bytes is = is ∙ simp append_assoc
-
-ends_by : (read : Option Fields) (bytes kind text : List ℕ) → fields_of bytes ≡ read → option_map kind_and_text read ≡ Some (kind, text) → Ends bytes text
-ends_by None bytes kind text is parts = absurd (none-some (kind, text) parts)
-ends_by (Some fields) bytes kind text is parts =
-    let same : kind_and_text fields ≡ (kind, text) = same_Some (kind_and_text fields) (kind, text) parts in
-    let writes = fields_read bytes fields is in
-    let behind_colons = fields.pid ++ colon ∷ fields.time ++ at_sign ∷ at_sign ∷ space ∷ [] in (
-      fields.kind ++ colon ∷ behind_colons,
-      text_behind fields
-          bytes writes.0 ∙ ap (λ (parts : List ℕ × List ℕ). (fields.kind ++ colon ∷ behind_colons) ++ parts.1) same,
-    )
-
-pub text_ends : (line bytes kind text : List ℕ) → bytes ≡ drop 7 line → option_map kind_and_text (fields_of bytes) ≡ Some (kind, text) → Ends line text
-text_ends line bytes kind text bytes_are parts =
-    let ends = ends_by (fields_of bytes) bytes kind text refl parts in
-    (take 7 line ++ ends.0, sym (take-append-drop 7 line) ∙ ap (λ (bs : List ℕ). take 7 line ++ bs) (sym bytes_are ∙ ends.1) ∙ sym (append_assoc (take 7 line) ends.0 text))
-
-pub end_fits : (line text : List ℕ) → Ends line text → length text ≤ length line
-end_fits line text ends = let sum = ap length ends.1 ∙ length-append ends.0 text in omega (arith, sum)
-
-pub end_is : (line text : List ℕ) → Ends line text → drop (length line - length text) line ≡ text
-end_is line text ends =
-    let sum = ap length ends.1 ∙ length-append ends.0 text in
-    let count : length line - length text ≡ length ends.0 = omega (arith, sum) in
-    ap (λ n. drop n line) count ∙ ap (drop (length ends.0)) ends.1 ∙ drop-append_seam ends.0 text
 
 -- no memory for what there is
 pub no_memory : (read : Option Entry) (entry : Entry) → read ≡ Some entry → IsRefused OutOfMemory read

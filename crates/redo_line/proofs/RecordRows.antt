@@ -36,20 +36,24 @@ rows =
     text (codes "x @@REDO:do:7:1@@ a") ∷
     text (codes "@@REDO") ∷
     unended (codes "@@REDO:do:7:1.0000@@ a") ∷
-    row (codes "@@REDO:do:7:1.0000@@ a") (Some (Mention Made (codes "a"))) ∷
-    row (codes "@@REDO:do:007:1@@ ./a b") (Some (Mention Made (codes "a b"))) ∷
-    row (codes "@@REDO:waiting:7:1@@ d/x") (Some (Mention Waiting (codes "d/x"))) ∷
-    row (codes "@@REDO:locked:7:1@@ x") (Some (Mention Locked (codes "x"))) ∷
-    row (codes "@@REDO:unlocked:7:1@@ x") (Some (Mention Unlocked (codes "x"))) ∷
-    row (codes "@@REDO:unchanged:7:1@@ x") (Some (Mention Unchanged (codes "x"))) ∷
-    row (codes "@@REDO:done:7:1@@ 2 b") (Some (Done (pos 2) (codes "b"))) ∷
-    row (codes "@@REDO:done:7:1@@ -11 b") (Some (Done (negsuc 10) (codes "b"))) ∷
-    row (codes "@@REDO:done:7:1@@ -12 b") (Some (Done (negsuc 11) (codes "b"))) ∷
-    row (codes "@@REDO:done:7:1@@ -0 b") (Some (Done (pos 0) (codes "b"))) ∷
-    row (codes "@@REDO:done:7:1@@ 007  b") (Some (Done (pos 7) (codes " b"))) ∷
-    row (codes "@@REDO:done:7:1@@ 0 ./all") (Some (Closing (pos 0))) ∷
-    row (codes "@@REDO:x-y_z:4294967295:1.123456789@@ ") (Some (Note (codes "x-y_z") [])) ∷
-    row (codes "@@REDO:check:7:12345678901234567890@@ b") (Some (Note (codes "check") (codes "b"))) ∷
+    row (codes "@@REDO:do:7:1.0000@@ a") (Some (Mention 7 Made (codes "a"))) ∷
+    row (codes "@@REDO:do:007:1@@ ./a b") (Some (Mention 7 Made (codes "a b"))) ∷
+    row (codes "@@REDO:do:0:1@@ a") (Some (Mention 0 Made (codes "a"))) ∷
+    row (codes "@@REDO:do:4294967295:1@@ a") (Some (Mention 4294967295 Made (codes "a"))) ∷
+    row (codes "@@REDO:waiting:7:1@@ d/x") (Some (Mention 7 Waiting (codes "d/x"))) ∷
+    row (codes "@@REDO:locked:7:1@@ x") (Some (Mention 7 Locked (codes "x"))) ∷
+    row (codes "@@REDO:unlocked:7:1@@ x") (Some (Mention 7 Unlocked (codes "x"))) ∷
+    row (codes "@@REDO:unchanged:7:1@@ x") (Some (Mention 7 Unchanged (codes "x"))) ∷
+    row (codes "@@REDO:done:7:1@@ 2 b") (Some (Done 7 (pos 2) (codes "b"))) ∷
+    row (codes "@@REDO:done:7:1@@ -11 b") (Some (Done 7 (negsuc 10) (codes "b"))) ∷
+    row (codes "@@REDO:done:7:1@@ -12 b") (Some (Done 7 (negsuc 11) (codes "b"))) ∷
+    row (codes "@@REDO:done:7:1@@ -0 b") (Some (Done 7 (pos 0) (codes "b"))) ∷
+    row (codes "@@REDO:done:7:1@@ 007  b") (Some (Done 7 (pos 7) (codes " b"))) ∷
+    row (codes "@@REDO:done:7:1@@ 0 ./all") (Some (Closing 7 (pos 0))) ∷
+    row (codes "@@REDO:done:0000001234:1@@ 0 all") (Some (Closing 1234 (pos 0))) ∷
+    row (codes "@@REDO:done:0000001230:1@@ 1 b") (Some (Done 1230 (pos 1) (codes "b"))) ∷
+    row (codes "@@REDO:x-y_z:4294967295:1.123456789@@ ") (Some (Note 4294967295 (codes "x-y_z") [])) ∷
+    row (codes "@@REDO:check:7:12345678901234567890@@ b") (Some (Note 7 (codes "check") (codes "b"))) ∷
     bad (codes "@@REDO:") ∷
     bad (codes "@@REDO:do:7") ∷
     bad (codes "@@REDO::7:1@@ a") ∷
@@ -70,17 +74,17 @@ rows =
 
 all_rows : AllByRecursion (λ row. entry_of (codes "all") row.line row.ended ≡ row.entry) rows
 unfolding entry_of record_entry fields_of status_of parted behind number normal from_back
-all_rows = (refl, (refl, (refl, (refl, (refl, (refl, (refl, (refl, (refl, (refl, (refl, (refl, (refl, (refl, (refl, (refl, (refl, (refl, (refl, (refl, (refl, (refl, (refl, (refl, (refl, (refl, (refl, (refl, (refl, (refl, (refl, (refl, (refl, (refl, (refl, (refl, tt))))))))))))))))))))))))))))))))))))
+all_rows = (refl, (refl, (refl, (refl, (refl, (refl, (refl, (refl, (refl, (refl, (refl, (refl, (refl, (refl, (refl, (refl, (refl, (refl, (refl, (refl, (refl, (refl, (refl, (refl, (refl, (refl, (refl, (refl, (refl, (refl, (refl, (refl, (refl, (refl, (refl, (refl, (refl, (refl, (refl, (refl, tt))))))))))))))))))))))))))))))))))))))))
 
 -- in the log of another target names are relative to its directory
-in_a_directory : entry_of (codes "d/a") (codes "@@REDO:do:7:1@@ ../e//x") true ≡ Some (Mention Made (codes "e/x"))
+in_a_directory : entry_of (codes "d/a") (codes "@@REDO:do:7:1@@ ../e//x") true ≡ Some (Mention 7 Made (codes "e/x"))
 unfolding entry_of record_entry fields_of status_of parted behind number normal from_back
 in_a_directory = refl
 
-closes_by_its_resolved_name : entry_of (codes "d/a") (codes "@@REDO:done:7:1@@ 0 ../d/a") true ≡ Some (Closing (pos 0))
+closes_by_its_resolved_name : entry_of (codes "d/a") (codes "@@REDO:done:7:1@@ 0 ../d/a") true ≡ Some (Closing 7 (pos 0))
 unfolding entry_of record_entry fields_of status_of parted behind number normal from_back
 closes_by_its_resolved_name = refl
 
-not_by_the_name_as_written : entry_of (codes "d/a") (codes "@@REDO:done:7:1@@ 0 d/a") true ≡ Some (Done (pos 0) (codes "d/d/a"))
+not_by_the_name_as_written : entry_of (codes "d/a") (codes "@@REDO:done:7:1@@ 0 d/a") true ≡ Some (Done 7 (pos 0) (codes "d/d/a"))
 unfolding entry_of record_entry fields_of status_of parted behind number normal from_back
 not_by_the_name_as_written = refl

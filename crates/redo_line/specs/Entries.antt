@@ -13,10 +13,10 @@ module _ (bytes names : List ℕ) where
   -- the entry that stands there
   abbrev pub entry_at : EntryAt → Entry
   entry_at (Text start end) = entry.Text (slice_range bytes start end)
-  entry_at (Mention how start end) = entry.Mention how (slice_range names start end)
-  entry_at (Done status start end) = entry.Done status (slice_range names start end)
-  entry_at (Closing status) = entry.Closing status
-  entry_at (Note start middle end) = entry.Note (slice_range bytes start middle) (slice_range bytes middle end)
+  entry_at (Mention pid how start end) = entry.Mention pid how (slice_range names start end)
+  entry_at (Done pid status start end) = entry.Done pid status (slice_range names start end)
+  entry_at (Closing pid status) = entry.Closing pid status
+  entry_at (Note pid start middle end) = entry.Note pid (slice_range bytes start middle) (slice_range bytes middle end)
 
   abbrev pub IsNameAt : ℕ → ℕ → Type 0
   IsNameAt start end = (start ≤ end) × (end ≤ length names) × IsNormal (slice_range names start end)
@@ -24,10 +24,10 @@ module _ (bytes names : List ℕ) where
   -- its texts are there, behind a line stands a line feed, and a name is a normal form
   abbrev pub IsWithin : EntryAt → Type 0
   IsWithin (Text start end) = (start ≤ end) × (slice_get bytes end ≡ Some line_feed)
-  IsWithin (Mention how start end) = IsNameAt start end
-  IsWithin (Done status start end) = IsNameAt start end
-  IsWithin (Closing status) = ⊤
-  IsWithin (Note start middle end) = (start ≤ middle) × (middle ≤ end) × (end ≤ length bytes)
+  IsWithin (Mention pid how start end) = IsNameAt start end
+  IsWithin (Done pid status start end) = IsNameAt start end
+  IsWithin (Closing pid status) = ⊤
+  IsWithin (Note pid start middle end) = (start ≤ middle) × (middle ≤ end) × (end ≤ length bytes)
 
   abbrev pub entries_at : List EntryAt → List Entry
   entries_at places = map entry_at places

@@ -6,15 +6,16 @@ use Rattle.redo_line.specs.declared.entry.Entry.TheVariants.{Text, Mention, Done
 use Rattle.redo_line.specs.declared.record.Kind.{Kind}
 use Rattle.redo_line.specs.declared.record.Kind.TheVariants as kind
 use Rattle.redo_name.specs.Names.{normal}
+use Rattle.redo_line.specs.Decimal.{number}
 use Rattle.redo_line.specs.Parts.{parted, behind}
 use Rattle.redo_line.specs.Record.{mark, space, kind_of, Fields, IsRecord, IsStatus, fields_of, status_of}
 
 -- a target that is done: in its own log, that closes the log
-abbrev pub done : List ℕ → ℤ → List ℕ → Entry
-done target status name = if bytes_eq name target then Closing status else Done status name
+abbrev pub done : List ℕ → ℕ → ℤ → List ℕ → Entry
+done target pid status name = if bytes_eq name target then Closing pid status else Done pid status name
 
 -- what a done record says: a status, a space and a name
-pub record SaysDone (target text : List ℕ) (entry : Entry) : Type 0 where
+pub record SaysDone (target : List ℕ) (pid : ℕ) (text : List ℕ) (entry : Entry) : Type 0 where
   pub status : List ℕ
   pub value : ℤ
   pub written : List ℕ
@@ -22,13 +23,13 @@ pub record SaysDone (target text : List ℕ) (entry : Entry) : Type 0 where
   pub whole : text ≡ status ++ space ∷ written
   pub status_is : IsStatus status value
   pub name_is : normal (Some target) written ≡ Some name
-  pub entry_is : entry ≡ done target value name
+  pub entry_is : entry ≡ done target pid value name
 
--- what a record of this kind and text says in the log of a target
-abbrev pub Says : List ℕ → Kind → List ℕ → List ℕ → Entry → Type 0
-Says target (kind.Mention how) name text entry = (mentioned : List ℕ) × (normal (Some target) text ≡ Some mentioned) × (entry ≡ Mention how mentioned)
-Says target kind.Done name text entry = SaysDone target text entry
-Says target kind.Note name text entry = entry ≡ Note name text
+-- what a record of this kind, pid and text says in the log of a target
+abbrev pub Says : List ℕ → Kind → List ℕ → ℕ → List ℕ → Entry → Type 0
+Says target (kind.Mention how) name pid text entry = (mentioned : List ℕ) × (normal (Some target) text ≡ Some mentioned) × (entry ≡ Mention pid how mentioned)
+Says target kind.Done name pid text entry = SaysDone target pid text entry
+Says target kind.Note name pid text entry = entry ≡ Note pid name text
 
 -- a line that begins with a record's mark, and is ended
 abbrev pub IsCandidate : List ℕ → Bool → Type 0
@@ -38,7 +39,7 @@ IsCandidate line ended = (ended ≡ true) × ((bytes : List ℕ) × (line ≡ ma
 pub record IsRecordEntry (target line : List ℕ) (entry : Entry) : Type 0 where
   pub fields : Fields
   pub fields_are : IsRecord line fields
-  pub says : Says target (kind_of fields.kind) fields.kind fields.text entry
+  pub says : Says target (kind_of fields.kind) fields.kind (number fields.pid) fields.text entry
 
 -- A line that is no candidate is text, and a candidate is a record, or has no entry.
 abbrev pub IsEntry : List ℕ → List ℕ → Bool → Entry → Type 0
@@ -47,19 +48,19 @@ IsEntry target line ended entry =
     ⊎ (IsCandidate line ended × IsRecordEntry target line entry)
 
 -- The same, computed.
-abbrev pub done_parted : List ℕ → Option (List ℕ × List ℕ) → Option Entry
-done_parted target None = None
-done_parted target (Some parts) =
-    option_and_then (λ (status : ℤ). option_and_then (λ (name : List ℕ). Some (done target status name)) (normal (Some target) parts.1)) (status_of parts.0)
+abbrev pub done_parted : List ℕ → ℕ → Option (List ℕ × List ℕ) → Option Entry
+done_parted target pid None = None
+done_parted target pid (Some parts) =
+    option_and_then (λ (status : ℤ). option_and_then (λ (name : List ℕ). Some (done target pid status name)) (normal (Some target) parts.1)) (status_of parts.0)
 
-abbrev pub said : List ℕ → Kind → List ℕ → List ℕ → Option Entry
-said target (kind.Mention how) name text = option_and_then (λ (mentioned : List ℕ). Some (Mention how mentioned)) (normal (Some target) text)
-said target kind.Done name text = done_parted target (parted space text)
-said target kind.Note name text = Some (Note name text)
+abbrev pub said : List ℕ → Kind → List ℕ → ℕ → List ℕ → Option Entry
+said target (kind.Mention how) name pid text = option_and_then (λ (mentioned : List ℕ). Some (Mention pid how mentioned)) (normal (Some target) text)
+said target kind.Done name pid text = done_parted target pid (parted space text)
+said target kind.Note name pid text = Some (Note pid name text)
 
 -- the entry of a record, from what stands behind its mark
 unfoldable pub record_entry : List ℕ → List ℕ → Option Entry
-record_entry target bytes = option_and_then (λ (fields : Fields). said target (kind_of fields.kind) fields.kind fields.text) (fields_of bytes)
+record_entry target bytes = option_and_then (λ (fields : Fields). said target (kind_of fields.kind) fields.kind (number fields.pid) fields.text) (fields_of bytes)
 
 abbrev pub line_entry : List ℕ → List ℕ → Option (List ℕ) → Option Entry
 line_entry target line None = Some (Text line)

@@ -15,11 +15,11 @@ stream_of bytes fails = record { bytes = bytes; fails = fails }
 
 -- an entry behind which nothing may stand
 abbrev pub closes : Option Entry → Bool
-closes (Some (Closing status)) = true
+closes (Some (Closing pid status)) = true
 closes (Some (Text line)) = false
-closes (Some (Mention how name)) = false
-closes (Some (Done status name)) = false
-closes (Some (Note kind text)) = false
+closes (Some (Mention pid how name)) = false
+closes (Some (Done pid status name)) = false
+closes (Some (Note pid kind text)) = false
 closes None = false
 
 -- a line right behind one that closes the log

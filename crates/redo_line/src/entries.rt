@@ -21,20 +21,24 @@ pub enum EntryAt {
         end: usize,
     },
     Mention {
+        pid: u32,
         how: How,
         start: usize,
         end: usize,
     },
     Done {
+        pid: u32,
         status: i32,
         start: usize,
         end: usize,
     },
     Closing {
+        pid: u32,
         status: i32,
     },
     /// The text stands behind the kind.
     Note {
+        pid: u32,
         start: usize,
         middle: usize,
         end: usize,
@@ -152,10 +156,10 @@ impl Entries {
     {
         match entry {
             Entry::Text(line) => self.push_joined(line.into_vec()),
-            Entry::Mention { how, name } => self.push_mention(how, name.bytes()),
-            Entry::Done { status, name } => self.push_done(status, name.bytes()),
-            Entry::Closing { status } => self.push_closing(status),
-            Entry::Note { kind, text } => self.push_note(kind.bytes(), text.bytes()),
+            Entry::Mention { pid, how, name } => self.push_mention(pid, how, name.bytes()),
+            Entry::Done { pid, status, name } => self.push_done(pid, status, name.bytes()),
+            Entry::Closing { pid, status } => self.push_closing(pid, status),
+            Entry::Note { pid, kind, text } => self.push_note(pid, kind.bytes(), text.bytes()),
         }
     }
 
@@ -195,41 +199,56 @@ impl Entries {
         Ok(())
     }
 
-    pub(crate) fn push_mention(&mut self, how: How, name: &[u8]) -> Result<(), AllocError>
+    pub(crate) fn push_mention(&mut self, pid: u32, how: How, name: &[u8]) -> Result<(), AllocError>
         requires { IsNormal name.now }
-        ensures pushed { OnOk result (self.new ≡ self.old ++ Mention how name.now ∷ []) }
+        ensures pushed { OnOk result (self.new ≡ self.old ++ Mention pid how name.now ∷ []) }
         ensures err { OnErr result (self.new ≡ self.old) }
     {
         let (start, end) = put(&mut self.names, name)?;
-        self.places.push(EntryAt::Mention { how, start, end })?;
+        self.places.push(EntryAt::Mention {
+            pid,
+            how,
+            start,
+            end,
+        })?;
         Ok(())
     }
 
-    pub(crate) fn push_done(&mut self, status: i32, name: &[u8]) -> Result<(), AllocError>
+    pub(crate) fn push_done(&mut self, pid: u32, status: i32, name: &[u8]) -> Result<(), AllocError>
         requires { IsNormal name.now }
-        ensures pushed { OnOk result (self.new ≡ self.old ++ Done status name.now ∷ []) }
+        ensures pushed { OnOk result (self.new ≡ self.old ++ Done pid status name.now ∷ []) }
         ensures err { OnErr result (self.new ≡ self.old) }
     {
         let (start, end) = put(&mut self.names, name)?;
-        self.places.push(EntryAt::Done { status, start, end })?;
+        self.places.push(EntryAt::Done {
+            pid,
+            status,
+            start,
+            end,
+        })?;
         Ok(())
     }
 
-    pub(crate) fn push_closing(&mut self, status: i32) -> Result<(), AllocError>
-        ensures pushed { OnOk result (self.new ≡ self.old ++ Closing status ∷ []) }
+    pub(crate) fn push_closing(&mut self, pid: u32, status: i32) -> Result<(), AllocError>
+        ensures pushed { OnOk result (self.new ≡ self.old ++ Closing pid status ∷ []) }
         ensures err { OnErr result (self.new ≡ self.old) }
     {
-        self.places.push(EntryAt::Closing { status })?;
+        self.places.push(EntryAt::Closing { pid, status })?;
         Ok(())
     }
 
-    pub(crate) fn push_note(&mut self, kind: &[u8], text: &[u8]) -> Result<(), AllocError>
-        ensures pushed { OnOk result (self.new ≡ self.old ++ Note kind.now text.now ∷ []) }
+    pub(crate) fn push_note(&mut self, pid: u32, kind: &[u8], text: &[u8]) -> Result<(), AllocError>
+        ensures pushed { OnOk result (self.new ≡ self.old ++ Note pid kind.now text.now ∷ []) }
         ensures err { OnErr result (self.new ≡ self.old) }
     {
         let (start, middle) = put(&mut self.bytes, kind)?;
         let (_, end) = put(&mut self.bytes, text)?;
-        self.places.push(EntryAt::Note { start, middle, end })?;
+        self.places.push(EntryAt::Note {
+            pid,
+            start,
+            middle,
+            end,
+        })?;
         Ok(())
     }
 }
@@ -244,19 +263,34 @@ fn copy_at(alloc: Global, bytes: &[u8], names: &[u8], place: EntryAt) -> Result<
             let text = LineText::copy_of(alloc, &bytes[start..end])?;
             Ok(Entry::Text(text))
         }
-        EntryAt::Mention { how, start, end } => {
+        EntryAt::Mention {
+            pid,
+            how,
+            start,
+            end,
+        } => {
             let name = TargetName::of_normal(alloc, &names[start..end])?;
-            Ok(Entry::Mention { how, name })
+            Ok(Entry::Mention { pid, how, name })
         }
-        EntryAt::Done { status, start, end } => {
+        EntryAt::Done {
+            pid,
+            status,
+            start,
+            end,
+        } => {
             let name = TargetName::of_normal(alloc, &names[start..end])?;
-            Ok(Entry::Done { status, name })
+            Ok(Entry::Done { pid, status, name })
         }
-        EntryAt::Closing { status } => Ok(Entry::Closing { status }),
-        EntryAt::Note { start, middle, end } => {
+        EntryAt::Closing { pid, status } => Ok(Entry::Closing { pid, status }),
+        EntryAt::Note {
+            pid,
+            start,
+            middle,
+            end,
+        } => {
             let kind = LineText::copy_of(alloc, &bytes[start..middle])?;
             let text = LineText::copy_of(alloc, &bytes[middle..end])?;
-            Ok(Entry::Note { kind, text })
+            Ok(Entry::Note { pid, kind, text })
         }
     }
 }

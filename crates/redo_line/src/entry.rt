@@ -16,17 +16,33 @@ pub enum How {
     Unchanged,
 }
 
-/// What a line of a log says. Names are resolved: docs/format.md has the rules.
+/// What a line of a log says. Names are resolved, and a pid is that of the process that wrote the record:
+/// docs/format.md has the rules.
 #[derive(Debug, Drop)]
 pub enum Entry {
     /// A line that is no record, as it is.
     Text(LineText),
     /// Another target, or this one, comes up.
-    Mention { how: How, name: TargetName },
+    Mention {
+        pid: u32,
+        how: How,
+        name: TargetName,
+    },
     /// Another target is done, with this status.
-    Done { status: i32, name: TargetName },
+    Done {
+        pid: u32,
+        status: i32,
+        name: TargetName,
+    },
     /// The log's own target is done, which closes the log.
-    Closing { status: i32 },
+    Closing {
+        pid: u32,
+        status: i32,
+    },
     /// A record of any other kind.
-    Note { kind: LineText, text: LineText },
+    Note {
+        pid: u32,
+        kind: LineText,
+        text: LineText,
+    },
 }

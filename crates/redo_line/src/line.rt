@@ -122,12 +122,12 @@ fn read_record(
     match kind_of(fields.kind) {
         Kind::Mention(how) => {
             resolve_to(path, Some(target), fields.text)?;
-            entries.push_mention(how, path)?;
+            entries.push_mention(fields.pid, how, path)?;
             Ok(false)
         }
-        Kind::Done => read_done(entries, path, target, fields.text),
+        Kind::Done => read_done(entries, path, target, fields.pid, fields.text),
         Kind::Note => {
-            entries.push_note(fields.kind, fields.text)?;
+            entries.push_note(fields.pid, fields.kind, fields.text)?;
             Ok(false)
         }
     }
@@ -137,9 +137,10 @@ fn read_done(
     entries: &mut Entries,
     path: &mut Vec<u8>,
     target: &TargetName,
+    pid: u32,
     text: &[u8],
 ) -> Result<bool, LineFault>
-    ensures { ReadsInto result (done_parted target.now (parted space text.now)) entries.old entries.new }
+    ensures { ReadsInto result (done_parted target.now pid (parted space text.now)) entries.old entries.new }
 {
     let Some((status, name)) = split_at_first(b' ', text) else {
         return Err(LineFault::BadRecord);
@@ -150,9 +151,9 @@ fn read_done(
     resolve_to(path, Some(target), name)?;
     let closes = path.as_slice() == target.bytes();
     if closes {
-        entries.push_closing(status)?;
+        entries.push_closing(pid, status)?;
     } else {
-        entries.push_done(status, path)?;
+        entries.push_done(pid, status, path)?;
     }
     Ok(closes)
 }

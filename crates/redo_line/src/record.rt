@@ -1,7 +1,7 @@
 ghost use Rattle.std.specs.Prelude.{◌≡◌, ◌≢◌, ◌<◌, [], None, Some, IfSome, IfNone, length, option_map};
 ghost use Rattle.std.specs.List.{list_all};
 ghost use Rattle.redo_line.specs.Decimal.{are_digits};
-ghost use Rattle.redo_line.specs.Private.Record.{kind_and_text};
+ghost use Rattle.redo_line.specs.Private.Record.{parts_of, pid_of};
 ghost use Rattle.redo_line.specs.Record as spec;
 
 use crate::decimal::{are_digits, read_number};
@@ -33,20 +33,26 @@ pub enum Kind {
 #[derive(Clone, Copy)]
 pub struct Fields<'a> {
     pub kind: &'a [u8],
+    pub pid: u32,
     pub text: &'a [u8],
 }
 
 // Reads a record from what stands behind its mark.
 pub fn read_fields(bytes: &[u8]) -> Option<Fields<'_>>
-    ensures some { IfSome result (λ read. option_map kind_and_text (spec.fields_of bytes.now) ≡ Some (read.kind.now, read.text.now)) }
+    ensures some { IfSome result (λ read. option_map parts_of (spec.fields_of bytes.now) ≡ Some (read.kind.now, read.pid, read.text.now)) }
     ensures none { IfNone result (spec.fields_of bytes.now ≡ None) }
 {
     let (kind, behind) = split_at_first(b':', bytes)?;
     let (pid, behind) = split_at_first(b':', behind)?;
     let (time, behind) = split_at_first(b'@', behind)?;
     let text = behind.strip_prefix(b"@ ")?;
-    if is_kind(kind) && is_pid(pid) && is_time(time) {
-        Some(Fields { kind, text })
+    let number = read_pid(pid)?;
+    if is_kind(kind) && is_time(time) {
+        Some(Fields {
+            kind,
+            pid: number,
+            text,
+        })
     } else {
         None
     }
@@ -70,13 +76,12 @@ fn is_kind_byte(byte: u8) -> bool
     byte.is_ascii_lowercase() || byte == b'-' || byte == b'_'
 }
 
-fn is_pid(pid: &[u8]) -> bool
-    ensures { result ≡ spec.is_pid pid.now }
+// What a pid stands for.
+fn read_pid(pid: &[u8]) -> Option<u32>
+    ensures { result ≡ pid_of pid.now }
 {
-    match read_number(10, pid) {
-        Some(number) => number <= u64::from(u32::MAX),
-        None => false,
-    }
+    let number = read_number(10, pid)?;
+    u32::try_from(number).ok()
 }
 
 fn is_time(time: &[u8]) -> bool

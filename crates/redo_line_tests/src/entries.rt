@@ -7,24 +7,31 @@ use std::process::Abort;
 use std::test::Fail;
 
 /// A line in the log of `all`, and its entry.
-static ENTRIES: [(&str, &str); 17] = [
+static ENTRIES: [(&str, &str); 21] = [
     ("hello", "text|hello"),
     ("", "text|"),
     ("x @@REDO:do:7:1@@ a", "text|x @@REDO:do:7:1@@ a"),
     ("@@REDO", "text|@@REDO"),
-    ("@@REDO:do:7:1.0000@@ a", "do|a"),
-    ("@@REDO:do:007:1@@ ./a b", "do|a b"),
-    ("@@REDO:waiting:7:1@@ d/x", "waiting|d/x"),
-    ("@@REDO:locked:7:1@@ x", "locked|x"),
-    ("@@REDO:unlocked:7:1@@ x", "unlocked|x"),
-    ("@@REDO:unchanged:7:1@@ x", "unchanged|x"),
-    ("@@REDO:done:7:1@@ 2 b", "done|2|b"),
-    ("@@REDO:done:7:1@@ -11 b", "done|-11|b"),
-    ("@@REDO:done:7:1@@ -0 b", "done|0|b"),
-    ("@@REDO:done:7:1@@ 007  b", "done|7| b"),
-    ("@@REDO:done:7:1@@ 0 ./all", "closing|0"),
-    ("@@REDO:x-y_z:4294967295:1.123456789@@ ", "note|x-y_z|"),
-    ("@@REDO:check:7:12345678901234567890@@ b", "note|check|b"),
+    ("@@REDO:do:7:1.0000@@ a", "do|7|a"),
+    ("@@REDO:do:007:1@@ ./a b", "do|7|a b"),
+    ("@@REDO:do:0:1@@ a", "do|0|a"),
+    ("@@REDO:do:4294967295:1@@ a", "do|4294967295|a"),
+    ("@@REDO:waiting:7:1@@ d/x", "waiting|7|d/x"),
+    ("@@REDO:locked:7:1@@ x", "locked|7|x"),
+    ("@@REDO:unlocked:7:1@@ x", "unlocked|7|x"),
+    ("@@REDO:unchanged:7:1@@ x", "unchanged|7|x"),
+    ("@@REDO:done:7:1@@ 2 b", "done|7|2|b"),
+    ("@@REDO:done:7:1@@ -11 b", "done|7|-11|b"),
+    ("@@REDO:done:7:1@@ -0 b", "done|7|0|b"),
+    ("@@REDO:done:7:1@@ 007  b", "done|7|7| b"),
+    ("@@REDO:done:0000001230:1@@ 1 b", "done|1230|1|b"),
+    ("@@REDO:done:7:1@@ 0 ./all", "closing|7|0"),
+    ("@@REDO:done:0000001234:1@@ 0 all", "closing|1234|0"),
+    (
+        "@@REDO:x-y_z:4294967295:1.123456789@@ ",
+        "note|4294967295|x-y_z|",
+    ),
+    ("@@REDO:check:7:12345678901234567890@@ b", "note|7|check|b"),
 ];
 
 /// Lines that begin as a record does, and are none.
@@ -119,12 +126,12 @@ fn an_unended_line_is_text(rt: HostRuntime) -> Result<(), Fail> {
 
 /// A line in the log of `d/a`, and its entry.
 static OF_D_A: [(&str, &str); 6] = [
-    ("@@REDO:do:7:1@@ ../e//x", "do|e/x"),
-    ("@@REDO:do:7:1@@ b", "do|d/b"),
-    ("@@REDO:done:7:1@@ 3 a", "closing|3"),
-    ("@@REDO:done:7:1@@ 3 ../d/a", "closing|3"),
-    ("@@REDO:done:7:1@@ 3 d/a", "done|3|d/d/a"),
-    ("@@REDO:note:7:1@@ d/a", "note|note|d/a"),
+    ("@@REDO:do:7:1@@ ../e//x", "do|7|e/x"),
+    ("@@REDO:do:7:1@@ b", "do|7|d/b"),
+    ("@@REDO:done:7:1@@ 3 a", "closing|7|3"),
+    ("@@REDO:done:7:1@@ 3 ../d/a", "closing|7|3"),
+    ("@@REDO:done:7:1@@ 3 d/a", "done|7|3|d/d/a"),
+    ("@@REDO:note:7:1@@ d/a", "note|7|note|d/a"),
 ];
 
 #[test]

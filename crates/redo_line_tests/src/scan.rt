@@ -200,16 +200,16 @@ static ENTRIES: [(&str, &str, &str); 8] = [
     ("all", "x", "text|x\n"),
     ("all", "@@REDO:do:7", "text|@@REDO:do:7\n"),
     ("all", "\n\nx", "text|\ntext|\ntext|x\n"),
-    ("a", "@@REDO:done:7:1.0000@@ 0 a\n", "closing|0\n"),
+    ("a", "@@REDO:done:7:1.0000@@ 0 a\n", "closing|7|0\n"),
     (
         "a",
-        "@@REDO:do:7:1@@ b\nt\n@@REDO:done:7:1@@ 1 a",
-        "do|b\ntext|t\ntext|@@REDO:done:7:1@@ 1 a\n",
+        "@@REDO:do:12:1@@ b\nt\n@@REDO:done:7:1@@ 1 a",
+        "do|12|b\ntext|t\ntext|@@REDO:done:7:1@@ 1 a\n",
     ),
     (
         "d/a",
-        "@@REDO:do:7:1@@ ../e//x\n@@REDO:done:7:1@@ 2 b\n",
-        "do|e/x\ndone|2|d/b\n",
+        "@@REDO:do:13:1@@ ../e//x\n@@REDO:done:014:1@@ 2 b\n",
+        "do|13|e/x\ndone|14|2|d/b\n",
     ),
 ];
 
@@ -238,19 +238,19 @@ static FAULTS: [(&str, &str, &str, StreamFault); 5] = [
     (
         "a",
         "@@REDO:done:7:1.0000@@ 0 a\nz",
-        "closing|0\n",
+        "closing|7|0\n",
         StreamFault::AfterClose { line: 2 },
     ),
     (
         "a",
         "@@REDO:done:7:1.0000@@ 0 a\n@@REDO:\n",
-        "closing|0\n",
+        "closing|7|0\n",
         StreamFault::AfterClose { line: 2 },
     ),
     (
         "a",
         "\n\n@@REDO:done:7:1@@ 0 ./a\n\n",
-        "text|\ntext|\nclosing|0\n",
+        "text|\ntext|\nclosing|7|0\n",
         StreamFault::AfterClose { line: 4 },
     ),
 ];
@@ -283,18 +283,18 @@ static LIMITED: [Limited; 10] = [
         "a",
         28,
         CLOSING_AND_MORE,
-        "closing|0\n",
+        "closing|7|0\n",
         Some(StreamFault::AfterClose { line: 2 }),
     ),
     (
         "a",
         27,
         CLOSING_AND_MORE,
-        "closing|0\n",
+        "closing|7|0\n",
         Some(StreamFault::TooLong),
     ),
     ("a", 26, CLOSING_AND_MORE, "", Some(StreamFault::TooLong)),
-    ("a", 27, CLOSING, "closing|0\n", None),
+    ("a", 27, CLOSING, "closing|7|0\n", None),
     ("a", 26, CLOSING, "", Some(StreamFault::TooLong)),
     (
         "all",

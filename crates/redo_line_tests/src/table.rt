@@ -147,11 +147,12 @@ fn a_log_has_the_entries_that_were_added(rt: HostRuntime) -> Result<(), Fail> {
 }
 
 /// Lines that say different things.
-static SAID: [&str; 4] = [
-    "@@REDO:do:7:1@@ c",
-    "@@REDO:done:7:1@@ -2 c",
-    "@@REDO:check:7:1@@ yes",
-    "@@REDO:done:7:1@@ 3 b",
+static SAID: [&str; 5] = [
+    "@@REDO:do:4294967295:1@@ c",
+    "@@REDO:done:20:1@@ -2 c",
+    "@@REDO:check:301:1@@ yes",
+    "@@REDO:hint:4002:1@@ no",
+    "@@REDO:done:5:1@@ 3 b",
 ];
 
 fn add_to_both(rt: &(impl Abort + AllocGlobal), table: &mut LogTable) -> Result<(), Fail> {
@@ -161,7 +162,8 @@ fn add_to_both(rt: &(impl Abort + AllocGlobal), table: &mut LogTable) -> Result<
     expect(
         rt,
         table,
-        "a: Running\ntext|x\nb: Running\ndo|c\ndone|-2|c\nnote|check|yes\nclosing|3\n",
+        "a: Running\ntext|x\nb: Running\ndo|4294967295|c\ndone|20|-2|c\nnote|301|check|yes\n\
+         note|4002|hint|no\nclosing|5|3\n",
     )
 }
 
@@ -286,7 +288,7 @@ fn expect_mention(rt: &(impl Abort + AllocGlobal), table: &mut LogTable) -> Resu
 }
 
 fn expect_numbers(rt: &impl Abort, logs: &Numbered<'_>) -> Result<(), Fail> {
-    let Some(NumberedEntry::Mention { name, .. }) = logs.entry(0, 3) else {
+    let Some(NumberedEntry::Mention { pid: 1, name, .. }) = logs.entry(0, 3) else {
         return Err("no mention".into());
     };
     if name >= logs.names() || logs.len() < 2 {

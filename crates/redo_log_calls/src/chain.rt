@@ -47,7 +47,8 @@ fn enter_link(alloc: Global, table: &mut LogTable, number: u32) -> Option<()> {
     let stream = enter_number(alloc, table, number).ok()?;
     let name = numbered(alloc, number.checked_add(1)?)?;
     let how = How::Made;
-    add(table, stream, Entry::Mention { how, name })?.ok()?;
+    let pid = number;
+    add(table, stream, Entry::Mention { pid, how, name })?.ok()?;
     end(table, stream);
     Some(())
 }

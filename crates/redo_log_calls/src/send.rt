@@ -127,10 +127,15 @@ fn tell_place(rt: &impl Print, item: &Item, layout: &Layout<'_>, place: EntryAt)
             let line = layout.bytes.get(start..end).unwrap_or(b"".as_slice());
             println!(rt; "sender {sender}, stream {stream}: Text(LineText {{ bytes: {line:?} }})")
         }
-        EntryAt::Mention { how, start, end } => {
+        EntryAt::Mention {
+            pid,
+            how,
+            start,
+            end,
+        } => {
             let name = layout.names.get(start..end).unwrap_or(b"".as_slice());
             println!(rt;
-                "sender {sender}, stream {stream}: Mention {{ how: {how:?}, name: TargetName {{ bytes: {name:?} }} }}"
+                "sender {sender}, stream {stream}: Mention {{ pid: {pid}, how: {how:?}, name: TargetName {{ bytes: {name:?} }} }}"
             )
         }
         other => println!(rt; "sender {sender}, stream {stream}: {other:?}"),

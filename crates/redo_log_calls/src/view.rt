@@ -27,6 +27,7 @@ pub const DEEP: Options = Options {
     unchanged: false,
     details: true,
     debug_locks: false,
+    debug_pids: false,
 };
 
 /// A log that opens two others.

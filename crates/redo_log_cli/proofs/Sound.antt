@@ -191,42 +191,46 @@ HoldsOfBoth P = AllByRecursion P redo_log.top.rules × AllByRecursion P (built r
 
 recursive-parsed : HoldsOfBoth (IsParsedBy (codes "recursive") vp.Bool)
 unfolding redo_log
-recursive-parsed = ((λ _. refl, (other, (other, (other, (other, (other, (other, (other, tt)))))))), (λ _. refl, (other, (other, (other, (other, (other, (other, (other, (other, tt))))))))))
+recursive-parsed = ((λ _. refl, (other, (other, (other, (other, (other, (other, (other, (other, tt))))))))), (λ _. refl, (other, (other, (other, (other, (other, (other, (other, (other, (other, tt)))))))))))
 
 unchanged-parsed : HoldsOfBoth (IsParsedBy (codes "unchanged") vp.Bool)
 unfolding redo_log
-unchanged-parsed = ((other, (λ _. refl, (other, (other, (other, (other, (other, (other, tt)))))))), (other, (λ _. refl, (other, (other, (other, (other, (other, (other, (other, tt))))))))))
+unchanged-parsed = ((other, (λ _. refl, (other, (other, (other, (other, (other, (other, (other, tt))))))))), (other, (λ _. refl, (other, (other, (other, (other, (other, (other, (other, (other, tt)))))))))))
 
 details-parsed : HoldsOfBoth (IsParsedBy (codes "details") vp.Bool)
 unfolding redo_log
-details-parsed = ((other, (other, (λ _. refl, (other, (other, (other, (other, (other, tt)))))))), (other, (other, (λ _. refl, (other, (other, (other, (other, (other, (other, tt))))))))))
+details-parsed = ((other, (other, (λ _. refl, (other, (other, (other, (other, (other, (other, tt))))))))), (other, (other, (λ _. refl, (other, (other, (other, (other, (other, (other, (other, tt)))))))))))
 
 debug_locks-parsed : HoldsOfBoth (IsParsedBy (codes "debug_locks") vp.Bool)
 unfolding redo_log
-debug_locks-parsed = ((other, (other, (other, (λ _. refl, (other, (other, (other, (other, tt)))))))), (other, (other, (other, (λ _. refl, (other, (other, (other, (other, (other, tt))))))))))
+debug_locks-parsed = ((other, (other, (other, (λ _. refl, (other, (other, (other, (other, (other, tt))))))))), (other, (other, (other, (λ _. refl, (other, (other, (other, (other, (other, (other, tt)))))))))))
+
+debug_pids-parsed : HoldsOfBoth (IsParsedBy (codes "debug_pids") vp.Bool)
+unfolding redo_log
+debug_pids-parsed = ((other, (other, (other, (other, (λ _. refl, (other, (other, (other, (other, tt))))))))), (other, (other, (other, (other, (λ _. refl, (other, (other, (other, (other, (other, tt)))))))))))
 
 senders-parsed : HoldsOfBoth (IsParsedBy (codes "senders") (vp.Signed (pos 1) (pos 64)))
 unfolding redo_log
-senders-parsed = ((other, (other, (other, (other, (other, (λ _. refl, (other, (other, tt)))))))), (other, (other, (other, (other, (other, (λ _. refl, (other, (other, (other, tt))))))))))
+senders-parsed = ((other, (other, (other, (other, (other, (other, (λ _. refl, (other, (other, tt))))))))), (other, (other, (other, (other, (other, (other, (λ _. refl, (other, (other, (other, tt)))))))))))
 
 capacity-parsed : HoldsOfBoth (IsParsedBy (codes "capacity") (vp.Signed (pos 1) (pos 65536)))
 unfolding redo_log
-capacity-parsed = ((other, (other, (other, (other, (other, (other, (λ _. refl, (other, tt)))))))), (other, (other, (other, (other, (other, (other, (λ _. refl, (other, (other, tt))))))))))
+capacity-parsed = ((other, (other, (other, (other, (other, (other, (other, (λ _. refl, (other, tt))))))))), (other, (other, (other, (other, (other, (other, (other, (λ _. refl, (other, (other, tt)))))))))))
 
 target-filled : HoldsOfBoth (TakesWords (codes "target"))
 unfolding redo_log
-target-filled = ((other, (other, (other, (other, (other, (other, (other, (λ _. (refl, refl, refl), tt)))))))), (other, (other, (other, (other, (other, (other, (other, (λ _. (refl, refl, refl), (other, tt))))))))))
+target-filled = ((other, (other, (other, (other, (other, (other, (other, (other, (λ _. (refl, refl, refl), tt))))))))), (other, (other, (other, (other, (other, (other, (other, (other, (λ _. (refl, refl, refl), (other, tt)))))))))))
 
 all_plain : AllByRecursion IsPlainRule redo_log.top.rules
 unfolding redo_log
-all_plain = ((refl, refl), ((refl, refl), ((refl, refl), ((refl, refl), ((refl, refl), ((refl, refl), ((refl, refl), ((refl, refl), tt))))))))
+all_plain = ((refl, refl), ((refl, refl), ((refl, refl), ((refl, refl), ((refl, refl), ((refl, refl), ((refl, refl), ((refl, refl), ((refl, refl), tt)))))))))
 
--- it has eight options, of which the last takes the words
-settings : (redo_log.top.is_plain ≡ true) × (redo_log.top.subcommand_negates_reqs ≡ false) × (is_buildable redo_log ≡ true) × (length redo_log.top.rules ≡ 8)
+-- it has nine options, of which the last takes the words
+settings : (redo_log.top.is_plain ≡ true) × (redo_log.top.subcommand_negates_reqs ≡ false) × (is_buildable redo_log ≡ true) × (length redo_log.top.rules ≡ 9)
 unfolding redo_log
 settings = (refl, refl, refl, refl)
 
-last_rule : (r : Rule) → slice_index_or redo_log.top.rules 7 r ≡ words_rule (codes "target")
+last_rule : (r : Rule) → slice_index_or redo_log.top.rules 8 r ≡ words_rule (codes "target")
 unfolding redo_log
 last_rule r = refl
 
@@ -275,12 +279,12 @@ sound old new m is builds app parsed =
     subst (λ (o : Option Text). IfSome o IsFlagText) (one_text-rows found id) (weaker _ _ _ flag_text (text_taken new id groups named vp.Bool (holds _ rules) found values)) in
     let number : (greatest : ℕ) (id : Text) → (id ≡ [] → ⊥) → HoldsOfBoth (IsParsedBy id (vp.Signed (pos 1) (pos greatest))) → IsNumber greatest id (rows_of found) = λ greatest id named rules.
     subst (λ (o : Option Text). IfSome o (IsNumberTo greatest)) (one_text-rows found id) (weaker _ _ _ (number_text greatest) (text_taken new id groups named _ (holds _ rules) found values)) in
-    let count : length (args_of old) ≡ 8 = sym (length-map (args_of old) rule_of) ∙ ap length old_rules ∙ settings.3 in
+    let count : length (args_of old) ≡ 9 = sym (length-map (args_of old) rule_of) ∙ ap length old_rules ∙ settings.3 in
     let d = some_arg (args_of old) (omega arith) in
-    let last : rule_of (slice_index_or (args_of old) 7 d) ≡ words_rule (codes "target") =
-    rule_at (args_of old) 7 d (rule_of d) (omega arith) ∙ ap (λ (rules : List Rule). slice_index_or rules 7 (rule_of d)) old_rules ∙ last_rule (rule_of d) in
+    let last : rule_of (slice_index_or (args_of old) 8 d) ≡ words_rule (codes "target") =
+    rule_at (args_of old) 8 d (rule_of d) (omega arith) ∙ ap (λ (rules : List Rule). slice_index_or rules 8 (rule_of d)) old_rules ∙ last_rule (rule_of d) in
     let from_old : IsParsedFrom old m = record { built = new; from = builds; parsed = parsed } in
-    let present = required_present old m from_old plain whole.1 negates 7 d (omega arith) (ap (λ (r : Rule). r.required) last) in
+    let present = required_present old m from_old plain whole.1 negates 8 d (omega arith) (ap (λ (r : Rule). r.required) last) in
     let has : is_some (matched_of found (codes "target")) ≡ true = present_has_entry found (codes "target") (rw (ap (λ (r : Rule). r.id) last) at present) in
     let filled = values_filled new (codes "target") groups (λ e. cc) (holds _ target-filled) found values has in
     record {
@@ -288,6 +292,7 @@ sound old new m is builds app parsed =
       unchanged_is = flag (codes "unchanged") (λ e. cc) unchanged-parsed;
       details_are = flag (codes "details") (λ e. cc) details-parsed;
       debug_locks_are = flag (codes "debug_locks") (λ e. cc) debug_locks-parsed;
+      debug_pids_are = flag (codes "debug_pids") (λ e. cc) debug_pids-parsed;
       senders_are = number 64 (codes "senders") (λ e. cc) senders-parsed;
       capacity_is = number 65536 (codes "capacity") (λ e. cc) capacity-parsed;
       some_target = subst (λ (o : Option (List Text)). 0 < length (unwrap_or o [])) (raw_values-rows found (codes "target")) filled;

@@ -1,4 +1,4 @@
--- The command line, as `clap` is to know it: eight arguments, each with a rule.
+-- The command line, as `clap` is to know it: nine arguments, each with a rule.
 --
 -- `clap`'s contract calls a command an `App`. It begins as `new_app` with a name; `with_rule` adds an argument, and
 -- `on_top` changes a setting of it. A rule begins as `new_rule` with an id, by which the values that were found are
@@ -46,13 +46,14 @@ words_rule id = record (new_rule id) { value_names = 1; action = Some Append; re
 
 -- ---- the arguments
 
--- `-r` and `--recursive`, `-u` and `--unchanged`, `--no-details`, `--debug-locks`
+-- `-r` and `--recursive`, `-u` and `--unchanged`, `--no-details`, `--debug-locks`, `--debug-pids`
 abbrev pub flags : List Rule
 flags =
     letter_rule (codes "recursive") 114 ∷
     letter_rule (codes "unchanged") 117 ∷
     flag_rule (codes "details") (codes "no-details") SetFalse ∷
     flag_rule (codes "debug_locks") (codes "debug-locks") SetTrue ∷
+    flag_rule (codes "debug_pids") (codes "debug-pids") SetTrue ∷
     []
 
 -- `--dir DIR`, `--senders N`, `--capacity N`, `TARGET..`

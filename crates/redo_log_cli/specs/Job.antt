@@ -33,6 +33,7 @@ options_of rows = record {
   unchanged = is_on (codes "unchanged") rows;
   details = is_on (codes "details") rows;
   debug_locks = is_on (codes "debug_locks") rows;
+  debug_pids = is_on (codes "debug_pids") rows;
 }
 
 -- ---- a value

@@ -110,6 +110,7 @@ fn options_of(matches: &ArgMatches<'_>) -> Options
         unchanged: matches.get_flag("unchanged"),
         details: matches.get_flag("details"),
         debug_locks: matches.get_flag("debug_locks"),
+        debug_pids: matches.get_flag("debug_pids"),
     }
 }
 

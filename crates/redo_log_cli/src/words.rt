@@ -32,8 +32,8 @@ Exit status:
 
 /// Reads the words of the command line, which stand without the name of the program:
 ///
-/// `[-r|--recursive] [-u|--unchanged] [--no-details] [--debug-locks] [--dir DIR] [--senders N]
-/// [--capacity N] TARGET..`
+/// `[-r|--recursive] [-u|--unchanged] [--no-details] [--debug-locks] [--debug-pids] [--dir DIR]
+/// [--senders N] [--capacity N] TARGET..`
 ///
 /// Without its option the directory is `.`, the number of senders is 4, and the capacity 64. Options and
 /// targets may stand in any order, and behind `--` each word is a target. A value may stand behind `=` in
@@ -100,6 +100,13 @@ fn arguments<'a>(alloc: Global) -> Result<Vec<Arg<'a>>, AllocError>
             "debug-locks",
             ArgAction::SetTrue,
             "Show messages on waiting and locking",
+        ),
+        flag(
+            alloc,
+            "debug_pids",
+            "debug-pids",
+            ArgAction::SetTrue,
+            "Show in front of each redo line the pid of its record",
         ),
         text_option(
             alloc,

@@ -4,7 +4,9 @@ ghost use Rattle.redo_run.specs.RunFault.{IfStreamFault, IfUnknown};
 
 use crate::captures::{index_of, readers_for};
 use redo_gather::{Free, Plan};
-use redo_gather_tests::cases::{ASKED, CHOSEN, Case, LOGS, MAX_BYTES, MENTIONS, PLAIN, STATUSES};
+use redo_gather_tests::cases::{
+    ASKED, BY_PIDS, CHOSEN, Case, LOGS, MAX_BYTES, MENTIONS, PLAIN, STATUSES,
+};
 use redo_gather_tests::gate::{Event, Hold, Holding};
 use redo_given::{Answer, Cut, Given, Script, cuts, whole};
 use redo_line::{Pieces, Sink, StreamFault, Taker};
@@ -231,13 +233,16 @@ static OF_OPTIONS: &[Case] = &CHOSEN;
 
 static OF_STATUSES: &[Case] = &STATUSES;
 
+static OF_PIDS: &[Case] = &BY_PIDS;
+
 #[test]
 fn a_run_writes_the_text_of_its_logs(rt: HostRuntime) -> Result<(), Fail> {
     expect_texts(&rt, OF_LOGS)?;
     expect_texts(&rt, OF_MENTIONS)?;
     expect_texts(&rt, OF_ASKING)?;
     expect_texts(&rt, OF_OPTIONS)?;
-    expect_texts(&rt, OF_STATUSES)
+    expect_texts(&rt, OF_STATUSES)?;
+    expect_texts(&rt, OF_PIDS)
 }
 
 const BAD: &str = "@@REDO:do:7\n";

@@ -19,6 +19,7 @@ const PLAIN: Options = Options {
     unchanged: false,
     details: true,
     debug_locks: false,
+    debug_pids: false,
 };
 
 const ALL_SET: Options = Options {
@@ -26,6 +27,17 @@ const ALL_SET: Options = Options {
     unchanged: true,
     details: false,
     debug_locks: true,
+    debug_pids: true,
+};
+
+const ALL_BUT_PIDS: Options = Options {
+    debug_pids: false,
+    ..ALL_SET
+};
+
+const PIDS: Options = Options {
+    debug_pids: true,
+    ..PLAIN
 };
 
 const RECURSIVE: Options = Options {
@@ -33,6 +45,7 @@ const RECURSIVE: Options = Options {
     unchanged: false,
     details: true,
     debug_locks: false,
+    debug_pids: false,
 };
 
 const BOTH_LETTERS: Options = Options {
@@ -40,6 +53,7 @@ const BOTH_LETTERS: Options = Options {
     unchanged: true,
     details: true,
     debug_locks: false,
+    debug_pids: false,
 };
 
 /// Without options, and without targets yet.
@@ -154,6 +168,17 @@ const EACH_SET: Want<'static> = Want {
     targets: &["-x"],
 };
 
+const EACH_BUT_PIDS: Want<'static> = Want {
+    options: ALL_BUT_PIDS,
+    ..EACH_SET
+};
+
+const WITH_PIDS: Want<'static> = Want {
+    options: PIDS,
+    targets: &["all"],
+    ..PLAIN_JOB
+};
+
 const GREATEST: Want<'static> = Want {
     senders: 64,
     capacity: 65_536,
@@ -178,13 +203,14 @@ static JOBS: &[(&[&str], Want<'static>)] = &[
             "--",
             "-x",
         ],
-        EACH_SET,
+        EACH_BUT_PIDS,
     ),
     (
         &[
             "--capacity=1",
             "--recursive",
             "--dir=d",
+            "--debug-pids",
             "--debug-locks",
             "--unchanged",
             "--senders=2",
@@ -194,6 +220,7 @@ static JOBS: &[(&[&str], Want<'static>)] = &[
         ],
         EACH_SET,
     ),
+    (&["--debug-pids", "all"], WITH_PIDS),
     (&["a", "--senders", "64", "--capacity", "65536"], GREATEST),
     (&["a", "--senders=+064", "--capacity=65536"], GREATEST),
 ];
@@ -285,6 +312,9 @@ static REFUSED: &[&[&str]] = &[
     &["-r", "-r", "all"],
     &["-rr", "all"],
     &["-ur", "--recursive", "all"],
+    &["--debug-pids", "--debug-pids", "all"],
+    &["--debug-pid", "all"],
+    &["--debug-pids=7", "all"],
     &["--recursive=true", "all"],
     &["-rf", "all"],
 ];
@@ -323,6 +353,7 @@ static HELP_PARTS: &[&str] = &[
     "-u, --unchanged",
     "--no-details",
     "--debug-locks",
+    "--debug-pids",
     "--dir <DIR>",
     "--senders <N>",
     "--capacity <N>",

@@ -74,7 +74,7 @@ note_grown old new (Some at) grows within =
     let front = block_grown old new at.block grows in
     let kind = range_grown (block_of old at.block) (block_of new at.block) at.start at.middle front within.0 (omega (arith, within.1, within.2)) in
     let text = range_grown (block_of old at.block) (block_of new at.block) at.middle at.end front within.1 within.2 in
-    λ i. entry.Note (kind i) (text i)
+    λ i. entry.Note at.pid (kind i) (text i)
 
 note_at_grown : (old new : List NoteAt) (parts : Parts) (note : ℕ) → IsFront old new → IsNoteWithin parts (slice_get old note) → slice_get new note ≡ slice_get old note
 note_at_grown old new parts note front within =
@@ -89,9 +89,9 @@ pub seen_grown : (old new : Parts) (record' : Record) → Grows old new → With
 seen_grown old new (Text block start end) grows within =
     let end_there : end ≤ length (block_of old block) = let below = slice_get_within (block_of old block) end line_feed within.1 in omega (arith, below) in
     ap entry.Text (range_grown (block_of old block) (block_of new block) start end (block_grown old new block grows) within.0 end_there)
-seen_grown old new (Mention how name) grows within = ap (entry.Mention how) (name_grown old.names new.names name grows.names within)
-seen_grown old new (Done status name) grows within = ap (entry.Done status) (name_grown old.names new.names name grows.names within)
-seen_grown old new (Closing status) grows within = refl
+seen_grown old new (Mention pid how name) grows within = ap (entry.Mention pid how) (name_grown old.names new.names name grows.names within)
+seen_grown old new (Done pid status name) grows within = ap (entry.Done pid status) (name_grown old.names new.names name grows.names within)
+seen_grown old new (Closing pid status) grows within = refl
 seen_grown old new (Note note) grows within =
     ap (note_seen new) (note_at_grown old.notes new.notes old note grows.notes within)
     ∙ note_grown old new (slice_get old.notes note) grows within
@@ -103,9 +103,9 @@ within_grown old new (Text block start end) grows within =
       within.0,
       ap (λ bytes. slice_get bytes end) front.is ∙ get_front (block_of old block) front.more end (slice_get_within (block_of old block) end line_feed within.1) ∙ within.1,
     )
-within_grown old new (Mention how name) grows within = omega (arith, within, front_length old.names new.names grows.names.front)
-within_grown old new (Done status name) grows within = omega (arith, within, front_length old.names new.names grows.names.front)
-within_grown old new (Closing status) grows within = within
+within_grown old new (Mention pid how name) grows within = omega (arith, within, front_length old.names new.names grows.names.front)
+within_grown old new (Done pid status name) grows within = omega (arith, within, front_length old.names new.names grows.names.front)
+within_grown old new (Closing pid status) grows within = within
 within_grown old new (Note note) grows within =
     subst (IsNoteWithin new) (sym (note_at_grown old.notes new.notes old note grows.notes within)) (more (slice_get old.notes note) within)
   where
@@ -259,17 +259,17 @@ module _ (old new : Parts) (note : ℕ) (at : NoteAt) (last : slice_get new.note
   pub note_last_seen : note_seen new (slice_get new.notes note) ≡ note_seen old (Some at)
   note_last_seen =
       let block = block_same old new at.block same in
-      ap (note_seen new) last ∙ (λ i. entry.Note (slice_range (block i) at.start at.middle) (slice_range (block i) at.middle at.end))
+      ap (note_seen new) last ∙ (λ i. entry.Note at.pid (slice_range (block i) at.start at.middle) (slice_range (block i) at.middle at.end))
 
 -- a note whose texts were put behind the others
-pub note_put : (bytes kind text first second : List ℕ) → first ≡ bytes ++ kind → second ≡ first ++ text
+pub note_put : (pid : ℕ) (bytes kind text first second : List ℕ) → first ≡ bytes ++ kind → second ≡ first ++ text
     → (start middle end : ℕ) → start ≡ length bytes → middle ≡ length first → end ≡ length second
-    → entry.Note (slice_range second start middle) (slice_range second middle end) ≡ entry.Note kind text
-note_put bytes kind text first second first_is second_is start middle end start_is middle_is end_is =
-    (λ i. entry.Note (slice_range second (start_is i) (middle_is i)) (slice_range second (middle_is i) (end_is i)))
-    ∙ (λ i. entry.Note (slice_range (second_is i) (length bytes) (length first)) (slice_range (second_is i) (length first) (length (second_is i))))
-    ∙ (λ i. entry.Note (slice_range (first_is i ++ text) (length bytes) (length (first_is i))) (slice_range (first_is i ++ text) (length (first_is i)) (length (first_is i ++ text))))
-    ∙ (λ i. entry.Note (range_put bytes kind text i) (range_last (bytes ++ kind) text i))
+    → entry.Note pid (slice_range second start middle) (slice_range second middle end) ≡ entry.Note pid kind text
+note_put pid bytes kind text first second first_is second_is start middle end start_is middle_is end_is =
+    (λ i. entry.Note pid (slice_range second (start_is i) (middle_is i)) (slice_range second (middle_is i) (end_is i)))
+    ∙ (λ i. entry.Note pid (slice_range (second_is i) (length bytes) (length first)) (slice_range (second_is i) (length first) (length (second_is i))))
+    ∙ (λ i. entry.Note pid (slice_range (first_is i ++ text) (length bytes) (length (first_is i))) (slice_range (first_is i ++ text) (length (first_is i)) (length (first_is i ++ text))))
+    ∙ (λ i. entry.Note pid (range_put bytes kind text i) (range_last (bytes ++ kind) text i))
   where
     range_last : (xs ys : List ℕ) → slice_range (xs ++ ys) (length xs) (length (xs ++ ys)) ≡ ys
     range_last xs ys = ap (λ bs. slice_range bs (length xs) (length (xs ++ ys))) (sym (append-nil (xs ++ ys))) ∙ range_put xs ys []

@@ -170,9 +170,9 @@ module _ (parts : Parts) where
   -- what is seen as a text is a record of one
   text_record : (one : Record) (text : List ℕ) → seen parts one ≡ entry.Text text → IsTextRecord (Some one)
   text_record (Text block start end) text is = tt
-  text_record (Mention how name) text is = absurd (cc)
-  text_record (Done status name) text is = absurd (cc)
-  text_record (Closing status) text is = absurd (cc)
+  text_record (Mention pid how name) text is = absurd (cc)
+  text_record (Done pid status name) text is = absurd (cc)
+  text_record (Closing pid status) text is = absurd (cc)
   text_record (Note note) text is = absurd (no_text (slice_get parts.notes note) is)
     where
       no_text : (at : Option NoteAt) → note_seen parts at ≡ entry.Text text → ⊥

@@ -7,7 +7,7 @@ use Rattle.redo_logs.specs.declared.entry_ref.EntryRef.TheVariants.{Text, Mentio
 -- the entry that is shown
 abbrev pub entry_seen : EntryRef → Entry
 entry_seen (Text line) = entry.Text line.now
-entry_seen (Mention how name) = entry.Mention how name.now
-entry_seen (Done status name) = entry.Done status name.now
-entry_seen (Closing status) = entry.Closing status
-entry_seen (Note kind text) = entry.Note kind.now text.now
+entry_seen (Mention pid how name) = entry.Mention pid how name.now
+entry_seen (Done pid status name) = entry.Done pid status name.now
+entry_seen (Closing pid status) = entry.Closing pid status
+entry_seen (Note pid kind text) = entry.Note pid kind.now text.now

@@ -19,20 +19,20 @@ name_at names number = slice_index_or names number []
 
 -- the entry that is shown
 abbrev pub numbered_seen : List (List ℕ) → NumberedEntry → Entry
-numbered_seen names (Mention how name) = entry.Mention how (name_at names name)
+numbered_seen names (Mention pid how name) = entry.Mention pid how (name_at names name)
 numbered_seen names (Other other) = entry_seen other
 
 -- an entry mentions nothing
 abbrev pub MentionsNothing : Entry → Type 0
 MentionsNothing (entry.Text line) = ⊤
-MentionsNothing (entry.Mention how name) = ⊥
-MentionsNothing (entry.Done status name) = ⊤
-MentionsNothing (entry.Closing status) = ⊤
-MentionsNothing (entry.Note kind text) = ⊤
+MentionsNothing (entry.Mention pid how name) = ⊥
+MentionsNothing (entry.Done pid status name) = ⊤
+MentionsNothing (entry.Closing pid status) = ⊤
+MentionsNothing (entry.Note pid kind text) = ⊤
 
 -- what is mentioned has a number, which is that of a name
 abbrev pub IsNumbered : List (List ℕ) → NumberedEntry → Type 0
-IsNumbered names (Mention how name) = name < length names
+IsNumbered names (Mention pid how name) = name < length names
 IsNumbered names (Other other) = MentionsNothing (entry_seen other)
 
 -- from the entry number k on, the log number i has these texts

@@ -10,13 +10,28 @@ pub enum EntryRef<'a> {
     /// A line that is no record, as it is.
     Text(&'a [u8]),
     /// Another target, or this one, comes up.
-    Mention { how: How, name: &'a TargetName },
+    Mention {
+        pid: u32,
+        how: How,
+        name: &'a TargetName,
+    },
     /// Another target is done, with this status.
-    Done { status: i32, name: &'a TargetName },
+    Done {
+        pid: u32,
+        status: i32,
+        name: &'a TargetName,
+    },
     /// The log's own target is done, which closes the log.
-    Closing { status: i32 },
+    Closing {
+        pid: u32,
+        status: i32,
+    },
     /// A record of any other kind.
-    Note { kind: &'a [u8], text: &'a [u8] },
+    Note {
+        pid: u32,
+        kind: &'a [u8],
+        text: &'a [u8],
+    },
 }
 
 impl<'a> EntryRef<'a> {
@@ -26,13 +41,22 @@ impl<'a> EntryRef<'a> {
     {
         match entry {
             Entry::Text(line) => EntryRef::Text(line.bytes()),
-            Entry::Mention { how, name } => EntryRef::Mention { how: *how, name },
-            Entry::Done { status, name } => EntryRef::Done {
+            Entry::Mention { pid, how, name } => EntryRef::Mention {
+                pid: *pid,
+                how: *how,
+                name,
+            },
+            Entry::Done { pid, status, name } => EntryRef::Done {
+                pid: *pid,
                 status: *status,
                 name,
             },
-            Entry::Closing { status } => EntryRef::Closing { status: *status },
-            Entry::Note { kind, text } => EntryRef::Note {
+            Entry::Closing { pid, status } => EntryRef::Closing {
+                pid: *pid,
+                status: *status,
+            },
+            Entry::Note { pid, kind, text } => EntryRef::Note {
+                pid: *pid,
                 kind: kind.bytes(),
                 text: text.bytes(),
             },

@@ -25,14 +25,17 @@ pub enum Record {
         end: usize,
     },
     Mention {
+        pid: u32,
         how: How,
         name: usize,
     },
     Done {
+        pid: u32,
         status: i32,
         name: usize,
     },
     Closing {
+        pid: u32,
         status: i32,
     },
     Note {
@@ -43,9 +46,10 @@ pub enum Record {
 // A table asks for so many bytes an entry, beside its texts.
 const _: () = prove!(std::mem::size_of::<Record>() == 24);
 
-/// Where a note's kind and its text are, one behind the other.
+/// A note's pid, and where its kind and its text are, one behind the other.
 #[derive(Clone, Copy)]
 pub struct NoteAt {
+    pid: u32,
     block: u32,
     start: usize,
     middle: usize,
@@ -122,16 +126,16 @@ impl Kept {
     {
         match entry {
             Entry::Text(line) => self.keep_line(line.bytes()),
-            Entry::Mention { how, name } => {
+            Entry::Mention { pid, how, name } => {
                 let name = self.number_of(name)?;
-                Ok(Record::Mention { how, name })
+                Ok(Record::Mention { pid, how, name })
             }
-            Entry::Done { status, name } => {
+            Entry::Done { pid, status, name } => {
                 let name = self.number_of(name)?;
-                Ok(Record::Done { status, name })
+                Ok(Record::Done { pid, status, name })
             }
-            Entry::Closing { status } => Ok(Record::Closing { status }),
-            Entry::Note { kind, text } => self.keep_note(kind.bytes(), text.bytes()),
+            Entry::Closing { pid, status } => Ok(Record::Closing { pid, status }),
+            Entry::Note { pid, kind, text } => self.keep_note(pid, kind.bytes(), text.bytes()),
         }
     }
 
@@ -203,19 +207,40 @@ impl Kept {
                 start: shift + start,
                 end: shift + end,
             }),
-            EntryAt::Mention { how, start, end } => {
+            EntryAt::Mention {
+                pid,
+                how,
+                start,
+                end,
+            } => {
                 let number = self.number_of_bytes(alloc, &names[start..end])?;
-                Ok(Record::Mention { how, name: number })
+                Ok(Record::Mention {
+                    pid,
+                    how,
+                    name: number,
+                })
             }
-            EntryAt::Done { status, start, end } => {
+            EntryAt::Done {
+                pid,
+                status,
+                start,
+                end,
+            } => {
                 let number = self.number_of_bytes(alloc, &names[start..end])?;
                 Ok(Record::Done {
+                    pid,
                     status,
                     name: number,
                 })
             }
-            EntryAt::Closing { status } => Ok(Record::Closing { status }),
-            EntryAt::Note { start, middle, end } => self.note_at(NoteAt {
+            EntryAt::Closing { pid, status } => Ok(Record::Closing { pid, status }),
+            EntryAt::Note {
+                pid,
+                start,
+                middle,
+                end,
+            } => self.note_at(NoteAt {
+                pid,
                 block,
                 start: shift + start,
                 middle: shift + middle,
@@ -252,14 +277,15 @@ impl Kept {
         })
     }
 
-    fn keep_note(&mut self, kind: &[u8], text: &[u8]) -> Result<Record, AllocError>
+    fn keep_note(&mut self, pid: u32, kind: &[u8], text: &[u8]) -> Result<Record, AllocError>
         ensures grows { Grows self.old self.new }
         ensures within { IfOk result (Within self.new) }
-        ensures seen { IfOk result (λ kept. seen self.new kept ≡ Note kind.now text.now) }
+        ensures seen { IfOk result (λ kept. seen self.new kept ≡ Note pid kind.now text.now) }
     {
         let (start, middle) = self.put(kind)?;
         let (_, end) = self.put(text)?;
         self.note_at(NoteAt {
+            pid,
             block: 0,
             start,
             middle,
@@ -345,17 +371,20 @@ impl Kept {
     {
         match kept {
             Record::Text { block, start, end } => EntryRef::Text(&self.block(block)[start..end]),
-            Record::Mention { how, name } => EntryRef::Mention {
+            Record::Mention { pid, how, name } => EntryRef::Mention {
+                pid,
                 how,
                 name: self.name(name),
             },
-            Record::Done { status, name } => EntryRef::Done {
+            Record::Done { pid, status, name } => EntryRef::Done {
+                pid,
                 status,
                 name: self.name(name),
             },
-            Record::Closing { status } => EntryRef::Closing { status },
+            Record::Closing { pid, status } => EntryRef::Closing { pid, status },
             Record::Note { note } => {
                 let NoteAt {
+                    pid,
                     block,
                     start,
                     middle,
@@ -363,6 +392,7 @@ impl Kept {
                 } = self.notes[note];
                 let bytes = self.block(block);
                 EntryRef::Note {
+                    pid,
                     kind: &bytes[start..middle],
                     text: &bytes[middle..end],
                 }
@@ -377,7 +407,7 @@ impl Kept {
         ensures numbered { IsNumbered self.now.names result }
     {
         match kept {
-            Record::Mention { how, name } => NumberedEntry::Mention { how, name },
+            Record::Mention { pid, how, name } => NumberedEntry::Mention { pid, how, name },
             other => NumberedEntry::Other(self.show(other)),
         }
     }

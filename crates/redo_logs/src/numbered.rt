@@ -17,7 +17,7 @@ use std::marker::Model;
 #[derive(Clone, Copy)]
 pub enum NumberedEntry<'a> {
     /// Another target, or this one, comes up.
-    Mention { how: How, name: usize },
+    Mention { pid: u32, how: How, name: usize },
     /// An entry that mentions nothing.
     Other(EntryRef<'a>),
 }

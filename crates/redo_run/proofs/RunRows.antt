@@ -37,7 +37,7 @@ whole bytes = stream_of bytes false
 abbrev asks : List (List ℕ) → List (List ℕ) → Bool → ℕ → List (List ℕ) → Answer → Row
 asks targets streams recursive max_bytes words answer_is =
     record {
-      question = record { targets = targets; max_bytes = max_bytes; options = record { recursive = recursive; unchanged = false; details = true; debug_locks = false }; words = words };
+      question = record { targets = targets; max_bytes = max_bytes; options = record { recursive = recursive; unchanged = false; details = true; debug_locks = false; debug_pids = false }; words = words };
       streams = map whole streams;
       answer_is = answer_is;
     }
@@ -81,7 +81,7 @@ these_answers = (refl, (refl, (refl, (refl, (refl, (refl, (refl, (refl, (refl, (
 
 -- a failed read counts behind the bytes before it
 failed_reads :
-    (answer (record { targets = codes "a" ∷ codes "b" ∷ []; max_bytes = 1000; options = record { recursive = false; unchanged = false; details = true; debug_locks = false }; words = codes "a" ∷ [] }) (
+    (answer (record { targets = codes "a" ∷ codes "b" ∷ []; max_bytes = 1000; options = record { recursive = false; unchanged = false; details = true; debug_locks = false; debug_pids = false }; words = codes "a" ∷ [] }) (
     stream_of (line (codes "x")) true ∷ stream_of bad false ∷ []
     ) ≡ Some (Err (OfStream 0 Read)))
 unfolding cutting ended rest first_fault entry_of record_entry fields_of status_of parted behind number normal from_back

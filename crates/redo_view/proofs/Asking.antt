@@ -26,7 +26,7 @@ use Rattle.redo_view.proofs.Walking.{adds-nothing, stopped}
 
 module _ (numbering : Numbering) (options : Options) (target : List ℕ) (first told : Option Taken) (before : Seen) (shown : Shown) (has : HasShown numbering first told before shown) where
   abbrev line : List ℕ
-  line = redo_line 0 target
+  line = redo_line options 0 None target
 
   -- its log was opened before
   pub asked_again : is_among target shown.opened ≡ true → HasShown numbering first told before (unless_opened numbering.logs options (is_among target shown.opened) target shown)
@@ -71,8 +71,8 @@ module _ (logs : List Log) (options : Options) where
   one_grows : (b : Bool) (name : List ℕ) (shown : Shown) → (rest : List ℕ) × ((unless_opened logs options b name shown).text ≡ shown.text ++ rest)
   one_grows true name shown = ([], sym (append-nil shown.text))
   one_grows false name shown =
-      let more = log_text-grows logs options name 1 (with_text (redo_line 0 name) shown) in
-      (redo_line 0 name ++ more.0, more.1 ∙ append_assoc shown.text (redo_line 0 name) more.0)
+      let more = log_text-grows logs options name 1 (with_text (redo_line options 0 None name) shown) in
+      (redo_line options 0 None name ++ more.0, more.1 ∙ append_assoc shown.text (redo_line options 0 None name) more.0)
 
   asked_grows : (asked : List (List ℕ)) (shown : Shown) → (rest : List ℕ) × ((after_asked logs options asked shown).text ≡ shown.text ++ rest)
   asked_grows [] shown = ([], sym (append-nil shown.text))

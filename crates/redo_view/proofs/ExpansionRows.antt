@@ -20,7 +20,16 @@ log target entries = record { target = target; entries = entries; state = Ended 
 
 -- recursive, unchanged, details, debug_locks
 abbrev with : Bool → Bool → Bool → Bool → Options
-with recursive unchanged details debug_locks = record { recursive = recursive; unchanged = unchanged; details = details; debug_locks = debug_locks }
+with recursive unchanged details debug_locks = record {
+  recursive = recursive;
+  unchanged = unchanged;
+  details = details;
+  debug_locks = debug_locks;
+  debug_pids = false;
+}
+
+abbrev with_pids : Options → Options
+with_pids options = record options { debug_pids = true }
 
 abbrev plain : Options
 plain = with false false true false
@@ -54,39 +63,57 @@ rows =
     shows (log all (Text (codes "hello") ∷ []) ∷ []) plain (all ∷ []) (line (codes "redo  all") ++ line (codes "hello")) ∷
     shows (log all [] ∷ []) plain (all ∷ []) (line (codes "redo  all")) ∷
     -- each log is opened at its first mention, and a cycle ends
-    shows (log a (Mention Made b ∷ []) ∷ log b (Mention Made a ∷ Text (codes "t") ∷ []) ∷ []) deep (a ∷ []) (line (codes "redo  a") ++ line (codes "redo    b") ++ line (codes "t")) ∷
-    shows (log all (Mention Made a ∷ Mention Waiting x ∷ Text (codes "end") ∷ []) ∷ log a (Mention Made x ∷ []) ∷ log x (Text (codes "X") ∷ []) ∷ []) (with true false true true) (all ∷ []) (
+    shows (log a (Mention 7 Made b ∷ []) ∷ log b (Mention 7 Made a ∷ Text (codes "t") ∷ []) ∷ []) deep (a ∷ []) (line (codes "redo  a") ++ line (codes "redo    b") ++ line (codes "t")) ∷
+    shows (log all (Mention 7 Made a ∷ Mention 7 Waiting x ∷ Text (codes "end") ∷ []) ∷ log a (Mention 7 Made x ∷ []) ∷ log x (Text (codes "X") ∷ []) ∷ []) (with true false true true) (all ∷ []) (
     line (codes "redo  all") ++ line (codes "redo    a") ++ line (codes "redo      x") ++ line (codes "X") ++ line (codes "redo    x (WAITING)") ++ line (codes "end")
     ) ∷
     -- a mention names, and an asking opens
-    shows (log a (Mention Made b ∷ []) ∷ log b (Text (codes "B") ∷ []) ∷ []) plain (a ∷ b ∷ a ∷ []) (line (codes "redo  a") ++ line (codes "redo    b") ++ line (codes "redo  b") ++ line (codes "B")) ∷
-    shows (log a (Mention Unchanged b ∷ Note (codes "check") b ∷ Text (codes "t") ∷ []) ∷ log b (Text (codes "B") ∷ []) ∷ []) (with true false false false) (a ∷ []) (line (codes "redo  a") ++ line (codes "redo    (b)")) ∷
-    shows (log a (Mention Unchanged b ∷ Note (codes "check") b ∷ Text (codes "t") ∷ []) ∷ log b (Text (codes "B") ∷ []) ∷ []) (with true true false false) (a ∷ []) (line (codes "redo  a") ++ line (codes "redo    b") ++ line (codes "redo    (b)")) ∷
+    shows (log a (Mention 7 Made b ∷ []) ∷ log b (Text (codes "B") ∷ []) ∷ []) plain (a ∷ b ∷ a ∷ []) (line (codes "redo  a") ++ line (codes "redo    b") ++ line (codes "redo  b") ++ line (codes "B")) ∷
+    shows (log a (Mention 7 Unchanged b ∷ Note 7 (codes "check") b ∷ Text (codes "t") ∷ []) ∷ log b (Text (codes "B") ∷ []) ∷ []) (with true false false false) (a ∷ []) (line (codes "redo  a") ++ line (codes "redo    (b)")) ∷
+    shows (log a (Mention 7 Unchanged b ∷ Note 7 (codes "check") b ∷ Text (codes "t") ∷ []) ∷ log b (Text (codes "B") ∷ []) ∷ []) (with true true false false) (a ∷ []) (line (codes "redo  a") ++ line (codes "redo    b") ++ line (codes "redo    (b)")) ∷
     -- `unchanged` opens too, and has a line of its own
-    shows (log a (Mention Unchanged b ∷ []) ∷ log b (Text (codes "B") ∷ []) ∷ []) (with true true true false) (a ∷ []) (line (codes "redo  a") ++ line (codes "redo    b") ++ line (codes "B")) ∷
-    shows (log a (Mention Unchanged b ∷ []) ∷ []) (with false true true true) (a ∷ []) (line (codes "redo  a") ++ line (codes "redo    b (unchanged)")) ∷
-    shows (log a (Mention Unchanged b ∷ []) ∷ []) (with false false true true) (a ∷ []) (line (codes "redo  a")) ∷
-    shows (log all (Note (codes "resumed") x ∷ Note (codes "warning") (codes "disk is slow") ∷ Note (codes "check") [] ∷ []) ∷ []) (with false false false false) (all ∷ []) (
+    shows (log a (Mention 7 Unchanged b ∷ []) ∷ log b (Text (codes "B") ∷ []) ∷ []) (with true true true false) (a ∷ []) (line (codes "redo  a") ++ line (codes "redo    b") ++ line (codes "B")) ∷
+    shows (log a (Mention 7 Unchanged b ∷ []) ∷ []) (with false true true true) (a ∷ []) (line (codes "redo  a") ++ line (codes "redo    b (unchanged)")) ∷
+    shows (log a (Mention 7 Unchanged b ∷ []) ∷ []) (with false false true true) (a ∷ []) (line (codes "redo  a")) ∷
+    shows (log all (Note 7 (codes "resumed") x ∷ Note 7 (codes "warning") (codes "disk is slow") ∷ Note 7 (codes "check") [] ∷ []) ∷ []) (with false false false false) (all ∷ []) (
     line (codes "redo  all") ++ line (codes "redo: x") ++ line (codes "redo: disk is slow") ++ line (codes "redo    ()")
     ) ∷
-    shows (log all (Mention Locked x ∷ Mention Unlocked x ∷ Mention Made x ∷ []) ∷ []) plain (all ∷ []) (line (codes "redo  all") ++ line (codes "redo    x")) ∷
-    shows (log all (Mention Locked x ∷ Mention Unlocked x ∷ Mention Made x ∷ []) ∷ []) (with false false true true) (all ∷ []) (
+    shows (log all (Mention 7 Locked x ∷ Mention 7 Unlocked x ∷ Mention 7 Made x ∷ []) ∷ []) plain (all ∷ []) (line (codes "redo  all") ++ line (codes "redo    x")) ∷
+    shows (log all (Mention 7 Locked x ∷ Mention 7 Unlocked x ∷ Mention 7 Made x ∷ []) ∷ []) (with false false true true) (all ∷ []) (
     line (codes "redo  all") ++ line (codes "redo    x (locked...)") ++ line (codes "redo    x (...unlocked!)") ++ line (codes "redo    x")
     ) ∷
     shows (
-    log all (Mention Made (codes "a.o") ∷ Mention Made (codes "b.o") ∷ Done (pos 0) (codes "a.o") ∷ Done (pos 1) (codes "b.o") ∷ Text (codes "link") ∷ []) ∷
+    log all (Mention 7 Made (codes "a.o") ∷ Mention 7 Made (codes "b.o") ∷ Done 7 (pos 0) (codes "a.o") ∷ Done 7 (pos 1) (codes "b.o") ∷ Text (codes "link") ∷ []) ∷
     log (codes "a.o") (Text (codes "cc a") ∷ []) ∷
     log (codes "b.o") (Text (codes "cc b") ∷ []) ∷
     []
     ) deep (all ∷ []) (
     line (codes "redo  all") ++ line (codes "redo    a.o") ++ line (codes "cc a") ++ line (codes "redo    b.o") ++ line (codes "cc b") ++ line (codes "redo    b.o (exit 1)") ++ line (codes "link")
     ) ∷
-    shows (log all (Done (pos 0) b ∷ Done (negsuc 10) (codes "c") ∷ Done (pos 7) (codes "d") ∷ []) ∷ []) plain (all ∷ []) (
+    shows (log all (Done 7 (pos 0) b ∷ Done 7 (negsuc 10) (codes "c") ∷ Done 7 (pos 7) (codes "d") ∷ []) ∷ []) plain (all ∷ []) (
     line (codes "redo  all") ++ line (codes "redo    c (exit -11)") ++ line (codes "redo    d (exit 7)")
     ) ∷
-    shows (log a (Done (pos 0) b ∷ Closing (pos 3) ∷ []) ∷ []) plain (a ∷ []) (line (codes "redo  a")) ∷
+    shows (log a (Done 7 (pos 0) b ∷ Closing 7 (pos 3) ∷ []) ∷ []) plain (a ∷ []) (line (codes "redo  a")) ∷
+    -- each redo line with the pid of its own record, on the left of six places, and no other line with one
+    shows (log all (Mention 7 Made a ∷ Note 4294967295 (codes "check") a ∷ Note 12 (codes "warning") (codes "w") ∷ Text (codes "t") ∷ []) ∷ []) (with_pids plain) (all ∷ []) (
+    line (codes "-      redo  all") ++ line (codes "7      redo    a") ++ line (codes "4294967295 redo    (a)") ++ line (codes "redo: w") ++ line (codes "t")
+    ) ∷
+    shows (
+    log all (Mention 7 Made (codes "a.o") ∷ Mention 7 Made (codes "b.o") ∷ Done 7 (pos 0) (codes "a.o") ∷ Done 7 (pos 1) (codes "b.o") ∷ Text (codes "link") ∷ []) ∷
+    log (codes "a.o") (Text (codes "cc a") ∷ []) ∷
+    log (codes "b.o") (Text (codes "cc b") ∷ []) ∷
+    []
+    ) (with_pids deep) (all ∷ []) (
+    line (codes "-      redo  all") ++ line (codes "7      redo    a.o") ++ line (codes "cc a") ++ line (codes "7      redo    b.o") ++ line (codes "cc b") ++ line (codes "7      redo    b.o (exit 1)") ++ line (codes "link")
+    ) ∷
+    shows (log all (Mention 123456 Waiting x ∷ Mention 1234567 Made x ∷ Done 0 (negsuc 1) x ∷ Closing 9 (pos 0) ∷ []) ∷ log x (Mention 41 Made all ∷ Mention 42 Made b ∷ []) ∷ []) (with_pids deep) (all ∷ x ∷ []) (
+    line (codes "-      redo  all") ++ line (codes "123456 redo    x") ++ line (codes "42     redo      b") ++ line (codes "0      redo    x (exit -2)")
+    ) ∷
+    shows (log all (Mention 123456 Waiting x ∷ Mention 1234567 Made x ∷ Done 0 (negsuc 1) x ∷ Closing 9 (pos 0) ∷ []) ∷ log x [] ∷ []) (with_pids (with false false true true)) (all ∷ x ∷ []) (
+    line (codes "-      redo  all") ++ line (codes "123456 redo    x (WAITING)") ++ line (codes "1234567 redo    x") ++ line (codes "0      redo    x (exit -2)") ++ line (codes "-      redo  x")
+    ) ∷
     []
 
 these_texts : AllByRecursion (λ row. expansion row.logs row.options row.asked ≡ row.text) rows
 unfolding opened_within opened_log digits
-these_texts = (refl, (refl, (refl, (refl, (refl, (refl, (refl, (refl, (refl, (refl, (refl, (refl, (refl, (refl, (refl, (refl, tt))))))))))))))))
+these_texts = (refl, (refl, (refl, (refl, (refl, (refl, (refl, (refl, (refl, (refl, (refl, (refl, (refl, (refl, (refl, (refl, (refl, (refl, (refl, (refl, tt))))))))))))))))))))

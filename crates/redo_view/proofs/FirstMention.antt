@@ -14,24 +14,24 @@ never true = refl
 never false = refl
 
 module _ (logs : List Log) (options : Options) where
-  module _ (how : How) (name : List ℕ) (depth : ℕ) (shown : Shown) (counts : mentions options how ≡ true) where
+  module _ (how : How) (name : List ℕ) (depth pid : ℕ) (shown : Shown) (counts : mentions options how ≡ true) where
     -- what is shown where the log is opened, or isn't
     abbrev then : Bool → Shown
-    then opening = opened_if logs options opening (opened_log logs options) name (depth + 1) (mention options depth how name shown)
+    then opening = opened_if logs options opening (opened_log logs options) name (depth + 1) (mention options depth pid how name shown)
 
-    is_mention : mentioned_if logs options (mentions options how) (opened_log logs options) depth how name shown ≡ then (opens logs options name (mention options depth how name shown))
-    is_mention = ap (λ b. mentioned_if logs options b (opened_log logs options) depth how name shown) counts
+    is_mention : mentioned_if logs options (mentions options how) (opened_log logs options) depth pid how name shown ≡ then (opens logs options name (mention options depth pid how name shown))
+    is_mention = ap (λ b. mentioned_if logs options b (opened_log logs options) depth pid how name shown) counts
 
   pub mentioned_first : (how : How) (name : List ℕ) → MentionedFirst logs options how name
-  mentioned_first how name depth shown counts recursive listed new =
+  mentioned_first how name depth pid shown counts recursive listed new =
       let there = is_among name (targets_of logs) in
-      is_mention how name depth shown counts
-      ∙ ap (then how name depth shown counts) (and_from (options.recursive && there) (not (is_among name shown.opened)) (and_from options.recursive there recursive listed) (ap not new))
+      is_mention how name depth pid shown counts
+      ∙ ap (then how name depth pid shown counts) (and_from (options.recursive && there) (not (is_among name shown.opened)) (and_from options.recursive there recursive listed) (ap not new))
 
   pub mentioned_again : (how : How) (name : List ℕ) → MentionedAgain logs options how name
-  mentioned_again how name depth shown counts known =
+  mentioned_again how name depth pid shown counts known =
       let there = options.recursive && is_among name (targets_of logs) in
-      is_mention how name depth shown counts ∙ ap (then how name depth shown counts) (ap (λ old. there && not old) known ∙ never there)
+      is_mention how name depth pid shown counts ∙ ap (then how name depth pid shown counts) (ap (λ old. there && not old) known ∙ never there)
 
   -- one target more that is asked for
   one_more : (asked : List (List ℕ)) (target : List ℕ) (known : Bool) → is_among target (expanded logs options asked).opened ≡ known

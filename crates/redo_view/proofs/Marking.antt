@@ -127,29 +127,29 @@ module _ (numbering : Numbering) where
         -- its text
         pub text_is : (depth : ℕ) (entry : NumberedEntry) → IsNumbered numbering.names entry
             → own_text numbering options depth seen entry ≡ alone.own_text options depth shown.named (numbered_seen numbering.names entry)
-        text_is depth (Mention how name) below =
-            ap (λ was_named. if mentions options how then line_of options depth how (name_at numbering.names name) was_named else [])
+        text_is depth (Mention pid how name) below =
+            ap (λ was_named. if mentions options how then line_of options depth pid how (name_at numbering.names name) was_named else [])
             (ap (λ marks. is_marked marks name) is.named ∙ mark_at numbering.names shown.named name below)
         text_is depth (Other (other.Text line)) numbered = refl
-        text_is depth (Other (other.Mention how name)) numbered = absurd numbered
-        text_is depth (Other (other.Done status name)) numbered = refl
-        text_is depth (Other (other.Closing status)) numbered = refl
-        text_is depth (Other (other.Note kind text)) numbered = refl
+        text_is depth (Other (other.Mention pid how name)) numbered = absurd numbered
+        text_is depth (Other (other.Done pid status name)) numbered = refl
+        text_is depth (Other (other.Closing pid status)) numbered = refl
+        text_is depth (Other (other.Note pid kind text)) numbered = refl
 
         -- which targets are named behind it
         pub named_is : (entry : NumberedEntry) → IsNumbered numbering.names entry
             → named_after numbering options seen.named.items entry ≡ marks_of numbering.names (alone.named_after options shown.named (numbered_seen numbering.names entry))
-        named_is (Mention how name) below = by (mentions options how)
+        named_is (Mention pid how name) below = by (mentions options how)
           where
             by : (counts : Bool) → (if counts then marked seen.named.items name else seen.named.items)
                 ≡ marks_of numbering.names (if counts then with_name (name_at numbering.names name) shown.named else shown.named)
             by true = ap (λ marks. marked marks name) is.named ∙ marked_one shown.named numbering.names name fits.names_differ below
             by false = is.named
         named_is (Other (other.Text line)) numbered = is.named
-        named_is (Other (other.Mention how name)) numbered = absurd numbered
-        named_is (Other (other.Done status name)) numbered = is.named
-        named_is (Other (other.Closing status)) numbered = is.named
-        named_is (Other (other.Note kind text)) numbered = is.named
+        named_is (Other (other.Mention pid how name)) numbered = absurd numbered
+        named_is (Other (other.Done pid status name)) numbered = is.named
+        named_is (Other (other.Closing pid status)) numbered = is.named
+        named_is (Other (other.Note pid kind text)) numbered = is.named
 
         -- which log it opens
         opens_one : (target : List ℕ) → (if options.recursive then if_new seen.opened.items (place_of target numbering.logs) else None) ≡ alone.opened_by numbering.logs options target shown.opened
@@ -168,12 +168,12 @@ module _ (numbering : Numbering) where
 
         pub opens_is : (entry : NumberedEntry) → IsNumbered numbering.names entry
             → opened_after numbering options seen.opened.items entry ≡ alone.opened_after numbering.logs options shown.opened (numbered_seen numbering.names entry)
-        opens_is (Mention how name) below = ap (λ number. if mentions options how then number else None) (opens_one (name_at numbering.names name))
+        opens_is (Mention pid how name) below = ap (λ number. if mentions options how then number else None) (opens_one (name_at numbering.names name))
         opens_is (Other (other.Text line)) numbered = refl
-        opens_is (Other (other.Mention how name)) numbered = absurd numbered
-        opens_is (Other (other.Done status name)) numbered = refl
-        opens_is (Other (other.Closing status)) numbered = refl
-        opens_is (Other (other.Note kind text)) numbered = refl
+        opens_is (Other (other.Mention pid how name)) numbered = absurd numbered
+        opens_is (Other (other.Done pid status name)) numbered = refl
+        opens_is (Other (other.Closing pid status)) numbered = refl
+        opens_is (Other (other.Note pid kind text)) numbered = refl
 
 -- ---- the log that an entry opens
 
@@ -198,5 +198,5 @@ module _ (numbering : Numbering) (options : Options) (opened : List Bool) (numbe
   new_mentioned target false recursive is = absurd (none-some number is)
 
   pub opens_new : (entry : NumberedEntry) → opened_after numbering options opened entry ≡ Some number → IsNewLog
-  opens_new (Mention how name) is = new_mentioned (name_at numbering.names name) (mentions options how) options.recursive is
+  opens_new (Mention pid how name) is = new_mentioned (name_at numbering.names name) (mentions options how) options.recursive is
   opens_new (Other other) is = absurd (none-some number is)

@@ -10,18 +10,18 @@ use Rattle.redo_view.specs.Expansion.{Shown, is_among, with_name, mentions, ment
 -- the text of an entry, without that of a log that it opens
 abbrev pub own_text : Options → ℕ → List (List ℕ) → Entry → List ℕ
 own_text options depth named (Text line) = entry_text options depth (Text line)
-own_text options depth named (Mention how name) = if mentions options how then mention_text options depth how name named else []
-own_text options depth named (Done status name) = entry_text options depth (Done status name)
-own_text options depth named (Closing status) = entry_text options depth (Closing status)
-own_text options depth named (Note kind text) = entry_text options depth (Note kind text)
+own_text options depth named (Mention pid how name) = if mentions options how then mention_text options depth pid how name named else []
+own_text options depth named (Done pid status name) = entry_text options depth (Done pid status name)
+own_text options depth named (Closing pid status) = entry_text options depth (Closing pid status)
+own_text options depth named (Note pid kind text) = entry_text options depth (Note pid kind text)
 
 -- the targets that are named behind it
 abbrev pub named_after : Options → List (List ℕ) → Entry → List (List ℕ)
 named_after options named (Text line) = named
-named_after options named (Mention how name) = if mentions options how then with_name name named else named
-named_after options named (Done status name) = named
-named_after options named (Closing status) = named
-named_after options named (Note kind text) = named
+named_after options named (Mention pid how name) = if mentions options how then with_name name named else named
+named_after options named (Done pid status name) = named
+named_after options named (Closing pid status) = named
+named_after options named (Note pid kind text) = named
 
 -- the number of a mentioned target's log, if it is to be opened
 abbrev pub opened_by : List Log → Options → List ℕ → List (List ℕ) → Option ℕ
@@ -30,10 +30,10 @@ opened_by logs options name opened = if options.recursive && not (is_among name 
 -- the number of the log that an entry opens
 abbrev pub opened_after : List Log → Options → List (List ℕ) → Entry → Option ℕ
 opened_after logs options opened (Text line) = None
-opened_after logs options opened (Mention how name) = if mentions options how then opened_by logs options name opened else None
-opened_after logs options opened (Done status name) = None
-opened_after logs options opened (Closing status) = None
-opened_after logs options opened (Note kind text) = None
+opened_after logs options opened (Mention pid how name) = if mentions options how then opened_by logs options name opened else None
+opened_after logs options opened (Done pid status name) = None
+opened_after logs options opened (Closing pid status) = None
+opened_after logs options opened (Note pid kind text) = None
 
 -- what is shown behind it
 abbrev pub mid : Options → ℕ → Entry → Shown → Shown

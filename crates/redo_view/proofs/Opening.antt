@@ -55,17 +55,17 @@ module _ (logs : List Log) (options : Options) where
     -- one entry
     entry_grows : (entry : Entry) → Does (λ name. mentions_target options name entry) → (depth : ℕ) (shown : Shown) → left logs shown.opened ≤ bound → Grown Q shown.opened (after_entry logs options inner depth entry shown).opened
     entry_grows (Text line) does depth shown fits = grown-none Q growth shown.opened
-    entry_grows (Mention how name) does depth shown fits = by (mentions options how) refl
+    entry_grows (Mention pid how name) does depth shown fits = by (mentions options how) refl
       where
-        by : (counts : Bool) → mentions options how ≡ counts → Grown Q shown.opened (mentioned_if logs options counts inner depth how name shown).opened
+        by : (counts : Bool) → mentions options how ≡ counts → Grown Q shown.opened (mentioned_if logs options counts inner depth pid how name shown).opened
         by true counts =
-            let named = mention options depth how name shown in
+            let named = mention options depth pid how name shown in
             let mentioned = and_from (mentions options how) (pointwise nat_eq name name) counts (nat_list_eq_equiv.refl name) in
-            inner_grows (λ n. mentions_target options n (Mention how name)) does name (depth + 1) named mentioned fits (opens logs options name named) refl
+            inner_grows (λ n. mentions_target options n (Mention pid how name)) does name (depth + 1) named mentioned fits (opens logs options name named) refl
         by false counts = grown-none Q growth shown.opened
-    entry_grows (Done status name) does depth shown fits = grown-none Q growth shown.opened
-    entry_grows (Closing status) does depth shown fits = grown-none Q growth shown.opened
-    entry_grows (Note kind text) does depth shown fits = grown-none Q growth shown.opened
+    entry_grows (Done pid status name) does depth shown fits = grown-none Q growth shown.opened
+    entry_grows (Closing pid status) does depth shown fits = grown-none Q growth shown.opened
+    entry_grows (Note pid kind text) does depth shown fits = grown-none Q growth shown.opened
 
     -- entries in order
     pub entries_grow : (entries : List Entry) → Does (λ name. mentioned_in options name entries) → (depth : ℕ) (shown : Shown) → left logs shown.opened ≤ bound → Grown Q shown.opened (after_entries logs options inner depth entries shown).opened
@@ -103,14 +103,14 @@ module _ (logs : List Log) (options : Options) where
       -- they do the same of one entry
       entry_agrees : (entry : Entry) (depth : ℕ) (shown : Shown) → left logs shown.opened ≤ bound → after_entry logs options one depth entry shown ≡ after_entry logs options other depth entry shown
       entry_agrees (Text line) depth shown fits = refl
-      entry_agrees (Mention how name) depth shown fits = by (mentions options how)
+      entry_agrees (Mention pid how name) depth shown fits = by (mentions options how)
         where
-          by : (counts : Bool) → mentioned_if logs options counts one depth how name shown ≡ mentioned_if logs options counts other depth how name shown
-          by true = let named = mention options depth how name shown in inner_agrees name (depth + 1) named fits (opens logs options name named) refl
+          by : (counts : Bool) → mentioned_if logs options counts one depth pid how name shown ≡ mentioned_if logs options counts other depth pid how name shown
+          by true = let named = mention options depth pid how name shown in inner_agrees name (depth + 1) named fits (opens logs options name named) refl
           by false = refl
-      entry_agrees (Done status name) depth shown fits = refl
-      entry_agrees (Closing status) depth shown fits = refl
-      entry_agrees (Note kind text) depth shown fits = refl
+      entry_agrees (Done pid status name) depth shown fits = refl
+      entry_agrees (Closing pid status) depth shown fits = refl
+      entry_agrees (Note pid kind text) depth shown fits = refl
 
       -- and of entries in order
       entries_agree : (entries : List Entry) (depth : ℕ) (shown : Shown) → left logs shown.opened ≤ bound → after_entries logs options one depth entries shown ≡ after_entries logs options other depth entries shown

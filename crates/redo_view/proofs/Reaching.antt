@@ -1,5 +1,5 @@
 -- Which logs are opened, and that none is twice.
-use Rattle.std.proofs.Common.{◌≡◌, ℕ, zero, suc, ◌+◌, ◌<◌, Bool, true, false, inl, inr, List, [], ◌∷◌, ◌++◌, refl, sym, ap, ◌∙◌, subst, arith}
+use Rattle.std.proofs.Common.{◌≡◌, ℕ, zero, suc, ◌+◌, ◌<◌, Bool, true, false, inl, inr, List, [], ◌∷◌, ◌++◌, None, refl, sym, ap, ◌∙◌, subst, arith}
 use Rattle.std.specs.Prelude.{◌&&◌, not, nat_eq}
 use Rattle.std.specs.List.{IsDistinct}
 use Rattle.std.specs.Cmp.Lexicographic.{pointwise, same_text}
@@ -60,7 +60,7 @@ module _ (logs : List Log) (options : Options) where
       -- the log of a target that is asked for, unless it was opened
       one_asked_grows : (target : List ℕ) (shown : Shown) → Good target → (known : Bool) → is_among target shown.opened ≡ known → Grown Q shown.opened (unless_opened logs options known target shown).opened
       one_asked_grows target shown good true is = grown-none Q growth shown.opened
-      one_asked_grows target shown good false is = grows_below (suc (left_after logs options target shown)) target 1 (with_text (redo_line 0 target) shown) (omega arith) good is
+      one_asked_grows target shown good false is = grows_below (suc (left_after logs options target shown)) target 1 (with_text (redo_line options 0 None target) shown) (omega arith) good is
 
       -- targets that are asked for, in order
       asked_grow : (asked : Names) → ((target : List ℕ) → is_among target asked ≡ true → Good target) → (shown : Shown) → Grown Q shown.opened (behind_asked asked shown)
@@ -151,16 +151,16 @@ module _ (logs : List Log) (options : Options) where
     -- the log that an entry mentions is among the opened behind it
     behind_entry : (entry : Entry) → mentions_target options name entry ≡ true → (depth : ℕ) (shown : Shown) → is_among name (after_entry logs options (opened_log logs options) depth entry shown).opened ≡ true
     behind_entry (Text line) mentioned depth shown = absurd (cc)
-    behind_entry (Mention how other) mentioned depth shown =
+    behind_entry (Mention pid how other) mentioned depth shown =
         let parts = and_parts (mentions options how) (pointwise nat_eq name other) mentioned in
-        subst (λ n. is_among name (after_entry logs options (opened_log logs options) depth (Mention how n) shown).opened ≡ true) (same_text name other (sym parts.1)) (by (mentions options how) parts.0)
+        subst (λ n. is_among name (after_entry logs options (opened_log logs options) depth (Mention pid how n) shown).opened ≡ true) (same_text name other (sym parts.1)) (by (mentions options how) parts.0)
       where
-        by : (counts : Bool) → counts ≡ true → is_among name (mentioned_if logs options counts (opened_log logs options) depth how name shown).opened ≡ true
-        by true is = let named = mention options depth how name shown in behind_mention (depth + 1) named (opens logs options name named) refl
+        by : (counts : Bool) → counts ≡ true → is_among name (mentioned_if logs options counts (opened_log logs options) depth pid how name shown).opened ≡ true
+        by true is = let named = mention options depth pid how name shown in behind_mention (depth + 1) named (opens logs options name named) refl
         by false is = absurd (cc)
-    behind_entry (Done status other) mentioned depth shown = absurd (cc)
-    behind_entry (Closing status) mentioned depth shown = absurd (cc)
-    behind_entry (Note kind text) mentioned depth shown = absurd (cc)
+    behind_entry (Done pid status other) mentioned depth shown = absurd (cc)
+    behind_entry (Closing pid status) mentioned depth shown = absurd (cc)
+    behind_entry (Note pid kind text) mentioned depth shown = absurd (cc)
 
     -- and so behind entries
     behind_entries : (entries : List Entry) → mentioned_in options name entries ≡ true → (depth : ℕ) (shown : Shown) → is_among name (after_entries logs options (opened_log logs options) depth entries shown).opened ≡ true
@@ -231,7 +231,7 @@ module _ (logs : List Log) (options : Options) where
     where
       by : (known : Bool) → is_among first shown.opened ≡ known → is_among first (unless_opened logs options known first shown).opened ≡ true
       by true is = is
-      by false is = own first 1 (with_text (redo_line 0 first) shown)
+      by false is = own first 1 (with_text (redo_line options 0 None first) shown)
 
   -- and so is what is reached
   pub reached-opened : (asked : Names) (target : List ℕ) → IsReached logs options asked target → is_among target (expanded logs options asked).opened ≡ true

@@ -36,33 +36,33 @@ text-shift : (x text : List ℕ) (s : Shown) → with_text text (behind_text x s
 text-shift x text s = λ i. record { named = s.named; opened = s.opened; text = append_assoc x s.text text i }
 
 -- and so is a mention
-mention-shift : (options : Options) (depth : ℕ) (how : How) (name x : List ℕ) (s : Shown) → mention options depth how name (behind_text x s) ≡ behind_text x (mention options depth how name s)
-mention-shift options depth how name x s = λ i. record {
+mention-shift : (options : Options) (depth pid : ℕ) (how : How) (name x : List ℕ) (s : Shown) → mention options depth pid how name (behind_text x s) ≡ behind_text x (mention options depth pid how name s)
+mention-shift options depth pid how name x s = λ i. record {
   named = with_name name s.named;
   opened = s.opened;
-  text = append_assoc x s.text (mention_text options depth how name s.named) i;
+  text = append_assoc x s.text (mention_text options depth pid how name s.named) i;
 }
 
 module _ (logs : List Log) (options : Options) where
   module _ (inner : Opening) (shifts : Shifts inner) where
     -- the log that a mention opens, or doesn't
-    mentioned-shift : (depth : ℕ) (how : How) (name x : List ℕ) (s : Shown) (opening : Bool)
-        → opened_if logs options opening inner name (depth + 1) (mention options depth how name (behind_text x s))
-        ≡ behind_text x (opened_if logs options opening inner name (depth + 1) (mention options depth how name s))
-    mentioned-shift depth how name x s true = ap (inner name (depth + 1)) (mention-shift options depth how name x s) ∙ shifts name (depth + 1) x (mention options depth how name s)
-    mentioned-shift depth how name x s false = mention-shift options depth how name x s
+    mentioned-shift : (depth pid : ℕ) (how : How) (name x : List ℕ) (s : Shown) (opening : Bool)
+        → opened_if logs options opening inner name (depth + 1) (mention options depth pid how name (behind_text x s))
+        ≡ behind_text x (opened_if logs options opening inner name (depth + 1) (mention options depth pid how name s))
+    mentioned-shift depth pid how name x s true = ap (inner name (depth + 1)) (mention-shift options depth pid how name x s) ∙ shifts name (depth + 1) x (mention options depth pid how name s)
+    mentioned-shift depth pid how name x s false = mention-shift options depth pid how name x s
 
     -- one entry
     one-shift : (depth : ℕ) (entry : Entry) (x : List ℕ) (s : Shown) → after_entry logs options inner depth entry (behind_text x s) ≡ behind_text x (after_entry logs options inner depth entry s)
     one-shift depth (Text line) x s = text-shift x (own_text options depth s.named (Text line)) s
-    one-shift depth (Mention how name) x s = by (mentions options how)
+    one-shift depth (Mention pid how name) x s = by (mentions options how)
       where
-        by : (counts : Bool) → mentioned_if logs options counts inner depth how name (behind_text x s) ≡ behind_text x (mentioned_if logs options counts inner depth how name s)
-        by true = mentioned-shift depth how name x s (opens logs options name (mention options depth how name s))
+        by : (counts : Bool) → mentioned_if logs options counts inner depth pid how name (behind_text x s) ≡ behind_text x (mentioned_if logs options counts inner depth pid how name s)
+        by true = mentioned-shift depth pid how name x s (opens logs options name (mention options depth pid how name s))
         by false = refl
-    one-shift depth (Done status name) x s = text-shift x (own_text options depth s.named (Done status name)) s
-    one-shift depth (Closing status) x s = text-shift x (own_text options depth s.named (Closing status)) s
-    one-shift depth (Note kind text) x s = text-shift x (own_text options depth s.named (Note kind text)) s
+    one-shift depth (Done pid status name) x s = text-shift x (own_text options depth s.named (Done pid status name)) s
+    one-shift depth (Closing pid status) x s = text-shift x (own_text options depth s.named (Closing pid status)) s
+    one-shift depth (Note pid kind text) x s = text-shift x (own_text options depth s.named (Note pid kind text)) s
 
     -- entries in order
     all-shift : (depth : ℕ) (entries : List Entry) (x : List ℕ) (s : Shown) → after_entries logs options inner depth entries (behind_text x s) ≡ behind_text x (after_entries logs options inner depth entries s)
@@ -111,11 +111,11 @@ module _ (logs : List Log) (options : Options) where
 -- ---- what one entry does
 
 -- what is shown behind a mention that counts, or doesn't, without the log that it opens
-abbrev mid_if : Bool → Options → ℕ → How → List ℕ → Shown → Shown
-mid_if counts options depth how name s = record {
+abbrev mid_if : Bool → Options → ℕ → ℕ → How → List ℕ → Shown → Shown
+mid_if counts options depth pid how name s = record {
   named = if counts then with_name name s.named else s.named;
   opened = s.opened;
-  text = s.text ++ (if counts then mention_text options depth how name s.named else []);
+  text = s.text ++ (if counts then mention_text options depth pid how name s.named else []);
 }
 
 -- a target has a log exactly if it is listed
@@ -140,19 +140,19 @@ module _ (logs : List Log) (options : Options) (inner : Opening) (depth : ℕ) w
   -- an entry that opens no log
   pub entry-alone : (entry : Entry) (s : Shown) → opened_after logs options s.opened entry ≡ None → after_entry logs options inner depth entry s ≡ mid options depth entry s
   entry-alone (Text line) s is = refl
-  entry-alone (Mention how name) s is = by (mentions options how) is
+  entry-alone (Mention pid how name) s is = by (mentions options how) is
     where
-      by : (counts : Bool) → (if counts then opened_by logs options name s.opened else None) ≡ None → mentioned_if logs options counts inner depth how name s ≡ mid_if counts options depth how name s
+      by : (counts : Bool) → (if counts then opened_by logs options name s.opened else None) ≡ None → mentioned_if logs options counts inner depth pid how name s ≡ mid_if counts options depth pid how name s
       by true none =
-          let mentioned = mention options depth how name s in
+          let mentioned = mention options depth pid how name s in
           let new = not (is_among name s.opened) in
           let shut : opens logs options name mentioned ≡ false =
           ap (λ listed. options.recursive && listed && new) (sym (placed-listed name logs)) ∙ none_opens options.recursive new (place_of name logs) none in
           ap (λ opening. opened_if logs options opening inner name (depth + 1) mentioned) shut
       by false none = λ i. record { named = s.named; opened = s.opened; text = sym (append-nil s.text) i }
-  entry-alone (Done status name) s is = refl
-  entry-alone (Closing status) s is = refl
-  entry-alone (Note kind text) s is = refl
+  entry-alone (Done pid status name) s is = refl
+  entry-alone (Closing pid status) s is = refl
+  entry-alone (Note pid kind text) s is = refl
 
   -- the log of this number is opened: of which target, and what the entry does
   abbrev pub OpensOne : ℕ → Entry → Shown → Type 0
@@ -163,13 +163,13 @@ module _ (logs : List Log) (options : Options) (inner : Opening) (depth : ℕ) w
   -- an entry with a number opens it
   pub entry-opens : (entry : Entry) (s : Shown) (number : ℕ) → opened_after logs options s.opened entry ≡ Some number → OpensOne number entry s
   entry-opens (Text line) s number is = absurd (none-some number is)
-  entry-opens (Mention how name) s number is = by (mentions options how) is
+  entry-opens (Mention pid how name) s number is = by (mentions options how) is
     where
       by : (counts : Bool) → (if counts then opened_by logs options name s.opened else None) ≡ Some number
           → (n : List ℕ) × (place_of n logs ≡ Some number) × (is_among n s.opened ≡ false) × (is_among n (targets_of logs) ≡ true)
-          × (mentioned_if logs options counts inner depth how name s ≡ inner n (depth + 1) (mid_if counts options depth how name s))
+          × (mentioned_if logs options counts inner depth pid how name s ≡ inner n (depth + 1) (mid_if counts options depth pid how name s))
       by true some =
-          let mentioned = mention options depth how name s in
+          let mentioned = mention options depth pid how name s in
           let new = not (is_among name s.opened) in
           let listed = is_among name (targets_of logs) in
           let parts = some_opens options.recursive new (place_of name logs) number some in
@@ -177,9 +177,9 @@ module _ (logs : List Log) (options : Options) (inner : Opening) (depth : ℕ) w
           let opened : opens logs options name mentioned ≡ true = and_from (options.recursive && listed) new (and_from options.recursive listed parts.0 there) parts.1 in
           (name, parts.2, not-true (is_among name s.opened) parts.1, there, ap (λ opening. opened_if logs options opening inner name (depth + 1) mentioned) opened)
       by false some = absurd (none-some number some)
-  entry-opens (Done status name) s number is = absurd (none-some number is)
-  entry-opens (Closing status) s number is = absurd (none-some number is)
-  entry-opens (Note kind text) s number is = absurd (none-some number is)
+  entry-opens (Done pid status name) s number is = absurd (none-some number is)
+  entry-opens (Closing pid status) s number is = absurd (none-some number is)
+  entry-opens (Note pid kind text) s number is = absurd (none-some number is)
 
 -- ---- the log of a target
 

@@ -531,7 +531,7 @@ module _ (numbering : Numbering) (options : Options) (number : ℕ) (before : Se
       further = record { number = frame.number; next = frame.next + 1 }
 
       length_after : (entry : NumberedEntry) → length (named_after numbering options seen.named.items entry) ≡ length seen.named.items
-      length_after (Mention how name) = by (mentions options how)
+      length_after (Mention pid how name) = by (mentions options how)
         where
           by : (counts : Bool) → length (if counts then marked seen.named.items name else seen.named.items) ≡ length seen.named.items
           by true = length-set seen.named.items name true

@@ -1,5 +1,5 @@
 -- Texts that are written in parts.
-use Rattle.std.proofs.Common.{◌≡◌, ℕ, zero, suc, ℤ, ◌+◌, ◌-◌, ◌≤◌, List, [], ◌∷◌, ◌++◌, refl, Option, Result, Ok, Err, length, take, take-add, sym, ◌∙◌, ap, subst, arith, le_refl}
+use Rattle.std.proofs.Common.{◌≡◌, ℕ, zero, suc, ℤ, ◌+◌, ◌-◌, ◌≤◌, List, [], ◌∷◌, ◌++◌, refl, Option, Some, min, Result, Ok, Err, length, take, take-add, sym, ◌∙◌, ap, subst, arith, le_refl}
 use Rattle.std.specs.Prelude.{codes, pos, negsuc}
 use Rattle.std.specs.Result.{IsErr, IsErrAnd}
 use Rattle.std.proofs.lemmas.List.{append_assoc, replicate-append-replicate, take_all, take-replicate}
@@ -7,10 +7,11 @@ use Rattle.redo_device.specs.declared.feed.Broken.{Broken}
 use Rattle.redo_line.specs.Lines.{line_feed, with_line_feed}
 use Rattle.redo_device.specs.Sink.{Taken, adds, Writes}
 use Rattle.redo_device.proofs.WritesLemmas.{then, stops}
+use Rattle.redo_view.specs.declared.options.Options.{Options}
 use Rattle.redo_view.specs.declared.stop.Stop.{Stop}
 use Rattle.redo_view.specs.declared.stop.Stop.TheVariants.{OutOfMemory}
 use Rattle.redo_view.specs.Private.Stopped.{Written}
-use Rattle.redo_view.specs.Text.{spaces, redo_line, exit_remark, exit_text}
+use Rattle.redo_view.specs.Text.{spaces, in_six_places, redo_line, exit_remark, exit_text}
 
 module _ (before : Option Taken) (text : List ℕ) where
   -- the first part of a text failed
@@ -35,10 +36,10 @@ pub line_parts : (begin text more : List ℕ) → (begin ++ text) ++ with_line_f
 line_parts begin text more = append_assoc begin text (with_line_feed more) ∙ ap (λ t. begin ++ t) (sym (append_assoc text more (line_feed ∷ [])))
 
 -- a status other than 0 is shown
-pub exit_shown : (depth : ℕ) (status : ℤ) (name : List ℕ) → (status ≡ pos 0 → ⊥) → exit_text depth status name ≡ redo_line depth (name ++ exit_remark status)
-exit_shown depth (pos zero) name other = absurd (other refl)
-exit_shown depth (pos (suc status)) name other = refl
-exit_shown depth (negsuc status) name other = refl
+pub exit_shown : (options : Options) (depth pid : ℕ) (status : ℤ) (name : List ℕ) → (status ≡ pos 0 → ⊥) → exit_text options depth pid status name ≡ redo_line options depth (Some pid) (name ++ exit_remark status)
+exit_shown options depth pid (pos zero) name other = absurd (other refl)
+exit_shown options depth pid (pos (suc status)) name other = refl
+exit_shown options depth pid (negsuc status) name other = refl
 
 -- the end of the line of a target that failed
 pub exit_parts : (number : List ℕ) → codes " (exit " ++ number ++ codes ")\n" ≡ with_line_feed (codes " (exit " ++ number ++ codes ")")
@@ -57,6 +58,11 @@ begun_part some within = take-add 4 some (codes "redo" ++ spaces 64) ∙ ap (λ 
 -- and the spaces of one that is
 pub begun_parts : (count some : ℕ) → some ≤ count → (codes "redo" ++ spaces some) ++ spaces (count - some) ≡ codes "redo" ++ spaces count
 begun_parts count some within = append_assoc (codes "redo") (spaces some) (spaces (count - some)) ∙ ap (λ (t : List ℕ). codes "redo" ++ t) (replicate-append-replicate some (count - some) 32 ∙ ap spaces (omega arith))
+
+-- a text in six places, and the space behind them
+pub column_parts : (text : List ℕ) (least : ℕ) → least ≡ min (length text) 6 → text ++ spaces (7 - least) ≡ in_six_places text ++ spaces 1
+column_parts text least is =
+    ap (λ (s : List ℕ). text ++ s) (ap spaces (omega (arith, is)) ∙ sym (replicate-append-replicate (6 - length text) 1 32)) ∙ sym (append_assoc text (spaces (6 - length text)) (spaces 1))
 
 -- some of the spaces that are left
 pub some_spaces : (count left some : ℕ) → left ≤ count → some ≤ left → spaces (count - left) ++ spaces some ≡ spaces (count - (left - some))

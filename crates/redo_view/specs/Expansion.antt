@@ -1,7 +1,7 @@
 -- The expansion of logs at the targets asked for: these targets are gone over in order, each log of theirs is opened, and its
 -- entries are gone over in order. Where an entry mentions a target, the log of that target is opened in its midst, one level
 -- deeper, unless it was opened before. Each step takes what was shown before it and gives what is shown after it.
-use Rattle.std.specs.Prelude.{ℕ, zero, suc, ◌+◌, Bool, true, false, not, ◌&&◌, List, [], ◌∷◌, ◌++◌, length, nat_eq, if◌then◌else◌}
+use Rattle.std.specs.Prelude.{ℕ, zero, suc, ◌+◌, Bool, true, false, not, ◌&&◌, List, [], ◌∷◌, ◌++◌, None, Some, length, nat_eq, if◌then◌else◌}
 use Rattle.std.specs.List.{list_any}
 use Rattle.std.specs.Cmp.Lexicographic.{pointwise}
 use Rattle.redo_line.specs.declared.entry.Entry.{Entry}
@@ -40,17 +40,17 @@ mentions options Unlocked = true
 mentions options Unchanged = options.unchanged
 
 -- the line of a mention: its own, or that of the target, once
-abbrev pub mention_text : Options → ℕ → How → List ℕ → List (List ℕ) → List ℕ
-mention_text options depth how name named =
-    if options.debug_locks then redo_line depth (name ++ remark how)
-    else if is_among name named then [] else redo_line depth name
+abbrev pub mention_text : Options → ℕ → ℕ → How → List ℕ → List (List ℕ) → List ℕ
+mention_text options depth pid how name named =
+    if options.debug_locks then redo_line options depth (Some pid) (name ++ remark how)
+    else if is_among name named then [] else redo_line options depth (Some pid) name
 
 -- the mention's line is shown, and its target is named
-abbrev pub mention : Options → ℕ → How → List ℕ → Shown → Shown
-mention options depth how name shown = record {
+abbrev pub mention : Options → ℕ → ℕ → How → List ℕ → Shown → Shown
+mention options depth pid how name shown = record {
   named = with_name name shown.named;
   opened = shown.opened;
-  text = shown.text ++ mention_text options depth how name shown.named;
+  text = shown.text ++ mention_text options depth pid how name shown.named;
 }
 
 -- ---- a log
@@ -81,23 +81,23 @@ module _ (logs : List Log) (options : Options) where
   opened_if false open_mentioned name depth shown = shown
 
   -- behind a mention: its line is shown and its target named, and then the target's log is opened, one level deeper
-  abbrev pub after_mention : Opening → ℕ → How → List ℕ → Shown → Shown
-  after_mention open_mentioned depth how name shown =
-      let mentioned = mention options depth how name shown in
+  abbrev pub after_mention : Opening → ℕ → ℕ → How → List ℕ → Shown → Shown
+  after_mention open_mentioned depth pid how name shown =
+      let mentioned = mention options depth pid how name shown in
       opened_if (opens name mentioned) open_mentioned name (depth + 1) mentioned
 
   -- a record is a mention, or isn't one and shows nothing
-  abbrev pub mentioned_if : Bool → Opening → ℕ → How → List ℕ → Shown → Shown
-  mentioned_if true open_mentioned depth how name shown = after_mention open_mentioned depth how name shown
-  mentioned_if false open_mentioned depth how name shown = shown
+  abbrev pub mentioned_if : Bool → Opening → ℕ → ℕ → How → List ℕ → Shown → Shown
+  mentioned_if true open_mentioned depth pid how name shown = after_mention open_mentioned depth pid how name shown
+  mentioned_if false open_mentioned depth pid how name shown = shown
 
   -- behind one entry
   abbrev pub after_entry : Opening → ℕ → Entry → Shown → Shown
   after_entry open_mentioned depth (Text line) shown = with_text (entry_text options depth (Text line)) shown
-  after_entry open_mentioned depth (Mention how name) shown = mentioned_if (mentions options how) open_mentioned depth how name shown
-  after_entry open_mentioned depth (Done status name) shown = with_text (entry_text options depth (Done status name)) shown
-  after_entry open_mentioned depth (Closing status) shown = with_text (entry_text options depth (Closing status)) shown
-  after_entry open_mentioned depth (Note kind text) shown = with_text (entry_text options depth (Note kind text)) shown
+  after_entry open_mentioned depth (Mention pid how name) shown = mentioned_if (mentions options how) open_mentioned depth pid how name shown
+  after_entry open_mentioned depth (Done pid status name) shown = with_text (entry_text options depth (Done pid status name)) shown
+  after_entry open_mentioned depth (Closing pid status) shown = with_text (entry_text options depth (Closing pid status)) shown
+  after_entry open_mentioned depth (Note pid kind text) shown = with_text (entry_text options depth (Note pid kind text)) shown
 
   -- behind entries, in order
   abbrev pub after_entries : Opening → ℕ → List Entry → Shown → Shown
@@ -121,7 +121,7 @@ module _ (logs : List Log) (options : Options) where
   -- a target that is asked for: nothing is shown if its log was opened before, and else its line, at depth 0, and its log
   abbrev pub unless_opened : Bool → List ℕ → Shown → Shown
   unless_opened true target shown = shown
-  unless_opened false target shown = opened_log target 1 (with_text (redo_line 0 target) shown)
+  unless_opened false target shown = opened_log target 1 (with_text (redo_line options 0 None target) shown)
 
   -- behind targets that are asked for, in order
   abbrev pub after_asked : List (List ℕ) → Shown → Shown

@@ -1,5 +1,5 @@
 -- What the laws say of the expansion.
-use Rattle.std.specs.Prelude.{◌≡◌, ℕ, ◌+◌, true, false, nat_eq, List, [], ◌∷◌, ◌++◌}
+use Rattle.std.specs.Prelude.{◌≡◌, ℕ, ◌+◌, true, false, nat_eq, List, [], ◌∷◌, ◌++◌, None}
 use Rattle.std.specs.List.{IsDistinct}
 use Rattle.std.specs.Cmp.Lexicographic.{pointwise}
 use Rattle.redo_line.specs.declared.entry.Entry.{Entry}
@@ -68,23 +68,23 @@ module _ (logs : List Log) (options : Options) where
   -- behind the mention's line, one level deeper
   abbrev pub MentionedFirst : How → List ℕ → Type 0
   MentionedFirst how name =
-      (depth : ℕ) (shown : Shown) → mentions options how ≡ true → options.recursive ≡ true
+      (depth pid : ℕ) (shown : Shown) → mentions options how ≡ true → options.recursive ≡ true
       → is_among name (targets_of logs) ≡ true → is_among name shown.opened ≡ false
-      → after_entry logs options (opened_log logs options) depth (Mention how name) shown
-      ≡ opened_log logs options name (depth + 1) (mention options depth how name shown)
+      → after_entry logs options (opened_log logs options) depth (Mention pid how name) shown
+      ≡ opened_log logs options name (depth + 1) (mention options depth pid how name shown)
 
   -- where its log was opened, no more than the mention's line is shown
   abbrev pub MentionedAgain : How → List ℕ → Type 0
   MentionedAgain how name =
-      (depth : ℕ) (shown : Shown) → mentions options how ≡ true → is_among name shown.opened ≡ true
-      → after_entry logs options (opened_log logs options) depth (Mention how name) shown ≡ mention options depth how name shown
+      (depth pid : ℕ) (shown : Shown) → mentions options how ≡ true → is_among name shown.opened ≡ true
+      → after_entry logs options (opened_log logs options) depth (Mention pid how name) shown ≡ mention options depth pid how name shown
 
   -- one target more that is asked for shows its line and its log behind the others, if that wasn't opened
   abbrev pub AskedFirst : List (List ℕ) → Type 0
   AskedFirst asked =
       (target : List ℕ) → is_among target (opened_for asked) ≡ false
       → expanded logs options (asked ++ target ∷ [])
-      ≡ opened_log logs options target 1 (with_text (redo_line 0 target) (expanded logs options asked))
+      ≡ opened_log logs options target 1 (with_text (redo_line options 0 None target) (expanded logs options asked))
 
   -- and nothing, if it was
   abbrev pub AskedAgain : List (List ℕ) → Type 0

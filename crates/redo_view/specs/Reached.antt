@@ -9,10 +9,10 @@ use Rattle.redo_view.specs.Expansion.{is_among, log_of, mentions}
 
 abbrev pub mentions_target : Options → List ℕ → Entry → Bool
 mentions_target options target (Text line) = false
-mentions_target options target (Mention how name) = mentions options how && pointwise nat_eq target name
-mentions_target options target (Done status name) = false
-mentions_target options target (Closing status) = false
-mentions_target options target (Note kind text) = false
+mentions_target options target (Mention pid how name) = mentions options how && pointwise nat_eq target name
+mentions_target options target (Done pid status name) = false
+mentions_target options target (Closing pid status) = false
+mentions_target options target (Note pid kind text) = false
 
 -- a target that these entries mention
 abbrev pub mentioned_in : Options → List ℕ → List Entry → Bool

@@ -1,5 +1,5 @@
 -- The text of an entry.
-use Rattle.std.specs.Prelude.{ℕ, ◌+◌, ◌*◌, ℤ, pos, negsuc, zero, suc, List, [], ◌++◌, replicate, codes, if◌then◌else◌}
+use Rattle.std.specs.Prelude.{ℕ, ◌+◌, ◌-◌, ◌*◌, ℤ, pos, negsuc, zero, suc, List, [], ◌++◌, Option, None, Some, length, replicate, codes, decimal, if◌then◌else◌}
 use Rattle.std.specs.Fmt.{signed_decimal}
 use Rattle.std.specs.Str.{bytes_eq}
 use Rattle.redo_line.specs.declared.entry.Entry.{Entry}
@@ -12,12 +12,25 @@ use Rattle.redo_view.specs.declared.options.Options.{Options}
 abbrev pub spaces : ℕ → List ℕ
 spaces count = replicate count 32
 
+-- the pid of the record that a redo line shows, or a minus where it shows none: the line of a target that is asked for
+abbrev pub pid_text : Option ℕ → List ℕ
+pid_text None = codes "-"
+pid_text (Some pid) = decimal pid
+
+-- a text on the left of six places, or of as many as it has
+abbrev pub in_six_places : List ℕ → List ℕ
+in_six_places text = text ++ spaces (6 - length text)
+
+-- what stands in front of a redo line, where pids are shown
+abbrev pub pid_column : Options → Option ℕ → List ℕ
+pid_column options pid = if options.debug_pids then in_six_places (pid_text pid) ++ spaces 1 else []
+
 -- what a redo line begins with: `redo`, two spaces, and two more for each level of depth
 abbrev pub indent : ℕ → List ℕ
 indent depth = codes "redo" ++ spaces (2 + 2 * depth)
 
-abbrev pub redo_line : ℕ → List ℕ → List ℕ
-redo_line depth text = indent depth ++ with_line_feed text
+abbrev pub redo_line : Options → ℕ → Option ℕ → List ℕ → List ℕ
+redo_line options depth pid text = pid_column options pid ++ indent depth ++ with_line_feed text
 
 -- what stands behind the name in a mention's own text
 abbrev pub remark : How → List ℕ
@@ -32,20 +45,23 @@ abbrev pub exit_remark : ℤ → List ℕ
 exit_remark status = codes " (exit " ++ signed_decimal status ++ codes ")"
 
 -- a target that is done is shown where it failed
-abbrev pub exit_text : ℕ → ℤ → List ℕ → List ℕ
-exit_text depth (pos zero) name = []
-exit_text depth (pos (suc status)) name = redo_line depth (name ++ exit_remark (pos (suc status)))
-exit_text depth (negsuc status) name = redo_line depth (name ++ exit_remark (negsuc status))
+abbrev pub exit_text : Options → ℕ → ℕ → ℤ → List ℕ → List ℕ
+exit_text options depth pid (pos zero) name = []
+exit_text options depth pid (pos (suc status)) name = redo_line options depth (Some pid) (name ++ exit_remark (pos (suc status)))
+exit_text options depth pid (negsuc status) name = redo_line options depth (Some pid) (name ++ exit_remark (negsuc status))
+
+abbrev pub check_text : Options → ℕ → ℕ → List ℕ → List ℕ
+check_text options depth pid text = redo_line options depth (Some pid) (codes "(" ++ text ++ codes ")")
 
 -- a check is a redo line, and any other note a line without indent
-abbrev pub note_text : ℕ → List ℕ → List ℕ → List ℕ
-note_text depth kind text =
-    if bytes_eq kind (codes "check") then redo_line depth (codes "(" ++ text ++ codes ")") else codes "redo: " ++ with_line_feed text
+abbrev pub note_text : Options → ℕ → ℕ → List ℕ → List ℕ → List ℕ
+note_text options depth pid kind text =
+    if bytes_eq kind (codes "check") then check_text options depth pid text else codes "redo: " ++ with_line_feed text
 
 -- the text of an entry that mentions nothing
 abbrev pub entry_text : Options → ℕ → Entry → List ℕ
 entry_text options depth (Text line) = if options.details then with_line_feed line else []
-entry_text options depth (Mention how name) = []
-entry_text options depth (Done status name) = exit_text depth status name
-entry_text options depth (Closing status) = []
-entry_text options depth (Note kind text) = note_text depth kind text
+entry_text options depth (Mention pid how name) = []
+entry_text options depth (Done pid status name) = exit_text options depth pid status name
+entry_text options depth (Closing pid status) = []
+entry_text options depth (Note pid kind text) = note_text options depth pid kind text

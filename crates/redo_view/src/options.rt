@@ -9,4 +9,6 @@ pub struct Options {
     pub details: bool,
     /// Whether each mention is shown, with what was done about the target's lock.
     pub debug_locks: bool,
+    /// Whether a redo line begins with the pid of the record that it shows.
+    pub debug_pids: bool,
 }

@@ -2,11 +2,10 @@
 ghost use Rattle.std.specs.Prelude.{◌≡◌, ◌<◌, ◌^◌, false, length, IfOk, OnOk};
 ghost use Rattle.redo_device.specs.Sink.{Writes};
 ghost use Rattle.redo_logs.specs.declared.numbered.NumberedEntry.TheVariants.{Mention};
-ghost use Rattle.redo_logs.specs.Numbering.{IsNumbered};
 ghost use Rattle.redo_view.specs.Expansion.{mentions};
 ghost use Rattle.redo_view.specs.Private.Shown.{Begins};
 ghost use Rattle.redo_view.specs.Private.Stopped.{Written};
-ghost use Rattle.redo_view.specs.Private.Step.{Fits, is_marked, marked, line_of, own_text, named_after, opened_by, opened_after};
+ghost use Rattle.redo_view.specs.Private.Step.{Fits, IsStep, is_marked, marked, line_of, own_text, named_after, opened_by, opened_after};
 
 use crate::options::Options;
 use crate::stop::Stop;
@@ -23,8 +22,8 @@ pub struct Seen {
     pub opened: Vec<bool>,
 }
 
-/// Shows an entry, and names the target that it mentions. Answers the number of the log that is to be
-/// opened then.
+/// Shows an entry that is no text, and names the target that it mentions. Answers the number of the log that
+/// is to be opened then.
 pub fn show_entry<W: Sink>(
     logs: &Numbered<'_>,
     options: &Options,
@@ -34,16 +33,16 @@ pub fn show_entry<W: Sink>(
     out: &mut W,
 ) -> Result<Option<u32>, Stop>
     requires depth { depth < 2 ^ 60 }
-    requires entry { IsNumbered logs.now.names entry }
+    requires entry { IsStep logs.now.names entry }
     requires fits { Fits logs.now seen.old }
-    ensures text { Written (W.tells out.old) (W.tells out.new) (own_text logs.now options.now depth seen.old entry.entry) result }
+    ensures own { Written (W.tells out.old) (W.tells out.new) (own_text logs.now options.now depth seen.old entry.entry) result }
     ensures named { OnOk result (seen.new.named.items ≡ named_after logs.now options.now seen.old.named.items entry.entry) }
     ensures opened { seen.new.opened.items ≡ seen.old.opened.items }
     ensures opens { IfOk result (λ inner. inner ≡ opened_after logs.now options.now seen.old.opened.items entry.entry) }
 {
     match entry {
-        NumberedEntry::Mention { how, name } => {
-            show_mention(logs, options, depth, how, name, seen, out)
+        NumberedEntry::Mention { pid, how, name } => {
+            show_mention(logs, options, depth, pid, how, name, seen, out)
         }
         NumberedEntry::Other(other) => {
             write_entry(options, depth, other, out)?;
@@ -56,6 +55,7 @@ fn show_mention<W: Sink>(
     logs: &Numbered<'_>,
     options: &Options,
     depth: usize,
+    pid: u32,
     how: How,
     name: usize,
     seen: &mut Seen,
@@ -64,15 +64,16 @@ fn show_mention<W: Sink>(
     requires depth { depth < 2 ^ 60 }
     requires name { name < length logs.now.names }
     requires fits { Fits logs.now seen.old }
-    ensures text { Written (W.tells out.old) (W.tells out.new) (own_text logs.now options.now depth seen.old (Mention how name)) result }
-    ensures named { OnOk result (seen.new.named.items ≡ named_after logs.now options.now seen.old.named.items (Mention how name)) }
+    ensures own { Written (W.tells out.old) (W.tells out.new) (own_text logs.now options.now depth seen.old (Mention pid how name)) result }
+    ensures named { OnOk result (seen.new.named.items ≡ named_after logs.now options.now seen.old.named.items (Mention pid how name)) }
     ensures opened { seen.new.opened.items ≡ seen.old.opened.items }
-    ensures opens { IfOk result (λ inner. inner ≡ opened_after logs.now options.now seen.old.opened.items (Mention how name)) }
+    ensures opens { IfOk result (λ inner. inner ≡ opened_after logs.now options.now seen.old.opened.items (Mention pid how name)) }
 {
     if !is_mention(options, how) {
         return Ok(None);
     }
-    write_line(options, depth, how, logs.name(name), seen.named[name], out)?;
+    let named = seen.named[name];
+    write_line(options, depth, pid, how, logs.name(name), named, out)?;
     seen.named[name] = true;
     Ok(log_to_open(logs, options, name, &seen.opened))
 }
@@ -90,20 +91,21 @@ fn is_mention(options: &Options, how: How) -> bool
 fn write_line<W: Sink>(
     options: &Options,
     depth: usize,
+    pid: u32,
     how: How,
     name: &TargetName,
     was_named: bool,
     out: &mut W,
 ) -> Result<(), Broken>
     requires { depth < 2 ^ 60 }
-    ensures { Writes (W.tells out.old) (W.tells out.new) (line_of options.now depth how name.now was_named) result }
+    ensures { Writes (W.tells out.old) (W.tells out.new) (line_of options.now depth pid how name.now was_named) result }
 {
     if options.debug_locks {
-        write_mention(depth, how, name, out)
+        write_mention(options, depth, pid, how, name, out)
     } else if was_named {
         Ok(())
     } else {
-        write_target(depth, name, out)
+        write_target(options, depth, Some(pid), name, out)
     }
 }
 

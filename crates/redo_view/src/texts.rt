@@ -1,9 +1,10 @@
 //! The texts of entries, written part by part.
-ghost use Rattle.std.specs.Prelude.{◌≡◌, ◌<◌, ◌^◌, ◌++◌, [], codes, if◌then◌else◌};
+ghost use Rattle.std.specs.Prelude.{◌≡◌, ◌<◌, ◌^◌, ◌++◌, [], Some, codes, decimal, if◌then◌else◌};
 ghost use Rattle.redo_line.specs.Lines.{with_line_feed};
 ghost use Rattle.redo_device.specs.Sink.{Writes};
 ghost use Rattle.redo_logs.specs.EntryRef.{entry_seen};
-ghost use Rattle.redo_view.specs.Text.{spaces, indent, redo_line, remark, exit_remark, exit_text, note_text, entry_text};
+ghost use Rattle.redo_view.specs.Private.Step.{StandsAlone};
+ghost use Rattle.redo_view.specs.Text.{spaces, in_six_places, pid_column, indent, redo_line, remark, exit_remark, exit_text, check_text, note_text, entry_text};
 
 use crate::options::Options;
 use itoa::Buffer;
@@ -16,22 +17,22 @@ const INDENT: &[u8] = b"redo                                                    
 // As many spaces are written at once.
 const SPACES: &[u8] = &[b' '; 4096];
 
-/// Writes the text of an entry that mentions nothing; of one that does it writes nothing.
+/// Writes the text of an entry that is neither a text nor a mention.
 pub fn write_entry<W: Sink>(
     options: &Options,
     depth: usize,
     entry: EntryRef<'_>,
     out: &mut W,
 ) -> Result<(), Broken>
-    requires { depth < 2 ^ 60 }
+    requires depth { depth < 2 ^ 60 }
+    requires alone { StandsAlone (entry_seen entry) }
     ensures { Writes (W.tells out.old) (W.tells out.new) (entry_text options.now depth (entry_seen entry.entry)) result }
 {
     match entry {
-        EntryRef::Text(line) => write_text(options, line, out),
-        EntryRef::Done { status, name } => write_exit(depth, status, name, out),
-        EntryRef::Note { kind, text } => write_note(depth, kind, text, out),
-        EntryRef::Mention { .. } => Ok(()),
+        EntryRef::Done { pid, status, name } => write_exit(options, depth, pid, status, name, out),
+        EntryRef::Note { pid, kind, text } => write_note(options, depth, pid, kind, text, out),
         EntryRef::Closing { .. } => Ok(()),
+        EntryRef::Text(_) | EntryRef::Mention { .. } => unreachable!(),
     }
 }
 
@@ -48,24 +49,32 @@ pub fn write_lines<W: Sink>(options: &Options, lines: &[u8], out: &mut W) -> Res
 
 /// Writes a mention's own line.
 pub fn write_mention<W: Sink>(
+    options: &Options,
     depth: usize,
+    pid: u32,
     how: How,
     name: &TargetName,
     out: &mut W,
 ) -> Result<(), Broken>
     requires { depth < 2 ^ 60 }
-    ensures { Writes (W.tells out.old) (W.tells out.new) (redo_line depth (name.now ++ remark how)) result }
+    ensures { Writes (W.tells out.old) (W.tells out.new) (redo_line options.now depth (Some pid) (name.now ++ remark how)) result }
 {
-    begin_line(depth, name.bytes(), out)?;
+    begin_line(options, depth, pid, name.bytes(), out)?;
     push_all(out, ended_remark(how))
 }
 
-/// Writes the line of a target.
-pub fn write_target<W: Sink>(depth: usize, name: &TargetName, out: &mut W) -> Result<(), Broken>
+/// Writes the line of a target: of a record with this pid, or of one that is asked for.
+pub fn write_target<W: Sink>(
+    options: &Options,
+    depth: usize,
+    pid: Option<u32>,
+    name: &TargetName,
+    out: &mut W,
+) -> Result<(), Broken>
     requires { depth < 2 ^ 60 }
-    ensures { Writes (W.tells out.old) (W.tells out.new) (redo_line depth name.now) result }
+    ensures { Writes (W.tells out.old) (W.tells out.new) (redo_line options.now depth pid name.now) result }
 {
-    write_indent(depth, out)?;
+    write_begin(options, depth, pid, out)?;
     end_line(name.bytes(), out)
 }
 
@@ -82,29 +91,21 @@ fn ended_remark(how: How) -> &'static [u8]
     }
 }
 
-fn write_text<W: Sink>(options: &Options, line: &[u8], out: &mut W) -> Result<(), Broken>
-    ensures { Writes (W.tells out.old) (W.tells out.new) (if options.now.details then with_line_feed line.now else []) result }
-{
-    if options.details {
-        end_line(line, out)
-    } else {
-        Ok(())
-    }
-}
-
 fn write_exit<W: Sink>(
+    options: &Options,
     depth: usize,
+    pid: u32,
     status: i32,
     name: &TargetName,
     out: &mut W,
 ) -> Result<(), Broken>
     requires { depth < 2 ^ 60 }
-    ensures { Writes (W.tells out.old) (W.tells out.new) (exit_text depth status name.now) result }
+    ensures { Writes (W.tells out.old) (W.tells out.new) (exit_text options.now depth pid status name.now) result }
 {
     if status == 0 {
         return Ok(());
     }
-    begin_line(depth, name.bytes(), out)?;
+    begin_line(options, depth, pid, name.bytes(), out)?;
     end_exit(status, out)
 }
 
@@ -118,12 +119,19 @@ fn end_exit<W: Sink>(status: i32, out: &mut W) -> Result<(), Broken>
     push_all(out, b")\n")
 }
 
-fn write_note<W: Sink>(depth: usize, kind: &[u8], text: &[u8], out: &mut W) -> Result<(), Broken>
+fn write_note<W: Sink>(
+    options: &Options,
+    depth: usize,
+    pid: u32,
+    kind: &[u8],
+    text: &[u8],
+    out: &mut W,
+) -> Result<(), Broken>
     requires { depth < 2 ^ 60 }
-    ensures { Writes (W.tells out.old) (W.tells out.new) (note_text depth kind.now text.now) result }
+    ensures { Writes (W.tells out.old) (W.tells out.new) (note_text options.now depth pid kind.now text.now) result }
 {
     if kind == b"check".as_slice() {
-        write_check(depth, text, out)
+        write_check(options, depth, pid, text, out)
     } else {
         write_other_note(text, out)
     }
@@ -136,21 +144,33 @@ fn write_other_note<W: Sink>(text: &[u8], out: &mut W) -> Result<(), Broken>
     end_line(text, out)
 }
 
-fn write_check<W: Sink>(depth: usize, text: &[u8], out: &mut W) -> Result<(), Broken>
+fn write_check<W: Sink>(
+    options: &Options,
+    depth: usize,
+    pid: u32,
+    text: &[u8],
+    out: &mut W,
+) -> Result<(), Broken>
     requires { depth < 2 ^ 60 }
-    ensures { Writes (W.tells out.old) (W.tells out.new) (redo_line depth (codes "(" ++ text.now ++ codes ")")) result }
+    ensures { Writes (W.tells out.old) (W.tells out.new) (check_text options.now depth pid text.now) result }
 {
-    begin_line(depth, b"(", out)?;
+    begin_line(options, depth, pid, b"(", out)?;
     push_all(out, text)?;
     push_all(out, b")\n")
 }
 
-// Writes the beginning of a redo line.
-fn begin_line<W: Sink>(depth: usize, text: &[u8], out: &mut W) -> Result<(), Broken>
+// Writes the beginning of a redo line of a record with this pid, and of its text.
+fn begin_line<W: Sink>(
+    options: &Options,
+    depth: usize,
+    pid: u32,
+    text: &[u8],
+    out: &mut W,
+) -> Result<(), Broken>
     requires { depth < 2 ^ 60 }
-    ensures { Writes (W.tells out.old) (W.tells out.new) (indent depth ++ text.now) result }
+    ensures { Writes (W.tells out.old) (W.tells out.new) (pid_column options.now (Some pid) ++ indent depth ++ text.now) result }
 {
-    write_indent(depth, out)?;
+    write_begin(options, depth, Some(pid), out)?;
     push_all(out, text)
 }
 
@@ -160,6 +180,47 @@ fn end_line<W: Sink>(text: &[u8], out: &mut W) -> Result<(), Broken>
 {
     push_all(out, text)?;
     push_all(out, b"\n")
+}
+
+// Writes what a redo line has in front of its text.
+fn write_begin<W: Sink>(
+    options: &Options,
+    depth: usize,
+    pid: Option<u32>,
+    out: &mut W,
+) -> Result<(), Broken>
+    requires { depth < 2 ^ 60 }
+    ensures { Writes (W.tells out.old) (W.tells out.new) (pid_column options.now pid ++ indent depth) result }
+{
+    write_pid(options, pid, out)?;
+    write_indent(depth, out)
+}
+
+fn write_pid<W: Sink>(options: &Options, pid: Option<u32>, out: &mut W) -> Result<(), Broken>
+    ensures { Writes (W.tells out.old) (W.tells out.new) (pid_column options.now pid) result }
+{
+    if !options.debug_pids {
+        return Ok(());
+    }
+    match pid {
+        Some(pid) => write_number(pid, out),
+        None => write_column(b"-", out),
+    }
+}
+
+fn write_number<W: Sink>(pid: u32, out: &mut W) -> Result<(), Broken>
+    ensures { Writes (W.tells out.old) (W.tells out.new) (in_six_places (decimal pid) ++ spaces 1) result }
+{
+    let mut buffer = Buffer::new();
+    write_column(buffer.format(pid).as_bytes(), out)
+}
+
+// Writes a text on the left of six places, or of as many as it has, and a space behind them.
+fn write_column<W: Sink>(text: &[u8], out: &mut W) -> Result<(), Broken>
+    ensures { Writes (W.tells out.old) (W.tells out.new) (in_six_places text.now ++ spaces 1) result }
+{
+    push_all(out, text)?;
+    write_spaces(7 - text.len().min(6), out)
 }
 
 fn write_indent<W: Sink>(depth: usize, out: &mut W) -> Result<(), Broken>

@@ -120,6 +120,6 @@ fn show_target<W: Sink>(
     if seen.opened[number as usize] {
         return Ok(());
     }
-    write_target(0, name, out)?;
+    write_target(options, 0, None, name, out)?;
     show_log(alloc, logs, options, number, seen, out)
 }

@@ -1,7 +1,12 @@
 -- What is read of a record.
-use Rattle.std.specs.Prelude.{ℕ, List}
-use Rattle.redo_line.specs.Record.{Fields}
+use Rattle.std.specs.Prelude.{ℕ, List, Option, None, Some, if◌then◌else◌}
+use Rattle.redo_line.specs.Decimal.{number}
+use Rattle.redo_line.specs.Record.{Fields, is_pid}
 
 -- of a record, what an entry is made of
-abbrev pub kind_and_text : Fields → List ℕ × List ℕ
-kind_and_text fields = (fields.kind, fields.text)
+abbrev pub parts_of : Fields → List ℕ × ℕ × List ℕ
+parts_of fields = (fields.kind, number fields.pid, fields.text)
+
+-- what a pid stands for
+abbrev pub pid_of : List ℕ → Option ℕ
+pid_of pid = if is_pid pid then Some (number pid) else None

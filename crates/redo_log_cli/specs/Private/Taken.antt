@@ -29,6 +29,7 @@ pub record AreSound (rows : List Row) : Type 0 where
   pub unchanged_is : IsFlag (codes "unchanged") rows
   pub details_are : IsFlag (codes "details") rows
   pub debug_locks_are : IsFlag (codes "debug_locks") rows
+  pub debug_pids_are : IsFlag (codes "debug_pids") rows
   pub senders_are : IsNumber 64 (codes "senders") rows
   pub capacity_is : IsNumber 65536 (codes "capacity") rows
   pub some_target : 0 < length (targets_of rows)

@@ -49,15 +49,15 @@ pub record IsNamed (names : List (List ℕ)) (number : ℕ) (name : List ℕ) : 
   pub is : name_at names number ≡ name
 
 abbrev pub note_seen : Parts → Option NoteAt → Entry
-note_seen parts None = entry.Note [] []
-note_seen parts (Some at) = entry.Note (slice_range (block_of parts at.block) at.start at.middle) (slice_range (block_of parts at.block) at.middle at.end)
+note_seen parts None = entry.Note 0 [] []
+note_seen parts (Some at) = entry.Note at.pid (slice_range (block_of parts at.block) at.start at.middle) (slice_range (block_of parts at.block) at.middle at.end)
 
 -- the entry that is kept so
 abbrev pub seen : Parts → Record → Entry
 seen parts (Text block start end) = entry.Text (slice_range (block_of parts block) start end)
-seen parts (Mention how name) = entry.Mention how (name_at parts.names name)
-seen parts (Done status name) = entry.Done status (name_at parts.names name)
-seen parts (Closing status) = entry.Closing status
+seen parts (Mention pid how name) = entry.Mention pid how (name_at parts.names name)
+seen parts (Done pid status name) = entry.Done pid status (name_at parts.names name)
+seen parts (Closing pid status) = entry.Closing pid status
 seen parts (Note note) = note_seen parts (slice_get parts.notes note)
 
 abbrev pub IsNoteWithin : Parts → Option NoteAt → Type 0
@@ -68,9 +68,9 @@ IsNoteWithin parts (Some at) =
 -- where its parts are, there is something, and behind a text stands a line feed
 abbrev pub Within : Parts → Record → Type 0
 Within parts (Text block start end) = (start ≤ end) × (slice_get (block_of parts block) end ≡ Some line_feed)
-Within parts (Mention how name) = name < length parts.names
-Within parts (Done status name) = name < length parts.names
-Within parts (Closing status) = ⊤
+Within parts (Mention pid how name) = name < length parts.names
+Within parts (Done pid status name) = name < length parts.names
+Within parts (Closing pid status) = ⊤
 Within parts (Note note) = IsNoteWithin parts (slice_get parts.notes note)
 
 -- the entries of these records, as far as they go, are these texts
@@ -89,7 +89,7 @@ pub record AreLinesOf (parts : Parts) (records : List Record) (bytes : List ℕ)
 abbrev pub IsTextRecord : Option Record → Type 0
 IsTextRecord None = ⊥
 IsTextRecord (Some (Text block start end)) = ⊤
-IsTextRecord (Some (Mention how name)) = ⊥
-IsTextRecord (Some (Done status name)) = ⊥
-IsTextRecord (Some (Closing status)) = ⊥
+IsTextRecord (Some (Mention pid how name)) = ⊥
+IsTextRecord (Some (Done pid status name)) = ⊥
+IsTextRecord (Some (Closing pid status)) = ⊥
 IsTextRecord (Some (Note note)) = ⊥

@@ -7,10 +7,10 @@ use Rattle.redo_line.proofs.line.read_done.Goals as goal
 pub returns-in_err-resolve_to : goal.returns-in_err-resolve_to
 returns-in_err-resolve_to c =
     let target = c.args.target.now in let name = c.in-Some.name.now in
-    let parts = done_by_parts target _ c.in-Some.status.now name c.in-Some-read_status.status c.in-Some.ensures.some (sym c.in-Some-read_status.ensures) in
+    let parts = done_by_parts target c.args.pid _ c.in-Some.status.now name c.in-Some-read_status.status c.in-Some.ensures.some (sym c.in-Some-read_status.ensures) in
     subst (λ read. ReadsInto c.from_residual.result read c.args.entries.now c.args.entries.now) (sym parts)
     (refused_into c.from_residual.result _ _ _ _ c.from_residual.ensures
-    (refused_name (λ mentioned. done target c.in-Some-read_status.status mentioned) target name c.in_err-resolve_to.field-0.0 c.in_err-resolve_to.ensures.empty) refl)
+    (refused_name (λ mentioned. done target c.args.pid c.in-Some-read_status.status mentioned) target name c.in_err-resolve_to.field-0.0 c.in_err-resolve_to.ensures.empty) refl)
 
 pub returns-in_ok-push_closing : goal.returns-in_ok-push_closing
 returns-in_ok-push_closing c = search rules

@@ -7,9 +7,9 @@ use Rattle.redo_log_cli.proofs.words.arguments.Goals as goal
 
 pub returns : goal.returns
 returns c =
-    let items = c.letter_flag.result ∷ c.letter_flag-2.result ∷ c.flag.result ∷ c.flag-2.result ∷ c.text_option.result ∷ c.number.result ∷ c.number-2.result ∷ c.targets.result ∷ [] in
+    let items = c.letter_flag.result ∷ c.letter_flag-2.result ∷ c.flag.result ∷ c.flag-2.result ∷ c.flag-3.result ∷ c.text_option.result ∷ c.number.result ∷ c.number-2.result ∷ c.targets.result ∷ [] in
     let are : AreArguments (flags ++ values) items = (
-      rw (c.letter_flag.ensures.rule, c.letter_flag-2.ensures.rule, c.flag.ensures.rule, c.flag-2.ensures.rule, c.text_option.ensures.rule, c.number.ensures.rule, c.number-2.ensures.rule, c.targets.ensures.rule)
+      rw (c.letter_flag.ensures.rule, c.letter_flag-2.ensures.rule, c.flag.ensures.rule, c.flag-2.ensures.rule, c.flag-3.ensures.rule, c.text_option.ensures.rule, c.number.ensures.rule, c.number-2.ensures.rule, c.targets.ensures.rule)
           refl,
       (
         c.letter_flag.ensures.local,
@@ -19,7 +19,7 @@ returns c =
             c.flag.ensures.local,
             (
               c.flag-2.ensures.local,
-              (c.text_option.ensures.local, (c.number.ensures.local, (c.number-2.ensures.local, (c.targets.ensures.local, tt)))),
+              (c.flag-3.ensures.local, (c.text_option.ensures.local, (c.number.ensures.local, (c.number-2.ensures.local, (c.targets.ensures.local, tt))))),
             ),
           ),
         ),

@@ -27,13 +27,13 @@ pub returns-in_err-inner : goal.returns-in_err-inner
 returns-in_err-inner g c target first shown placed has =
     let given = err_from_is_err_and c.from_residual-in_err-inner.result c.from_residual-in_err-inner.ensures.1 in
     rw (given.1, given.2) (text_stopped c.args.logs.now c.args.options.now c.args.number c.args.seen.now _ _ _ _ _ c.entries.invariant c.in-Some.entry (sym c.in-Some.ensures.entry) c.in-Some.ensures.numbered
-    (Option ℕ) c.len.result _ c.show_entry.new.seen c.in_err-inner.field-0.0 (search rules) c.in_err-inner.ensures.text target first shown placed has)
+    (Option ℕ) c.len.result _ c.show_entry.new.seen c.in_err-inner.field-0.0 (search rules) c.in_err-inner.ensures.own target first shown placed has)
 
 pub returns-in_err-push : goal.returns-in_err-push
 returns-in_err-push g c target first shown placed has =
     let given = err_from_is_err_and c.from_residual-in_err-push.result c.from_residual-in_err-push.ensures.1 in
     rw (given.1, given.2) (memory_lacked c.args.logs.now c.args.options.now c.args.number c.args.seen.now _ _ _ _ _ c.entries.invariant c.in-Some.entry (sym c.in-Some.ensures.entry) c.in-Some.ensures.numbered
-    c.len.result _ c.begin-in-Some-2.new.seen (search rules) c.in_ok-inner.ensures.text target first shown placed has)
+    c.len.result _ c.begin-in-Some-2.new.seen (search rules) c.in_ok-inner.ensures.own target first shown placed has)
 
 pub entries-smaller-in-Some-2 : goal.entries-smaller-in-Some-2
 entries-smaller-in-Some-2 g c =
@@ -47,7 +47,7 @@ entries-preserved-in-Some-2 g c =
     let opens = sym shown.opens ∙ c.in-Some-2.is in
     let begin = c.begin-in-Some-2.ensures in
     goes_deeper c.args.logs.now c.args.options.now c.args.number c.args.seen.now _ _ _ _ _ c.entries.invariant c.in-Some.entry (sym c.in-Some.ensures.entry) c.in-Some.ensures.numbered
-    c.in-Some-2.inner c.len.result _ c.show_entry.new.seen _ _ (search rules) opens shown.text shown.named shown.opened begin.opened begin.fits begin.begins c.in_ok-push.ensures.items
+    c.in-Some-2.inner c.len.result _ c.show_entry.new.seen _ _ (search rules) opens shown.own shown.named shown.opened begin.opened begin.fits begin.begins c.in_ok-push.ensures.items
 
 pub entries-smaller-in_default-2 : goal.entries-smaller-in_default-2
 entries-smaller-in_default-2 g c =
@@ -58,7 +58,7 @@ pub entries-preserved-in_default-2 : goal.entries-preserved-in_default-2
 entries-preserved-in_default-2 g c =
     let shown = c.in_ok-inner.ensures in
     goes_further c.args.logs.now c.args.options.now c.args.number c.args.seen.now _ _ _ _ _ c.entries.invariant c.in-Some.entry (sym c.in-Some.ensures.entry) c.in-Some.ensures.numbered
-    c.len.result _ _ (search rules) (sym shown.opens ∙ c.in_default-2.is) shown.text shown.named shown.opened
+    c.len.result _ _ (search rules) (sym shown.opens ∙ c.in_default-2.is) shown.own shown.named shown.opened
 
 pub entries-smaller : goal.entries-smaller
 entries-smaller g c = less_back c.args.logs.now.logs c.entries.seen.opened.items c.entries.outer.items _ c.entries.frame c.in-Some-pop.back c.in-Some-pop.ensures.items

@@ -1,4 +1,4 @@
-use Rattle.std.proofs.Common.{true≢false, is_some, sym, ap, ◌∙◌, subst}
+use Rattle.std.proofs.Common.{None, true≢false, is_some, sym, ap, ◌∙◌, subst}
 use Rattle.redo_view.specs.Expansion.{unless_opened, with_text}
 use Rattle.redo_view.specs.Text.{redo_line}
 use Rattle.redo_view.specs.Private.Shown.{Shows}
@@ -30,5 +30,5 @@ returns g c first shown has =
     let was = mark_tells c.args.logs.now c.args.seen.now shown has.seen_is c.args.name.now c.in-Some.number c.index.result.now c.requires.fits placed c.index.ensures in
     subst (λ opened. Shows c.args.logs.now first (g.W.Sink.tells c.show_log.new.out) c.show_log.new.seen (unless_opened c.args.logs.now.logs c.args.options.now opened c.args.name.now shown) c.show_log.result)
     (sym c.if-index.false ∙ was)
-    (c.show_log.ensures c.args.name.now first (with_text (redo_line 0 c.args.name.now) shown) placed
+    (c.show_log.ensures c.args.name.now first (with_text (redo_line c.args.options.now 0 None c.args.name.now) shown) placed
     (line_written c.args.logs.now c.args.options.now c.args.name.now first _ c.args.seen.now shown has (sym was ∙ c.if-index.false) _ c.in_ok-write_target.ensures))

@@ -28,5 +28,5 @@ returns-clause-pushed c =
     let name = range_put _ c.args.name.now _ start.put _ _ start.start start.end in
     let status : to_z w32 (of_z w32 c.args.status) ≡ c.args.status = search rules in
     one_seen c.args.self.now c.self.inside.bytes.items c.self.inside.names.items c.self.inside.places.items c.self.view_is c.self.invariant _ _ _
-    (front_same _ _ refl) (front_put _ c.args.name.now _ start.put) _ (entry.Done c.args.status c.args.name.now) c.in_ok-push.ensures.items
-    (λ i. entry.Done (status i) (name i))
+    (front_same _ _ refl) (front_put _ c.args.name.now _ start.put) _ (entry.Done c.args.pid c.args.status c.args.name.now) c.in_ok-push.ensures.items
+    (λ i. entry.Done c.args.pid (status i) (name i))

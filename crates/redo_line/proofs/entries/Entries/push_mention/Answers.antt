@@ -26,5 +26,5 @@ pub returns-clause-pushed : goal.returns-clause-pushed
 returns-clause-pushed c =
     let start = c.in_ok-start.ensures in
     one_seen c.args.self.now c.self.inside.bytes.items c.self.inside.names.items c.self.inside.places.items c.self.view_is c.self.invariant _ _ _
-    (front_same _ _ refl) (front_put _ c.args.name.now _ start.put) _ (entry.Mention c.args.how c.args.name.now) c.in_ok-push.ensures.items
-    (ap (entry.Mention c.args.how) (range_put _ c.args.name.now _ start.put _ _ start.start start.end))
+    (front_same _ _ refl) (front_put _ c.args.name.now _ start.put) _ (entry.Mention c.args.pid c.args.how c.args.name.now) c.in_ok-push.ensures.items
+    (ap (entry.Mention c.args.pid c.args.how) (range_put _ c.args.name.now _ start.put _ _ start.start start.end))

@@ -36,5 +36,5 @@ returns-clause-pushed c =
     let kind_there = kind_is _ c.args.kind.now c.args.text.now _ _ kind.put text.put _ _ _ _ kind.start kind.end text.start text.end in
     let text_there = text_is _ c.args.kind.now c.args.text.now _ _ kind.put text.put _ _ _ _ kind.start kind.end text.start text.end in
     one_seen c.args.self.now c.self.inside.bytes.items c.self.inside.names.items c.self.inside.places.items c.self.view_is c.self.invariant _ _ _
-    (put_twice _ c.args.kind.now c.args.text.now _ _ kind.put text.put) (front_same _ _ refl) _ (entry.Note c.args.kind.now c.args.text.now) c.in_ok-push.ensures.items
-    (λ i. entry.Note (kind_there i) (text_there i))
+    (put_twice _ c.args.kind.now c.args.text.now _ _ kind.put text.put) (front_same _ _ refl) _ (entry.Note c.args.pid c.args.kind.now c.args.text.now) c.in_ok-push.ensures.items
+    (λ i. entry.Note c.args.pid (kind_there i) (text_there i))

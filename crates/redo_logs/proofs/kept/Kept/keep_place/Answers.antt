@@ -66,4 +66,4 @@ returns-in-Note-clause-seen c =
     let kind = range_shifted c.args.shift block c.in-Note.start c.in-Note.middle in
     let text = range_shifted c.args.shift block c.in-Note.middle c.in-Note.end in
     note_then c.note_at.result _ _ _ c.note_at.ensures.seen
-    ((λ i. entry.Note (kind i) (text i)) ∙ ap (entry_at (drop c.args.shift block) c.args.names.now) (sym c.in-Note.is))
+    ((λ i. entry.Note c.in-Note.pid (kind i) (text i)) ∙ ap (entry_at (drop c.args.shift block) c.args.names.now) (sym c.in-Note.is))

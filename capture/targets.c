@@ -1,0 +1,111 @@
+/* Runs, and what is known of targets. */
+#define _GNU_SOURCE
+#include "capture.h"
+#include <dirent.h>
+#include <fcntl.h>
+#include <stdint.h>
+#include <stdio.h>
+#include <stdlib.h>
+#include <string.h>
+#include <unistd.h>
+
+char *identity(int process) {
+  char *said = contents(text("/proc/%d/stat", process), NULL);
+  char *fields = said ? strrchr(said, ')') : NULL;
+  unsigned long long began = 0;
+  /* The bracket ends the second field, and the time is the 22nd. */
+  for (int field = 2; fields && field < 22; field++) fields = strchr(fields + 1, ' ');
+  if (fields) began = strtoull(fields, NULL, 10);
+  return text("%d-%llu", process, began);
+}
+
+int is_running(const char *run) { return strcmp(identity(atoi(run)), run) == 0; }
+
+/* The first line of the book, if there is one. */
+static void read_run(const char *path, char run[64]) {
+  int file = open(path, O_RDONLY | O_CLOEXEC);
+  ssize_t size = file < 0 ? 0 : pread(file, run, 63, 0);
+  if (file >= 0) close(file);
+  run[size > 0 ? size : 0] = 0;
+  run[strcspn(run, "\n")] = 0;
+}
+
+char *run_of_book(void) {
+  char run[64];
+  read_run(path_of(".capture/run"), run);
+  return text("%s", run);
+}
+
+int is_book_of(const char *path, const char *wanted) {
+  char run[64];
+  read_run(path, run);
+  return strcmp(run, wanted) == 0;
+}
+
+/* A file of a target has a first line of this many bytes, which is written over, and then the name. */
+enum { HEAD = 64 };
+
+/* Where names share a hash, the next one is taken that is free. */
+struct target look_up(const char *name) {
+  uint64_t hash = 14695981039346656037u;
+  for (const char *byte = name; *byte; byte++) hash = (hash ^ (unsigned char)*byte) * 1099511628211u;
+  for (;; hash++) {
+    struct target target = {0, "none", -1, text("%s/.capture/targets/%016llx", at, (unsigned long long)hash)};
+    size_t size;
+    char *kept = contents(target.file, &size);
+    if (!kept) return target;
+    if (size < HEAD || strcmp(kept + HEAD, name) != 0) continue;
+    sscanf(kept, "%u %d %ms", &target.number, &target.status, &target.run);
+    return target;
+  }
+}
+
+void keep(struct target target, const char *name) {
+  char *head = text("%u %d %s", target.number, target.status, target.run);
+  write_over(target.file, text("%-*.*s\n%s", HEAD - 1, HEAD - 1, head, name));
+}
+
+void forget_targets(void) {
+  char *path = path_of(".capture/targets");
+  make_directory(path);
+  DIR *targets = opendir(path);
+  if (!targets) cannot_write(path);
+  for (struct dirent *file; (file = readdir(targets));) unlinkat(dirfd(targets), file->d_name, 0);
+  closedir(targets);
+}
+
+char *mark_of(const char *run) {
+  char *mark = text("%s", run);
+  mark[strcspn(mark, "-")] = ':';
+  return mark;
+}
+
+/* The record's kind in front of its mark, or NULL. */
+static const char *beginning_of(const char *mark, const char *from) {
+  static const char *const kinds[] = {"@@REDO:do:", "@@REDO:done:"};
+  for (int i = 0; i < 2; i++) {
+    size_t size = strlen(kinds[i]);
+    if (mark - from >= (ptrdiff_t)size && memcmp(mark - size, kinds[i], size) == 0) return mark - size;
+  }
+  return NULL;
+}
+
+struct marked find_marked(const char *from, const char *end, const char *mark) {
+  size_t size = strlen(mark);
+  for (const char *found = from; (found = memmem(found, end - found, mark, size)); found++) {
+    const char *begin = beginning_of(found, from), *behind = found + size, *feed = memchr(behind, '\n', end - behind);
+    int is_whole = end - behind > 3 && memcmp(behind, "@@ ", 3) == 0;
+    int is_within = end - behind > 5 && memcmp(behind, ".0@@ ", 5) == 0 && begin && begin > from && begin[-1] == '\n';
+    if (begin && (is_whole || is_within)) return (struct marked){begin - is_within, feed ? feed + 1 : end};
+  }
+  return (struct marked){end, end};
+}
+
+void set_environment(const char *run, const char *directory) {
+  char *here = getcwd(NULL, 0);
+  if (!here) fail(1, "no directory to work in");
+  const char *front = strcmp(here, "/") == 0 ? "" : here;
+  setenv("CAPTURE_RUN", run, 1);
+  setenv("CAPTURE_BASE", here, 1);
+  setenv("CAPTURE_AT", directory[0] == '/' ? directory : text("%s/%s", front, directory), 1);
+}

@@ -1,0 +1,106 @@
+"""What the tests of captures share: builds in folders of their own, with and without redo-log-capture in front."""
+import os
+import re
+import signal
+import subprocess
+import sys
+import tempfile
+import time
+
+sys.path.insert(0, os.path.dirname(os.path.dirname(os.path.abspath(__file__))))
+from checks import PROGRAM, TOP, environment  # noqa: E402
+
+PREFIX = tempfile.mkdtemp()
+TOOL = os.path.join(PREFIX, "bin/redo-log-capture")
+ASKING = (signal.SIGHUP, signal.SIGINT, signal.SIGQUIT, signal.SIGTERM)
+BY_SHELL = [f"SHELL={PREFIX}/libexec/redo-log/sh", "CAPTURE=$@ : $^ $|"]
+
+
+def said(name, status, text=""):
+    """What a recipe said that failed, as it is shown."""
+    return f"redo-log-capture: {name} (exit {status})\n{text}"
+
+
+def failed(*names, words=None):
+    """The lines that tell which targets failed, of which at most ten are named."""
+    what = f"to read it: redo-log {words or names[0]}" if len(names) == 1 else f"to read them: redo-log {words or ' '.join(names)}"
+    return f"redo-log-capture: {', '.join(names)} failed; {what}\nredo-log-capture: to read all: redo-log -r all\n"
+
+
+def quoted(name):
+    """A name as it is written for a shell, in a line that tells how to read its log."""
+    return name if re.fullmatch(r"[\w./+=:@%,-]+", name, re.A) else "'" + name.replace("'", "'\\''") + "'"
+
+
+def last_lines(count, text):
+    return "".join(text.splitlines(keepends=True)[-count:])
+
+
+def write(path, text):
+    os.makedirs(os.path.dirname(path), exist_ok=True)
+    with open(path, "w", encoding="utf-8") as file:
+        file.write(text)
+
+
+def project(folder, makefile):
+    write(os.path.join(folder, "Makefile"), makefile)
+    return folder
+
+
+def ran(folder, command, more=None):
+    """The status, standard output and standard error of a command."""
+    done = subprocess.run(command, cwd=folder, env=environment(more), capture_output=True, text=True)
+    return done.returncode, done.stdout, done.stderr
+
+
+def make(folder, *words, options=(), more=None):
+    """The same of a captured make."""
+    return ran(folder, [TOOL, *options, "make", *words], more)
+
+
+def make_by_shell(folder, *words, more=None):
+    """The same of a make that has the shell which captures, finished."""
+    answer = ran(folder, ["make", *BY_SHELL, *words], more)
+    return answer if ran(folder, [TOOL, "--finish"])[0] == 0 else "not finished"
+
+
+def shown(folder, *words, at="capture"):
+    """The text of its captures, or the status and the line of the refusal."""
+    done = subprocess.run([PROGRAM, "--dir", os.path.join(folder, at), "-r", *words], capture_output=True)
+    return done.stdout.decode() if done.returncode == 0 else (done.returncode, done.stderr.decode())
+
+
+def log_of(folder, name, at="capture"):
+    """The bytes of a target's log."""
+    at = os.path.join(folder, at)
+    with open(os.path.join(at, "names"), encoding="utf-8") as names:
+        numbers = {line.rstrip("\n").split(" ", 1)[1]: line.split(" ", 1)[0] for line in names}
+    with open(os.path.join(at, "log." + numbers[name]), encoding="utf-8") as log:
+        return log.read()
+
+
+def of_a_terminal():
+    """A process group of its own, which signals end, also where this process ignores them."""
+    os.setsid()
+    for kind in ASKING:
+        signal.signal(kind, signal.SIG_DFL)
+
+
+def wait_until(what, holds):
+    for _ in range(6000):
+        if holds():
+            return
+        time.sleep(0.01)
+    raise TimeoutError(what)
+
+
+def wait_for(path):
+    wait_until(path, lambda: os.path.exists(path))
+
+
+def preloaded(name):
+    """A library of this name, to preload."""
+    library = os.path.join(PREFIX, f"{name}.so")
+    source = os.path.join(TOP, f"tests/captures/{name}.c")
+    subprocess.run(["cc", "-O2", "-Wall", "-Wextra", "-shared", "-fPIC", "-o", library, source, "-ldl"], check=True)
+    return library

@@ -1,0 +1,273 @@
+"""That a build can't tell that it is captured: the same builds with and without redo-log-capture in front."""
+import os
+import re
+import resource
+import signal
+import subprocess
+import sys
+
+from builds import TOOL, log_of, make, of_a_terminal, project, ran, said, shown, wait_for, wait_until, write
+from checks import TOP, environment
+
+OPENED = {
+    "sh": "echo x >/dev/stderr",
+    "a number": "echo x >/proc/self/fd/2",
+    "tee": "echo x | tee /dev/stderr >/dev/null",
+    "python3": """python3 -c 'open("/dev/stderr", "w").write("x\\n")'""",
+}
+
+
+def opened_anew(checks, at):
+    """What a recipe opens anew isn't cut to nothing."""
+    for name, way in OPENED.items():
+        for options in ((), ("--both",)):
+            folder = project(at(f"{name}{len(options)}"), f"all: need\n\t@echo before >&2\n\t@echo too >&2; {way}; echo behind >&2\nneed: ; @echo need >&2\n")
+            checks.expect(f"opened by {name}: make", make(folder, options=options), (0, "", ""))
+            checks.expect(f"opened by {name}", shown(folder, "all"), "redo  all\nredo    need\nneed\nbefore\ntoo\nx\nbehind\n")
+    folder = project(at("out"), "all: ; @echo before; echo x >/dev/stdout; echo y >/proc/self/fd/1; echo behind >&2\n")
+    checks.expect("both, opened: make", make(folder, options=["--both"]), (0, "", ""))
+    checks.expect("both, opened", shown(folder, "all"), "redo  all\nbefore\nx\ny\nbehind\n")
+
+
+# A program that leaves half of its output and is killed, started by make itself, or by a shell, or the shell itself.
+GENERATOR = "#!/bin/sh\necho half >$1\nkill -$2 $$\n"
+STARTED = {"directly": "./gen x {}", "with quotes": "./gen 'x' {} \\\n\tmore", "by a shell": "cd . && ./gen x {}", "as the shell": "@echo half >x; kill -{} $$$$"}
+KINDS = ("SEGV", "KILL", "TERM", "ABRT", "PIPE")
+
+
+def without_core():
+    resource.setrlimit(resource.RLIMIT_CORE, (0, 0))
+
+
+def outcome(folder, command):
+    """The status, the lines of standard error that are none of the capture's, and the files that there are, of two builds."""
+    answers = []
+    for _ in range(2):
+        done = subprocess.run(command, cwd=folder, env=environment(), capture_output=True, text=True, preexec_fn=without_core)
+        lines = sorted(line for line in done.stderr.splitlines() if not line.startswith("redo-log-capture: "))
+        answers.append((done.returncode, lines, sorted(set(os.listdir(folder)) - {"capture"})))
+    return answers
+
+
+def killed_by_signals(checks, at):
+    """make sees the signal by which what it started ends: it removes what is half made, and the next make fails again."""
+    for kind in KINDS:
+        for name, line in STARTED.items():
+            for words in ([], ["-k", "-j3"], ["-i"]):
+                folders = []
+                for side in ("without", "with"):
+                    folder = project(at(f"{kind}{name}{len(words)}{side}"), f"all: x y\n\t@cat x\nx:\n\t{line.format(kind)}\ny: ; @sleep 0.01\n")
+                    write(os.path.join(folder, "gen"), GENERATOR)
+                    os.chmod(os.path.join(folder, "gen"), 0o755)
+                    folders.append(folder)
+                plain = outcome(folders[0], ["make", *words])
+                checks.expect(f"killed by {kind}, {name}, {words}", outcome(folders[1], [TOOL, "make", *words]), plain)
+    folder = project(at("status"), "all: ; ./gen x SEGV\n")
+    write(os.path.join(folder, "gen"), GENERATOR)
+    os.chmod(os.path.join(folder, "gen"), 0o755)
+    outcome(folder, [TOOL, "make"])
+    checks.expect("the status in the log", log_of(folder, "all").endswith(" 139 all\n"), True)
+
+
+def as_make_starts_them(checks, at):
+    """Lines that make starts without a shell come to the same words."""
+    lines = [
+        "a b  c", "a'b c'd", "''", "a '' b", "\\a\\ b", "a\\\\b", "'a\\b'", "a=b c=d", "a\\=b", "'x=y'", "a \\\n\tb", "a\\\n\tb", "'a\\\n\tb'",
+        "a 'it'\\''s'", "x '~' '*' '$$' '\"' '#'", "-n", "a \\\n", "\\'", "a\\", "é ü", "%", "@x +y -z", "a,b:c/d.e",
+    ]  # fmt: skip
+    makefile = "all:\n" + "".join(f"\t@./words {line}\n" for line in lines) + "\t@'./words' 1\n\t@./wor''ds 2\n\t@A=1 ./words 3\n"
+    told = []
+    for side in ([], [TOOL, "--quiet"]):
+        folder = project(at(f"words{len(side)}"), makefile)
+        write(os.path.join(folder, "words"), "#!/bin/sh\nprintf '<%s>' \"$@\"\necho\n")
+        os.chmod(os.path.join(folder, "words"), 0o755)
+        told.append(ran(folder, [*side, "make"]))
+    checks.expect("words of lines without a shell", told[1], told[0])
+    checks.expect("words of lines without a shell: all of them", told[0][1].count("\n") >= len(lines), True)
+
+
+def many_needs(checks, at):
+    """A target that needs 20,000 names of 70 bytes, under a stack of 4 MiB; and others that need some more than may be told in
+    a variable."""
+    names = [f"{number:070}" for number in range(20000)]
+    makefile = f"NAMES = {' '.join(names)}\nall: $(NAMES)\n\t@echo linked $(words $^) >&2\n\t@echo $(words $+) again >&2\n$(filter-out %0007,$(NAMES)): ;\n"
+    folder = project(at("many"), makefile + "%0007: ; @echo $@ >&2\n")
+    command = ["sh", "-c", 'ulimit -s 4096; exec "$@"', "limit", TOOL, "make", "-j4"]
+    checks.expect("20,000 needs: make", ran(folder, command), (0, "", ""))
+    made = [name for name in names if name.endswith("0007")]
+    text = "redo  all\n" + "".join(f"redo    {name}\n{name}\n" for name in made) + "linked 20000\n20000 again\n"
+    checks.expect("20,000 needs", shown(folder, "all"), text)
+    for count in (23, 24, 25, 26):
+        names = " ".join(f"n{number}" for number in range(count))
+        folder = project(at(f"some{count}"), f"all: {names} | last\n\t@echo all >&2\n\t@exit 0\n{names} last: ; @echo $@ >&2\n")
+        text = "redo  all\n" + "".join(f"redo    {name}\n{name}\n" for name in [*names.split(), "last"]) + "all\n"
+        checks.expect(f"{count} needs", (make(folder, "-j3"), shown(folder, "all")), ((0, "", ""), text))
+
+
+def closing(*numbers):
+    return lambda: [os.close(number) for number in numbers]
+
+
+def opening():
+    reading, writing = os.pipe()
+    os.dup2(reading, 7)
+    os.dup2(writing, 9)
+
+
+def limiting():
+    for kind, soft, hard in ((resource.RLIMIT_FSIZE, 10**7, 10**8), (resource.RLIMIT_NOFILE, 64, 512), (resource.RLIMIT_STACK, 4 << 20, 8 << 20)):
+        resource.setrlimit(kind, (soft, hard))
+    os.umask(0o077)
+    os.nice(3)
+
+
+HEEDED = (signal.SIGINT, signal.SIGHUP, signal.SIGTERM, signal.SIGQUIT, signal.SIGUSR1, signal.SIGPIPE, signal.SIGXFSZ)
+SURROUNDINGS = {
+    "as it is": lambda: None,
+    "signals ignored": lambda: [signal.signal(kind, signal.SIG_IGN) for kind in HEEDED],
+    "signals heeded": lambda: [signal.signal(kind, signal.SIG_DFL) for kind in HEEDED],
+    "signals blocked": lambda: signal.pthread_sigmask(signal.SIG_BLOCK, {signal.SIGCHLD, *HEEDED}),
+    "the end of children ignored": lambda: signal.signal(signal.SIGCHLD, signal.SIG_IGN),
+    "no standard input": closing(0),
+    "no standard error": closing(2),
+    "no standard file": closing(0, 1, 2),
+    "files open": opening,
+    "limits": limiting,
+}
+PROBING = """
+all: a sub
+a:
+	@python3 -SE probe.py told directly 'a b' \\c
+	@: ; python3 -SE probe.py told "by $$0 $$# $$-"
+	-+@python3 -SE probe.py told marked
+	@./unmarked told "by no kernel"
+sub: a
+	@$(MAKE) -C d -f ../Makefile inner
+inner:
+	@python3 -SE ../probe.py ../told inner
+	@: ; python3 -SE ../probe.py ../told "inner by $$0"
+"""
+
+
+def probed(folder, command, before):
+    """What the recipes of a build tell of themselves, and its status. The build is to end in a minute."""
+    project(folder, PROBING)
+    os.makedirs(os.path.join(folder, "d"))
+    os.symlink(os.path.join(TOP, "tests/captures/probe.py"), os.path.join(folder, "probe.py"))
+    # A script that no kernel begins, so that a shell has to.
+    write(os.path.join(folder, "unmarked"), 'python3 -SE probe.py "$@"\n')
+    os.chmod(os.path.join(folder, "unmarked"), 0o755)
+    words = environment({"SESSION": str(os.getsid(0)), "GROUP": str(os.getpgrp()), "PWD": folder})
+    done = subprocess.run(command, cwd=folder, env=words, stdin=subprocess.DEVNULL, stdout=subprocess.DEVNULL, stderr=subprocess.DEVNULL, preexec_fn=before, timeout=60)
+    # make gives files of its own names by chance.
+    with open(os.path.join(folder, "told"), encoding="utf-8") as told:
+        return done.returncode, [re.sub(r"/tmp/(#|GM?)\w+", "/tmp/..", line.replace(folder, "FOLDER")) for line in told]
+
+
+def surroundings(checks, at):
+    """A probe finds the same: files, signals, limits, rights, variables, its group and session."""
+    for name, before in SURROUNDINGS.items():
+        for words in [["-j3"]] if name != "as it is" else [[], ["-j3", "-O"], ["-k", "SHELL=/bin/bash"], ["-j3"]]:
+            sides = [probed(at(f"{name}{len(words)}{len(side)}{words[1:]}"), [*side, "make", *words], before) for side in ([], [TOOL])]
+            different = [(line, other) for line, other in zip(sides[0][1], sides[1][1]) if line != other]
+            what = f"a recipe's surroundings, {name}, {words}"
+            checks.expect(what, (sides[1][0], len(sides[1][1]), different[:3]), (sides[0][0], len(sides[0][1]), []))
+            checks.expect(f"{what}: all recipes", sum(line.startswith("('words'") for line in sides[0][1]), 6)
+
+
+def makes_anything(checks, at):
+    """A rule that makes anything makes nothing of what a capture has make read; and nothing is told of what that defines."""
+    makefile = "%: force ; @echo making $@ >&2\nforce: ;\nMakefile: ;\n"
+    for words in ([], ["--warn-undefined-variables"], ["-R", "-r"]):
+        plain = ran(project(at(f"without{words}"), makefile), ["make", *words, "x", "y"])
+        folder = project(at(f"with{words}"), makefile)
+        checks.expect(f"a rule that makes anything, {words}", make(folder, *words, "x", "y", options=["--live"]), (0, "", "redo-log-capture: x\nmaking x\nredo-log-capture: y\nmaking y\n"))
+        checks.expect(f"the same without a capture, {words}", plain, (0, "", "making x\nmaking y\n"))
+
+
+def behind_the_build(checks, at):
+    """Nothing holds what the capture was given, once the build has ended, and nobody waits for what a recipe leaves behind."""
+    folder = project(at("held"), "all: ; @echo said >&2; sleep 60 >/dev/null & echo $$! >pid\n")
+    done = subprocess.run([TOOL, "make", "-j2"], cwd=folder, env=environment(), stdin=subprocess.DEVNULL, capture_output=True, text=True, timeout=30)
+    checks.expect("a process that is left behind holds nothing", (done.returncode, done.stdout, done.stderr), (0, "", ""))
+    with open(os.path.join(folder, "pid"), encoding="utf-8") as number:
+        os.kill(int(number.read()), signal.SIGKILL)
+
+    count = 40
+    names = " ".join(map(str, range(count)))
+    makefile = f"all: {names}\n\t@until [ $$(grep -l late capture/log.* | wc -l) = {count} ]; do sleep 0.01; done\n"
+    folder = project(at("many"), makefile + f"{names}: ; @echo first $@ >&2; {{ sleep 0.$$(($@ % 7)); echo late $@ >&2; }} >/dev/null &\n")
+    checks.expect("many are left behind: make", make(folder, "-j8"), (0, "", ""))
+    said = [log_of(folder, str(number)).splitlines()[:2] for number in range(count)]
+    checks.expect("many are left behind", said, [[f"first {number}", f"late {number}"] for number in range(count)])
+
+    folder = project(at("goes-on"), "all: ; @{ until [ -e go ]; do sleep 0.01; done; for n in 1 2 3; do echo $$n >&2 || exit; done; touch lived; } >/dev/null & echo all >&2\n")
+    checks.expect("one goes on: make", make(folder), (0, "", ""))
+    write(os.path.join(folder, "go"), "")
+    wait_for(os.path.join(folder, "lived"))
+    checks.expect("what it says behind the build comes into no log", shown(folder, "all"), "redo  all\nall\n")
+
+
+def in_mid_line(checks, at):
+    """A line that isn't ended yet is seen, and no record comes to stand in it."""
+    makefile = "all: ; @printf 'is it there? ' >&2; sleep 0.5; $(MAKE) -s sub; echo yes >&2\n"
+    folder = project(at("record"), makefile + "sub: ; @echo sub >&2; touch begun; until [ -e go ]; do sleep 0.01; done\n")
+    build = subprocess.Popen([TOOL, "make"], cwd=folder, env=environment())
+    wait_for(os.path.join(folder, "begun"))
+    checks.expect("a line that goes on, and a record", shown(folder, "all"), "redo  all\nis it there? \nredo    sub\nsub\n")
+    write(os.path.join(folder, "go"), "")
+    checks.expect("when it has ended", (build.wait(), shown(folder, "all")), (0, "redo  all\nredo    sub\nsub\nis it there? yes\n"))
+
+    folder = project(at("question"), "all: ; @printf 'go on? ' >&2; read answer; echo $$answer >&2\n")
+    build = subprocess.Popen([TOOL, "make"], cwd=folder, env=environment(), stdin=subprocess.PIPE)
+    wait_until("the question is there", lambda: os.path.exists(os.path.join(folder, "capture/names")) and log_of(folder, "all") == "go on? ")
+    build.communicate(b"yes\n", timeout=30)
+    checks.expect("a question and its answer", (build.returncode, shown(folder, "all")), (0, "redo  all\ngo on? yes\n"))
+
+
+def much_is_said(checks, at):
+    """Megabytes by several recipes at once, a line of 20 MB, and one that isn't ended."""
+    line = "import sys; n = sys.argv[1]; [sys.stderr.write(f'{n} {i:060}\\n') for i in range(50000)]"
+    write(os.path.join(at("large"), "say.py"), line)
+    long = "head -c 20000000 /dev/zero | tr '\\0' x >&2"
+    folder = project(at("large"), f"all: 0 1 2 3 long\n0 1 2 3: ; @{sys.executable} say.py $@\nlong: ; @{long}\n")
+    checks.expect("much is said: make", make(folder, "-j5", options=["--quiet"]), (0, "", ""))
+    for number in range(4):
+        text = "".join(f"{number} {i:060}\n" for i in range(50000))
+        checks.expect(f"much is said by {number}", log_of(folder, str(number))[: len(text)] == text, True)
+    text = log_of(folder, "long")
+    checks.expect("a line of 20 MB", (text[:20000001] == "x" * 20000000 + "\n", text.count("\n")), (True, 2))
+
+
+def removed(checks, at):
+    """A recipe may remove the capture directory; what runs later is captured."""
+    makefile = "all: clean x\n\t@echo all >&2\nclean: first\n\t@echo cleaned >&2; rm -rf capture\nfirst x: ; @echo $@ >&2\n"
+    folder = project(at("clean"), makefile)
+    told = f"redo-log-capture: {folder}/capture was removed, with what was captured\n"
+    checks.expect("the captures are removed: make", make(folder), (0, "", told))
+    checks.expect("what runs later", shown(folder, "all"), "redo  all\nredo    x\nx\nall\n")
+    checks.expect("the last recipe removes them", make(folder, "clean"), (0, "", told + "redo-log-capture: no recipe was captured\n"))
+    folder = project(at("fails"), "all: ; @rm -rf capture; kill -9 $$$$\n")
+    told = told.replace("clean/", "fails/") + "make: *** [Makefile:1: all] Killed\nredo-log-capture: no recipe was captured\n"
+    checks.expect("and fails", make(folder), (2, "", told))
+
+
+def no_leftovers(checks, at):
+    """A build's own folder in TMPDIR is gone with it, however it ends; and where there can be none there, it is elsewhere."""
+    folder, temporary = project(at("project"), "all: ; @echo said >&2; exit $(E)\nwaits: ; @touch begun; exec sleep 60\n"), at("temporary")
+    os.mkdir(temporary)
+    more = {"TMPDIR": temporary}
+    for words, status in ((["make", "E=0"], 0), (["make", "E=1"], 2), (["nope"], 127), (["--dir", "Makefile", "make"], 1), (["make", "-n"], 0)):
+        done = ran(folder, [TOOL, *words], more)
+        checks.expect(f"nothing is left of {words}", (done[0], os.listdir(temporary)), (status, []))
+    build = subprocess.Popen([TOOL, "make", "waits"], cwd=folder, env=environment(more), stderr=subprocess.DEVNULL, preexec_fn=of_a_terminal)
+    wait_for(os.path.join(folder, "begun"))
+    checks.expect("it is there until then", len(os.listdir(temporary)), 1)
+    os.killpg(build.pid, signal.SIGINT)
+    checks.expect("nothing is left of a build that is interrupted", (build.wait(timeout=30), os.listdir(temporary)), (-signal.SIGINT, []))
+    for place in ("nowhere", at("with space"), "", at("x" * 120)):
+        told = said("all", 1, "said\n")
+        checks.expect(f"TMPDIR={place}", ran(folder, [TOOL, "make", "E=1"], {"TMPDIR": place})[2].startswith(told), True)
+
+
+PARTS = (opened_anew, killed_by_signals, as_make_starts_them, many_needs, surroundings, makes_anything, behind_the_build, in_mid_line, much_is_said, removed, no_leftovers)
