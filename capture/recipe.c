@@ -210,7 +210,10 @@ static void end(int status) {
 }
 
 /* Whether the recipe has removed the directory: then it may go on as it would without a capture. */
-static int is_removed(void) { return access(path_of(".capture/run"), F_OK) < 0 && errno == ENOENT; }
+static int is_removed(void) {
+  struct stat book;
+  return stat(path_of(".capture/run"), &book) < 0 && errno == ENOENT;
+}
 
 /* Where a make was told of this as its shell, with no redo-log-capture in front, the run is that of the first make. */
 static void set_run(void) {
