@@ -210,7 +210,7 @@ def behind_the_build(checks, at):
 
 def in_mid_line(checks, at):
     """A line that isn't ended yet is seen, and no record comes to stand in it."""
-    makefile = "all: ; @printf 'is it there? ' >&2; sleep 0.5; $(MAKE) -s sub; echo yes >&2\n"
+    makefile = "all: ; @printf 'is it there? ' >&2; until grep -q 'is it there' capture/log.*; do sleep 0.01; done; $(MAKE) -s sub; echo yes >&2\n"
     folder = project(at("record"), makefile + "sub: ; @echo sub >&2; touch begun; until [ -e go ]; do sleep 0.01; done\n")
     build = subprocess.Popen([TOOL, "make"], cwd=folder, env=environment())
     wait_for(os.path.join(folder, "begun"))
