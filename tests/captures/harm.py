@@ -220,7 +220,7 @@ def in_mid_line(checks, at):
 
     folder = project(at("question"), "all: ; @printf 'go on? ' >&2; read answer; echo $$answer >&2\n")
     build = subprocess.Popen([TOOL, "make"], cwd=folder, env=environment(), stdin=subprocess.PIPE)
-    wait_until("the question is there", lambda: os.path.exists(os.path.join(folder, "capture/names")) and log_of(folder, "all") == "go on? ")
+    wait_until("the question is there", lambda: shown(folder, "all") == "redo  all\ngo on? \n")
     build.communicate(b"yes\n", timeout=30)
     checks.expect("a question and its answer", (build.returncode, shown(folder, "all")), (0, "redo  all\ngo on? yes\n"))
 
