@@ -1,11 +1,12 @@
 -- What a table comes to, into which all was stored that senders owe.
-use Rattle.std.proofs.Common.{◌≡◌, ◌≢◌, inl, inr, ℕ, zero, suc, ◌<◌, nat_eq, Bool, true, false, cond, List, [], ◌∷◌, ◌++◌, Option, Some, length, map, zip, slice_get, refl, sym, ap, ◌∙◌, subst, arith}
+use Rattle.std.proofs.Common.{◌≡◌, ◌≢◌, inl, inr, ℕ, zero, suc, ◌<◌, nat_eq, Bool, true, false, cond, List, [], ◌∷◌, ◌++◌, Option, Some, length, map, slice_get, refl, sym, ap, ◌∙◌, subst, arith}
 use Rattle.std.specs.Option.{option_map}
 use Rattle.std.specs.List.{AllByRecursion}
 use Rattle.std.proofs.lemmas.List.{append_assoc, append-nil, length-map}
 use Rattle.std.proofs.lemmas.Option.{none-some, slice_get-map}
 use Rattle.redo_line.specs.declared.entry.Entry.{Entry}
 use Rattle.redo_line.specs.declared.stream_fault.StreamFault.TheVariants.{OutOfMemory}
+use Rattle.redo_line.specs.Source.{source, sources, with_stream}
 use Rattle.redo_device.specs.Feed.{Stream}
 use Rattle.redo_device.proofs.GaveLemmas.{weaker}
 use Rattle.redo_logs.specs.declared.log_state.LogState.{LogState}
@@ -185,13 +186,13 @@ by_place max_bytes (one ∷ given) (log ∷ table) count each =
     same : (other : Log) → Some log ≡ Some other → other ≡ log
     same other is = cc
 
-name_there : (names : List (List ℕ)) (told : List (Option Stream)) (place : ℕ) (one : Given) → slice_get (zip names told) place ≡ Some one → slice_get names place ≡ Some one.0
+name_there : (names : List (List ℕ)) (told : List (Option Stream)) (place : ℕ) (one : Given) → slice_get (sources names told) place ≡ Some one → slice_get names place ≡ Some one.target
 name_there [] told place one there = absurd (none-some one there)
 name_there (name ∷ names) [] place one there = absurd (none-some one there)
 name_there (name ∷ names) (stream ∷ told) zero one there = same there
   where
-    same : Some (name, stream) ≡ Some one → Some name ≡ Some one.0
-    same is = ap (option_map (λ (given : Given). given.0)) is
+    same : Some (source name stream) ≡ Some one → Some name ≡ Some one.target
+    same is = ap (option_map (λ (given : Given). given.target)) is
 name_there (name ∷ names) (stream ∷ told) (suc place) one there = name_there names told place one there
 
 posted_by_number : (max_bytes senders number : ℕ) (given : List Given) (taken : List Item) (met : List Met) → IsAmong number met → AllByRecursion (λ (m : Met). m.1 ≡ of m.0 taken) met
@@ -205,38 +206,38 @@ posted_by_number max_bytes senders number given taken (met ∷ others) (inr amon
 module _ (max_bytes senders : ℕ) (names : List (List ℕ)) (told : List (Option Stream)) (taken : List Item) (met : List Met) (table : List Log)
     (count : length names ≡ length told) (some : 0 < senders) (all_met : (number : ℕ) → number < senders → IsAmong number met)
     (whole : AllByRecursion (λ (m : Met). m.1 ≡ of m.0 taken) met) (own : AllByRecursion (λ (item : Item). item.sender < senders) taken)
-    (owes : AllByRecursion (Owes max_bytes senders (zip names told)) met)
+    (owes : AllByRecursion (Owes max_bytes senders (sources names told)) met)
     (holds : (table ≡ stored (singles taken) (map new_log names)) × NoneWants (singles taken)) where
-  each : (place : ℕ) (one : Given) → slice_get (zip names told) place ≡ Some one → (log : Log) × (slice_get table place ≡ Some log) × IsSettled max_bytes one log
+  each : (place : ℕ) (one : Given) → slice_get (sources names told) place ≡ Some one → (log : Log) × (slice_get table place ≡ Some log) × IsSettled max_bytes one log
   each place one there =
       let told_there =
-      told_of_each max_bytes senders (zip names told) (singles taken) some (below_singles senders taken own)
-      (λ sender below. subst (AreOwed max_bytes sender (share_from senders sender 0 (zip names told))) (sym (of-singles sender taken))
-      (posted_by_number max_bytes senders sender (zip names told) taken met (all_met sender below) whole owes))
+      told_of_each max_bytes senders (sources names told) (singles taken) some (below_singles senders taken own)
+      (λ sender below. subst (AreOwed max_bytes sender (share_from senders sender 0 (sources names told))) (sym (of-singles sender taken))
+      (posted_by_number max_bytes senders sender (sources names told) taken met (all_met sender below) whole owes))
       place one there in
       let entries = told_there.0 in let fault = told_there.1 in
       let had = none_in_told entries fault (subst (AllByRecursion IsNoWant) told_there.2 (none-on place (singles taken) holds.1)) in (
-        record { target = one.0; entries = entries; state = state_after fault },
+        record { target = one.target; entries = entries; state = state_after fault },
         ap (λ t. slice_get t place) holds.0 ∙ interleaved (singles taken) (map new_log names) place
             ∙ ap (option_map (run (on place (singles taken)))) (slice_get-map new_log names place ∙ ap (option_map new_log) (name_there names told place one there))
-            ∙ ap (λ whats. Some (run whats (new_log one.0))) told_there.2 ∙ ap Some (ran_told entries fault one.0),
-        weaker one.1 (λ stream. IsWhole one.0 max_bytes stream entries fault) (λ stream. record { target = one.0; entries = entries; state = state_after fault } ≡ log_after max_bytes one.0 stream)
-            (λ stream is. λ i. record { target = one.0; entries = is.0 i; state = state_after (is.1 i) }) (is_whole max_bytes one entries fault told_there.3 had),
+            ∙ ap (λ whats. Some (run whats (new_log one.target))) told_there.2 ∙ ap Some (ran_told entries fault one.target),
+        weaker one.stream (λ stream. IsWhole max_bytes (with_stream stream one) entries fault) (λ stream. record { target = one.target; entries = entries; state = state_after fault } ≡ log_after max_bytes (with_stream stream one))
+            (λ stream is. λ i. record { target = one.target; entries = is.0 i; state = state_after (is.1 i) }) (is_whole max_bytes one entries fault told_there.3 had),
       )
 
-  count_zip : (names : List (List ℕ)) (told : List (Option Stream)) → length names ≡ length told → length names ≡ length (zip names told)
-  count_zip [] told same = refl
-  count_zip (name ∷ names) [] same = absurd (omega (arith, same))
-  count_zip (name ∷ names) (one ∷ told) same = ap suc (count_zip names told (omega (arith, same)))
+  count_sources : (names : List (List ℕ)) (told : List (Option Stream)) → length names ≡ length told → length names ≡ length (sources names told)
+  count_sources [] told same = refl
+  count_sources (name ∷ names) [] same = absurd (omega (arith, same))
+  count_sources (name ∷ names) (one ∷ told) same = ap suc (count_sources names told (omega (arith, same)))
 
-  pub all_settled : AreSettled max_bytes (zip names told) table
+  pub all_settled : AreSettled max_bytes (sources names told) table
   all_settled =
-      by_place max_bytes (zip names told) table
-      (ap length holds.0 ∙ length-stored (singles taken) (map new_log names) ∙ length-map names new_log ∙ count_zip names told count) each
+      by_place max_bytes (sources names told) table
+      (ap length holds.0 ∙ length-stored (singles taken) (map new_log names) ∙ length-map names new_log ∙ count_sources names told count) each
 
 -- the table of a collector that took all
 pub settled_table : (max_bytes : ℕ) (names : List (List ℕ)) (told : List (Option Stream)) (collector : Collector) → AllTaken max_bytes names told collector → collector.refused ≡ false
-    → AreSettled max_bytes (zip names told) collector.table
+    → AreSettled max_bytes (sources names told) collector.table
 settled_table max_bytes names told collector taken fine =
     all_settled max_bytes collector.mailbox.mailbox.senders names told collector.mailbox.taken collector.mailbox.met collector.table taken.owed.count taken.owed.some taken.met taken.whole taken.own
     taken.owed.owed (taken.owed.holds fine)

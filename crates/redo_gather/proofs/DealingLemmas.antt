@@ -1,8 +1,9 @@
 -- How streams are dealt.
-use Rattle.std.proofs.Common.{◌≡◌, ◌≢◌, ◌⊎◌, inl, inr, ℕ, zero, suc, ◌+◌, ◌%◌, ◌<◌, nat_eq, Bool, true, false, cond, List, [], ◌∷◌, ◌++◌, Option, Some, length, map, replicate, zip, slice_get, slice_set, get_or, refl, sym, ap, ◌∙◌, arith}
+use Rattle.std.proofs.Common.{◌≡◌, ◌≢◌, ◌⊎◌, inl, inr, ℕ, zero, suc, ◌+◌, ◌%◌, ◌<◌, nat_eq, Bool, true, false, cond, List, [], ◌∷◌, ◌++◌, Option, Some, length, map, replicate, slice_get, slice_set, get_or, refl, sym, ap, ◌∙◌, arith}
 use Rattle.std.proofs.lemmas.Bool.{eq-eqb}
 use Rattle.std.proofs.lemmas.Bool.Decides.{eqb_tells}
 use Rattle.std.proofs.lemmas.List.{append-nil, length-replicate, length-set, map_push}
+use Rattle.redo_line.specs.Source.{source, sources}
 use Rattle.redo_device.specs.Feed.{Stream}
 use Rattle.redo_gather.specs.Owed.{Given}
 use Rattle.redo_gather.specs.Private.Dealing.{AreDealt, AreEmpty, share_from}
@@ -36,19 +37,19 @@ pub all_dealt : {A : Type 0} (all dealt left : List A) → all ≡ dealt ++ left
 all_dealt all dealt [] is none = sym (is ∙ append-nil dealt)
 all_dealt all dealt (x ∷ left) is none = absurd (omega (arith, none))
 
-pub zip-none : {A : Type 0} (B : Type 0) (keys : List A) (none : List B) → none ≡ [] → zip keys none ≡ []
-zip-none B [] none is = refl
-zip-none B (key ∷ keys) [] is = refl
-zip-none B (key ∷ keys) (value ∷ none) is = absurd (cc)
+pub sources-none : (targets : List (List ℕ)) (none : List (Option Stream)) → none ≡ [] → sources targets none ≡ []
+sources-none [] none is = refl
+sources-none (target ∷ targets) [] is = refl
+sources-none (target ∷ targets) (stream ∷ none) is = absurd (cc)
 
--- a value for the next key
-pub zip-push : {A B : Type 0} (keys : List A) (values : List B) (key : A) (value : B) → slice_get keys (length values) ≡ Some key
-    → (zip keys (values ++ value ∷ []) ≡ zip keys values ++ (key, value) ∷ []) × (length (zip keys values) ≡ length values)
-zip-push [] values key value here = absurd (cc)
-zip-push (first ∷ keys) [] key value here = (let same : first ≡ key = cc in λ i. (same i, value) ∷ zip-none _ keys [] refl i, refl)
-zip-push (first ∷ keys) (other ∷ values) key value here =
-    let behind = zip-push keys values key value here in
-    (ap (λ pairs. (first, other) ∷ pairs) behind.0, ap suc behind.1)
+-- a stream for the next target
+pub sources-push : (targets : List (List ℕ)) (streams : List (Option Stream)) (target : List ℕ) (stream : Option Stream) → slice_get targets (length streams) ≡ Some target
+    → (sources targets (streams ++ stream ∷ []) ≡ sources targets streams ++ source target stream ∷ []) × (length (sources targets streams) ≡ length streams)
+sources-push [] streams target stream here = absurd (cc)
+sources-push (first ∷ targets) [] target stream here = (let same : first ≡ target = cc in λ i. source (same i) stream ∷ sources-none targets [] refl i, refl)
+sources-push (first ∷ targets) (other ∷ streams) target stream here =
+    let behind = sources-push targets streams target stream here in
+    (ap (λ others. source first other ∷ others) behind.0, ap suc behind.1)
 
 -- what stands at a place of a list in which one was replaced
 pub replaced : {X : Type 0} (xs : List X) (at k : ℕ) (new there : X) → slice_get (slice_set xs at new) k ≡ Some there → ((k ≢ at) × (slice_get xs k ≡ Some there)) ⊎ ((k ≡ at) × (there ≡ new))

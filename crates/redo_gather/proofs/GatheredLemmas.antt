@@ -6,7 +6,7 @@ use Rattle.std.proofs.lemmas.List.{append_assoc, append-nil, length-append, leng
 use Rattle.redo_line.specs.declared.stream_fault.StreamFault.{StreamFault}
 use Rattle.redo_line.specs.declared.stream_fault.StreamFault.TheVariants.{BadRecord, AfterClose, TooLong, Read, OutOfMemory}
 use Rattle.redo_device.specs.Feed.{Stream}
-use Rattle.redo_line.specs.Log.{fault_of, log_of}
+use Rattle.redo_line.specs.Source.{fault_from, log_from, source}
 use Rattle.redo_logs.specs.declared.log_state.LogState.TheVariants.{Running}
 use Rattle.redo_logs.specs.Logs.{Log, new_log, targets_of, states_of, changed, has_ended}
 use Rattle.redo_logs.proofs.ChangedLemmas.{changed-here}
@@ -88,10 +88,10 @@ module _ (max_bytes : ℕ) (names : List (List ℕ)) (told : List (Option Stream
         runs [] others = refl
         runs (log ∷ logs) others = runs logs others
 
-    pub one_gathered : (reader : Option Stream) (after : List Log) → IsCompleted target max_bytes (length told) reader table after → Gathered max_bytes names (told ++ reader ∷ []) after
+    pub one_gathered : (reader : Option Stream) (after : List Log) → IsCompleted max_bytes (length told) (source target reader) table after → Gathered max_bytes names (told ++ reader ∷ []) after
     one_gathered reader after completes =
         let entries = completes.entries in
-        let given = given_stream reader (λ stream. log_of target max_bytes stream ≡ Some entries) completes.entries_are in
+        let given = given_stream reader (λ stream. log_from max_bytes (source target stream) ≡ Some entries) completes.entries_are in
         let log = whole_log target entries in record {
           first = so_far.first ++ target ∷ [];
           left = next.0;
@@ -108,10 +108,10 @@ module _ (max_bytes : ℕ) (names : List (List ℕ)) (told : List (Option Stream
               ∙ changed-here so_far.logs (new_log target) (map new_log next.0) (completed entries None) ∙ sym (append_assoc so_far.logs (log ∷ []) (map new_log next.0));
         }
 
-    pub fault_gathered : (reader : Option Stream) (unread : List (Option Stream)) (fault : StreamFault) → HasFault target max_bytes reader fault
+    pub fault_gathered : (reader : Option Stream) (unread : List (Option Stream)) (fault : StreamFault) → HasFault max_bytes (source target reader) fault
         → SomeStreams (told ++ reader ∷ unread) (λ streams. fault_among max_bytes names streams ≡ Some (length told, fault))
     fault_gathered reader unread fault read =
-        let given = given_stream reader (λ stream. fault_of target max_bytes stream ≡ Some fault) read in
+        let given = given_stream reader (λ stream. fault_from max_bytes (source target stream) ≡ Some fault) read in
         let others = any_streams unread in (
           so_far.streams ++ given.0 ∷ others.0,
           told-append told (reader ∷ unread) so_far.streams (given.0 ∷ others.0) so_far.told_are (given.1, others.1),

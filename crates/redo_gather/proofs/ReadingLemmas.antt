@@ -10,6 +10,7 @@ use Rattle.redo_line.specs.declared.stream_fault.StreamFault.TheVariants.{Read, 
 use Rattle.redo_device.specs.Feed.{Stream, Pulls, SomeStream}
 use Rattle.redo_line.specs.Laws.{IsFront}
 use Rattle.redo_line.specs.Log.{stream_of, entries_of, fault_of, log_of, part_of, unless_fault}
+use Rattle.redo_line.specs.Source.{source}
 use Rattle.redo_line.specs.Scan.{Scanned, Finds, IsFine, MayRefuse, TakesAll, entries_in, entries_so_far, fault_so_far, so_far, took}
 use Rattle.redo_line.proofs.FaultLemmas.{early_fault, early_part, failed_read, failed_part, no_fault}
 use Rattle.redo_device.proofs.GaveLemmas.{Gave, Gave-none, Gave-more, Gave-end, Gave-failed, weaker}
@@ -115,37 +116,37 @@ front_of_front : (first second all : List Entry) → IsFront first second → Is
 front_of_front first second all one two = (one.0 ++ two.0, two.1 ∙ ap (λ es. es ++ two.0) one.1 ∙ append_assoc first one.0 two.0)
 
 module _ (target : List ℕ) (max_bytes : ℕ) where
-  told_part : (stream : Stream) (fault : StreamFault) → fault_of target max_bytes stream ≡ Some fault → told_entries target max_bytes stream ≡ part_of target max_bytes stream
+  told_part : (stream : Stream) (fault : StreamFault) → fault_of target max_bytes stream ≡ Some fault → told_entries max_bytes (source target stream) ≡ part_of target max_bytes stream
   told_part stream fault is = ap (λ f. log_or_part (unless_fault f (filter_map (λ entry. entry) (entries_of target stream.bytes))) (part_of target max_bytes stream)) is
 
-  told_log : (stream : Stream) (log : List Entry) → log_of target max_bytes stream ≡ Some log → told_entries target max_bytes stream ≡ log
+  told_log : (stream : Stream) (log : List Entry) → log_of target max_bytes stream ≡ Some log → told_entries max_bytes (source target stream) ≡ log
   told_log stream log is = ap (λ l. log_or_part l (part_of target max_bytes stream)) is
 
   -- bytes at fault, whatever comes behind them
   stopped : (told after : Option Stream) (bytes : List ℕ) (fault : StreamFault) (entries : List Entry) → Gave told bytes after → fault ≢ Read → fault_so_far target max_bytes bytes ≡ Some fault
-      → entries ≡ entries_so_far target max_bytes bytes → IsOwedFor max_bytes (target, told) entries (Some fault)
+      → entries ≡ entries_so_far target max_bytes bytes → IsOwedFor max_bytes (source target told) entries (Some fault)
   stopped None after bytes fault entries gave other is are = (so_far bytes, inl (are ∙ sym (told_part (so_far bytes) fault is), sym is))
   stopped (Some stream) after bytes fault entries gave other is are =
       let all = same_stream stream (bytes ++ gave.0.bytes) stream.fails gave.2 refl in
       let fault_is = early_fault target max_bytes bytes gave.0.bytes false stream.fails fault other is in
-      subst (λ (s : Stream). IsOwed target max_bytes s entries (Some fault)) all
+      subst (λ (s : Stream). IsOwed max_bytes (source target s) entries (Some fault)) all
       (inl (are ∙ sym (early_part target max_bytes bytes gave.0.bytes false stream.fails fault other is) ∙ sym (told_part _ fault fault_is), sym fault_is))
 
   front_told : (bytes : List ℕ) (entries : List Entry) → fault_so_far target max_bytes bytes ≡ None → IsFront entries (entries_so_far target max_bytes bytes)
-      → (more : List ℕ) (fails : Bool) → IsFront entries (told_entries target max_bytes (stream_of (bytes ++ more) fails))
+      → (more : List ℕ) (fails : Bool) → IsFront entries (told_entries max_bytes (source target (stream_of (bytes ++ more) fails)))
   front_told bytes entries fine front more fails =
       front_of_front entries (entries_so_far target max_bytes bytes) _ front
       (of_either (entries_so_far target max_bytes bytes) _ _ (entries_lead_log target max_bytes bytes more fails fine) (entries_lead_part target max_bytes bytes more fails fine))
 
   -- bytes that are fine, with some of their first entries
   cut : (told after : Option Stream) (bytes behind : List ℕ) (entries : List Entry) → Gave told (bytes ++ behind) after → fault_so_far target max_bytes bytes ≡ None
-      → IsFront entries (entries_so_far target max_bytes bytes) → IsOwedFor max_bytes (target, told) entries (Some OutOfMemory)
+      → IsFront entries (entries_so_far target max_bytes bytes) → IsOwedFor max_bytes (source target told) entries (Some OutOfMemory)
   cut told after bytes behind entries gave fine front = by told gave
     where
-      by : (told : Option Stream) → Gave told (bytes ++ behind) after → IsOwedFor max_bytes (target, told) entries (Some OutOfMemory)
+      by : (told : Option Stream) → Gave told (bytes ++ behind) after → IsOwedFor max_bytes (source target told) entries (Some OutOfMemory)
       by None gave = (stream_of (bytes ++ behind) false, inr (front_told bytes entries fine front behind false, refl))
       by (Some stream) gave =
-          subst (λ (s : Stream). IsOwed target max_bytes s entries (Some OutOfMemory))
+          subst (λ (s : Stream). IsOwed max_bytes (source target s) entries (Some OutOfMemory))
           (same_stream stream (bytes ++ (behind ++ gave.0.bytes)) stream.fails (gave.2 ∙ append_assoc bytes behind gave.0.bytes) refl)
           (inr (front_told bytes entries fine front (behind ++ gave.0.bytes) stream.fails, refl))
 
@@ -166,12 +167,12 @@ module _ (target : List ℕ) (max_bytes : ℕ) where
     pub within : length scan.bytes ≤ max_bytes
     within = (no_fault target max_bytes (so_far scan.bytes) fine).1
 
-    pub at_failure : (broken : Broken) (buffer : List ℕ) → Pulls now after (Err broken) buffer → IsOwedFor max_bytes (target, told) entries (Some Read)
+    pub at_failure : (broken : Broken) (buffer : List ℕ) → Pulls now after (Err broken) buffer → IsOwedFor max_bytes (source target told) entries (Some Read)
     at_failure broken buffer pulls =
-        weaker told (λ stream. (stream.bytes ≡ scan.bytes) × (stream.fails ≡ true)) (λ stream. IsOwed target max_bytes stream entries (Some Read))
+        weaker told (λ stream. (stream.bytes ≡ scan.bytes) × (stream.fails ≡ true)) (λ stream. IsOwed max_bytes (source target stream) entries (Some Read))
         (λ stream is.
         let fault_is = failed_read target max_bytes scan.bytes fine in
-        subst (λ (s : Stream). IsOwed target max_bytes s entries (Some Read)) (same_stream stream scan.bytes true is.0 is.1)
+        subst (λ (s : Stream). IsOwed max_bytes (source target s) entries (Some Read)) (same_stream stream scan.bytes true is.0 is.1)
         (inl (are_so_far ∙ sym (failed_part target max_bytes scan.bytes fine) ∙ sym (told_part (stream_of scan.bytes true) Read fault_is), sym fault_is)))
         (Gave-failed told now after scan.bytes broken buffer reading.gave pulls)
 
@@ -179,7 +180,7 @@ module _ (target : List ℕ) (max_bytes : ℕ) where
     pub all_taken : (buffer : List ℕ) → Pulls now after (Ok 0) buffer → SomeStream told (λ stream. (stream.bytes ≡ scan.bytes) × (stream.fails ≡ false))
     all_taken buffer pulls = Gave-end told now after scan.bytes buffer reading.gave pulls
 
-    pub no_memory_left : IsOwedFor max_bytes (target, told) entries (Some OutOfMemory)
+    pub no_memory_left : IsOwedFor max_bytes (source target told) entries (Some OutOfMemory)
     no_memory_left =
         cut told now scan.bytes [] entries (subst (λ b. Gave told b now) (sym (append-nil scan.bytes)) reading.gave) fine ([], sym are_so_far ∙ sym (append-nil entries))
 
@@ -188,11 +189,11 @@ module _ (target : List ℕ) (max_bytes : ℕ) where
       more : Gave told (scan.bytes ++ take n buffer) after
       more = Gave-more told now after scan.bytes n buffer some reading.gave pulls
 
-      pub at_refusal : (left : List Entry) (fault : StreamFault) → fault ≢ Read → IsRefused scan (take n buffer) left fault → IsOwedFor max_bytes (target, told) left (Some fault)
+      pub at_refusal : (left : List Entry) (fault : StreamFault) → fault ≢ Read → IsRefused scan (take n buffer) left fault → IsOwedFor max_bytes (source target told) left (Some fault)
       at_refusal left fault other (inl stop) =
           stopped told after (scan.bytes ++ take n buffer) fault left more other (sym (own_fault _) ∙ stop.fault_is) (stop.entries_are ∙ own_entries _)
       at_refusal left fault other (inr (cut_there, memory)) =
-          subst (λ (f : StreamFault). IsOwedFor max_bytes (target, told) left (Some f)) (sym memory)
+          subst (λ (f : StreamFault). IsOwedFor max_bytes (source target told) left (Some f)) (sym memory)
           (cut told after cut_there.bytes cut_there.behind left (subst (λ b. Gave told b after) cut_there.bytes_are more) (sym (own_fault cut_there.bytes) ∙ cut_there.fine)
           (subst (IsFront left) (own_entries cut_there.bytes) cut_there.front))
 
@@ -206,22 +207,22 @@ module _ (told : Option Stream) (old new : Scanned) (entries : List Entry) (ende
       sym (ap (λ t. fault_so_far t new.max_bytes new.bytes) ended.target_is ∙ ap (λ n. fault_so_far old.target n new.bytes) ended.limit_is) ∙ ended.read.fine.no_fault
 
   pub at_end : (last : Option Entry) (all : List Entry) → log_of new.target new.max_bytes (so_far new.bytes) ≡ Some (entries_in new ++ option_to_list last) → all ≡ entries ++ option_to_list last
-      → IsOwedFor old.max_bytes (old.target, told) all None
+      → IsOwedFor old.max_bytes (source old.target told) all None
   at_end last all log_is all_are =
-      weaker told (λ stream. (stream.bytes ≡ new.bytes) × (stream.fails ≡ false)) (λ stream. IsOwed old.target old.max_bytes stream all None)
+      weaker told (λ stream. (stream.bytes ≡ new.bytes) × (stream.fails ≡ false)) (λ stream. IsOwed old.max_bytes (source old.target stream) all None)
       (λ stream is.
-      subst (λ (s : Stream). IsOwed old.target old.max_bytes s all None) (same_stream stream new.bytes false is.0 is.1)
+      subst (λ (s : Stream). IsOwed old.max_bytes (source old.target s) all None) (same_stream stream new.bytes false is.0 is.1)
       (inl (all_are ∙ ap (λ es. es ++ option_to_list last) ended.read.entries_are ∙ sym (told_log old.target old.max_bytes (so_far new.bytes) _ (own_log ∙ log_is)), sym fine_to_end)))
       ended.all
     where
       own_log : log_of old.target old.max_bytes (so_far new.bytes) ≡ log_of new.target new.max_bytes (so_far new.bytes)
       own_log = sym (ap (λ t. log_of t new.max_bytes (so_far new.bytes)) ended.target_is ∙ ap (λ n. log_of old.target n (so_far new.bytes)) ended.limit_is)
 
-  pub cut_at_end : IsOwedFor old.max_bytes (old.target, told) entries (Some OutOfMemory)
+  pub cut_at_end : IsOwedFor old.max_bytes (source old.target told) entries (Some OutOfMemory)
   cut_at_end =
-      weaker told (λ stream. (stream.bytes ≡ new.bytes) × (stream.fails ≡ false)) (λ stream. IsOwed old.target old.max_bytes stream entries (Some OutOfMemory))
+      weaker told (λ stream. (stream.bytes ≡ new.bytes) × (stream.fails ≡ false)) (λ stream. IsOwed old.max_bytes (source old.target stream) entries (Some OutOfMemory))
       (λ stream is.
-      subst (λ (s : Stream). IsOwed old.target old.max_bytes s entries (Some OutOfMemory)) (same_stream stream (new.bytes ++ []) false (is.0 ∙ sym (append-nil new.bytes)) is.1)
+      subst (λ (s : Stream). IsOwed old.max_bytes (source old.target s) entries (Some OutOfMemory)) (same_stream stream (new.bytes ++ []) false (is.0 ∙ sym (append-nil new.bytes)) is.1)
       (inr (front_told old.target old.max_bytes new.bytes entries fine_to_end ([], sym are_to_end ∙ sym (append-nil entries)) [] false, refl)))
       ended.all
     where

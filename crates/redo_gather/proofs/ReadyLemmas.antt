@@ -1,8 +1,9 @@
 -- Ends and shares at the same places.
-use Rattle.std.proofs.Common.{◌≡◌, ℕ, zero, suc, ◌≤◌, false, List, [], ◌∷◌, ◌++◌, Option, Some, length, map, zip, slice_get, refl, sym, ap, ◌∙◌, subst, arith}
+use Rattle.std.proofs.Common.{◌≡◌, ℕ, zero, suc, ◌≤◌, false, List, [], ◌∷◌, ◌++◌, Option, Some, length, map, slice_get, refl, sym, ap, ◌∙◌, subst, arith}
 use Rattle.std.specs.List.{AllByRecursion}
 use Rattle.std.proofs.lemmas.List.{length-append}
 use Rattle.std.proofs.lemmas.Option.{none-some}
+use Rattle.redo_line.specs.Source.{sources}
 use Rattle.redo_device.specs.Feed.{Stream}
 use Rattle.redo_logs.specs.Logs.{new_log}
 use Rattle.redo_wire.specs.Mailbox.{AreEndsOf, IsOpened, Mailbox, Poster}
@@ -65,14 +66,14 @@ module _ {A : Type 0} (tells : A → Option Stream) (senders : ℕ) (given : Lis
 -- a new mailbox and an empty table, and what was collected from there
 pub all_owed : {A : Type 0} (tells : A → Option Stream) (max_bytes capacity senders : ℕ) (names : List (List ℕ)) (told : List (Option Stream)) (ends : List Poster) (shares : List (List (ℕ × List ℕ × A)))
     (before after : Collecting) → Collects tells max_bytes ends shares before after → IsOpened capacity senders before.mailbox → before.table ≡ map new_log names → before.refused ≡ false
-    → length names ≡ length told → 1 ≤ senders → AreEndsOf before.mailbox.mailbox ends → AreDealt tells senders (zip names told) shares → AllOwed max_bytes names told after
+    → length names ≡ length told → 1 ≤ senders → AreEndsOf before.mailbox.mailbox ends → AreDealt tells senders (sources names told) shares → AllOwed max_bytes names told after
 all_owed tells max_bytes capacity senders names told ends shares before after collects opened table_is fine count some are dealt = record {
   count = count;
   some = omega (arith, some, ap (λ (m : Mailbox). m.senders) collects.mailbox, opened.1);
   owed =
-      subst (λ n. AllByRecursion (Owes max_bytes n (zip names told)) after.mailbox.met) (sym (ap (λ (m : Mailbox). m.senders) collects.mailbox))
-      (collects.owed (zip names told) (subst (λ n. AreReady tells n (zip names told) ends shares) (sym opened.1) (all_ready tells senders (zip names told) before.mailbox.mailbox ends shares opened.1 are dealt))
-      (subst (AllByRecursion (Owes max_bytes before.mailbox.mailbox.senders (zip names told))) (sym opened.3) tt));
+      subst (λ n. AllByRecursion (Owes max_bytes n (sources names told)) after.mailbox.met) (sym (ap (λ (m : Mailbox). m.senders) collects.mailbox))
+      (collects.owed (sources names told) (subst (λ n. AreReady tells n (sources names told) ends shares) (sym opened.1) (all_ready tells senders (sources names told) before.mailbox.mailbox ends shares opened.1 are dealt))
+      (subst (AllByRecursion (Owes max_bytes before.mailbox.mailbox.senders (sources names told))) (sym opened.3) tt));
   holds =
       collects.holds names
       (λ _. (table_is ∙ ap (λ items. stored (singles items) (map new_log names)) (sym opened.2), subst (λ items. NoneWants (singles items)) (sym opened.2) tt));

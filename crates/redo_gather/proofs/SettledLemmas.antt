@@ -1,5 +1,5 @@
 -- Tables in which each log is what its stream comes to, up to its end or its fault.
-use Rattle.std.proofs.Common.{◌≡◌, ℕ, ◌<◌, true, List, [], ◌∷◌, ◌++◌, Option, None, Some, length, map, zip, refl, sym, ap, ◌∙◌, arith}
+use Rattle.std.proofs.Common.{◌≡◌, ℕ, ◌<◌, true, List, [], ◌∷◌, ◌++◌, Option, None, Some, length, map, refl, sym, ap, ◌∙◌, arith}
 use Rattle.std.specs.Option.{option_map}
 use Rattle.std.specs.List.{list_all}
 use Rattle.std.proofs.lemmas.List.{length-map}
@@ -7,20 +7,21 @@ use Rattle.std.proofs.lemmas.Option.{slice_get_within}
 use Rattle.redo_line.specs.declared.entry.Entry.{Entry}
 use Rattle.redo_line.specs.declared.stream_fault.StreamFault.{StreamFault}
 use Rattle.redo_device.specs.Feed.{Stream, SomeStream}
-use Rattle.redo_line.specs.Log.{fault_of, unless_fault}
+use Rattle.redo_line.specs.Log.{unless_fault}
+use Rattle.redo_line.specs.Source.{Source, fault_from, source, sources, with_stream}
 use Rattle.redo_logs.specs.Logs.{Log, behind_one, fault_in, first_failed, first_fault, has_ended, states_of, targets_of}
 use Rattle.redo_logs.proofs.LeastFault.{found_there}
 use Rattle.redo_gather.specs.Owed.{Given, log_or_part, told_entries}
 use Rattle.redo_gather.specs.Private.Storing.{state_after}
-use Rattle.redo_gather.specs.Streams.{AreLogs, AreTold, IsFault, fault_with, in_front, logs_of, whole_log}
+use Rattle.redo_gather.specs.Streams.{AreLogs, AreTold, IsFault, in_front, logs_of, whole_log}
 use Rattle.redo_gather.proofs.StreamLemmas.{count_told, given_stream, whole_logs}
 
 -- the log that a stream comes to
-abbrev pub log_after : ℕ → List ℕ → Stream → Log
-log_after max_bytes target stream = record { target = target; entries = told_entries target max_bytes stream; state = state_after (fault_of target max_bytes stream) }
+abbrev pub log_after : ℕ → Source Stream → Log
+log_after max_bytes source = record { target = source.target; entries = told_entries max_bytes source; state = state_after (fault_from max_bytes source) }
 
 abbrev pub IsSettled : ℕ → Given → Log → Type 0
-IsSettled max_bytes given log = SomeStream given.1 (λ stream. log ≡ log_after max_bytes given.0 stream)
+IsSettled max_bytes given log = SomeStream given.stream (λ stream. log ≡ log_after max_bytes (with_stream stream given))
 
 abbrev pub AreSettled : ℕ → List Given → List Log → Type 0
 AreSettled max_bytes [] [] = Unit {0}
@@ -55,7 +56,7 @@ module _ (max_bytes : ℕ) where
   pub record Comes (names : List (List ℕ)) (told : List (Option Stream)) (table : List Log) : Type 0 where
     pub streams : List Stream
     pub told_are : AreTold told streams
-    pub faults_are : map fault_in (states_of table) ≡ map (fault_with max_bytes) (zip names streams)
+    pub faults_are : map fault_in (states_of table) ≡ map (fault_from max_bytes) (sources names streams)
     pub logs_are : first_failed table ≡ None → logs_of max_bytes names streams ≡ Some table
 
   -- one log more, in front
@@ -70,41 +71,41 @@ module _ (max_bytes : ℕ) where
       none_behind None none = refl
       none_behind (Some found) none = absurd (cc)
 
-  comes : (names : List (List ℕ)) (told : List (Option Stream)) (table : List Log) → length names ≡ length told → AreSettled max_bytes (zip names told) table → Comes names told table
+  comes : (names : List (List ℕ)) (told : List (Option Stream)) (table : List Log) → length names ≡ length told → AreSettled max_bytes (sources names told) table → Comes names told table
   comes [] [] [] same are = record { streams = []; told_are = tt; faults_are = refl; logs_are = λ none. refl }
   comes [] [] (log ∷ table) same are = absurd are
   comes [] (one ∷ told) table same are = absurd (cc)
   comes (target ∷ names) [] table same are = absurd (cc)
   comes (target ∷ names) (one ∷ told) [] same are = absurd are
   comes (target ∷ names) (one ∷ told) (log ∷ table) same are =
-      let given = given_stream one (λ stream. log ≡ log_after max_bytes target stream) are.0 in
+      let given = given_stream one (λ stream. log ≡ log_after max_bytes (source target stream)) are.0 in
       let others = comes names told table (omega (arith, same)) are.1 in
-      let fault_is : fault_in log.state ≡ fault_of target max_bytes given.0 = ap (λ (l : Log). fault_in l.state) given.2 ∙ fault_after (fault_of target max_bytes given.0) in
+      let fault_is : fault_in log.state ≡ fault_from max_bytes (source target given.0) = ap (λ (l : Log). fault_in l.state) given.2 ∙ fault_after (fault_from max_bytes (source target given.0)) in
       record {
         streams = given.0 ∷ others.streams;
         told_are = (given.1, others.told_are);
         faults_are = λ i. fault_is i ∷ others.faults_are i;
         logs_are = λ none.
-            in_front_of (fault_of target max_bytes given.0) target _ _ (map fault_in (states_of table)) (logs_of max_bytes names others.streams) table others.logs_are
+            in_front_of (fault_from max_bytes (source target given.0)) target _ _ (map fault_in (states_of table)) (logs_of max_bytes names others.streams) table others.logs_are
             (ap (λ f. first_fault (f ∷ map fault_in (states_of table))) (sym fault_is) ∙ none)
             ∙ ap (λ (l : Log). Some (l ∷ table)) (sym given.2);
       }
 
   -- a whole table of such logs
-  module _ (names : List (List ℕ)) (told : List (Option Stream)) (table : List Log) (same : length names ≡ length told) (are : AreSettled max_bytes (zip names told) table) where
+  module _ (names : List (List ℕ)) (told : List (Option Stream)) (table : List Log) (same : length names ≡ length told) (are : AreSettled max_bytes (sources names told) table) where
     all : Comes names told table
     all = comes names told table same are
 
     pub settled-targets : targets_of table ≡ names
     settled-targets = by names told table same are
       where
-        by : (names : List (List ℕ)) (told : List (Option Stream)) (table : List Log) → length names ≡ length told → AreSettled max_bytes (zip names told) table → targets_of table ≡ names
+        by : (names : List (List ℕ)) (told : List (Option Stream)) (table : List Log) → length names ≡ length told → AreSettled max_bytes (sources names told) table → targets_of table ≡ names
         by [] told [] same are = refl
         by [] told (log ∷ table) same are = absurd are
         by (target ∷ names) [] table same are = absurd (omega (arith, same))
         by (target ∷ names) (one ∷ told) [] same are = absurd are
         by (target ∷ names) (one ∷ told) (log ∷ table) same are =
-            let given = given_stream one (λ stream. log ≡ log_after max_bytes target stream) are.0 in
+            let given = given_stream one (λ stream. log ≡ log_after max_bytes (source target stream)) are.0 in
             let first : log.target ≡ target = ap (λ (l : Log). l.target) given.2 in
             λ i. first i ∷ by names told table (omega (arith, same)) are.1 i
 

@@ -1,13 +1,14 @@
 -- The logs of a set of streams, or its fault, as streams are read one after another.
-use Rattle.std.proofs.Common.{◌≡◌, ◌↔◌, ℕ, suc, true, false, List, [], ◌∷◌, ◌++◌, Option, None, Some, IsSome, length, map, zip, refl, sym, ap, ◌∙◌, arith}
+use Rattle.std.proofs.Common.{◌≡◌, ◌↔◌, ℕ, suc, true, false, List, [], ◌∷◌, ◌++◌, Option, None, Some, IsSome, length, map, refl, sym, ap, ◌∙◌, arith}
 use Rattle.std.specs.Option.{option_map}
 use Rattle.std.specs.List.{list_all}
 use Rattle.redo_line.specs.declared.entry.Entry.{Entry}
 use Rattle.redo_line.specs.declared.stream_fault.StreamFault.{StreamFault}
 use Rattle.redo_device.specs.Feed.{Stream, SomeStream}
-use Rattle.redo_line.specs.Log.{fault_of, unless_fault}
+use Rattle.redo_line.specs.Log.{unless_fault}
+use Rattle.redo_line.specs.Source.{fault_from, source, sources}
 use Rattle.redo_logs.specs.Logs.{Log, first_fault, behind_one, targets_of, has_ended}
-use Rattle.redo_gather.specs.Streams.{IsTold, AreTold, whole_log, log_with, fault_with, in_front, logs_of, fault_among}
+use Rattle.redo_gather.specs.Streams.{IsTold, AreTold, whole_log, log_with, in_front, logs_of, fault_among}
 
 -- one stream more, in front of the others
 either : (fault : Option StreamFault) (target : List ℕ) (entries : List Entry) (logs : Option (List Log)) (faults : List (Option StreamFault)) → IsSome logs ↔ (first_fault faults ≡ None)
@@ -44,7 +45,7 @@ module _ (max_bytes : ℕ) where
   logs_or_fault [] streams = ((λ some. refl), (λ none. refl))
   logs_or_fault (target ∷ targets) [] = ((λ some. refl), (λ none. refl))
   logs_or_fault (target ∷ targets) (stream ∷ streams) =
-      either (fault_of target max_bytes stream) target _ (logs_of max_bytes targets streams) _ (logs_or_fault targets streams)
+      either (fault_from max_bytes (source target stream)) target _ (logs_of max_bytes targets streams) _ (logs_or_fault targets streams)
 
   -- the logs of whole streams have their targets, and have ended
   pub whole_logs : (targets : List (List ℕ)) (streams : List Stream) (logs : List Log) → length targets ≡ length streams → logs_of max_bytes targets streams ≡ Some logs
@@ -54,7 +55,7 @@ module _ (max_bytes : ℕ) where
   whole_logs (target ∷ targets) [] logs same is = absurd (cc)
   whole_logs (target ∷ targets) (stream ∷ streams) logs same is =
       let front = of_front _ _ logs is in
-      let fine = no_fault (fault_of target max_bytes stream) target _ front.0 front.2 in
+      let fine = no_fault (fault_from max_bytes (source target stream)) target _ front.0 front.2 in
       let others = whole_logs targets streams front.1 (omega (arith, same)) front.3 in (
         ap targets_of front.4 ∙ ap (λ t. t ∷ targets_of front.1) fine.1 ∙ ap (λ ts. target ∷ ts) others.0,
         ap (list_all has_ended) front.4 ∙ all_ended-more front.0 front.1 fine.2 others.1,
@@ -62,7 +63,7 @@ module _ (max_bytes : ℕ) where
 
   module _ (target : List ℕ) (stream : Stream) where
     -- one stream more, behind the others
-    pub one_more : (targets : List (List ℕ)) (streams : List Stream) (logs : List Log) (log : Log) → length targets ≡ length streams → logs_of max_bytes targets streams ≡ Some logs → log_with max_bytes (target, stream) ≡ Some log
+    pub one_more : (targets : List (List ℕ)) (streams : List Stream) (logs : List Log) (log : Log) → length targets ≡ length streams → logs_of max_bytes targets streams ≡ Some logs → log_with max_bytes (source target stream) ≡ Some log
         → logs_of max_bytes (targets ++ target ∷ []) (streams ++ stream ∷ []) ≡ Some (logs ++ log ∷ [])
     one_more [] [] logs log same is has = let none : [] ≡ logs = cc in ap (λ l. in_front l (Some [])) has ∙ ap (λ (ls : List Log). Some (ls ++ log ∷ [])) none
     one_more [] (other ∷ streams) logs log same is has = absurd (cc)
@@ -75,14 +76,14 @@ module _ (max_bytes : ℕ) where
 
     -- a fault behind streams that have none
     pub fault_behind : (targets : List (List ℕ)) (streams : List Stream) (logs : List Log) (left : List (List ℕ)) (unread : List Stream) (fault : StreamFault) → length targets ≡ length streams → logs_of max_bytes targets streams ≡ Some logs
-        → fault_of target max_bytes stream ≡ Some fault → fault_among max_bytes (targets ++ target ∷ left) (streams ++ stream ∷ unread) ≡ Some (length targets, fault)
+        → fault_from max_bytes (source target stream) ≡ Some fault → fault_among max_bytes (targets ++ target ∷ left) (streams ++ stream ∷ unread) ≡ Some (length targets, fault)
     fault_behind [] [] logs left unread fault same is has = rw (has)
     fault_behind [] (other ∷ streams) logs left unread fault same is has = absurd (cc)
     fault_behind (first ∷ targets) [] logs left unread fault same is has = absurd (cc)
     fault_behind (first ∷ targets) (other ∷ streams) logs left unread fault same is has =
         let front = of_front _ _ logs is in
-        let fine = no_fault (fault_of first max_bytes other) first _ front.0 front.2 in
-        ap (λ f. first_fault (f ∷ map (fault_with max_bytes) (zip (targets ++ target ∷ left) (streams ++ stream ∷ unread)))) fine.0
+        let fine = no_fault (fault_from max_bytes (source first other)) first _ front.0 front.2 in
+        ap (λ f. first_fault (f ∷ map (fault_from max_bytes) (sources (targets ++ target ∷ left) (streams ++ stream ∷ unread)))) fine.0
         ∙ ap behind_one (fault_behind targets streams front.1 left unread fault (omega (arith, same)) front.3 has)
         ∙ ap (λ (n : ℕ). Some (n, fault)) (omega arith)
 

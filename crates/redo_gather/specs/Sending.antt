@@ -3,6 +3,7 @@ use Rattle.std.specs.Prelude.{◌≡◌, ⊤, ℕ, ◌≤◌, List, [], ◌∷�
 use Rattle.std.specs.List.{AllByRecursion}
 use Rattle.redo_line.specs.declared.entry.Entry.{Entry}
 use Rattle.redo_line.specs.declared.stream_fault.StreamFault.{StreamFault}
+use Rattle.redo_line.specs.Source.{source}
 use Rattle.redo_device.specs.Feed.{Stream}
 use Rattle.redo_wire.specs.declared.item.Item.{Item}
 use Rattle.redo_wire.specs.declared.item.What.{What}
@@ -45,7 +46,7 @@ Numbered = ℕ × Given
 
 -- what is known of an item of a share
 abbrev pub numbered : {A : Type 0} → (A → Option Stream) → ℕ × List ℕ × A → Numbered
-numbered tells item = (item.0, (item.1, tells item.2))
+numbered tells item = (item.0, source item.1 (tells item.2))
 
 -- items that are owed for the streams of a share, one stream behind the other
 abbrev pub AreOwed : ℕ → ℕ → List Numbered → List Item → Type 0

@@ -1,11 +1,11 @@
 -- The logs of a set of streams, and its fault. Targets and streams stand in two lists of one length, each target with
 -- the stream at the same place.
-use Rattle.std.specs.Prelude.{◌≡◌, ◌↔◌, ℕ, List, [], ◌∷◌, Option, None, Some, IsSome, map, zip}
+use Rattle.std.specs.Prelude.{◌≡◌, ◌↔◌, ℕ, List, [], ◌∷◌, Option, None, Some, IsSome, map}
 use Rattle.std.specs.Option.{option_map}
 use Rattle.redo_line.specs.declared.entry.Entry.{Entry}
 use Rattle.redo_line.specs.declared.stream_fault.StreamFault.{StreamFault}
 use Rattle.redo_device.specs.Feed.{Stream}
-use Rattle.redo_line.specs.Log.{log_of, fault_of}
+use Rattle.redo_line.specs.Source.{Source, fault_from, log_from, sources}
 use Rattle.redo_logs.specs.declared.log_state.LogState.TheVariants.{Ended}
 use Rattle.redo_logs.specs.Logs.{Log, first_fault}
 
@@ -30,11 +30,8 @@ abbrev pub whole_log : List ℕ → List Entry → Log
 whole_log target entries = record { target = target; entries = entries; state = Ended }
 
 -- the log of a target and its stream, if there is one
-abbrev pub log_with : ℕ → List ℕ × Stream → Option Log
-log_with max_bytes given = option_map (whole_log given.0) (log_of given.0 max_bytes given.1)
-
-abbrev pub fault_with : ℕ → List ℕ × Stream → Option StreamFault
-fault_with max_bytes given = fault_of given.0 max_bytes given.1
+abbrev pub log_with : ℕ → Source Stream → Option Log
+log_with max_bytes source = option_map (whole_log source.target) (log_from max_bytes source)
 
 abbrev pub in_front : Option Log → Option (List Log) → Option (List Log)
 in_front None logs = None
@@ -48,11 +45,11 @@ all_of (log ∷ logs) = in_front log (all_of logs)
 
 -- the logs of these targets, each with its stream; they are there exactly if each of them is
 abbrev pub logs_of : ℕ → List (List ℕ) → List Stream → Option (List Log)
-logs_of max_bytes targets streams = all_of (map (log_with max_bytes) (zip targets streams))
+logs_of max_bytes targets streams = all_of (map (log_with max_bytes) (sources targets streams))
 
 -- the least number of a stream that has a fault, and its fault
 abbrev pub fault_among : ℕ → List (List ℕ) → List Stream → Option (ℕ × StreamFault)
-fault_among max_bytes targets streams = first_fault (map (fault_with max_bytes) (zip targets streams))
+fault_among max_bytes targets streams = first_fault (map (fault_from max_bytes) (sources targets streams))
 
 -- these are the logs of the streams that readers give
 abbrev pub AreLogs : ℕ → List (List ℕ) → List (Option Stream) → List Log → Type 0

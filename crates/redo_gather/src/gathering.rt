@@ -1,7 +1,8 @@
-ghost use Rattle.std.specs.Prelude.{◌≡◌, ◌≢◌, ◌<◌, ◌≤◌, ◌^◌, true, IfOk, nat_eq, length, map, zip};
+ghost use Rattle.std.specs.Prelude.{◌≡◌, ◌≢◌, ◌<◌, ◌≤◌, ◌^◌, true, IfOk, nat_eq, length, map};
 ghost use Rattle.std.specs.List.{AllByRecursion, IsDistinct, list_all};
 ghost use Rattle.std.specs.Cmp.Lexicographic.{pointwise};
 ghost use Rattle.redo_line.specs.declared.stream_fault.StreamFault.TheVariants.{OutOfMemory};
+ghost use Rattle.redo_line.specs.Source.{sources};
 ghost use Rattle.redo_logs.specs.Logs.{has_ended, most, new_log, targets_of};
 ghost use Rattle.redo_gather.specs.GatherFault.{IfStreamFault};
 ghost use Rattle.redo_gather.specs.Streams.{AreLogs, IsFault};
@@ -140,7 +141,7 @@ fn deal<R: Feed>(
     requires size { length readers.items ≤ most }
     requires senders { 0 < length readers.items → 0 < senders }
     ensures { IfOk result (λ shares.
-        AreDealt R.tells senders (zip (targets_of table.now) (map R.tells readers.items)) (map (λ share. share.items) shares.items)) }
+        AreDealt R.tells senders (sources (targets_of table.now) (map R.tells readers.items)) (map (λ share. share.items) shares.items)) }
 {
     let mut shares = no_shares(alloc, senders)?;
     let mut number = 0;

@@ -2,6 +2,7 @@ ghost use Rattle.std.specs.Prelude.{◌≡◌, ◌≢◌, ◌<◌, ◌≤◌, �
 ghost use Rattle.redo_line.specs.declared.stream_fault.StreamFault.TheVariants.{OutOfMemory, Read};
 ghost use Rattle.redo_line.specs.Log.{log_of};
 ghost use Rattle.redo_line.specs.Scan.{so_far, took};
+ghost use Rattle.redo_line.specs.Source.{source};
 ghost use Rattle.redo_gather.specs.Owed.{IsOwedFor};
 ghost use Rattle.redo_gather.specs.Private.Reading.{IsRead, IsReadToEnd, IsRefused, fault_in};
 
@@ -30,7 +31,7 @@ pub fn read_stream<R: Feed, B: Fn(u64)>(
     requires at_most { max_bytes ≤ 2 ^ 40 }
     requires room { 0 < length buf.old }
     requires callable { B.IsAlwaysCallable before_read.now }
-    ensures owed { IsOwedFor max_bytes (target, R.tells reader.old) result.entries result.fault }
+    ensures owed { IsOwedFor max_bytes (source target (R.tells reader.old)) result.entries result.fault }
     ensures buf { length buf.new ≡ length buf.old }
 {
     let mut entries = Entries::new(alloc);
@@ -60,7 +61,7 @@ fn read_entries<R: Feed, B: Fn(u64)>(
     requires read { IsRead scan entries.old }
     requires room { 0 < length buf.old }
     requires callable { B.IsAlwaysCallable before_read.now }
-    ensures owed { IsOwedFor scan.max_bytes (scan.target, R.tells reader.old) entries.new (fault_in result) }
+    ensures owed { IsOwedFor scan.max_bytes (source scan.target (R.tells reader.old)) entries.new (fault_in result) }
     ensures buf { length buf.new ≡ length buf.old }
 {
     let mut scan = scan;
@@ -86,7 +87,7 @@ fn read_pieces<R: Feed, B: Fn(u64)>(
     requires callable { B.IsAlwaysCallable before_read.now }
     ensures ended { OnOk result (IsReadToEnd (R.tells reader.old) scan.old scan.new entries.new) }
     ensures owed { IfErr result (λ fault.
-        IsOwedFor scan.old.max_bytes (scan.old.target, R.tells reader.old) entries.new (Some fault)) }
+        IsOwedFor scan.old.max_bytes (source scan.old.target (R.tells reader.old)) entries.new (Some fault)) }
     ensures buf { length buf.new ≡ length buf.old }
 {
     let mut turn = 0;

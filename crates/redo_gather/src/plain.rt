@@ -3,6 +3,7 @@ ghost use Rattle.std.specs.List.{IsDistinct, list_all};
 ghost use Rattle.std.specs.Result.{result_and};
 ghost use Rattle.std.specs.Cmp.Lexicographic.{pointwise};
 ghost use Rattle.redo_line.specs.declared.stream_fault.StreamFault.TheVariants.{OutOfMemory};
+ghost use Rattle.redo_line.specs.Source.{source};
 ghost use Rattle.redo_logs.specs.declared.log_state.LogState.TheVariants.{Running};
 ghost use Rattle.redo_logs.specs.Logs.{most, new_log, states_of, targets_of, has_ended};
 ghost use Rattle.redo_gather.specs.GatherFault.{IfStreamFault};
@@ -93,9 +94,9 @@ fn gather_one<R: Feed>(
     requires runs { slice_get (states_of table.old) number ≡ Some Running }
     requires room { 0 < length buf.old }
     ensures completed { (target : List ℕ) → slice_get (targets_of table.old) number ≡ Some target →
-        OnOk result (IsCompleted target max_bytes number (R.tells reader.old) table.old table.new) }
+        OnOk result (IsCompleted max_bytes number (source target (R.tells reader.old)) table.old table.new) }
     ensures fault { (target : List ℕ) → slice_get (targets_of table.old) number ≡ Some target →
-        IfStreamFault result (λ other fault. (other ≡ number) × HasFault target max_bytes (R.tells reader.old) fault) }
+        IfStreamFault result (λ other fault. (other ≡ number) × HasFault max_bytes (source target (R.tells reader.old)) fault) }
     ensures no_memory { IfStreamFault result (λ number fault. fault ≢ OutOfMemory) }
     ensures buf { length buf.new ≡ length buf.old }
 {

@@ -2,6 +2,7 @@ ghost use Rattle.std.specs.Prelude.{◌≡◌, ◌≢◌, ◌<◌, ◌≤◌, �
 ghost use Rattle.redo_line.specs.declared.stream_fault.StreamFault.TheVariants.{OutOfMemory, Read};
 ghost use Rattle.redo_line.specs.declared.entry.Entry.{Entry as Told};
 ghost use Rattle.redo_line.specs.Scan.{Scanned};
+ghost use Rattle.redo_line.specs.Source.{source};
 ghost use Rattle.redo_gather.specs.Private.Posting.{AreLinesPosted, ArePiecesPosted, IsPosted, IsStreamPosted};
 ghost use Rattle.redo_gather.specs.Private.Reading.{IsRead, IsReadTo, IsRefused, fault_in};
 ghost use Rattle.redo_gather.specs.Sending.{HasPosted, HasSent, IsFilled, last_of, line_of, most_entries, numbered, singles_in};
@@ -87,7 +88,7 @@ fn send_stream<T: Wait, R: Feed, B: Fn(u64)>(
     requires at_least { 1 ≤ max_bytes }
     requires at_most { max_bytes ≤ 2 ^ 40 }
     requires callable { B.IsAlwaysCallable before_read.now }
-    ensures { IsStreamPosted max_bytes stream (target, R.tells reader.old) end.old end.new }
+    ensures { IsStreamPosted max_bytes stream (source target (R.tells reader.old)) end.old end.new }
 {
     let scan = Scan::new(alloc, target, max_bytes);
     let answer = send_entries(rt, alloc, end, stream, scan, reader, buf, before_read);
@@ -119,7 +120,7 @@ fn send_entries<T: Wait, R: Feed, B: Fn(u64)>(
     requires begins { scan.bytes ≡ [] }
     requires read { IsRead scan [] }
     requires callable { B.IsAlwaysCallable before_read.now }
-    ensures { AreLinesPosted scan.max_bytes stream (scan.target, R.tells reader.old) end.old end.new result }
+    ensures { AreLinesPosted scan.max_bytes stream (source scan.target (R.tells reader.old)) end.old end.new result }
 {
     let mut scan = scan;
     send_pieces(rt, alloc, end, stream, &mut scan, reader, buf, before_read)?;

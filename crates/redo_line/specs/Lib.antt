@@ -11,3 +11,4 @@ pub mod Parts
 pub mod Private
 pub mod Record
 pub mod Scan
+pub mod Source

@@ -1,7 +1,8 @@
 -- How what is taken goes into a table, whatever the order in which senders post.
-use Rattle.std.specs.Prelude.{◌≡◌, ◌≢◌, ℕ, ◌<◌, Bool, true, false, List, [], ◌∷◌, Option, Result, IfOk, length, map, zip}
+use Rattle.std.specs.Prelude.{◌≡◌, ◌≢◌, ℕ, ◌<◌, Bool, true, false, List, [], ◌∷◌, Option, Result, IfOk, length, map}
 use Rattle.std.specs.List.{AllByRecursion, list_all}
 use Rattle.redo_line.specs.declared.stream_fault.StreamFault.TheVariants.{OutOfMemory}
+use Rattle.redo_line.specs.Source.{sources}
 use Rattle.redo_device.specs.Feed.{Stream}
 use Rattle.redo_logs.specs.declared.log_state.LogState.{LogState}
 use Rattle.redo_logs.specs.declared.log_state.LogState.TheVariants.{Ended, Failed, Running}
@@ -63,7 +64,7 @@ pub record Collects {A : Type 0} (tells : A → Option Stream) (max_bytes : ℕ)
 pub record AllOwed (max_bytes : ℕ) (names : List (List ℕ)) (told : List (Option Stream)) (collector : Collector) : Type 0 where
   pub count : length names ≡ length told
   pub some : 0 < collector.mailbox.mailbox.senders
-  pub owed : AllByRecursion (Owes max_bytes collector.mailbox.mailbox.senders (zip names told)) collector.mailbox.met
+  pub owed : AllByRecursion (Owes max_bytes collector.mailbox.mailbox.senders (sources names told)) collector.mailbox.met
   pub holds : Holds names collector.mailbox.taken collector.table collector.refused
 
 -- ..and all that was posted was taken

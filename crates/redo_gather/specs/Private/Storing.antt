@@ -2,11 +2,12 @@
 use Rattle.std.specs.Prelude.{◌≡◌, ℕ, List, Option, None, Some}
 use Rattle.redo_line.specs.declared.entry.Entry.{Entry}
 use Rattle.redo_line.specs.declared.stream_fault.StreamFault.{StreamFault}
-use Rattle.redo_device.specs.Feed.{Stream, SomeStream}
-use Rattle.redo_line.specs.Log.{fault_of, log_of}
+use Rattle.redo_device.specs.Feed.{SomeStream}
+use Rattle.redo_line.specs.Source.{fault_from, log_from, with_stream}
 use Rattle.redo_logs.specs.declared.log_state.LogState.{LogState}
 use Rattle.redo_logs.specs.declared.log_state.LogState.TheVariants.{Ended, Failed}
 use Rattle.redo_logs.specs.Logs.{Log, changed, with_entries, with_state}
+use Rattle.redo_gather.specs.Owed.{Given}
 
 -- how a log is left behind its last entry
 abbrev pub state_after : Option StreamFault → LogState
@@ -18,11 +19,11 @@ abbrev pub completed : List Entry → Option StreamFault → Log → Log
 completed entries fault log = with_state (state_after fault) (with_entries entries log)
 
 -- the log of the stream that a reader tells completes that of this number in a table
-pub record IsCompleted (target : List ℕ) (max_bytes number : ℕ) (told : Option Stream) (begun table : List Log) : Type 0 where
+pub record IsCompleted (max_bytes number : ℕ) (given : Given) (begun table : List Log) : Type 0 where
   pub entries : List Entry
-  pub entries_are : SomeStream told (λ stream. log_of target max_bytes stream ≡ Some entries)
+  pub entries_are : SomeStream given.stream (λ stream. log_from max_bytes (with_stream stream given) ≡ Some entries)
   pub table_is : table ≡ changed number (completed entries None) begun
 
 -- the stream that a reader tells has this fault
-abbrev pub HasFault : List ℕ → ℕ → Option Stream → StreamFault → Type 0
-HasFault target max_bytes told fault = SomeStream told (λ stream. fault_of target max_bytes stream ≡ Some fault)
+abbrev pub HasFault : ℕ → Given → StreamFault → Type 0
+HasFault max_bytes given fault = SomeStream given.stream (λ stream. fault_from max_bytes (with_stream stream given) ≡ Some fault)

@@ -1,4 +1,5 @@
-use Rattle.std.proofs.Common.{◌≡◌, ◌++◌, length, map, zip}
+use Rattle.std.proofs.Common.{◌≡◌, ◌++◌, length, map}
+use Rattle.redo_line.specs.Source.{sources}
 use Rattle.redo_logs.specs.Logs.{targets_of}
 use Rattle.redo_gather.specs.Private.Dealing.{AreDealt}
 use Rattle.redo_gather.proofs.gathering.deal.Given as goal
@@ -8,4 +9,4 @@ abbrev pub invariant-loop-reader : goal.invariant-loop-reader
 invariant-loop-reader g l =
     (l.number ≡ length l.yielded)
     × (l.fn.readers.items ≡ l.yielded ++ l.reader-iterator.rest.items)
-    × AreDealt g.R.Feed.tells l.senders (zip (targets_of l.table) (map g.R.Feed.tells l.yielded)) (map (λ share. share.items) l.shares.items)
+    × AreDealt g.R.Feed.tells l.senders (sources (targets_of l.table) (map g.R.Feed.tells l.yielded)) (map (λ share. share.items) l.shares.items)

@@ -2,6 +2,7 @@ use Rattle.std.proofs.Common.{None, Some, sym, subst}
 use Rattle.std.proofs.lemmas.List.{append-nil}
 use Rattle.std.proofs.lemmas.Result.{err_from_is_err_and}
 use Rattle.redo_line.specs.declared.stream_fault.StreamFault.TheVariants.{OutOfMemory}
+use Rattle.redo_line.specs.Source.{source}
 use Rattle.redo_gather.specs.Owed.{IsOwedFor}
 use Rattle.redo_gather.proofs.ReadingLemmas.{at_end, cut_at_end}
 use Rattle.redo_gather.proofs.one_stream.read_entries.Goals as goal
@@ -23,7 +24,7 @@ returns-in_err-push g c =
     let given = err_from_is_err_and c.from_residual-in_err-push.result c.from_residual-in_err-push.ensures.1 in
     rw (given.1, given.2)
     (record {
-      owed = subst (λ es. IsOwedFor scan.max_bytes (scan.target, g.R.Feed.tells c.args.reader.now) es (Some OutOfMemory)) (sym c.in_err-push.ensures.err) (cut_at_end _ scan _ _ ended);
+      owed = subst (λ es. IsOwedFor scan.max_bytes (source scan.target (g.R.Feed.tells c.args.reader.now)) es (Some OutOfMemory)) (sym c.in_err-push.ensures.err) (cut_at_end _ scan _ _ ended);
       buf = c.read_pieces.ensures.buf;
     })
 

@@ -2,7 +2,7 @@ use Rattle.std.proofs.Common.{◌≡◌, ℕ, ◌<◌, Some, List, refl, ap, ◌
 use Rattle.std.proofs.lemmas.List.{length-map}
 use Rattle.std.proofs.lemmas.Option.{slice_get_within}
 use Rattle.redo_device.specs.Feed.{SomeStream}
-use Rattle.redo_line.specs.Log.{log_of}
+use Rattle.redo_line.specs.Source.{log_from, source}
 use Rattle.redo_logs.specs.declared.log_state.LogState.TheVariants.{Running}
 use Rattle.redo_logs.specs.Logs.{Log, changed, states_of}
 use Rattle.redo_gather.specs.Private.Storing.{HasFault, completed}
@@ -27,8 +27,8 @@ returns-in-Some-clause-fault g c target here =
     of_stream (Unit {0}) c.args.number fault _
     (λ other. (
       refl,
-      subst (λ (of : List ℕ). HasFault of max_bytes told fault) same
-          (is_fault max_bytes (c.in_ok-target.target, told) log.entries log.fault c.read_stream-log.ensures.owed fault c.in-Some.is other),
+      subst (λ (of : List ℕ). HasFault max_bytes (source of told) fault) same
+          (is_fault max_bytes (source c.in_ok-target.target told) log.entries log.fault c.read_stream-log.ensures.owed fault c.in-Some.is other),
     ))
     c.of.result c.of.ensures
 
@@ -49,7 +49,7 @@ returns-clause-completed g c target here =
     let same : c.in_ok-target.target ≡ target = cc (copied, named, here) in record {
       entries = log.entries;
       entries_are =
-          subst (λ (of : List ℕ). SomeStream told (λ stream. log_of of max_bytes stream ≡ Some log.entries)) same
-          (is_log max_bytes (c.in_ok-target.target, told) log.entries log.fault c.read_stream-log.ensures.owed none);
+          subst (λ (of : List ℕ). SomeStream told (λ stream. log_from max_bytes (source of stream) ≡ Some log.entries)) same
+          (is_log max_bytes (source c.in_ok-target.target told) log.entries log.fault c.read_stream-log.ensures.owed none);
       table_is = c.in_ok-store.ensures.stored ∙ ap (λ fault. changed c.args.number (completed log.entries fault) c.args.table.now) none;
     }

@@ -1,5 +1,6 @@
-use Rattle.std.proofs.Common.{◌<◌, zip, sym, subst}
+use Rattle.std.proofs.Common.{◌<◌, sym, subst}
 use Rattle.std.specs.List.{AllByRecursion}
+use Rattle.redo_line.specs.Source.{sources}
 use Rattle.redo_wire.specs.Mailbox.{Mailbox}
 use Rattle.redo_gather.specs.Private.Collecting.{Owes}
 use Rattle.redo_gather.proofs.collecting.Collector.close.Goals as goal
@@ -16,8 +17,8 @@ returns-clause-gathered g c max_bytes names told owed =
         count = owed.count;
         some = subst (λ (m : Mailbox). 0 < m.senders) (sym stays.0) owed.some;
         owed =
-            subst (λ (m : Mailbox). AllByRecursion (Owes max_bytes m.senders (zip names told)) c.drain.new.self.mailbox.met) (sym stays.0)
-            (subst (AllByRecursion (Owes max_bytes c.args.self.now.mailbox.mailbox.senders (zip names told))) (sym stays.1) owed.owed);
+            subst (λ (m : Mailbox). AllByRecursion (Owes max_bytes m.senders (sources names told)) c.drain.new.self.mailbox.met) (sym stays.0)
+            (subst (AllByRecursion (Owes max_bytes c.args.self.now.mailbox.mailbox.senders (sources names told))) (sym stays.1) owed.owed);
         holds = c.drain.ensures.holds names owed.holds;
       };
       met = c.drain.ensures.met;
