@@ -1,16 +1,15 @@
 -- Lines of an index, one after another: those before a place, and what they list.
-use Rattle.std.proofs.Common.{◌≡◌, ℕ, true, ◌==◌, List, [], ◌∷◌, ◌++◌, None, Some, Result, Ok, Err, IfErr, IsErrAnd, length, refl, sym, ◌∙◌, ap, subst, arith, zero-le}
+use Rattle.std.proofs.Common.{◌≡◌, ℕ, true, ◌==◌, List, [], ◌∷◌, ◌++◌, None, Some, Result, Ok, Err, IfErr, IsErrAnd, length, refl, sym, ◌∙◌, ap, subst, arith}
 use Rattle.std.proofs.lemmas.Bool.{eqb-true}
-use Rattle.std.proofs.lemmas.List.{append_assoc, append-nil, length-append, length-map, nil_from_length}
+use Rattle.std.proofs.lemmas.List.{append_assoc, append-nil, length-append, nil_from_length}
 use Rattle.std.proofs.lemmas.List.Elements.{filter_map-append}
-use Rattle.std.specs.List.{cons_option, IsDistinct}
+use Rattle.std.specs.List.{cons_option}
 use Rattle.redo_line.specs.Lines.{all_lines}
 use Rattle.redo_index.specs.declared.index_fault.IndexFault.{IndexFault}
-use Rattle.redo_index.specs.declared.listed.Listed.{Listed}
-use Rattle.redo_index.specs.Index.{listed_by, listed_by_all, numbers_of, fault_after, fault_at, IsFine, IsRefused, IsIndex}
-use Rattle.redo_index.specs.Private.Keys.{Hold, HoldMore, listed_in}
+use Rattle.redo_index.specs.Index.{listed_by, listed_by_all, fault_after, fault_at, IsFine, IsRefused}
+use Rattle.redo_index.specs.Private.Entries.{Hold, HoldMore}
 use Rattle.redo_index.proofs.FirstLine.{no_lines}
-use Rattle.redo_index.proofs.Listing.{listed-parts}
+use Rattle.redo_index.proofs.Listing.{no_index}
 
 -- none of these lines is refused, each behind those before it
 abbrev pub FineFrom : List (List ℕ) → List (List ℕ) → Type 0
@@ -37,25 +36,24 @@ fine_more before [] line fine is = (ap (λ b. fault_at b line) (sym (append-nil 
 fine_more before (next ∷ lines) line fine is =
     (fine.0, fine_more (before ++ next ∷ []) lines line fine.1 (ap (λ b. fault_at b line) (append_assoc before (next ∷ []) lines) ∙ is))
 
--- what was read of an index: the lines before these bytes, and the keys that they gave
-pub record SoFar (bytes left : List ℕ) (numbers : List ℕ) (names : List (List ℕ)) : Type 0 where
+-- what was read of an index: the lines before these bytes, and the numbers and the entries that they gave
+pub record SoFar (bytes left : List ℕ) (numbers : List ℕ) (entries : List (List ℕ × ℕ)) : Type 0 where
   pub before : List (List ℕ)
   pub lines_are : all_lines bytes ≡ before ++ all_lines left
   pub fine : FineFrom [] before
   pub count : length (listed_by_all before) ≡ length before
-  pub holds : Hold numbers names (listed_by_all before)
+  pub holds : Hold numbers entries (listed_by_all before)
 
 pub nothing_yet : (bytes : List ℕ) → SoFar bytes bytes [] []
-unfolding IsDistinct
 nothing_yet bytes = record {
   before = [];
   lines_are = refl;
   fine = tt;
   count = refl;
-  holds = record { numbers_are = refl; names_are = refl; fits = record { size = zero-le; numbers_differ = tt; names_differ = tt } };
+  holds = record { numbers_are = refl; entries_are = refl; fits = no_index };
 }
 
-module _ (bytes left : List ℕ) (numbers : List ℕ) (names : List (List ℕ)) (so_far : SoFar bytes left numbers names) where
+module _ (bytes left : List ℕ) (numbers : List ℕ) (entries : List (List ℕ × ℕ)) (so_far : SoFar bytes left numbers entries) where
   module _ (line behind : List ℕ) (first : all_lines left ≡ line ∷ all_lines behind) where
     pub refused_here : (fault : IndexFault) → fault_after (length (listed_by_all so_far.before)) (listed_by_all so_far.before) (listed_by line) ≡ Some fault → IsRefused (all_lines bytes) fault
     refused_here fault refused = record {
@@ -67,8 +65,8 @@ module _ (bytes left : List ℕ) (numbers : List ℕ) (names : List (List ℕ)) 
       refused = ap (λ n. fault_after n (listed_by_all so_far.before) (listed_by line)) (sym so_far.count) ∙ refused;
     }
 
-    pub one_more : (numbers' : List ℕ) (names' : List (List ℕ)) → HoldMore (listed_by_all so_far.before) line numbers' names' → SoFar bytes behind numbers' names'
-    one_more numbers' names' lists =
+    pub one_more : (numbers' : List ℕ) (entries' : List (List ℕ × ℕ)) → HoldMore (listed_by_all so_far.before) line numbers' entries' → SoFar bytes behind numbers' entries'
+    one_more numbers' entries' lists =
         let own : listed_by_all (line ∷ []) ≡ lists.last ∷ [] = ap (λ e. cons_option e []) lists.form in
         let more : listed_by_all (so_far.before ++ line ∷ []) ≡ listed_by_all so_far.before ++ lists.last ∷ [] =
         filter_map-append listed_by so_far.before (line ∷ []) ∙ ap (λ es. listed_by_all so_far.before ++ es) own in
@@ -79,23 +77,16 @@ module _ (bytes left : List ℕ) (numbers : List ℕ) (names : List (List ℕ)) 
           lines_are = so_far.lines_are ∙ ap (λ ls. so_far.before ++ ls) first ∙ sym (append_assoc so_far.before (line ∷ []) (all_lines behind));
           fine = fine_more [] so_far.before line so_far.fine is_fine;
           count = omega (arith, ap length more, length-append (listed_by_all so_far.before) (lists.last ∷ []), length-append so_far.before (line ∷ []), so_far.count);
-          holds = subst (λ es. Hold numbers' names' es) (sym more) lists.hold;
+          holds = subst (λ es. Hold numbers' entries' es) (sym more) lists.hold;
         }
 
-  pub all_listed : (length left == 0) ≡ true → IsFine (all_lines bytes) × Hold numbers names (listed_by_all (all_lines bytes))
+  pub all_listed : (length left == 0) ≡ true → IsFine (all_lines bytes) × Hold numbers entries (listed_by_all (all_lines bytes))
   all_listed none_left =
       let none : left ≡ [] = nil_from_length left (eqb-true (length left) 0 none_left) in
       let all : all_lines bytes ≡ so_far.before = so_far.lines_are ∙ ap (λ b. so_far.before ++ all_lines b) none ∙ ap (λ ls. so_far.before ++ ls) no_lines ∙ append-nil so_far.before in
-      (subst IsFine (sym all) (fine_lines so_far.before so_far.fine), subst (λ ls. Hold numbers names (listed_by_all ls)) (sym all) so_far.holds)
+      (subst IsFine (sym all) (fine_lines so_far.before so_far.fine), subst (λ ls. Hold numbers entries (listed_by_all ls)) (sym all) so_far.holds)
 
 -- a fault that is handed on
 pub carried : {X : Type 0} (result : Result X IndexFault) (given : IndexFault) (P : IndexFault → Type 0) → IsErrAnd result (λ fault. fault ≡ given) → P given → IfErr result P
 carried (Ok index) given P is p = tt
 carried (Err fault) given P is p = subst P (sym is) p
-
--- what is seen of these keys is what the lines list
-pub seen_in : (numbers : List ℕ) (names : List (List ℕ)) (listed : List Listed) → Hold numbers names listed
-    → (length numbers ≡ length names) × IsIndex (listed_in numbers names) × (listed_in numbers names ≡ listed)
-seen_in numbers names listed holds =
-    let whole : listed_in numbers names ≡ listed = ap (λ ns. listed_in ns names) holds.numbers_are ∙ ap (listed_in (numbers_of listed)) holds.names_are ∙ listed-parts listed in
-    (ap length holds.numbers_are ∙ length-map listed (λ one. one.number) ∙ sym (length-map listed (λ one. one.target)) ∙ ap length (sym holds.names_are), subst IsIndex (sym whole) holds.fits, whole)

@@ -1,2 +1,2 @@
 -- What only clauses of private functions cite: it helps to prove the others, and nobody has to believe it.
-pub mod Keys
+pub mod Entries

@@ -5,11 +5,11 @@ ghost use Rattle.redo_line.specs.Lines.{all_lines};
 ghost use Rattle.redo_index.specs.declared.index_fault.IndexFault.TheVariants.{OutOfMemory};
 ghost use Rattle.redo_index.specs.declared.listed.Listed.{Listed};
 ghost use Rattle.redo_index.specs.Index.{most, numbers_of, names_of, listed_by, number_of, IsIndex, IsIndexOf, IsRefused};
-ghost use Rattle.redo_index.specs.Private.Keys.{Hold, HoldMore, IsFaultBehind};
+ghost use Rattle.redo_index.specs.Private.Entries.{Hold, HoldMore, IsFaultBehind};
 
 use crate::index_fault::IndexFault;
 use crate::listed::Listed;
-use indexmap::IndexSet;
+use indexmap::{IndexMap, IndexSet};
 use memchr::memchr;
 use redo_line::{NameFault, TargetName, read_number};
 use std::alloc::{AllocError, Global};
@@ -22,20 +22,21 @@ const MOST: usize = 1_048_575;
 /// they are listed. No number and no name stands in it twice, and it lists at most 1,048,575.
 #[derive(Drop)]
 pub struct Index {
-    numbers: IndexSet<u32>,
-    names: IndexSet<TargetName>,
+    // What is listed of each target, by its name.
+    targets: IndexMap<TargetName, u32>,
 }
 
 impl Model for Index {
     ghost use Rattle.std.specs.Prelude.{List};
     ghost use Rattle.redo_index.specs.declared.listed.Listed.{Listed};
-    ghost use Rattle.redo_index.specs.Private.Keys.{AreOfIndex, listed_in};
+    ghost use Rattle.redo_index.specs.Index.{IsIndex};
+    ghost use Rattle.redo_index.specs.Private.Entries.{listed_in};
 
     ghost Value = { List Listed };
 
-    ghost view = { λ index. listed_in index.numbers.keys index.names.keys };
+    ghost view = { λ index. listed_in index.targets.entries };
 
-    ghost invariant = { λ index. AreOfIndex index.numbers.keys index.names.keys };
+    ghost invariant = { λ index. IsIndex (listed_in index.targets.entries) };
 }
 
 impl Index {
@@ -44,8 +45,7 @@ impl Index {
         ensures { result ≡ [] }
     {
         Index {
-            numbers: IndexSet::new(alloc),
-            names: IndexSet::new(alloc),
+            targets: IndexMap::new(alloc),
         }
     }
 
@@ -55,7 +55,7 @@ impl Index {
         ensures len { result ≡ length self.now }
         ensures index { IsIndex self.now }
     {
-        self.numbers.len() as u32
+        self.targets.len() as u32
     }
 
     /// The number of the target that is listed at the place `i`. Places are counted from 0, and `i`
@@ -64,7 +64,7 @@ impl Index {
         requires { i < length self.now }
         ensures { slice_get (numbers_of self.now) i ≡ Some result }
     {
-        self.numbers.as_slice()[i as usize]
+        self.targets[i as usize]
     }
 
     /// The name of the target that is listed at the place `i`. Places are counted from 0, and `i`
@@ -73,7 +73,10 @@ impl Index {
         requires { i < length self.now }
         ensures { slice_get (names_of self.now) i ≡ Some result.now }
     {
-        &self.names.as_slice()[i as usize]
+        match self.targets.get_index(i as usize) {
+            Some((name, _)) => name,
+            None => unreachable!(),
+        }
     }
 
     /// The names of all targets, in memory of their own. No name stands twice among them, and there are
@@ -83,10 +86,9 @@ impl Index {
         ensures distinct { IfOk result (λ names. IsDistinct (pointwise nat_eq) names.items) }
         ensures size { IfOk result (λ names. length names.items ≤ most) }
     {
-        let listed = self.names.as_slice();
-        let mut names = Vec::with_capacity(alloc, listed.len())?;
-        for name in listed {
-            names.push(name.copy(alloc)?)?;
+        let mut names = Vec::with_capacity(alloc, self.targets.len())?;
+        for i in 0..self.len() {
+            names.push(self.name(i).copy(alloc)?)?;
         }
         Ok(names)
     }
@@ -95,7 +97,7 @@ impl Index {
     pub fn find(&self, name: &TargetName) -> Option<u32>
         ensures { result ≡ position (pointwise nat_eq name.now) (names_of self.now) }
     {
-        match self.names.get_index_of(name) {
+        match self.targets.get_index_of(name) {
             Some(i) => Some(i as u32),
             None => None,
         }
@@ -109,14 +111,14 @@ pub fn read_index(alloc: Global, bytes: &[u8]) -> Result<Index, IndexFault>
     ensures refused { IfErr result (λ fault. (fault ≡ OutOfMemory) ⊎ IsRefused (all_lines bytes.now) fault) }
 {
     let mut numbers = IndexSet::new(alloc);
-    let mut names = IndexSet::new(alloc);
+    let mut targets = IndexMap::new(alloc);
     let mut left = bytes;
     'lines: while !left.is_empty() {
         let (line, behind) = first_line(left);
-        add(alloc, &mut numbers, &mut names, line)?;
+        add(alloc, &mut numbers, &mut targets, line)?;
         left = behind;
     }
-    Ok(Index { numbers, names })
+    Ok(Index { targets })
 }
 
 // The first line, and the bytes behind it.
@@ -135,12 +137,12 @@ fn first_line(bytes: &[u8]) -> (&[u8], &[u8])
 fn add(
     alloc: Global,
     numbers: &mut IndexSet<u32>,
-    names: &mut IndexSet<TargetName>,
+    targets: &mut IndexMap<TargetName, u32>,
     line: &[u8],
 ) -> Result<(), IndexFault>
-    ensures holds { (listed : List Listed) → Hold numbers.old.keys names.old.keys listed →
-        IfOk result (λ _. HoldMore listed line.now numbers.new.keys names.new.keys) }
-    ensures refuses { (listed : List Listed) → Hold numbers.old.keys names.old.keys listed →
+    ensures holds { (listed : List Listed) → Hold numbers.old.keys targets.old.entries listed →
+        IfOk result (λ _. HoldMore listed line.now numbers.new.keys targets.new.entries) }
+    ensures refuses { (listed : List Listed) → Hold numbers.old.keys targets.old.entries listed →
         IfErr result (λ fault. IsFaultBehind listed line.now fault) }
 {
     let place = numbers.len() as u64 + 1;
@@ -151,11 +153,10 @@ fn add(
     if !differs {
         return Err(IndexFault::FidTwice { line: place });
     }
-    let (_, differs) = names.insert_full(target)?;
-    if !differs {
+    if targets.insert(target, number)?.is_some() {
         return Err(IndexFault::NameTwice { line: place });
     }
-    if names.len() > MOST {
+    if targets.len() > MOST {
         return Err(IndexFault::TooMany);
     }
     Ok(())

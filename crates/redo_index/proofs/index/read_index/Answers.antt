@@ -1,8 +1,8 @@
-use Rattle.std.proofs.Common.{◌≡◌, ◌⊎◌, inl, inr, sym, ◌∙◌}
+use Rattle.std.proofs.Common.{◌≡◌, ◌⊎◌, inl, inr, sym, ◌∙◌, subst}
 use Rattle.redo_line.specs.Lines.{all_lines}
 use Rattle.redo_index.specs.declared.index_fault.IndexFault.TheVariants.{OutOfMemory}
-use Rattle.redo_index.specs.Index.{IsRefused}
-use Rattle.redo_index.proofs.IndexLines.{carried, refused_here, one_more, all_listed, seen_in}
+use Rattle.redo_index.specs.Index.{IsIndex, IsRefused}
+use Rattle.redo_index.proofs.IndexLines.{carried, refused_here, one_more, all_listed}
 use Rattle.redo_index.proofs.index.read_index.Goals as goal
 
 pub returns-in_err-add-clause-refused : goal.returns-in_err-add-clause-refused
@@ -17,14 +17,14 @@ returns-in_err-add-clause-refused c =
 pub lines-preserved : goal.lines-preserved
 lines-preserved c =
     let so_far = c.lines.invariant in
-    one_more _ _ _ _ so_far c.first_line.result.0.now c.first_line.result.1.now c.first_line.ensures.line c.add.new.numbers.keys c.add.new.names.keys (c.in_ok-add.ensures.holds _ so_far.holds)
+    one_more _ _ _ _ so_far c.first_line.result.0.now c.first_line.result.1.now c.first_line.ensures.line c.add.new.numbers.keys c.add.new.targets.entries (c.in_ok-add.ensures.holds _ so_far.holds)
 
 pub invariant_of-result : goal.invariant_of-result
 invariant_of-result c =
     let all = all_listed _ _ _ _ c.lines.invariant (sym c.is_empty.ensures ∙ c.lines-test.false) in
-    let seen = seen_in _ _ _ all.1 in (seen.0, seen.1)
+    subst IsIndex (sym all.1.entries_are) all.1.fits
 
 pub returns-clause-listed : goal.returns-clause-listed
 returns-clause-listed c =
     let all = all_listed _ _ _ _ c.lines.invariant (sym c.is_empty.ensures ∙ c.lines-test.false) in
-    record { fine = all.0; lists = (seen_in _ _ _ all.1).2 }
+    record { fine = all.0; lists = all.1.entries_are }

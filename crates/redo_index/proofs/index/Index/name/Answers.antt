@@ -1,15 +1,18 @@
-use Rattle.std.proofs.Common.{length, slice_get, ap, sym, ◌∙◌, refl, arith}
-use Rattle.std.proofs.lemmas.Option.{slice_get_read}
+use Rattle.std.proofs.Common.{◌≡◌, ◌<◌, ℕ, List, is_some, true, false, length, slice_get, ap, sym, ◌∙◌, arith}
+use Rattle.std.specs.Option.{option_map}
+use Rattle.std.proofs.lemmas.Option.{slice_get-map}
 use Rattle.redo_index.proofs.Listing.{seen}
 use Rattle.redo_index.proofs.index.Index.name.Goals as goal
 
-pub bounds-as_slice-i : goal.bounds-as_slice-i
-bounds-as_slice-i c =
-    let s = seen _ _ _ c.self.view_is c.self.invariant in
-    let count = s.names_count in omega (arith, c.requires, ap length c.as_slice.ensures.keys)
+pub unreachable-requires : goal.unreachable-requires
+unreachable-requires c =
+    let count = (seen _ _ c.self.view_is c.self.invariant).count in
+    let within : c.args.i < length c.self.inside.targets.entries = omega (arith, c.requires, count) in
+    let no : true ≡ false = sym (c.get_index.ensures.found.1 within) ∙ ap is_some c.in-None.is in
+    absurd (cc)
 
 pub returns : goal.returns
 returns c =
-    let s = seen _ _ _ c.self.view_is c.self.invariant in
-    let count = s.names_count in
-    ap (λ ks. slice_get ks c.args.i) (s.names_are ∙ sym c.as_slice.ensures.keys) ∙ slice_get_read _ _ c.args.i _ refl (omega (arith, c.requires, ap length c.as_slice.ensures.keys)) c.index-as_slice-i.is
+    let entries = c.self.inside.targets.entries in
+    ap (λ names. slice_get names c.args.i) (seen _ _ c.self.view_is c.self.invariant).names_are ∙ slice_get-map (λ entry. entry.0) entries c.args.i
+    ∙ ap (option_map (λ (entry : List ℕ × ℕ). entry.0)) (sym (rw c.in-Some.is at c.get_index.ensures.entry))
