@@ -324,6 +324,8 @@ FIDS = [b"1", b"2", b"3", b"7", b"10", b"11", b"100", b"42", b"99999999", b"1000
 
 def good_index(rng, targets, fids):
     lines = [fid + b" " + spelled(rng, target, 0.7) for fid, target in zip(fids, targets)]
+    if rng.random() < 0.2:
+        lines = [rng.choice([b"", b"", b"!"]) + line for line in lines]
     return lines
 
 
@@ -337,7 +339,8 @@ def break_index(rng, lines, targets, fids):
                 lambda: rng.choice([b"", b" ", b"x", b"1", b"1 ", b"12", b"0", b"\r", b"\xff", fid, fid + b" ", fid + b"\t"]),
                 lambda: rng.choice([b"0", b"01", b"007", b"1234567890", b"0123456789", b"-1", b"+1", b" 1", b"1.0", b"0x1", b"1a", b"", b"\xb9", b"1\x00"]) + b" " + name,
                 lambda: fid + rng.choice([b"\t", b"", b":", b"\x00", b"\xa0"]) + name.replace(b" ", b""),
-                lambda: rng.choice(fids) + b" " + name,
+                lambda: rng.choice([b"!", b"! " + fid + b" " + name, b"!!" + fid + b" " + name, fid + b"! " + name]),
+                lambda: rng.choice([b"", b"!"]) + rng.choice(fids) + b" " + name,
                 lambda: rng.choice(fids) + b" " + spelled(rng, rng.choice(UNLISTED)),
                 lambda: rng.choice(fids) + b" " + spelled(rng, rng.choice(UNLISTED)),
                 lambda: fid + b" " + spelled(rng, rng.choice(targets), 0.3),

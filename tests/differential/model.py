@@ -116,7 +116,7 @@ def done_entry_of(pid: int, text: bytes, target: bytes) -> Optional[Entry]:
 
 
 class LogFault(NamedTuple):
-    cause: str  # BadRecord, AfterClose, TooLong, Read
+    cause: str  # BadRecord, AfterClose, TooLong, Read, NotClosed
     line: Optional[int]
 
 
@@ -126,7 +126,7 @@ class Log(NamedTuple):
     fault: Optional[LogFault]
 
 
-def log_of(target: bytes, data: bytes, read_failed: bool = False, most_bytes: int = MOST_BYTES) -> Log:
+def log_of(target: bytes, data: bytes, read_failed: bool = False, most_bytes: int = MOST_BYTES, must_close: bool = False) -> Log:
     """The log of the target, of which these bytes could be read; behind them the log ended, or a read failed."""
     within = data[:most_bytes]
     entries: list[Entry] = []
@@ -143,6 +143,8 @@ def log_of(target: bytes, data: bytes, read_failed: bool = False, most_bytes: in
         return Log(target, entries, LogFault("TooLong", None))
     if read_failed:
         return Log(target, entries, LogFault("Read", None))
+    if must_close and not closed:
+        return Log(target, entries, LogFault("NotClosed", None))
     return Log(target, entries, None)
 
 
@@ -182,12 +184,13 @@ def name_in_log(name: bytes, target: bytes) -> bytes:
 
 # ---- format.md, "The index" ------------------------------------------------------------------------------------------
 
-INDEX_LINE = re.compile(rb"(?P<number>[1-9][0-9]{0,8}) (?P<name>.+)", re.DOTALL)
+INDEX_LINE = re.compile(rb"(?P<mark>!?)(?P<number>[1-9][0-9]{0,8}) (?P<name>.+)", re.DOTALL)
 
 
 class Listed(NamedTuple):
     number: bytes
     target: bytes
+    must_close: bool = False
 
 
 def index_of(data: bytes) -> list[Listed]:
@@ -198,7 +201,7 @@ def index_of(data: bytes) -> list[Listed]:
         parts = INDEX_LINE.fullmatch(line.content)
         if parts is None:
             raise Refused(3, b"names: line %d: bad line" % line_number)
-        listed = Listed(parts["number"], normal_form(parts["name"]))
+        listed = Listed(parts["number"], normal_form(parts["name"]), parts["mark"] == b"!")
         if listed.number in numbers:
             raise Refused(3, b"names: line %d: number listed twice" % line_number)
         if listed.target in targets:
@@ -235,10 +238,10 @@ def read_log(current: bytes, directory: bytes, listed: Listed) -> Log:
         with open(path_of(current, directory, b"log." + listed.number), "rb") as file:
             data = file.read()
     except FileNotFoundError:
-        return log_of(listed.target, b"")  # a link that leads nowhere too
+        return log_of(listed.target, b"", must_close=listed.must_close)  # a link that leads nowhere too
     except OSError:
         return log_of(listed.target, b"", read_failed=True)
-    return log_of(listed.target, data)
+    return log_of(listed.target, data, must_close=listed.must_close)
 
 
 # ---- format.md, "The command line" -----------------------------------------------------------------------------------
@@ -458,6 +461,8 @@ def refuse_faults(logs: list[Log]):
             raise Refused(4, log.target + b": too long")
         if cause == "Read":
             raise Refused(5, log.target + b": cannot be read")
+        if cause == "NotClosed":
+            raise Refused(4, log.target + b": not closed")
         raise AssertionError(cause)
 
 

@@ -83,6 +83,16 @@ for data, most_bytes, expected in [
     (b"@@REDO:\nmore", 7, LogFault("TooLong", None)),
 ]:
     check((data, most_bytes), model.log_of(b"a", data, False, most_bytes).fault, expected)
+for data, read_failed, expected in [
+    (b"@@REDO:done:7:1.0000@@ 0 a\n", False, None),
+    (b"x\n", False, LogFault("NotClosed", None)),
+    (b"", False, LogFault("NotClosed", None)),
+    (b"@@REDO:done:7:1.0000@@ 0 a", False, LogFault("NotClosed", None)),
+    (b"@@REDO:done:7:1.0000@@ 0 b\n", False, LogFault("NotClosed", None)),
+    (b"@@REDO:done:7:1.0000@@ 0 a\nz", False, LogFault("AfterClose", 2)),
+    (b"@@REDO:done:7:1.0000@@ 0 a\n", True, LogFault("Read", None)),
+]:
+    check((data, read_failed), model.log_of(b"a", data, read_failed, must_close=True).fault, expected)
 # What the text beside the table says.
 check("too long, then a failed read", model.log_of(b"a", b"abc\nd", True, 4).fault, LogFault("TooLong", None))
 check("a bad line, then a failed read", model.log_of(b"a", b"@@REDO:\n", True).fault, LogFault("BadRecord", 1))
@@ -128,9 +138,15 @@ def index_or_line(data):
 
 for data, expected in [
     (b"", []),
-    (b"1 all\n", [(b"1", b"all")]),
-    (b"7 d/./a\n999999999 b", [(b"7", b"d/a"), (b"999999999", b"b")]),
-    (b"1  a\n", [(b"1", b" a")]),
+    (b"1 all\n", [(b"1", b"all", False)]),
+    (b"7 d/./a\n999999999 b", [(b"7", b"d/a", False), (b"999999999", b"b", False)]),
+    (b"1  a\n", [(b"1", b" a", False)]),
+    (b"!1 a\n2 b\n", [(b"1", b"a", True), (b"2", b"b", False)]),
+    (b"1 !a\n", [(b"1", b"!a", False)]),
+    (b"!\n", b"names: line 1: bad line"),
+    (b"! 1 a\n", b"names: line 1: bad line"),
+    (b"!!1 a\n", b"names: line 1: bad line"),
+    (b"!1 a\n1 b\n", b"names: line 2: number listed twice"),
     (b"1 a\n2 ./a\n", b"names: line 2: name listed twice"),
     (b"1 a\n1 b\n", b"names: line 2: number listed twice"),
     (b"1 a\n1 a\n", b"names: line 2: number listed twice"),

@@ -30,6 +30,12 @@ def cut(rng, data):
     return data[: place_in(rng, data)]
 
 
+def cut_at_end(rng, data):
+    """As a copy leaves it that lost some bytes of the last two lines, or all of them, or everything."""
+    last = len(b"\n".join(data.split(b"\n")[-3:]))
+    return rng.choice([data[: len(data) - rng.randrange(last + 1)]] * 9 + [b""])
+
+
 def cut_in_record(rng, data):
     starts = [at for at in range(len(data)) if data.startswith(b"@@REDO:", at)]
     return data[: rng.choice(starts) + rng.randrange(1, 45)] if starts else cut(rng, data)
@@ -126,19 +132,26 @@ def many_logs(rng, directory):
     count = rng.choice([2, 40, 100, 200])
     shape = rng.choice(["chain", "ring", "two rings", "web"])
     name = rng.choice([lambda number: b"t%d" % number, lambda number: b"../t%d" % number, lambda number: b"/d/t%d" % number])
+    # Of marked logs, which are all closed, one is damaged at its end, or none.
+    mark = rng.choice([lambda: b""] * 3 + [lambda: b"!", lambda: rng.choice([b"", b"!"])])
+    marks = [mark() for _ in range(count)]
+    damaged = rng.choice([None, rng.randrange(count)])
     with open(os.path.join(directory, "names"), "wb") as index:
-        index.write(b"".join(b"%d %s\n" % (number + 1, name(number)) for number in range(count)))
+        index.write(b"".join(b"%s%d %s\n" % (marks[number], number + 1, name(number)) for number in range(count)))
     for number in range(count):
         lines = [rng.choice(generate.TEXTS)] * rng.choice([0, 1, 3])
         for other in mentioned(rng, shape, number, count):
             # In a log of a target with a directory a name without one is looked for there.
             text = name(other).split(b"/")[-1]
             lines.insert(place_in(rng, lines), b"@@REDO:%s:%s:1@@ %s" % (rng.choice(KINDS[:1] * 9 + KINDS), rng.choice(generate.GOOD_PIDS), text))
-        if rng.random() < 0.2:
+        if marks[number] or rng.random() < 0.2:
             lines.append(b"@@REDO:done:%s:1@@ %d t%d" % (rng.choice(generate.GOOD_PIDS), rng.choice([0, 1]), number))
-        if rng.random() < 0.95:
+        data = b"".join(line + b"\n" for line in lines)
+        if number == damaged:
+            data = cut_at_end(rng, data)
+        if rng.random() < 0.95 or (marks[number] and number != damaged):
             with open(os.path.join(directory, f"log.{number + 1}"), "wb") as log:
-                log.write(b"".join(line + b"\n" for line in lines))
+                log.write(data)
     options = [word for option in generate.some_options(rng, SENDERS, CAPACITIES) for word in option]
     return options + [name(rng.randrange(count)) for _ in range(rng.choice([1, 1, 3]))]
 

@@ -23,6 +23,7 @@ use Rattle.redo_gather.specs.Private.Collecting.{AllTaken, Holds, IsNoWant, None
 use Rattle.redo_gather.specs.Private.Dealing.{share_from}
 use Rattle.redo_gather.specs.Private.Storing.{state_after}
 use Rattle.redo_gather.specs.Sending.{AreOwed, item_of, line_of, singles, singles_in}
+use Rattle.redo_gather.specs.Streams.{Told}
 use Rattle.redo_gather.proofs.InterleavingLemmas.{interleaved, length-stored, none-on, none_in_told, on, ran_told, run, stored-append}
 use Rattle.redo_gather.proofs.OwedLemmas.{is_whole}
 use Rattle.redo_gather.proofs.PostedLemmas.{singles-append}
@@ -186,12 +187,12 @@ by_place max_bytes (one ∷ given) (log ∷ table) count each =
     same : (other : Log) → Some log ≡ Some other → other ≡ log
     same other is = cc
 
-name_there : (names : List (List ℕ)) (told : List (Option Stream)) (place : ℕ) (one : Given) → slice_get (sources names told) place ≡ Some one → slice_get names place ≡ Some one.target
+name_there : (names : List (List ℕ)) (told : List Told) (place : ℕ) (one : Given) → slice_get (sources names told) place ≡ Some one → slice_get names place ≡ Some one.target
 name_there [] told place one there = absurd (none-some one there)
 name_there (name ∷ names) [] place one there = absurd (none-some one there)
 name_there (name ∷ names) (stream ∷ told) zero one there = same there
   where
-    same : Some (source name stream) ≡ Some one → Some name ≡ Some one.target
+    same : Some (source name stream.must_close stream.stream) ≡ Some one → Some name ≡ Some one.target
     same is = ap (option_map (λ (given : Given). given.target)) is
 name_there (name ∷ names) (stream ∷ told) (suc place) one there = name_there names told place one there
 
@@ -203,7 +204,7 @@ posted_by_number max_bytes senders number given taken (met ∷ others) (inl same
     (subst (λ items. AreOwed max_bytes met.0 (share_from senders met.0 0 given) (singles items)) whole.0 owes.0)
 posted_by_number max_bytes senders number given taken (met ∷ others) (inr among) whole owes = posted_by_number max_bytes senders number given taken others among whole.1 owes.1
 
-module _ (max_bytes senders : ℕ) (names : List (List ℕ)) (told : List (Option Stream)) (taken : List Item) (met : List Met) (table : List Log)
+module _ (max_bytes senders : ℕ) (names : List (List ℕ)) (told : List Told) (taken : List Item) (met : List Met) (table : List Log)
     (count : length names ≡ length told) (some : 0 < senders) (all_met : (number : ℕ) → number < senders → IsAmong number met)
     (whole : AllByRecursion (λ (m : Met). m.1 ≡ of m.0 taken) met) (own : AllByRecursion (λ (item : Item). item.sender < senders) taken)
     (owes : AllByRecursion (Owes max_bytes senders (sources names told)) met)
@@ -225,7 +226,7 @@ module _ (max_bytes senders : ℕ) (names : List (List ℕ)) (told : List (Optio
             (λ stream is. λ i. record { target = one.target; entries = is.0 i; state = state_after (is.1 i) }) (is_whole max_bytes one entries fault told_there.3 had),
       )
 
-  count_sources : (names : List (List ℕ)) (told : List (Option Stream)) → length names ≡ length told → length names ≡ length (sources names told)
+  count_sources : (names : List (List ℕ)) (told : List Told) → length names ≡ length told → length names ≡ length (sources names told)
   count_sources [] told same = refl
   count_sources (name ∷ names) [] same = absurd (omega (arith, same))
   count_sources (name ∷ names) (one ∷ told) same = ap suc (count_sources names told (omega (arith, same)))
@@ -236,7 +237,7 @@ module _ (max_bytes senders : ℕ) (names : List (List ℕ)) (told : List (Optio
       (ap length holds.0 ∙ length-stored (singles taken) (map new_log names) ∙ length-map names new_log ∙ count_sources names told count) each
 
 -- the table of a collector that took all
-pub settled_table : (max_bytes : ℕ) (names : List (List ℕ)) (told : List (Option Stream)) (collector : Collector) → AllTaken max_bytes names told collector → collector.refused ≡ false
+pub settled_table : (max_bytes : ℕ) (names : List (List ℕ)) (told : List Told) (collector : Collector) → AllTaken max_bytes names told collector → collector.refused ≡ false
     → AreSettled max_bytes (sources names told) collector.table
 settled_table max_bytes names told collector taken fine =
     all_settled max_bytes collector.mailbox.mailbox.senders names told collector.mailbox.taken collector.mailbox.met collector.table taken.owed.count taken.owed.some taken.met taken.whole taken.own

@@ -8,6 +8,7 @@ use Rattle.redo_device.specs.Feed.{Stream}
 use Rattle.redo_gather.specs.Owed.{Given}
 use Rattle.redo_gather.specs.Private.Dealing.{AreDealt, AreEmpty, share_from}
 use Rattle.redo_gather.specs.Sending.{Numbered, numbered}
+use Rattle.redo_gather.specs.Streams.{Told}
 
 -- a stream more, which goes to one of the senders
 pub one_more : (senders sender number : ℕ) (given : List Given) (one : Given)
@@ -37,19 +38,19 @@ pub all_dealt : {A : Type 0} (all dealt left : List A) → all ≡ dealt ++ left
 all_dealt all dealt [] is none = sym (is ∙ append-nil dealt)
 all_dealt all dealt (x ∷ left) is none = absurd (omega (arith, none))
 
-pub sources-none : (targets : List (List ℕ)) (none : List (Option Stream)) → none ≡ [] → sources targets none ≡ []
+pub sources-none : (targets : List (List ℕ)) (none : List Told) → none ≡ [] → sources targets none ≡ []
 sources-none [] none is = refl
 sources-none (target ∷ targets) [] is = refl
 sources-none (target ∷ targets) (stream ∷ none) is = absurd (cc)
 
 -- a stream for the next target
-pub sources-push : (targets : List (List ℕ)) (streams : List (Option Stream)) (target : List ℕ) (stream : Option Stream) → slice_get targets (length streams) ≡ Some target
-    → (sources targets (streams ++ stream ∷ []) ≡ sources targets streams ++ source target stream ∷ []) × (length (sources targets streams) ≡ length streams)
+pub sources-push : (targets : List (List ℕ)) (streams : List Told) (target : List ℕ) (stream : Told) → slice_get targets (length streams) ≡ Some target
+    → (sources targets (streams ++ stream ∷ []) ≡ sources targets streams ++ source target stream.must_close stream.stream ∷ []) × (length (sources targets streams) ≡ length streams)
 sources-push [] streams target stream here = absurd (cc)
-sources-push (first ∷ targets) [] target stream here = (let same : first ≡ target = cc in λ i. source (same i) stream ∷ sources-none targets [] refl i, refl)
+sources-push (first ∷ targets) [] target stream here = (let same : first ≡ target = cc in λ i. source (same i) stream.must_close stream.stream ∷ sources-none targets [] refl i, refl)
 sources-push (first ∷ targets) (other ∷ streams) target stream here =
     let behind = sources-push targets streams target stream here in
-    (ap (λ others. source first other ∷ others) behind.0, ap suc behind.1)
+    (ap (λ others. source first other.must_close other.stream ∷ others) behind.0, ap suc behind.1)
 
 -- what stands at a place of a list in which one was replaced
 pub replaced : {X : Type 0} (xs : List X) (at k : ℕ) (new there : X) → slice_get (slice_set xs at new) k ≡ Some there → ((k ≢ at) × (slice_get xs k ≡ Some there)) ⊎ ((k ≡ at) × (there ≡ new))
@@ -74,13 +75,13 @@ at_place (x ∷ xs) zero there within is = ap Some (sym is)
 at_place (x ∷ xs) (suc k) there within is = at_place xs k there (omega (arith, within)) is
 
 module _ {A : Type 0} (tells : A → Option Stream) (senders : ℕ) where
-  pub none_dealt : (shares : List (List (ℕ × List ℕ × A))) → AreEmpty senders shares → AreDealt tells senders [] shares
+  pub none_dealt : (shares : List (List (ℕ × List ℕ × Bool × A))) → AreEmpty senders shares → AreDealt tells senders [] shares
   none_dealt shares empty = (
     ap length empty ∙ length-replicate senders [],
     λ sender share here. ap (map (numbered tells)) (one_of_none senders sender [] share (ap (λ s. slice_get s sender) (sym empty) ∙ here)),
   )
 
-  pub one_dealt : (given : List Given) (shares : List (List (ℕ × List ℕ × A))) (one : Given) (item : ℕ × List ℕ × A) (old new : List (ℕ × List ℕ × A))
+  pub one_dealt : (given : List Given) (shares : List (List (ℕ × List ℕ × Bool × A))) (one : Given) (item : ℕ × List ℕ × Bool × A) (old new : List (ℕ × List ℕ × Bool × A))
       → numbered tells item ≡ (length given, one) → slice_get shares (length given % senders) ≡ Some old → new ≡ old ++ item ∷ [] → AreDealt tells senders given shares
       → AreDealt tells senders (given ++ one ∷ []) (slice_set shares (length given % senders) new)
   one_dealt given shares one item old new is there new_is dealt = (

@@ -4,9 +4,9 @@ use Rattle.std.specs.List.{list_all}
 use Rattle.std.specs.Result.{result_and}
 use Rattle.std.proofs.lemmas.List.{append_assoc, append-nil, length-append, length-map}
 use Rattle.redo_line.specs.declared.stream_fault.StreamFault.{StreamFault}
-use Rattle.redo_line.specs.declared.stream_fault.StreamFault.TheVariants.{BadRecord, AfterClose, TooLong, Read, OutOfMemory}
+use Rattle.redo_line.specs.declared.stream_fault.StreamFault.TheVariants.{BadRecord, AfterClose, TooLong, Read, OutOfMemory, NotClosed}
 use Rattle.redo_device.specs.Feed.{Stream}
-use Rattle.redo_line.specs.Source.{fault_from, log_from, source}
+use Rattle.redo_line.specs.Source.{Marked, fault_from, log_from, source}
 use Rattle.redo_logs.specs.declared.log_state.LogState.TheVariants.{Running}
 use Rattle.redo_logs.specs.Logs.{Log, new_log, targets_of, states_of, changed, has_ended}
 use Rattle.redo_logs.proofs.ChangedLemmas.{changed-here}
@@ -16,14 +16,14 @@ use Rattle.redo_gather.specs.Private.Collecting.{IsGathered}
 use Rattle.redo_gather.specs.GatherFault.{IfStreamFault}
 use Rattle.redo_gather.specs.Private.GatherFault.{fault_of_stream}
 use Rattle.redo_gather.specs.Private.Storing.{HasFault, IsCompleted, completed}
-use Rattle.redo_gather.specs.Streams.{AreTold, SomeStreams, whole_log, logs_of, fault_among}
+use Rattle.redo_gather.specs.Streams.{AreTold, SomeStreams, Told, whole_log, logs_of, fault_among}
 use Rattle.redo_gather.proofs.StreamLemmas.{whole_logs, one_more, fault_behind, count_told, told-append, any_streams, given_stream}
 
 -- the first logs of a table are whole, one for each reader that was read to its end, and the others are empty
-pub record Gathered (max_bytes : ℕ) (names : List (List ℕ)) (told : List (Option Stream)) (table : List Log) : Type 0 where
+pub record Gathered (max_bytes : ℕ) (names : List (List ℕ)) (told : List Told) (table : List Log) : Type 0 where
   pub first : List (List ℕ)
   pub left : List (List ℕ)
-  pub streams : List Stream
+  pub streams : List (Marked Stream)
   pub logs : List Log
   pub names_are : names ≡ first ++ left
   pub told_are : AreTold told streams
@@ -49,7 +49,7 @@ at_seam [] [] x is = absurd (cc)
 at_seam [] (y ∷ left) x is = (left, (cc))
 at_seam (y ∷ first) left x is = at_seam first left x is
 
-module _ (max_bytes : ℕ) (names : List (List ℕ)) (told : List (Option Stream)) (table : List Log) (so_far : Gathered max_bytes names told table) where
+module _ (max_bytes : ℕ) (names : List (List ℕ)) (told : List Told) (table : List Log) (so_far : Gathered max_bytes names told table) where
   targets_are : targets_of table ≡ names
   targets_are =
       ap targets_of so_far.table_is ∙ targets-append so_far.logs (map new_log so_far.left)
@@ -88,35 +88,37 @@ module _ (max_bytes : ℕ) (names : List (List ℕ)) (told : List (Option Stream
         runs [] others = refl
         runs (log ∷ logs) others = runs logs others
 
-    pub one_gathered : (reader : Option Stream) (after : List Log) → IsCompleted max_bytes (length told) (source target reader) table after → Gathered max_bytes names (told ++ reader ∷ []) after
+    pub one_gathered : (reader : Told) (after : List Log) → IsCompleted max_bytes (length told) (source target reader.must_close reader.stream) table after → Gathered max_bytes names (told ++ reader ∷ []) after
     one_gathered reader after completes =
         let entries = completes.entries in
-        let given = given_stream reader (λ stream. log_from max_bytes (source target stream) ≡ Some entries) completes.entries_are in
-        let log = whole_log target entries in record {
+        let given = given_stream reader.stream (λ stream. log_from max_bytes (source target reader.must_close stream) ≡ Some entries) completes.entries_are in
+        let log = whole_log target entries in
+        let one : Marked Stream = record { must_close = reader.must_close; stream = given.0 } in record {
           first = so_far.first ++ target ∷ [];
           left = next.0;
-          streams = so_far.streams ++ given.0 ∷ [];
+          streams = so_far.streams ++ one ∷ [];
           logs = so_far.logs ++ log ∷ [];
           names_are = names_here ∙ sym (append_assoc so_far.first (target ∷ []) next.0);
-          told_are = told-append told (reader ∷ []) so_far.streams (given.0 ∷ []) so_far.told_are (given.1, tt);
-          count = let same = so_far.count in omega (arith, length-append so_far.first (target ∷ []), length-append so_far.streams (given.0 ∷ []));
+          told_are = told-append told (reader ∷ []) so_far.streams (one ∷ []) so_far.told_are ((refl, given.1), tt);
+          count = let same = so_far.count in omega (arith, length-append so_far.first (target ∷ []), length-append so_far.streams (one ∷ []));
           logs_are =
-              one_more max_bytes target given.0 so_far.first so_far.streams so_far.logs log so_far.count so_far.logs_are (ap (λ es. Rattle.std.specs.Option.option_map (whole_log target) es) given.2);
+              one_more max_bytes target one so_far.first so_far.streams so_far.logs log so_far.count so_far.logs_are (ap (λ es. Rattle.std.specs.Option.option_map (whole_log target) es) given.2);
           table_is =
               completes.table_is ∙ ap (changed (length told) (completed entries None)) table_here
               ∙ ap (λ n. changed n (completed entries None) (so_far.logs ++ new_log target ∷ map new_log next.0)) (sym (logs_count ∙ number_is))
               ∙ changed-here so_far.logs (new_log target) (map new_log next.0) (completed entries None) ∙ sym (append_assoc so_far.logs (log ∷ []) (map new_log next.0));
         }
 
-    pub fault_gathered : (reader : Option Stream) (unread : List (Option Stream)) (fault : StreamFault) → HasFault max_bytes (source target reader) fault
+    pub fault_gathered : (reader : Told) (unread : List Told) (fault : StreamFault) → HasFault max_bytes (source target reader.must_close reader.stream) fault
         → SomeStreams (told ++ reader ∷ unread) (λ streams. fault_among max_bytes names streams ≡ Some (length told, fault))
     fault_gathered reader unread fault read =
-        let given = given_stream reader (λ stream. fault_from max_bytes (source target stream) ≡ Some fault) read in
+        let given = given_stream reader.stream (λ stream. fault_from max_bytes (source target reader.must_close stream) ≡ Some fault) read in
+        let one : Marked Stream = record { must_close = reader.must_close; stream = given.0 } in
         let others = any_streams unread in (
-          so_far.streams ++ given.0 ∷ others.0,
-          told-append told (reader ∷ unread) so_far.streams (given.0 ∷ others.0) so_far.told_are (given.1, others.1),
-          ap (λ ts. fault_among max_bytes ts (so_far.streams ++ given.0 ∷ others.0)) names_here
-              ∙ fault_behind max_bytes target given.0 so_far.first so_far.streams so_far.logs next.0 others.0 fault so_far.count so_far.logs_are given.2
+          so_far.streams ++ one ∷ others.0,
+          told-append told (reader ∷ unread) so_far.streams (one ∷ others.0) so_far.told_are ((refl, given.1), others.1),
+          ap (λ ts. fault_among max_bytes ts (so_far.streams ++ one ∷ others.0)) names_here
+              ∙ fault_behind max_bytes target one so_far.first so_far.streams so_far.logs next.0 others.0 fault so_far.count so_far.logs_are given.2
               ∙ ap (λ (n : ℕ). Some (n, fault)) number_is,
         )
 
@@ -154,6 +156,7 @@ of_stream A number fault P p given is = subst (λ (f : GatherFault). IfStreamFau
     by TooLong p = p (λ e. absurd (cc))
     by Read p = p (λ e. absurd (cc))
     by OutOfMemory p = tt
+    by NotClosed p = p (λ e. absurd (cc))
 
 -- what follows of each fault follows of that of a stream
 pub weaker_fault : (A B : Type 0) (P Q : ℕ → StreamFault → Type 0) → ((number : ℕ) (fault : StreamFault) → P number fault → Q number fault)
@@ -162,7 +165,7 @@ weaker_fault A B P Q follows (fault_of_all.Stream number fault) is = follows num
 weaker_fault A B P Q follows fault_of_all.OutOfMemory is = tt
 
 -- of no streams the logs are none
-pub none_asked : {A : Type 0} (tells : A → Option Stream) (max_bytes : ℕ) (names : List (List ℕ)) (readers : List A) (table : List Log)
+pub none_asked : {A : Type 0} (tells : A → Told) (max_bytes : ℕ) (names : List (List ℕ)) (readers : List A) (table : List Log)
     → table ≡ map new_log names → length readers ≡ length names → length table ≡ 0 → IsGathered max_bytes names (map tells readers) (Ok table)
 none_asked tells max_bytes [] [] table is same none =
     subst (λ (t : List Log). IsGathered max_bytes [] [] (Ok t)) (sym is) (record { logs = ([], tt, refl); targets = refl; ended = refl; fault = tt; number = tt })

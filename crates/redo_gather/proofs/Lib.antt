@@ -4,6 +4,7 @@ mod EnteringLemmas
 mod GatheredLemmas
 mod GrowthLemmas
 mod InterleavingLemmas
+mod MarkLemmas
 mod OwedLemmas
 mod PostedLemmas
 mod ReadingLemmas

@@ -10,18 +10,20 @@ use Rattle.redo_line.specs.declared.stream_fault.StreamFault.TheVariants.{Read, 
 use Rattle.redo_device.specs.Feed.{Stream, Pulls, SomeStream}
 use Rattle.redo_line.specs.Laws.{IsFront}
 use Rattle.redo_line.specs.Log.{stream_of, entries_of, fault_of, log_of, part_of, unless_fault}
-use Rattle.redo_line.specs.Source.{source}
-use Rattle.redo_line.specs.Scan.{Scanned, Finds, IsFine, MayRefuse, TakesAll, entries_in, entries_so_far, fault_so_far, so_far, took}
+use Rattle.redo_line.specs.Source.{Source, fault_from, log_from, source}
+use Rattle.redo_line.specs.Scan.{Scanned, Finds, IsFine, MayRefuse, TakesAll, entries_in, entries_so_far, fault_so_far, so_far, source_in, took}
 use Rattle.redo_line.proofs.FaultLemmas.{early_fault, early_part, failed_read, failed_part, no_fault}
 use Rattle.redo_device.proofs.GaveLemmas.{Gave, Gave-none, Gave-more, Gave-end, Gave-failed, weaker}
 use Rattle.redo_line.proofs.LogLemmas.{entries_lead_part, entries_lead_log}
+use Rattle.redo_line.proofs.SourceLemmas.{fault_met, of_log}
 use Rattle.redo_gather.specs.Owed.{IsOwed, IsOwedFor, log_or_part, told_entries}
 use Rattle.redo_gather.specs.Private.Reading.{IsRead, IsReadToEnd, IsCutIn, IsRefused}
 
--- a scan for the log of a target, within this limit
-pub record IsFor (target : List ℕ) (max_bytes : ℕ) (scan : Scanned) : Type 0 where
+-- a scan for the log of a target, within this limit, which has to be closed or not
+pub record IsFor (target : List ℕ) (max_bytes : ℕ) (must_close : Bool) (scan : Scanned) : Type 0 where
   pub target_is : scan.target ≡ target
   pub limit_is : scan.max_bytes ≡ max_bytes
+  pub mark_is : scan.must_close ≡ must_close
 
 -- the bytes that came from a reader were taken, and these are their entries
 pub record Reading (told now : Option Stream) (scan : Scanned) (entries : List Entry) : Type 0 where
@@ -57,11 +59,11 @@ no_line old new bytes entries takes read = record {
 -- what was taken of a piece
 module _ (scan : Scanned) (piece : List ℕ) where
   pub took_nothing : scan.refused ≡ None → scan ≡ took [] scan
-  took_nothing none = λ i. record { target = scan.target; max_bytes = scan.max_bytes; bytes = sym (append-nil scan.bytes) i; refused = none i }
+  took_nothing none = λ i. record { target = scan.target; max_bytes = scan.max_bytes; must_close = scan.must_close; bytes = sym (append-nil scan.bytes) i; refused = none i }
 
   took_both : (front behind whole : List ℕ) → front ++ behind ≡ whole → took behind (took front scan) ≡ took whole scan
   took_both front behind whole is =
-      ap (λ (b : List ℕ). record { target = scan.target; max_bytes = scan.max_bytes; bytes = b; refused = None })
+      ap (λ (b : List ℕ). record { target = scan.target; max_bytes = scan.max_bytes; must_close = scan.must_close; bytes = b; refused = None })
       (append_assoc scan.bytes front behind ∙ ap (λ (b : List ℕ). scan.bytes ++ b) is)
 
   module _ (now : Scanned) (from : ℕ) (now_is : now ≡ took (take from piece) scan) where
@@ -115,42 +117,43 @@ of_either entries part None of_log of_part = of_part
 front_of_front : (first second all : List Entry) → IsFront first second → IsFront second all → IsFront first all
 front_of_front first second all one two = (one.0 ++ two.0, two.1 ∙ ap (λ es. es ++ two.0) one.1 ∙ append_assoc first one.0 two.0)
 
-module _ (target : List ℕ) (max_bytes : ℕ) where
-  told_part : (stream : Stream) (fault : StreamFault) → fault_of target max_bytes stream ≡ Some fault → told_entries max_bytes (source target stream) ≡ part_of target max_bytes stream
+module _ (target : List ℕ) (max_bytes : ℕ) (must_close : Bool) where
+  told_part : (stream : Stream) (fault : StreamFault) → fault_from max_bytes (source target must_close stream) ≡ Some fault
+      → told_entries max_bytes (source target must_close stream) ≡ part_of target max_bytes stream
   told_part stream fault is = ap (λ f. log_or_part (unless_fault f (filter_map (λ entry. entry) (entries_of target stream.bytes))) (part_of target max_bytes stream)) is
-
-  told_log : (stream : Stream) (log : List Entry) → log_of target max_bytes stream ≡ Some log → told_entries max_bytes (source target stream) ≡ log
-  told_log stream log is = ap (λ l. log_or_part l (part_of target max_bytes stream)) is
 
   -- bytes at fault, whatever comes behind them
   stopped : (told after : Option Stream) (bytes : List ℕ) (fault : StreamFault) (entries : List Entry) → Gave told bytes after → fault ≢ Read → fault_so_far target max_bytes bytes ≡ Some fault
-      → entries ≡ entries_so_far target max_bytes bytes → IsOwedFor max_bytes (source target told) entries (Some fault)
-  stopped None after bytes fault entries gave other is are = (so_far bytes, inl (are ∙ sym (told_part (so_far bytes) fault is), sym is))
+      → entries ≡ entries_so_far target max_bytes bytes → IsOwedFor max_bytes (source target must_close told) entries (Some fault)
+  stopped None after bytes fault entries gave other is are =
+      let fault_is = fault_met max_bytes (source target must_close (so_far bytes)) fault is in
+      (so_far bytes, inl (are ∙ sym (told_part (so_far bytes) fault fault_is), sym fault_is))
   stopped (Some stream) after bytes fault entries gave other is are =
       let all = same_stream stream (bytes ++ gave.0.bytes) stream.fails gave.2 refl in
-      let fault_is = early_fault target max_bytes bytes gave.0.bytes false stream.fails fault other is in
-      subst (λ (s : Stream). IsOwed max_bytes (source target s) entries (Some fault)) all
+      let fault_is = fault_met max_bytes (source target must_close (stream_of (bytes ++ gave.0.bytes) stream.fails)) fault (early_fault target max_bytes bytes gave.0.bytes false stream.fails fault other is) in
+      subst (λ (s : Stream). IsOwed max_bytes (source target must_close s) entries (Some fault)) all
       (inl (are ∙ sym (early_part target max_bytes bytes gave.0.bytes false stream.fails fault other is) ∙ sym (told_part _ fault fault_is), sym fault_is))
 
   front_told : (bytes : List ℕ) (entries : List Entry) → fault_so_far target max_bytes bytes ≡ None → IsFront entries (entries_so_far target max_bytes bytes)
-      → (more : List ℕ) (fails : Bool) → IsFront entries (told_entries max_bytes (source target (stream_of (bytes ++ more) fails)))
+      → (more : List ℕ) (fails : Bool) → IsFront entries (told_entries max_bytes (source target must_close (stream_of (bytes ++ more) fails)))
   front_told bytes entries fine front more fails =
       front_of_front entries (entries_so_far target max_bytes bytes) _ front
-      (of_either (entries_so_far target max_bytes bytes) _ _ (entries_lead_log target max_bytes bytes more fails fine) (entries_lead_part target max_bytes bytes more fails fine))
+      (of_either (entries_so_far target max_bytes bytes) _ _
+      (of_log max_bytes (source target must_close (stream_of (bytes ++ more) fails)) (IsFront (entries_so_far target max_bytes bytes)) (entries_lead_log target max_bytes bytes more fails fine)) (entries_lead_part target max_bytes bytes more fails fine))
 
   -- bytes that are fine, with some of their first entries
   cut : (told after : Option Stream) (bytes behind : List ℕ) (entries : List Entry) → Gave told (bytes ++ behind) after → fault_so_far target max_bytes bytes ≡ None
-      → IsFront entries (entries_so_far target max_bytes bytes) → IsOwedFor max_bytes (source target told) entries (Some OutOfMemory)
+      → IsFront entries (entries_so_far target max_bytes bytes) → IsOwedFor max_bytes (source target must_close told) entries (Some OutOfMemory)
   cut told after bytes behind entries gave fine front = by told gave
     where
-      by : (told : Option Stream) → Gave told (bytes ++ behind) after → IsOwedFor max_bytes (source target told) entries (Some OutOfMemory)
+      by : (told : Option Stream) → Gave told (bytes ++ behind) after → IsOwedFor max_bytes (source target must_close told) entries (Some OutOfMemory)
       by None gave = (stream_of (bytes ++ behind) false, inr (front_told bytes entries fine front behind false, refl))
       by (Some stream) gave =
-          subst (λ (s : Stream). IsOwed max_bytes (source target s) entries (Some OutOfMemory))
+          subst (λ (s : Stream). IsOwed max_bytes (source target must_close s) entries (Some OutOfMemory))
           (same_stream stream (bytes ++ (behind ++ gave.0.bytes)) stream.fails (gave.2 ∙ append_assoc bytes behind gave.0.bytes) refl)
           (inr (front_told bytes entries fine front (behind ++ gave.0.bytes) stream.fails, refl))
 
-  module _ (told now after : Option Stream) (scan : Scanned) (entries : List Entry) (reading : Reading told now scan entries) (own : IsFor target max_bytes scan) where
+  module _ (told now after : Option Stream) (scan : Scanned) (entries : List Entry) (reading : Reading told now scan entries) (own : IsFor target max_bytes must_close scan) where
     own_fault : (bytes : List ℕ) → fault_so_far scan.target scan.max_bytes bytes ≡ fault_so_far target max_bytes bytes
     own_fault bytes = ap (λ t. fault_so_far t scan.max_bytes bytes) own.target_is ∙ ap (λ n. fault_so_far target n bytes) own.limit_is
 
@@ -167,12 +170,12 @@ module _ (target : List ℕ) (max_bytes : ℕ) where
     pub within : length scan.bytes ≤ max_bytes
     within = (no_fault target max_bytes (so_far scan.bytes) fine).1
 
-    pub at_failure : (broken : Broken) (buffer : List ℕ) → Pulls now after (Err broken) buffer → IsOwedFor max_bytes (source target told) entries (Some Read)
+    pub at_failure : (broken : Broken) (buffer : List ℕ) → Pulls now after (Err broken) buffer → IsOwedFor max_bytes (source target must_close told) entries (Some Read)
     at_failure broken buffer pulls =
-        weaker told (λ stream. (stream.bytes ≡ scan.bytes) × (stream.fails ≡ true)) (λ stream. IsOwed max_bytes (source target stream) entries (Some Read))
+        weaker told (λ stream. (stream.bytes ≡ scan.bytes) × (stream.fails ≡ true)) (λ stream. IsOwed max_bytes (source target must_close stream) entries (Some Read))
         (λ stream is.
-        let fault_is = failed_read target max_bytes scan.bytes fine in
-        subst (λ (s : Stream). IsOwed max_bytes (source target s) entries (Some Read)) (same_stream stream scan.bytes true is.0 is.1)
+        let fault_is = fault_met max_bytes (source target must_close (stream_of scan.bytes true)) Read (failed_read target max_bytes scan.bytes fine) in
+        subst (λ (s : Stream). IsOwed max_bytes (source target must_close s) entries (Some Read)) (same_stream stream scan.bytes true is.0 is.1)
         (inl (are_so_far ∙ sym (failed_part target max_bytes scan.bytes fine) ∙ sym (told_part (stream_of scan.bytes true) Read fault_is), sym fault_is)))
         (Gave-failed told now after scan.bytes broken buffer reading.gave pulls)
 
@@ -180,7 +183,7 @@ module _ (target : List ℕ) (max_bytes : ℕ) where
     pub all_taken : (buffer : List ℕ) → Pulls now after (Ok 0) buffer → SomeStream told (λ stream. (stream.bytes ≡ scan.bytes) × (stream.fails ≡ false))
     all_taken buffer pulls = Gave-end told now after scan.bytes buffer reading.gave pulls
 
-    pub no_memory_left : IsOwedFor max_bytes (source target told) entries (Some OutOfMemory)
+    pub no_memory_left : IsOwedFor max_bytes (source target must_close told) entries (Some OutOfMemory)
     no_memory_left =
         cut told now scan.bytes [] entries (subst (λ b. Gave told b now) (sym (append-nil scan.bytes)) reading.gave) fine ([], sym are_so_far ∙ sym (append-nil entries))
 
@@ -189,11 +192,11 @@ module _ (target : List ℕ) (max_bytes : ℕ) where
       more : Gave told (scan.bytes ++ take n buffer) after
       more = Gave-more told now after scan.bytes n buffer some reading.gave pulls
 
-      pub at_refusal : (left : List Entry) (fault : StreamFault) → fault ≢ Read → IsRefused scan (take n buffer) left fault → IsOwedFor max_bytes (source target told) left (Some fault)
+      pub at_refusal : (left : List Entry) (fault : StreamFault) → fault ≢ Read → IsRefused scan (take n buffer) left fault → IsOwedFor max_bytes (source target must_close told) left (Some fault)
       at_refusal left fault other (inl stop) =
           stopped told after (scan.bytes ++ take n buffer) fault left more other (sym (own_fault _) ∙ stop.fault_is) (stop.entries_are ∙ own_entries _)
       at_refusal left fault other (inr (cut_there, memory)) =
-          subst (λ (f : StreamFault). IsOwedFor max_bytes (source target told) left (Some f)) (sym memory)
+          subst (λ (f : StreamFault). IsOwedFor max_bytes (source target must_close told) left (Some f)) (sym memory)
           (cut told after cut_there.bytes cut_there.behind left (subst (λ b. Gave told b after) cut_there.bytes_are more) (sym (own_fault cut_there.bytes) ∙ cut_there.fine)
           (subst (IsFront left) (own_entries cut_there.bytes) cut_there.front))
 
@@ -206,26 +209,53 @@ module _ (told : Option Stream) (old new : Scanned) (entries : List Entry) (ende
   fine_to_end =
       sym (ap (λ t. fault_so_far t new.max_bytes new.bytes) ended.target_is ∙ ap (λ n. fault_so_far old.target n new.bytes) ended.limit_is) ∙ ended.read.fine.no_fault
 
-  pub at_end : (last : Option Entry) (all : List Entry) → log_of new.target new.max_bytes (so_far new.bytes) ≡ Some (entries_in new ++ option_to_list last) → all ≡ entries ++ option_to_list last
-      → IsOwedFor old.max_bytes (source old.target told) all None
-  at_end last all log_is all_are =
-      weaker told (λ stream. (stream.bytes ≡ new.bytes) × (stream.fails ≡ false)) (λ stream. IsOwed old.max_bytes (source old.target stream) all None)
-      (λ stream is.
-      subst (λ (s : Stream). IsOwed old.max_bytes (source old.target s) all None) (same_stream stream new.bytes false is.0 is.1)
-      (inl (all_are ∙ ap (λ es. es ++ option_to_list last) ended.read.entries_are ∙ sym (told_log old.target old.max_bytes (so_far new.bytes) _ (own_log ∙ log_is)), sym fine_to_end)))
-      ended.all
-    where
-      own_log : log_of old.target old.max_bytes (so_far new.bytes) ≡ log_of new.target new.max_bytes (so_far new.bytes)
-      own_log = sym (ap (λ t. log_of t new.max_bytes (so_far new.bytes)) ended.target_is ∙ ap (λ n. log_of old.target n (so_far new.bytes)) ended.limit_is)
+  are_to_end : entries ≡ entries_so_far old.target old.max_bytes new.bytes
+  are_to_end =
+      ended.read.entries_are ∙ (ap (λ t. entries_so_far t new.max_bytes new.bytes) ended.target_is ∙ ap (λ n. entries_so_far old.target n new.bytes) ended.limit_is)
 
-  pub cut_at_end : IsOwedFor old.max_bytes (source old.target told) entries (Some OutOfMemory)
-  cut_at_end =
-      weaker told (λ stream. (stream.bytes ≡ new.bytes) × (stream.fails ≡ false)) (λ stream. IsOwed old.max_bytes (source old.target stream) entries (Some OutOfMemory))
-      (λ stream is.
-      subst (λ (s : Stream). IsOwed old.max_bytes (source old.target s) entries (Some OutOfMemory)) (same_stream stream (new.bytes ++ []) false (is.0 ∙ sym (append-nil new.bytes)) is.1)
-      (inr (front_told old.target old.max_bytes new.bytes entries fine_to_end ([], sym are_to_end ∙ sym (append-nil entries)) [] false, refl)))
+  -- what the log is made from
+  abbrev made_from : Source Stream
+  made_from = source old.target old.must_close (so_far new.bytes)
+
+  own_source : source_in new ≡ made_from
+  own_source = λ i. record { target = ended.target_is i; must_close = ended.mark_is i; stream = so_far new.bytes }
+
+  -- what is owed for it is owed for the stream that the reader tells
+  owed_to_end : (all : List Entry) (fault : Option StreamFault) → IsOwed old.max_bytes made_from all fault → IsOwedFor old.max_bytes (source old.target old.must_close told) all fault
+  owed_to_end all fault owed =
+      weaker told (λ stream. (stream.bytes ≡ new.bytes) × (stream.fails ≡ false)) (λ stream. IsOwed old.max_bytes (source old.target old.must_close stream) all fault)
+      (λ stream is. subst (λ (s : Stream). IsOwed old.max_bytes (source old.target old.must_close s) all fault) (same_stream stream new.bytes false is.0 is.1) owed)
       ended.all
+
+  pub at_end : (last : Option Entry) (all : List Entry) → log_from new.max_bytes (source_in new) ≡ Some (entries_in new ++ option_to_list last) → all ≡ entries ++ option_to_list last
+      → IsOwedFor old.max_bytes (source old.target old.must_close told) all None
+  at_end last all log_is all_are =
+      owed_to_end all None
+      (inl (
+        all_are ∙ ap (λ es. es ++ option_to_list last) ended.read.entries_are ∙ sym (ap (λ l. log_or_part l (part_of old.target old.max_bytes (so_far new.bytes))) own_log),
+        sym (none_of_log (fault_from old.max_bytes made_from) _ own_log),
+      ))
     where
-      are_to_end : entries ≡ entries_so_far old.target old.max_bytes new.bytes
-      are_to_end =
-          ended.read.entries_are ∙ (ap (λ t. entries_so_far t new.max_bytes new.bytes) ended.target_is ∙ ap (λ n. entries_so_far old.target n new.bytes) ended.limit_is)
+      own_log : log_from old.max_bytes made_from ≡ Some (entries_in new ++ option_to_list last)
+      own_log = (λ i. log_from (sym ended.limit_is i) (sym own_source i)) ∙ log_is
+
+      none_of_log : (fault : Option StreamFault) (es : List Entry) → unless_fault fault (filter_map (λ entry. entry) (entries_of old.target new.bytes)) ≡ Some es → fault ≡ None
+      none_of_log (Some fault) es is = absurd (cc)
+      none_of_log None es is = refl
+
+  -- the log has to be closed, and isn't
+  pub open_at_end : (fault : StreamFault) → fault_from new.max_bytes (source_in new) ≡ Some fault → IsOwedFor old.max_bytes (source old.target old.must_close told) entries (Some fault)
+  open_at_end fault is =
+      owed_to_end entries (Some fault)
+      (inl (are_to_end ∙ sym (told_part old.target old.max_bytes old.must_close (so_far new.bytes) fault own_fault), sym own_fault))
+    where
+      own_fault : fault_from old.max_bytes made_from ≡ Some fault
+      own_fault = (λ i. fault_from (sym ended.limit_is i) (sym own_source i)) ∙ is
+
+  pub cut_at_end : IsOwedFor old.max_bytes (source old.target old.must_close told) entries (Some OutOfMemory)
+  cut_at_end =
+      weaker told (λ stream. (stream.bytes ≡ new.bytes) × (stream.fails ≡ false)) (λ stream. IsOwed old.max_bytes (source old.target old.must_close stream) entries (Some OutOfMemory))
+      (λ stream is.
+      subst (λ (s : Stream). IsOwed old.max_bytes (source old.target old.must_close s) entries (Some OutOfMemory)) (same_stream stream (new.bytes ++ []) false (is.0 ∙ sym (append-nil new.bytes)) is.1)
+      (inr (front_told old.target old.max_bytes old.must_close new.bytes entries fine_to_end ([], sym are_to_end ∙ sym (append-nil entries)) [] false, refl)))
+      ended.all

@@ -1,5 +1,5 @@
 -- Ends and shares at the same places.
-use Rattle.std.proofs.Common.{◌≡◌, ℕ, zero, suc, ◌≤◌, false, List, [], ◌∷◌, ◌++◌, Option, Some, length, map, slice_get, refl, sym, ap, ◌∙◌, subst, arith}
+use Rattle.std.proofs.Common.{◌≡◌, ℕ, zero, suc, ◌≤◌, Bool, false, List, [], ◌∷◌, ◌++◌, Option, Some, length, map, slice_get, refl, sym, ap, ◌∙◌, subst, arith}
 use Rattle.std.specs.List.{AllByRecursion}
 use Rattle.std.proofs.lemmas.List.{length-append}
 use Rattle.std.proofs.lemmas.Option.{none-some}
@@ -12,6 +12,7 @@ use Rattle.redo_gather.specs.Owed.{Given}
 use Rattle.redo_gather.specs.Private.Collecting.{AllOwed, Collects, NoneWants, Owes, stored}
 use Rattle.redo_gather.specs.Private.Dealing.{AreDealt, AreReady, share_from}
 use Rattle.redo_gather.specs.Sending.{AreOwed, HasSent, numbered, singles}
+use Rattle.redo_gather.specs.Streams.{Told}
 
 in_front : {X : Type 0} (front behind : List X) (k : ℕ) (there : X) → slice_get front k ≡ Some there → slice_get (front ++ behind) k ≡ Some there
 in_front [] behind k there is = absurd (none-some there is)
@@ -28,7 +29,7 @@ all_but_last mailbox [] last all = (tt, all.0)
 all_but_last mailbox (end ∷ ends) last all = let others = all_but_last mailbox ends last all.1 in ((all.0, others.0), others.1)
 
 module _ {A : Type 0} (tells : A → Option Stream) (senders : ℕ) (given : List Given) where
-  pub all_ready : (mailbox : Mailbox) (ends : List Poster) (shares : List (List (ℕ × List ℕ × A))) → mailbox.senders ≡ senders → AreEndsOf mailbox ends → AreDealt tells senders given shares
+  pub all_ready : (mailbox : Mailbox) (ends : List Poster) (shares : List (List (ℕ × List ℕ × Bool × A))) → mailbox.senders ≡ senders → AreEndsOf mailbox ends → AreDealt tells senders given shares
       → AreReady tells senders given ends shares
   all_ready mailbox ends shares count are dealt = record {
     count = are.count ∙ count ∙ sym dealt.0;
@@ -36,7 +37,7 @@ module _ {A : Type 0} (tells : A → Option Stream) (senders : ℕ) (given : Lis
     dealt = dealt.1;
   }
 
-  module _ (ends : List Poster) (end : Poster) (shares : List (List (ℕ × List ℕ × A))) (share : List (ℕ × List ℕ × A)) (ready : AreReady tells senders given (ends ++ end ∷ []) (shares ++ share ∷ [])) where
+  module _ (ends : List Poster) (end : Poster) (shares : List (List (ℕ × List ℕ × Bool × A))) (share : List (ℕ × List ℕ × Bool × A)) (ready : AreReady tells senders given (ends ++ end ∷ []) (shares ++ share ∷ [])) where
     same : length ends ≡ length shares
     same = let count = ready.count in omega (arith, count, length-append ends (end ∷ []), length-append shares (share ∷ []))
 
@@ -64,7 +65,7 @@ module _ {A : Type 0} (tells : A → Option Stream) (senders : ℕ) (given : Lis
         lines_are = ap singles (posted.posted ∙ ap (λ items. items ++ posted.items) fresh.1) ∙ posted.lines_are
 
 -- a new mailbox and an empty table, and what was collected from there
-pub all_owed : {A : Type 0} (tells : A → Option Stream) (max_bytes capacity senders : ℕ) (names : List (List ℕ)) (told : List (Option Stream)) (ends : List Poster) (shares : List (List (ℕ × List ℕ × A)))
+pub all_owed : {A : Type 0} (tells : A → Option Stream) (max_bytes capacity senders : ℕ) (names : List (List ℕ)) (told : List Told) (ends : List Poster) (shares : List (List (ℕ × List ℕ × Bool × A)))
     (before after : Collecting) → Collects tells max_bytes ends shares before after → IsOpened capacity senders before.mailbox → before.table ≡ map new_log names → before.refused ≡ false
     → length names ≡ length told → 1 ≤ senders → AreEndsOf before.mailbox.mailbox ends → AreDealt tells senders (sources names told) shares → AllOwed max_bytes names told after
 all_owed tells max_bytes capacity senders names told ends shares before after collects opened table_is fine count some are dealt = record {

@@ -8,12 +8,12 @@ use Rattle.redo_line.specs.declared.entry.Entry.{Entry}
 use Rattle.redo_line.specs.declared.stream_fault.StreamFault.{StreamFault}
 use Rattle.redo_device.specs.Feed.{Stream, SomeStream}
 use Rattle.redo_line.specs.Log.{unless_fault}
-use Rattle.redo_line.specs.Source.{Source, fault_from, source, sources, with_stream}
+use Rattle.redo_line.specs.Source.{Marked, Source, fault_from, source, sources, with_stream}
 use Rattle.redo_logs.specs.Logs.{Log, behind_one, fault_in, first_failed, first_fault, has_ended, states_of, targets_of}
 use Rattle.redo_logs.proofs.LeastFault.{found_there}
 use Rattle.redo_gather.specs.Owed.{Given, log_or_part, told_entries}
 use Rattle.redo_gather.specs.Private.Storing.{state_after}
-use Rattle.redo_gather.specs.Streams.{AreLogs, AreTold, IsFault, in_front, logs_of, whole_log}
+use Rattle.redo_gather.specs.Streams.{AreLogs, AreTold, IsFault, Told, in_front, logs_of, whole_log}
 use Rattle.redo_gather.proofs.StreamLemmas.{count_told, given_stream, whole_logs}
 
 -- the log that a stream comes to
@@ -53,8 +53,8 @@ module _ (max_bytes : ℕ) where
   fault_after (Some fault) = refl
 
   -- what is said of the streams that the readers of such a table give
-  pub record Comes (names : List (List ℕ)) (told : List (Option Stream)) (table : List Log) : Type 0 where
-    pub streams : List Stream
+  pub record Comes (names : List (List ℕ)) (told : List Told) (table : List Log) : Type 0 where
+    pub streams : List (Marked Stream)
     pub told_are : AreTold told streams
     pub faults_are : map fault_in (states_of table) ≡ map (fault_from max_bytes) (sources names streams)
     pub logs_are : first_failed table ≡ None → logs_of max_bytes names streams ≡ Some table
@@ -71,41 +71,41 @@ module _ (max_bytes : ℕ) where
       none_behind None none = refl
       none_behind (Some found) none = absurd (cc)
 
-  comes : (names : List (List ℕ)) (told : List (Option Stream)) (table : List Log) → length names ≡ length told → AreSettled max_bytes (sources names told) table → Comes names told table
+  comes : (names : List (List ℕ)) (told : List Told) (table : List Log) → length names ≡ length told → AreSettled max_bytes (sources names told) table → Comes names told table
   comes [] [] [] same are = record { streams = []; told_are = tt; faults_are = refl; logs_are = λ none. refl }
   comes [] [] (log ∷ table) same are = absurd are
   comes [] (one ∷ told) table same are = absurd (cc)
   comes (target ∷ names) [] table same are = absurd (cc)
   comes (target ∷ names) (one ∷ told) [] same are = absurd are
   comes (target ∷ names) (one ∷ told) (log ∷ table) same are =
-      let given = given_stream one (λ stream. log ≡ log_after max_bytes (source target stream)) are.0 in
+      let given = given_stream one.stream (λ stream. log ≡ log_after max_bytes (source target one.must_close stream)) are.0 in
       let others = comes names told table (omega (arith, same)) are.1 in
-      let fault_is : fault_in log.state ≡ fault_from max_bytes (source target given.0) = ap (λ (l : Log). fault_in l.state) given.2 ∙ fault_after (fault_from max_bytes (source target given.0)) in
+      let fault_is : fault_in log.state ≡ fault_from max_bytes (source target one.must_close given.0) = ap (λ (l : Log). fault_in l.state) given.2 ∙ fault_after (fault_from max_bytes (source target one.must_close given.0)) in
       record {
-        streams = given.0 ∷ others.streams;
-        told_are = (given.1, others.told_are);
+        streams = record { must_close = one.must_close; stream = given.0 } ∷ others.streams;
+        told_are = ((refl, given.1), others.told_are);
         faults_are = λ i. fault_is i ∷ others.faults_are i;
         logs_are = λ none.
-            in_front_of (fault_from max_bytes (source target given.0)) target _ _ (map fault_in (states_of table)) (logs_of max_bytes names others.streams) table others.logs_are
+            in_front_of (fault_from max_bytes (source target one.must_close given.0)) target _ _ (map fault_in (states_of table)) (logs_of max_bytes names others.streams) table others.logs_are
             (ap (λ f. first_fault (f ∷ map fault_in (states_of table))) (sym fault_is) ∙ none)
             ∙ ap (λ (l : Log). Some (l ∷ table)) (sym given.2);
       }
 
   -- a whole table of such logs
-  module _ (names : List (List ℕ)) (told : List (Option Stream)) (table : List Log) (same : length names ≡ length told) (are : AreSettled max_bytes (sources names told) table) where
+  module _ (names : List (List ℕ)) (told : List Told) (table : List Log) (same : length names ≡ length told) (are : AreSettled max_bytes (sources names told) table) where
     all : Comes names told table
     all = comes names told table same are
 
     pub settled-targets : targets_of table ≡ names
     settled-targets = by names told table same are
       where
-        by : (names : List (List ℕ)) (told : List (Option Stream)) (table : List Log) → length names ≡ length told → AreSettled max_bytes (sources names told) table → targets_of table ≡ names
+        by : (names : List (List ℕ)) (told : List Told) (table : List Log) → length names ≡ length told → AreSettled max_bytes (sources names told) table → targets_of table ≡ names
         by [] told [] same are = refl
         by [] told (log ∷ table) same are = absurd are
         by (target ∷ names) [] table same are = absurd (omega (arith, same))
         by (target ∷ names) (one ∷ told) [] same are = absurd are
         by (target ∷ names) (one ∷ told) (log ∷ table) same are =
-            let given = given_stream one (λ stream. log ≡ log_after max_bytes (source target stream)) are.0 in
+            let given = given_stream one.stream (λ stream. log ≡ log_after max_bytes (source target one.must_close stream)) are.0 in
             let first : log.target ≡ target = ap (λ (l : Log). l.target) given.2 in
             λ i. first i ∷ by names told table (omega (arith, same)) are.1 i
 

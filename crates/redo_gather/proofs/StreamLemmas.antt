@@ -6,9 +6,9 @@ use Rattle.redo_line.specs.declared.entry.Entry.{Entry}
 use Rattle.redo_line.specs.declared.stream_fault.StreamFault.{StreamFault}
 use Rattle.redo_device.specs.Feed.{Stream, SomeStream}
 use Rattle.redo_line.specs.Log.{unless_fault}
-use Rattle.redo_line.specs.Source.{fault_from, source, sources}
+use Rattle.redo_line.specs.Source.{Marked, fault_from, source, sources}
 use Rattle.redo_logs.specs.Logs.{Log, first_fault, behind_one, targets_of, has_ended}
-use Rattle.redo_gather.specs.Streams.{IsTold, AreTold, whole_log, log_with, in_front, logs_of, fault_among}
+use Rattle.redo_gather.specs.Streams.{AreTold, IsGiven, IsTold, Told, as_told, fault_among, in_front, log_with, logs_of, whole_log}
 
 -- one stream more, in front of the others
 either : (fault : Option StreamFault) (target : List ℕ) (entries : List Entry) (logs : Option (List Log)) (faults : List (Option StreamFault)) → IsSome logs ↔ (first_fault faults ≡ None)
@@ -41,29 +41,29 @@ all_ended-more : (log : Log) (logs : List Log) → has_ended log ≡ true → li
 all_ended-more log logs one others = rw (one, others)
 
 module _ (max_bytes : ℕ) where
-  pub logs_or_fault : (targets : List (List ℕ)) (streams : List Stream) → IsSome (logs_of max_bytes targets streams) ↔ (fault_among max_bytes targets streams ≡ None)
+  pub logs_or_fault : (targets : List (List ℕ)) (streams : List (Marked Stream)) → IsSome (logs_of max_bytes targets streams) ↔ (fault_among max_bytes targets streams ≡ None)
   logs_or_fault [] streams = ((λ some. refl), (λ none. refl))
   logs_or_fault (target ∷ targets) [] = ((λ some. refl), (λ none. refl))
   logs_or_fault (target ∷ targets) (stream ∷ streams) =
-      either (fault_from max_bytes (source target stream)) target _ (logs_of max_bytes targets streams) _ (logs_or_fault targets streams)
+      either (fault_from max_bytes (source target stream.must_close stream.stream)) target _ (logs_of max_bytes targets streams) _ (logs_or_fault targets streams)
 
   -- the logs of whole streams have their targets, and have ended
-  pub whole_logs : (targets : List (List ℕ)) (streams : List Stream) (logs : List Log) → length targets ≡ length streams → logs_of max_bytes targets streams ≡ Some logs
+  pub whole_logs : (targets : List (List ℕ)) (streams : List (Marked Stream)) (logs : List Log) → length targets ≡ length streams → logs_of max_bytes targets streams ≡ Some logs
       → (targets_of logs ≡ targets) × (list_all has_ended logs ≡ true)
   whole_logs [] [] logs same is = let none : [] ≡ logs = cc in (sym (ap targets_of none), sym (ap (list_all has_ended) none))
   whole_logs [] (stream ∷ streams) logs same is = absurd (cc)
   whole_logs (target ∷ targets) [] logs same is = absurd (cc)
   whole_logs (target ∷ targets) (stream ∷ streams) logs same is =
       let front = of_front _ _ logs is in
-      let fine = no_fault (fault_from max_bytes (source target stream)) target _ front.0 front.2 in
+      let fine = no_fault (fault_from max_bytes (source target stream.must_close stream.stream)) target _ front.0 front.2 in
       let others = whole_logs targets streams front.1 (omega (arith, same)) front.3 in (
         ap targets_of front.4 ∙ ap (λ t. t ∷ targets_of front.1) fine.1 ∙ ap (λ ts. target ∷ ts) others.0,
         ap (list_all has_ended) front.4 ∙ all_ended-more front.0 front.1 fine.2 others.1,
       )
 
-  module _ (target : List ℕ) (stream : Stream) where
+  module _ (target : List ℕ) (stream : Marked Stream) where
     -- one stream more, behind the others
-    pub one_more : (targets : List (List ℕ)) (streams : List Stream) (logs : List Log) (log : Log) → length targets ≡ length streams → logs_of max_bytes targets streams ≡ Some logs → log_with max_bytes (source target stream) ≡ Some log
+    pub one_more : (targets : List (List ℕ)) (streams : List (Marked Stream)) (logs : List Log) (log : Log) → length targets ≡ length streams → logs_of max_bytes targets streams ≡ Some logs → log_with max_bytes (source target stream.must_close stream.stream) ≡ Some log
         → logs_of max_bytes (targets ++ target ∷ []) (streams ++ stream ∷ []) ≡ Some (logs ++ log ∷ [])
     one_more [] [] logs log same is has = let none : [] ≡ logs = cc in ap (λ l. in_front l (Some [])) has ∙ ap (λ (ls : List Log). Some (ls ++ log ∷ [])) none
     one_more [] (other ∷ streams) logs log same is has = absurd (cc)
@@ -75,47 +75,48 @@ module _ (max_bytes : ℕ) where
         ∙ ap (λ (ls : List Log). Some (ls ++ log ∷ [])) (sym front.4)
 
     -- a fault behind streams that have none
-    pub fault_behind : (targets : List (List ℕ)) (streams : List Stream) (logs : List Log) (left : List (List ℕ)) (unread : List Stream) (fault : StreamFault) → length targets ≡ length streams → logs_of max_bytes targets streams ≡ Some logs
-        → fault_from max_bytes (source target stream) ≡ Some fault → fault_among max_bytes (targets ++ target ∷ left) (streams ++ stream ∷ unread) ≡ Some (length targets, fault)
+    pub fault_behind : (targets : List (List ℕ)) (streams : List (Marked Stream)) (logs : List Log) (left : List (List ℕ)) (unread : List (Marked Stream)) (fault : StreamFault) → length targets ≡ length streams → logs_of max_bytes targets streams ≡ Some logs
+        → fault_from max_bytes (source target stream.must_close stream.stream) ≡ Some fault → fault_among max_bytes (targets ++ target ∷ left) (streams ++ stream ∷ unread) ≡ Some (length targets, fault)
     fault_behind [] [] logs left unread fault same is has = rw (has)
     fault_behind [] (other ∷ streams) logs left unread fault same is has = absurd (cc)
     fault_behind (first ∷ targets) [] logs left unread fault same is has = absurd (cc)
     fault_behind (first ∷ targets) (other ∷ streams) logs left unread fault same is has =
         let front = of_front _ _ logs is in
-        let fine = no_fault (fault_from max_bytes (source first other)) first _ front.0 front.2 in
+        let fine = no_fault (fault_from max_bytes (source first other.must_close other.stream)) first _ front.0 front.2 in
         ap (λ f. first_fault (f ∷ map (fault_from max_bytes) (sources (targets ++ target ∷ left) (streams ++ stream ∷ unread)))) fine.0
         ∙ ap behind_one (fault_behind targets streams front.1 left unread fault (omega (arith, same)) front.3 has)
         ∙ ap (λ (n : ℕ). Some (n, fault)) (omega arith)
 
 -- the streams that readers give
-pub count_told : (told : List (Option Stream)) (streams : List Stream) → AreTold told streams → length told ≡ length streams
+pub count_told : (told : List Told) (streams : List (Marked Stream)) → AreTold told streams → length told ≡ length streams
 count_told [] [] are = refl
 count_told [] (stream ∷ streams) are = absurd are
 count_told (told ∷ others) [] are = absurd are
 count_told (told ∷ others) (stream ∷ streams) are = ap suc (count_told others streams are.1)
 
-pub told-append : (told more : List (Option Stream)) (streams unread : List Stream) → AreTold told streams → AreTold more unread → AreTold (told ++ more) (streams ++ unread)
+pub told-append : (told more : List Told) (streams unread : List (Marked Stream)) → AreTold told streams → AreTold more unread → AreTold (told ++ more) (streams ++ unread)
 told-append [] more [] unread are behind = behind
 told-append [] more (stream ∷ streams) unread are behind = absurd are
 told-append (told ∷ others) more [] unread are behind = absurd are
 told-append (told ∷ others) more (stream ∷ streams) unread are behind = (are.0, told-append others more streams unread are.1 behind)
 
 -- what a reader tells, or else nothing
-any_stream : (told : Option Stream) → (stream : Stream) × IsTold told stream
+any_stream : (told : Option Stream) → (stream : Stream) × IsGiven told stream
 any_stream None = (record { bytes = []; fails = false }, tt)
 any_stream (Some stream) = (stream, refl)
 
-pub any_streams : (told : List (Option Stream)) → (streams : List Stream) × AreTold told streams
+pub any_streams : (told : List Told) → (streams : List (Marked Stream)) × AreTold told streams
 any_streams [] = ([], tt)
-any_streams (told ∷ others) = ((any_stream told).0 ∷ (any_streams others).0, ((any_stream told).1, (any_streams others).1))
+any_streams (told ∷ others) =
+    (record { must_close = told.must_close; stream = (any_stream told.stream).0 } ∷ (any_streams others).0, ((refl, (any_stream told.stream).1), (any_streams others).1))
 
-pub given_stream : (told : Option Stream) (P : Stream → Type 0) → SomeStream told P → (stream : Stream) × IsTold told stream × P stream
+pub given_stream : (told : Option Stream) (P : Stream → Type 0) → SomeStream told P → (stream : Stream) × IsGiven told stream × P stream
 given_stream None P (stream, p) = (stream, tt, p)
 given_stream (Some stream) P p = (stream, refl, p)
 
 -- readers that all tell their streams
-pub all_told : (streams others : List Stream) → AreTold (map Some streams) others → others ≡ streams
+pub all_told : (streams others : List (Marked Stream)) → AreTold (map as_told streams) others → others ≡ streams
 all_told [] [] are = refl
 all_told [] (other ∷ others) are = absurd are
 all_told (stream ∷ streams) [] are = absurd are
-all_told (stream ∷ streams) (other ∷ others) are = λ i. are.0 i ∷ all_told streams others are.1 i
+all_told (stream ∷ streams) (other ∷ others) are = λ i. record { must_close = are.0.0 i; stream = are.0.1 i } ∷ all_told streams others are.1 i

@@ -3,12 +3,13 @@ use Rattle.std.proofs.Common.{◌≡◌, ℕ, true, false, List, [], ◌∷◌, 
 use Rattle.std.specs.Prelude.{codes, filter_map}
 use Rattle.std.specs.List.{AllByRecursion, flat_map}
 use Rattle.redo_line.specs.declared.stream_fault.StreamFault.{StreamFault}
-use Rattle.redo_line.specs.declared.stream_fault.StreamFault.TheVariants.{BadRecord, Read}
+use Rattle.redo_line.specs.declared.stream_fault.StreamFault.TheVariants.{BadRecord, NotClosed, Read}
 use Rattle.redo_line.specs.Decimal.{number}
 use Rattle.redo_line.specs.Entry.{record_entry, entry_of}
 use Rattle.redo_device.specs.Feed.{Stream}
 use Rattle.redo_line.specs.Lines.{line_feed, cutting, ended, rest}
 use Rattle.redo_line.specs.Log.{stream_of, first_fault}
+use Rattle.redo_line.specs.Source.{Marked}
 use Rattle.redo_name.specs.Names.{from_back, normal}
 use Rattle.redo_line.specs.Parts.{parted, behind}
 use Rattle.redo_line.specs.Record.{fields_of, status_of}
@@ -33,8 +34,18 @@ lines_log target lines = whole_log target (filter_map (λ line. entry_of target 
 abbrev logs : List Log
 logs = lines_log (codes "all") all ∷ lines_log (codes "d/a.o") (codes "cc a" ∷ codes "@@REDO:do:7:1.0000@@ b" ∷ []) ∷ lines_log (codes "b.o") (codes "cc b" ∷ []) ∷ []
 
-abbrev streams : List Stream
-streams = stream_of (flat_map line all) false ∷ stream_of (line (codes "cc a") ++ line (codes "@@REDO:do:7:1.0000@@ b")) false ∷ stream_of (line (codes "cc b")) false ∷ []
+-- a stream that may end with any line, and one that has to end with the record that closes its log
+abbrev any : Stream → Marked Stream
+any stream = record { must_close = false; stream = stream }
+
+abbrev closed : Stream → Marked Stream
+closed stream = record { must_close = true; stream = stream }
+
+abbrev streams : List (Marked Stream)
+streams =
+    any (stream_of (flat_map line all) false) ∷ any (stream_of (line (codes "cc a") ++ line (codes "@@REDO:do:7:1.0000@@ b")) false) ∷
+    any (stream_of (line (codes "cc b")) false) ∷
+    []
 
 these_logs : logs_of 1000 (codes "all" ∷ codes "d/a.o" ∷ codes "b.o" ∷ []) streams ≡ Some logs
 unfolding cutting ended rest first_fault entry_of record_entry fields_of status_of parted behind number normal from_back
@@ -44,24 +55,33 @@ no_streams : (logs_of 1000 [] [] ≡ Some []) × (fault_among 1000 [] [] ≡ Non
 no_streams = (refl, refl)
 
 record FaultRow : Type 0 where
-  streams : List Stream
+  streams : List (Marked Stream)
   place : ℕ
   fault : StreamFault
 
-abbrev has_fault : Stream → Stream → ℕ → StreamFault → FaultRow
+abbrev has_fault : Marked Stream → Marked Stream → ℕ → StreamFault → FaultRow
 has_fault a b place fault = record { streams = a ∷ b ∷ []; place = place; fault = fault }
 
 abbrev ok : List ℕ
 ok = line (codes "ok")
 
+abbrev done : List ℕ
+done = line (codes "@@REDO:done:7:1.0000@@ 0 a")
+
+abbrev x : List ℕ
+x = line (codes "x")
+
 -- the streams of `a` and `b`
 abbrev faults : List FaultRow
 faults =
-    has_fault (stream_of (ok ++ bad) false) (stream_of [] false) 0 (BadRecord 2) ∷
-    has_fault (stream_of (ok ++ ok ++ ok ++ ok ++ ok ++ ok ++ ok ++ ok ++ bad) false) (stream_of bad false) 0 (BadRecord 9) ∷
-    has_fault (stream_of (line (codes "x")) true) (stream_of bad false) 0 Read ∷
-    has_fault (stream_of bad true) (stream_of [] false) 0 (BadRecord 1) ∷
-    has_fault (stream_of ok false) (stream_of bad false) 1 (BadRecord 1) ∷
+    has_fault (any (stream_of (ok ++ bad) false)) (any (stream_of [] false)) 0 (BadRecord 2) ∷
+    has_fault (any (stream_of (ok ++ ok ++ ok ++ ok ++ ok ++ ok ++ ok ++ ok ++ bad) false)) (any (stream_of bad false)) 0 (BadRecord 9) ∷
+    has_fault (any (stream_of x true)) (any (stream_of bad false)) 0 Read ∷
+    has_fault (any (stream_of bad true)) (any (stream_of [] false)) 0 (BadRecord 1) ∷
+    has_fault (any (stream_of ok false)) (any (stream_of bad false)) 1 (BadRecord 1) ∷
+    has_fault (closed (stream_of x false)) (any (stream_of bad false)) 0 NotClosed ∷
+    has_fault (any (stream_of x false)) (closed (stream_of [] false)) 1 NotClosed ∷
+    has_fault (closed (stream_of done false)) (closed (stream_of done false)) 1 NotClosed ∷
     []
 
 abbrev targets : List (List ℕ)
@@ -69,4 +89,4 @@ targets = codes "a" ∷ codes "b" ∷ []
 
 these_faults : AllByRecursion (λ row. (fault_among 1000 targets row.streams ≡ Some (row.place, row.fault)) × (logs_of 1000 targets row.streams ≡ None)) faults
 unfolding cutting ended rest first_fault entry_of record_entry fields_of status_of parted behind number normal from_back
-these_faults = ((refl, refl), ((refl, refl), ((refl, refl), ((refl, refl), ((refl, refl), tt)))))
+these_faults = ((refl, refl), ((refl, refl), ((refl, refl), ((refl, refl), ((refl, refl), ((refl, refl), ((refl, refl), ((refl, refl), tt))))))))

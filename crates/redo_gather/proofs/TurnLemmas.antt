@@ -9,10 +9,10 @@ use Rattle.redo_device.specs.Feed.{Stream}
 use Rattle.redo_logs.specs.declared.log_state.LogState.TheVariants.{Running}
 use Rattle.redo_logs.specs.Logs.{Log, targets_of, states_of, has_ended}
 use Rattle.redo_gather.specs.Private.Storing.{HasFault, IsCompleted}
-use Rattle.redo_gather.specs.Streams.{SomeStreams, logs_of, fault_among}
+use Rattle.redo_gather.specs.Streams.{SomeStreams, Told, logs_of, fault_among}
 use Rattle.redo_gather.proofs.GatheredLemmas.{Gathered, count_logs, next_runs, one_gathered, fault_gathered, all_gathered, all_targets, all_have_ended}
 
-module _ {A : Type 0} (tells : A → Option Stream) (max_bytes : ℕ) (names : List (List ℕ)) (readers : List A) where
+module _ {A : Type 0} (tells : A → Told) (max_bytes : ℕ) (names : List (List ℕ)) (readers : List A) where
   -- the first readers, as many as this number, were read to their ends
   pub record Underway (read left : List A) (number : ℕ) (table : List Log) : Type 0 where
     pub readers_are : readers ≡ read ++ left
@@ -49,17 +49,17 @@ module _ {A : Type 0} (tells : A → Option Stream) (max_bytes : ℕ) (names : L
         log_runs =
             ap (λ (n : ℕ). slice_get (states_of table) n) count ∙ next_runs max_bytes names (map tells read) table so_far.gathered target there
 
-        pub one_more_read : (after : List Log) → IsCompleted max_bytes number (source target (tells reader)) table after → Underway (read ++ reader ∷ []) others (number + 1) after
+        pub one_more_read : (after : List Log) → IsCompleted max_bytes number (source target (tells reader).must_close (tells reader).stream) table after → Underway (read ++ reader ∷ []) others (number + 1) after
         one_more_read after completes = record {
           readers_are = readers_here ∙ sym (append_assoc read (reader ∷ []) others);
           number_is = let n = so_far.number_is in omega (arith, length-append read (reader ∷ []));
           gathered =
               subst (λ told. Gathered max_bytes names told after) (sym (map_push tells read reader))
               (one_gathered max_bytes names (map tells read) table so_far.gathered target there (tells reader) after
-              (subst (λ (n : ℕ). IsCompleted max_bytes n (source target (tells reader)) table after) count completes));
+              (subst (λ (n : ℕ). IsCompleted max_bytes n (source target (tells reader).must_close (tells reader).stream) table after) count completes));
         }
 
-        pub fault_read : (fault : StreamFault) → HasFault max_bytes (source target (tells reader)) fault
+        pub fault_read : (fault : StreamFault) → HasFault max_bytes (source target (tells reader).must_close (tells reader).stream) fault
             → SomeStreams (map tells readers) (λ streams. fault_among max_bytes names streams ≡ Some (number, fault))
         fault_read fault at_fault =
             subst (λ told. SomeStreams told (λ streams. fault_among max_bytes names streams ≡ Some (number, fault))) (sym (ap (map tells) readers_here ∙ map-append tells read (reader ∷ others)))

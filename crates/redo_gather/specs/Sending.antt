@@ -1,5 +1,5 @@
 -- What a sender posts of the streams of its share.
-use Rattle.std.specs.Prelude.{◌≡◌, ⊤, ℕ, ◌≤◌, List, [], ◌∷◌, ◌++◌, Option, None, Some, length, map}
+use Rattle.std.specs.Prelude.{◌≡◌, ⊤, ℕ, ◌≤◌, Bool, List, [], ◌∷◌, ◌++◌, Option, None, Some, length, map}
 use Rattle.std.specs.List.{AllByRecursion}
 use Rattle.redo_line.specs.declared.entry.Entry.{Entry}
 use Rattle.redo_line.specs.declared.stream_fault.StreamFault.{StreamFault}
@@ -40,13 +40,13 @@ last_of (Some fault) = Fail fault
 abbrev pub told_of : ℕ → ℕ → List Entry → Option StreamFault → List Item
 told_of sender stream entries fault = map (line_of sender stream) entries ++ item_of sender stream (last_of fault) ∷ []
 
--- a stream's number, its target, and what its reader tells
+-- a stream's number, and what is given of it
 abbrev pub Numbered : Type 0
 Numbered = ℕ × Given
 
 -- what is known of an item of a share
-abbrev pub numbered : {A : Type 0} → (A → Option Stream) → ℕ × List ℕ × A → Numbered
-numbered tells item = (item.0, source item.1 (tells item.2))
+abbrev pub numbered : {A : Type 0} → (A → Option Stream) → ℕ × List ℕ × Bool × A → Numbered
+numbered tells item = (item.0, source item.1 item.2 (tells item.3))
 
 -- items that are owed for the streams of a share, one stream behind the other
 abbrev pub AreOwed : ℕ → ℕ → List Numbered → List Item → Type 0

@@ -1,11 +1,11 @@
 ghost use Rattle.std.specs.Prelude.{◌≡◌, ◌≢◌, ℕ, ◌≤◌, ◌^◌, List, [], ◌∷◌, ◌++◌, Option, false, Ok, IfOk};
 ghost use Rattle.std.specs.Result.{result_and};
-ghost use Rattle.redo_device.specs.Feed.{Stream};
 ghost use Rattle.redo_line.specs.declared.stream_fault.StreamFault.TheVariants.{OutOfMemory};
 ghost use Rattle.redo_wire.specs.declared.item.Item.{Item};
 ghost use Rattle.redo_wire.specs.Mailbox.{AreAllMet, AreEndsOf, AreOfSenders, AreWhole, IsOpened, meets};
 ghost use Rattle.redo_gather.specs.GatherFault.{IfStreamFault};
 ghost use Rattle.redo_gather.specs.Private.Collecting.{AllOwed, AllTaken, Holds, IsGathered};
+ghost use Rattle.redo_gather.specs.Streams.{Told};
 
 use crate::gate::Gate;
 use crate::gather_fault::GatherFault;
@@ -92,7 +92,7 @@ impl Collector {
     /// Takes what is left, once the ends of all senders were met, and answers the table, or the fault of the
     /// least-numbered stream that has one. Where an end is missing, or memory was refused, that is want of memory.
     pub fn finish<T: Wait, G: Gate>(mut self, rt: &T, gate: &G) -> Result<LogTable, GatherFault>
-        ensures gathered { (max_bytes : ℕ) (names : List (List ℕ)) (told : List (Option Stream)) → AllOwed max_bytes names told self →
+        ensures gathered { (max_bytes : ℕ) (names : List (List ℕ)) (told : List Told) → AllOwed max_bytes names told self →
             IsGathered max_bytes names told result }
         ensures no_memory { IfStreamFault result (λ number fault. fault ≢ OutOfMemory) }
     {
@@ -101,7 +101,7 @@ impl Collector {
 
     // Takes what is left, and answers the first fault in the table, or want of memory, if there is one.
     fn close<T: Wait, G: Gate>(&mut self, rt: &T, gate: &G) -> Result<(), GatherFault>
-        ensures gathered { (max_bytes : ℕ) (names : List (List ℕ)) (told : List (Option Stream)) → AllOwed max_bytes names told self.old →
+        ensures gathered { (max_bytes : ℕ) (names : List (List ℕ)) (told : List Told) → AllOwed max_bytes names told self.old →
             IsGathered max_bytes names told (result_and result (Ok self.new.table)) }
         ensures no_memory { IfStreamFault result (λ number fault. fault ≢ OutOfMemory) }
     {
@@ -133,7 +133,7 @@ impl Collector {
 
     // The first fault in the table, or want of memory, if there is one.
     fn outcome(&self) -> Result<(), GatherFault>
-        ensures gathered { (max_bytes : ℕ) (names : List (List ℕ)) (told : List (Option Stream)) → AllTaken max_bytes names told self.now →
+        ensures gathered { (max_bytes : ℕ) (names : List (List ℕ)) (told : List Told) → AllTaken max_bytes names told self.now →
             IsGathered max_bytes names told (result_and result (Ok self.now.table)) }
         ensures no_memory { IfStreamFault result (λ number fault. fault ≢ OutOfMemory) }
     {

@@ -5,13 +5,14 @@ ghost use Rattle.redo_line.specs.declared.stream_fault.StreamFault.TheVariants.{
 ghost use Rattle.redo_line.specs.Source.{sources};
 ghost use Rattle.redo_logs.specs.Logs.{has_ended, most, new_log, targets_of};
 ghost use Rattle.redo_gather.specs.GatherFault.{IfStreamFault};
-ghost use Rattle.redo_gather.specs.Streams.{AreLogs, IsFault};
+ghost use Rattle.redo_gather.specs.Streams.{AreLogs, IsFault, told_by, told_of};
 ghost use Rattle.redo_gather.specs.Private.Collecting.{Collects, IsGathered};
 ghost use Rattle.redo_gather.specs.Private.Dealing.{AreDealt, AreEmpty};
 
 use crate::collecting::Collector;
 use crate::gate::Gate;
 use crate::gather_fault::GatherFault;
+use crate::marking::with_marks;
 use crate::plan::Plan;
 use crate::sender::{Owing, Sender};
 use crate::sending::Share;
@@ -26,8 +27,9 @@ use std::thread;
 use std::thread::{PromisedHandle, Scope, Threads};
 
 /// Reads streams side by side, by the plan's senders, and answers the logs of their targets, in the order
-/// of the names. Each reader gives the stream of the name at the same place. There have to be as many
-/// readers as names, at most 1,048,575, and no name twice; there may be none.
+/// of the names. Each reader gives the stream of the name at the same place, which has to end with the record that
+/// closes its log where the mark at this place says so. There have to be as many marks and readers as names, at
+/// most 1,048,575, and no name twice; there may be none.
 ///
 /// Sender i reads the streams i, i + n, i + 2n and so on, in a thread of its own ([`crate::send`]); where there
 /// are fewer streams than senders, no more are started than there are streams. They post what they read into a
@@ -41,21 +43,23 @@ pub fn gather<T: Threads + Wait + Sync, R: Feed + Send, G: Gate>(
     rt: &T,
     alloc: Global,
     names: Vec<TargetName>,
+    marks: Vec<bool>,
     readers: Vec<R>,
     plan: &Plan,
     gate: &G,
 ) -> Result<LogTable, GatherFault>
+    requires marks { length marks.items ≡ length names.items }
     requires readers { length readers.items ≡ length names.items }
     requires distinct { IsDistinct (pointwise nat_eq) names.items }
     requires size { length names.items ≤ most }
 
     // The logs of the streams, all of them whole.
-    ensures logs { IfOk result (AreLogs plan.now.max_bytes names.items (map R.tells readers.items)) }
+    ensures logs { IfOk result (AreLogs plan.now.max_bytes names.items (told_of R.tells marks.items readers.items)) }
     ensures targets { IfOk result (λ table. targets_of table ≡ names.items) }
     ensures ended { IfOk result (λ table. list_all has_ended table ≡ true) }
 
     // The fault of the least-numbered stream that has one.
-    ensures fault { IfStreamFault result (IsFault plan.now.max_bytes names.items (map R.tells readers.items)) }
+    ensures fault { IfStreamFault result (IsFault plan.now.max_bytes names.items (told_of R.tells marks.items readers.items)) }
     ensures number { IfStreamFault result (λ number fault. number < length names.items) }
     ensures no_memory { IfStreamFault result (λ number fault. fault ≢ OutOfMemory) }
 {
@@ -64,6 +68,7 @@ pub fn gather<T: Threads + Wait + Sync, R: Feed + Send, G: Gate>(
     if senders == 0 {
         return Ok(table);
     }
+    let readers = with_marks(alloc, marks, readers)?;
     gather_by(rt, alloc, table, readers, senders, plan, gate)
 }
 
@@ -72,7 +77,7 @@ fn gather_by<T: Threads + Wait + Sync, R: Feed + Send, G: Gate>(
     rt: &T,
     alloc: Global,
     table: LogTable,
-    readers: Vec<R>,
+    readers: Vec<(bool, R)>,
     senders: u32,
     plan: &Plan,
     gate: &G,
@@ -81,7 +86,7 @@ fn gather_by<T: Threads + Wait + Sync, R: Feed + Send, G: Gate>(
     requires readers { length readers.items ≡ length table }
     requires size { length table ≤ most }
     requires senders { (1 ≤ senders) × (senders ≤ 64) }
-    ensures gathered { IsGathered plan.now.max_bytes (targets_of table) (map R.tells readers.items) result }
+    ensures gathered { IsGathered plan.now.max_bytes (targets_of table) (map (told_by R.tells) readers.items) result }
     ensures no_memory { IfStreamFault result (λ number fault. fault ≢ OutOfMemory) }
 {
     let shares = deal(alloc, &table, readers, senders)?;
@@ -134,21 +139,22 @@ fn collect_all<T: Threads + Wait + Sync, R: Feed + Send, G: Gate>(
 fn deal<R: Feed>(
     alloc: Global,
     table: &LogTable,
-    readers: Vec<R>,
+    readers: Vec<(bool, R)>,
     senders: u32,
 ) -> Result<Vec<Share<R>>, AllocError>
     requires readers { length readers.items ≡ length table.now }
     requires size { length readers.items ≤ most }
     requires senders { 0 < length readers.items → 0 < senders }
     ensures { IfOk result (λ shares.
-        AreDealt R.tells senders (sources (targets_of table.now) (map R.tells readers.items)) (map (λ share. share.items) shares.items)) }
+        AreDealt R.tells senders (sources (targets_of table.now) (map (told_by R.tells) readers.items))
+        (map (λ share. share.items) shares.items)) }
 {
     let mut shares = no_shares(alloc, senders)?;
     let mut number = 0;
-    for reader in readers {
+    for (must_close, reader) in readers {
         let target = table.name(number).copy(alloc)?;
         let sender = (number % senders) as usize;
-        shares[sender].push((number, target, reader))?;
+        shares[sender].push((number, target, must_close, reader))?;
         number += 1;
     }
     Ok(shares)

@@ -10,6 +10,7 @@ mod gate;
 mod gather_fault;
 mod gathering;
 mod laws;
+mod marking;
 mod one_stream;
 mod plain;
 mod plan;

@@ -23,6 +23,7 @@ pub fn read_stream<R: Feed, B: Fn(u64)>(
     alloc: Global,
     target: TargetName,
     max_bytes: u64,
+    must_close: bool,
     reader: &mut R,
     buf: &mut [u8],
     before_read: &B,
@@ -31,11 +32,11 @@ pub fn read_stream<R: Feed, B: Fn(u64)>(
     requires at_most { max_bytes ≤ 2 ^ 40 }
     requires room { 0 < length buf.old }
     requires callable { B.IsAlwaysCallable before_read.now }
-    ensures owed { IsOwedFor max_bytes (source target (R.tells reader.old)) result.entries result.fault }
+    ensures owed { IsOwedFor max_bytes (source target must_close (R.tells reader.old)) result.entries result.fault }
     ensures buf { length buf.new ≡ length buf.old }
 {
     let mut entries = Entries::new(alloc);
-    let scan = Scan::new(alloc, target, max_bytes);
+    let scan = Scan::new(alloc, target, max_bytes, must_close);
     match read_entries(&mut entries, scan, reader, buf, before_read) {
         Ok(()) => StreamLog {
             entries,
@@ -61,7 +62,7 @@ fn read_entries<R: Feed, B: Fn(u64)>(
     requires read { IsRead scan entries.old }
     requires room { 0 < length buf.old }
     requires callable { B.IsAlwaysCallable before_read.now }
-    ensures owed { IsOwedFor scan.max_bytes (source scan.target (R.tells reader.old)) entries.new (fault_in result) }
+    ensures owed { IsOwedFor scan.max_bytes (source scan.target scan.must_close (R.tells reader.old)) entries.new (fault_in result) }
     ensures buf { length buf.new ≡ length buf.old }
 {
     let mut scan = scan;
@@ -87,7 +88,7 @@ fn read_pieces<R: Feed, B: Fn(u64)>(
     requires callable { B.IsAlwaysCallable before_read.now }
     ensures ended { OnOk result (IsReadToEnd (R.tells reader.old) scan.old scan.new entries.new) }
     ensures owed { IfErr result (λ fault.
-        IsOwedFor scan.old.max_bytes (source scan.old.target (R.tells reader.old)) entries.new (Some fault)) }
+        IsOwedFor scan.old.max_bytes (source scan.old.target scan.old.must_close (R.tells reader.old)) entries.new (Some fault)) }
     ensures buf { length buf.new ≡ length buf.old }
 {
     let mut turn = 0;

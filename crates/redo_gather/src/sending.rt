@@ -22,8 +22,9 @@ const MOST_ENTRIES: usize = 1024;
 // An item has no entry more behind the one with which its texts and names come to so many bytes.
 const ENOUGH_BYTES: usize = 128 * 1024;
 
-/// The streams of one sender, in order: each has its number, the target of its log, and its reader.
-pub type Share<R> = Vec<(u32, TargetName, R)>;
+/// The streams of one sender, in order: each has its number, the target of its log, whether it has to end with the
+/// record that closes this log, and its reader.
+pub type Share<R> = Vec<(u32, TargetName, bool, R)>;
 
 /// Reads the streams of a share, one after another, posts what they tell at an end, and gives the end back.
 /// Of each stream it posts the entries of its log and an end; or those before its fault and the fault, and
@@ -48,7 +49,7 @@ pub fn send<T: Wait, R: Feed, G: Gate>(
     let mut end = end;
     let mut room = room_for_reads(alloc);
     let buf = room.as_mut_slice();
-    for (stream, target, mut reader) in share {
+    for (stream, target, must_close, mut reader) in share {
         let before_read = |turn| gate.before_read(rt, stream, turn);
         send_stream(
             rt,
@@ -57,6 +58,7 @@ pub fn send<T: Wait, R: Feed, G: Gate>(
             stream,
             target,
             max_bytes,
+            must_close,
             &mut reader,
             buf,
             &before_read,
@@ -81,6 +83,7 @@ fn send_stream<T: Wait, R: Feed, B: Fn(u64)>(
     stream: u32,
     target: TargetName,
     max_bytes: u64,
+    must_close: bool,
     reader: &mut R,
     buf: &mut [u8],
     before_read: &B,
@@ -88,9 +91,9 @@ fn send_stream<T: Wait, R: Feed, B: Fn(u64)>(
     requires at_least { 1 ≤ max_bytes }
     requires at_most { max_bytes ≤ 2 ^ 40 }
     requires callable { B.IsAlwaysCallable before_read.now }
-    ensures { IsStreamPosted max_bytes stream (source target (R.tells reader.old)) end.old end.new }
+    ensures { IsStreamPosted max_bytes stream (source target must_close (R.tells reader.old)) end.old end.new }
 {
-    let scan = Scan::new(alloc, target, max_bytes);
+    let scan = Scan::new(alloc, target, max_bytes, must_close);
     let answer = send_entries(rt, alloc, end, stream, scan, reader, buf, before_read);
     post(rt, end, stream, last_item(answer));
 }
@@ -120,7 +123,7 @@ fn send_entries<T: Wait, R: Feed, B: Fn(u64)>(
     requires begins { scan.bytes ≡ [] }
     requires read { IsRead scan [] }
     requires callable { B.IsAlwaysCallable before_read.now }
-    ensures { AreLinesPosted scan.max_bytes stream (source scan.target (R.tells reader.old)) end.old end.new result }
+    ensures { AreLinesPosted scan.max_bytes stream (source scan.target scan.must_close (R.tells reader.old)) end.old end.new result }
 {
     let mut scan = scan;
     send_pieces(rt, alloc, end, stream, &mut scan, reader, buf, before_read)?;

@@ -1,5 +1,5 @@
 //! How a test gathers streams.
-ghost use Rattle.std.specs.Prelude.{◌≡◌, true, IfOk};
+ghost use Rattle.std.specs.Prelude.{◌≡◌, true, IfOk, length};
 ghost use Rattle.std.specs.List.{list_all};
 ghost use Rattle.redo_logs.specs.Logs.{has_ended};
 
@@ -7,7 +7,7 @@ use redo_gather::{Gate, GatherFault, Plan, gather, gather_plain};
 use redo_given::names_of;
 use redo_line::Feed;
 use redo_logs::LogTable;
-use std::alloc::Global;
+use std::alloc::{AllocError, Global};
 use std::sync::Wait;
 use std::test::Fail;
 use std::thread::Threads;
@@ -47,7 +47,8 @@ pub fn gathered<R: Feed>(
     if max_bytes < 1 || max_bytes > 1 << 40 {
         return Err("no such limit".into());
     }
-    Ok(gather_plain(alloc, names, readers, max_bytes))
+    let marks = no_marks(alloc, names.len())?;
+    Ok(gather_plain(alloc, names, marks, readers, max_bytes))
 }
 
 /// The same, read in this way.
@@ -68,5 +69,13 @@ pub fn gathered_by<T: AllocGlobal + Threads + Wait + Sync, R: Feed + Send, G: Ga
         return Err("not a reader for each name".into());
     }
     let plan = Plan::new(senders, capacity, max_bytes)?;
-    Ok(gather(rt, alloc, names, readers, &plan, gate))
+    let marks = no_marks(alloc, names.len())?;
+    Ok(gather(rt, alloc, names, marks, readers, &plan, gate))
+}
+
+/// As many streams may end with any line.
+fn no_marks(alloc: Global, count: usize) -> Result<Vec<bool>, AllocError>
+    ensures { IfOk result (λ marks. length marks.items ≡ count) }
+{
+    vec![in alloc; false; count]
 }

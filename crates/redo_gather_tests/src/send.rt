@@ -30,10 +30,10 @@ fn member(
     number: u32,
     given: &Given<'_>,
     cut: Cut,
-) -> Result<(u32, TargetName, Pieces), Fail> {
+) -> Result<(u32, TargetName, bool, Pieces), Fail> {
     let (name, stream, fails) = given;
     let target = TargetName::resolve(alloc, None, name.as_bytes())?;
-    Ok((number, target, reader(alloc, stream, *fails, cut)?))
+    Ok((number, target, false, reader(alloc, stream, *fails, cut)?))
 }
 
 /// These are the items of the sender, in order.

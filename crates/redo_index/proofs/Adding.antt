@@ -7,18 +7,19 @@ use Rattle.std.proofs.lemmas.Bool.{le-leb, lt-leb}
 use Rattle.std.proofs.lemmas.List.{length-append, length-map, map_push}
 use Rattle.std.proofs.lemmas.Map.Made.{is_some-lookup}
 use Rattle.redo_index.specs.declared.index_fault.IndexFault.TheVariants.{NameTwice, TooMany}
+use Rattle.redo_index.specs.declared.index.LogFile.{LogFile}
 use Rattle.redo_index.specs.declared.listed.Listed.{Listed}
 use Rattle.redo_index.specs.Index.{most, numbers_of, names_of, listed_by, fault_after}
-use Rattle.redo_index.specs.Private.Entries.{Hold, HoldMore, listed_in}
+use Rattle.redo_index.specs.Private.Entries.{Hold, HoldMore, listed_at, listed_in}
 use Rattle.redo_index.proofs.Listing.{listed-more, listed-names}
 
-module _ (numbers : List ℕ) (entries : List (List ℕ × ℕ)) (listed : List Listed) (holds : Hold numbers entries listed)
-    (line : List ℕ) (number : ℕ) (name : List ℕ) (form : listed_by line ≡ Some (record { number = number; target = name })) (number_is_new : list_any (nat_eq number) numbers ≡ false) where
+module _ (numbers : List ℕ) (entries : List (List ℕ × LogFile)) (listed : List Listed) (holds : Hold numbers entries listed)
+    (line : List ℕ) (number : ℕ) (name : List ℕ) (must_close : Bool) (form : listed_by line ≡ Some (record { number = number; target = name; must_close = must_close })) (number_is_new : list_any (nat_eq number) numbers ≡ false) where
   count : length numbers ≡ length listed
   count = ap length holds.numbers_are ∙ length-map listed (λ one. one.number)
 
   entries_count : length entries ≡ length listed
-  entries_count = sym (length-map entries (λ entry. record { number = entry.1; target = entry.0 })) ∙ ap length holds.entries_are
+  entries_count = sym (length-map entries listed_at) ∙ ap length holds.entries_are
 
   no_number : list_any (nat_eq number) (numbers_of listed) ≡ false
   no_number = ap (list_any (nat_eq number)) (sym holds.numbers_are) ∙ number_is_new
@@ -37,13 +38,13 @@ module _ (numbers : List ℕ) (entries : List (List ℕ × ℕ)) (listed : List 
       rw (form, no_number, among false name_is_new, full)
 
   -- behind them the line is listed
-  pub one_more : is_some (lookup (pointwise nat_eq name) entries) ≡ false → length entries + 1 ≤ most → (numbers' : List ℕ) (entries' : List (List ℕ × ℕ)) → numbers' ≡ numbers ++ number ∷ []
-      → entries' ≡ entries ++ (name, number) ∷ [] → IsDistinct nat_eq numbers' → IsDistinct (pointwise nat_eq) (keys_of entries') → HoldMore listed line numbers' entries'
+  pub one_more : is_some (lookup (pointwise nat_eq name) entries) ≡ false → length entries + 1 ≤ most → (numbers' : List ℕ) (entries' : List (List ℕ × LogFile)) → numbers' ≡ numbers ++ number ∷ []
+      → entries' ≡ entries ++ (name, record { number = number; must_close = must_close }) ∷ [] → IsDistinct nat_eq numbers' → IsDistinct (pointwise nat_eq) (keys_of entries') → HoldMore listed line numbers' entries'
   one_more name_is_new few numbers' entries' numbers_are entries_are numbers_differ names_differ =
       let room : nat_le most (length listed) ≡ false = lt-leb most (length listed) (omega (arith, few, entries_count)) in
-      let last : Listed = record { number = number; target = name } in
+      let last : Listed = record { number = number; target = name; must_close = must_close } in
       let all_numbers : numbers' ≡ numbers_of (listed ++ last ∷ []) = numbers_are ∙ ap (λ ns. ns ++ number ∷ []) holds.numbers_are ∙ sym (map_push (λ (one : Listed). one.number) listed last) in
-      let all_entries : listed_in entries' ≡ listed ++ last ∷ [] = ap listed_in entries_are ∙ listed-more entries name number ∙ ap (λ (ls : List Listed). ls ++ last ∷ []) holds.entries_are in
+      let all_entries : listed_in entries' ≡ listed ++ last ∷ [] = ap listed_in entries_are ∙ listed-more entries (name, record { number = number; must_close = must_close }) ∙ ap (λ (ls : List Listed). ls ++ last ∷ []) holds.entries_are in
       record {
         last = last;
         form = form;

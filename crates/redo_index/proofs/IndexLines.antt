@@ -5,6 +5,7 @@ use Rattle.std.proofs.lemmas.List.{append_assoc, append-nil, length-append, nil_
 use Rattle.std.proofs.lemmas.List.Elements.{filter_map-append}
 use Rattle.std.specs.List.{cons_option}
 use Rattle.redo_line.specs.Lines.{all_lines}
+use Rattle.redo_index.specs.declared.index.LogFile.{LogFile}
 use Rattle.redo_index.specs.declared.index_fault.IndexFault.{IndexFault}
 use Rattle.redo_index.specs.Index.{listed_by, listed_by_all, fault_after, fault_at, IsFine, IsRefused}
 use Rattle.redo_index.specs.Private.Entries.{Hold, HoldMore}
@@ -37,7 +38,7 @@ fine_more before (next ∷ lines) line fine is =
     (fine.0, fine_more (before ++ next ∷ []) lines line fine.1 (ap (λ b. fault_at b line) (append_assoc before (next ∷ []) lines) ∙ is))
 
 -- what was read of an index: the lines before these bytes, and the numbers and the entries that they gave
-pub record SoFar (bytes left : List ℕ) (numbers : List ℕ) (entries : List (List ℕ × ℕ)) : Type 0 where
+pub record SoFar (bytes left : List ℕ) (numbers : List ℕ) (entries : List (List ℕ × LogFile)) : Type 0 where
   pub before : List (List ℕ)
   pub lines_are : all_lines bytes ≡ before ++ all_lines left
   pub fine : FineFrom [] before
@@ -53,7 +54,7 @@ nothing_yet bytes = record {
   holds = record { numbers_are = refl; entries_are = refl; fits = no_index };
 }
 
-module _ (bytes left : List ℕ) (numbers : List ℕ) (entries : List (List ℕ × ℕ)) (so_far : SoFar bytes left numbers entries) where
+module _ (bytes left : List ℕ) (numbers : List ℕ) (entries : List (List ℕ × LogFile)) (so_far : SoFar bytes left numbers entries) where
   module _ (line behind : List ℕ) (first : all_lines left ≡ line ∷ all_lines behind) where
     pub refused_here : (fault : IndexFault) → fault_after (length (listed_by_all so_far.before)) (listed_by_all so_far.before) (listed_by line) ≡ Some fault → IsRefused (all_lines bytes) fault
     refused_here fault refused = record {
@@ -65,7 +66,7 @@ module _ (bytes left : List ℕ) (numbers : List ℕ) (entries : List (List ℕ 
       refused = ap (λ n. fault_after n (listed_by_all so_far.before) (listed_by line)) (sym so_far.count) ∙ refused;
     }
 
-    pub one_more : (numbers' : List ℕ) (entries' : List (List ℕ × ℕ)) → HoldMore (listed_by_all so_far.before) line numbers' entries' → SoFar bytes behind numbers' entries'
+    pub one_more : (numbers' : List ℕ) (entries' : List (List ℕ × LogFile)) → HoldMore (listed_by_all so_far.before) line numbers' entries' → SoFar bytes behind numbers' entries'
     one_more numbers' entries' lists =
         let own : listed_by_all (line ∷ []) ≡ lists.last ∷ [] = ap (λ e. cons_option e []) lists.form in
         let more : listed_by_all (so_far.before ++ line ∷ []) ≡ listed_by_all so_far.before ++ lists.last ∷ [] =

@@ -1,5 +1,5 @@
 -- What an index lists, and which of its lines is refused.
-use Rattle.std.specs.Prelude.{◌≡◌, ℕ, ◌+◌, ◌≤◌, nat_le, nat_eq, Bool, false, not, ◌==◌, ◌&&◌, List, [], ◌∷◌, ◌++◌, Option, None, Some, length, map, filter_map, if◌then◌else◌}
+use Rattle.std.specs.Prelude.{◌≡◌, ℕ, ◌+◌, ◌≤◌, nat_le, nat_eq, Bool, true, false, not, ◌==◌, ◌&&◌, List, [], ◌∷◌, ◌++◌, Option, None, Some, length, map, filter_map, if◌then◌else◌}
 use Rattle.std.specs.List.{list_any, before_first, after_first, IsDistinct}
 use Rattle.std.specs.Cmp.Lexicographic.{pointwise}
 use Rattle.redo_line.specs.Decimal.{are_digits}
@@ -24,18 +24,27 @@ is_number (first ∷ others) = not (first == 48) && are_digits 9 (first ∷ othe
 abbrev pub number_of : List ℕ → Option ℕ
 number_of bytes = if is_number bytes then Some (decimal.number bytes) else None
 
-abbrev pub both : Option ℕ → Option (List ℕ) → Option Listed
-both None name = None
-both (Some number) None = None
-both (Some number) (Some name) = Some (record { number = number; target = name })
+abbrev pub both : Bool → Option ℕ → Option (List ℕ) → Option Listed
+both must_close None name = None
+both must_close (Some number) None = None
+both must_close (Some number) (Some name) = Some (record { number = number; target = name; must_close = must_close })
 
 abbrev pub is_space : ℕ → Bool
 is_space byte = byte == 32
 
--- What a line lists, if it is of the form: a number stands before its first space, and a name behind it. Behind
--- none stands nothing, which is no name.
-unfoldable pub listed_by : List ℕ → Option Listed
-listed_by line = both (number_of (before_first is_space line)) (normal None (after_first is_space line))
+-- What a line lists that is marked or not, if it is of the form: a number stands before its first space, and a name
+-- behind it. Behind none stands nothing, which is no name.
+unfoldable pub listed_as : Bool → List ℕ → Option Listed
+listed_as must_close line = both must_close (number_of (before_first is_space line)) (normal None (after_first is_space line))
+
+-- a line that begins with this byte is marked
+abbrev pub is_mark : ℕ → Bool
+is_mark byte = byte == 33
+
+-- what a line lists: of one that is marked, what stands behind the mark
+abbrev pub listed_by : List ℕ → Option Listed
+listed_by [] = listed_as false []
+listed_by (first ∷ others) = if is_mark first then listed_as true others else listed_as false (first ∷ others)
 
 -- ---- all lines
 
@@ -48,6 +57,9 @@ numbers_of index = map (λ listed. listed.number) index
 
 abbrev pub names_of : List Listed → List (List ℕ)
 names_of index = map (λ listed. listed.target) index
+
+abbrev pub marks_of : List Listed → List Bool
+marks_of index = map (λ listed. listed.must_close) index
 
 -- Why a line is refused, after as many lines and what these list; the causes in their order.
 abbrev pub fault_after : ℕ → List Listed → Option Listed → Option IndexFault

@@ -4,7 +4,7 @@ ghost use Rattle.std.specs.List.{IsDistinct};
 ghost use Rattle.redo_line.specs.Lines.{all_lines};
 ghost use Rattle.redo_index.specs.declared.index_fault.IndexFault.TheVariants.{OutOfMemory};
 ghost use Rattle.redo_index.specs.declared.listed.Listed.{Listed};
-ghost use Rattle.redo_index.specs.Index.{most, numbers_of, names_of, listed_by, number_of, IsIndex, IsIndexOf, IsRefused};
+ghost use Rattle.redo_index.specs.Index.{most, numbers_of, names_of, marks_of, listed_as, listed_by, number_of, IsIndex, IsIndexOf, IsRefused};
 ghost use Rattle.redo_index.specs.Private.Entries.{Hold, HoldMore, IsFaultBehind};
 
 use crate::index_fault::IndexFault;
@@ -22,8 +22,15 @@ const MOST: usize = 1_048_575;
 /// they are listed. No number and no name stands in it twice, and it lists at most 1,048,575.
 #[derive(Drop)]
 pub struct Index {
-    // What is listed of each target, by its name.
-    targets: IndexMap<TargetName, u32>,
+    // The log file of each target, by its name.
+    targets: IndexMap<TargetName, LogFile>,
+}
+
+/// The file that has the log of a target: its number, and whether it has to end with the record that closes the log.
+#[derive(Clone, Copy)]
+struct LogFile {
+    number: u32,
+    must_close: bool,
 }
 
 impl Model for Index {
@@ -64,7 +71,16 @@ impl Index {
         requires { i < length self.now }
         ensures { slice_get (numbers_of self.now) i ≡ Some result }
     {
-        self.targets[i as usize]
+        self.targets[i as usize].number
+    }
+
+    /// Whether the stream of the target that is listed at the place `i` has to end with the record that closes
+    /// its log. Places are counted from 0, and `i` has to be one of them.
+    pub fn must_close(&self, i: u32) -> bool
+        requires { i < length self.now }
+        ensures { slice_get (marks_of self.now) i ≡ Some result }
+    {
+        self.targets[i as usize].must_close
     }
 
     /// The name of the target that is listed at the place `i`. Places are counted from 0, and `i`
@@ -93,6 +109,17 @@ impl Index {
         Ok(names)
     }
 
+    /// Of all targets, whether their streams have to end with the record that closes their logs.
+    pub fn marks(&self, alloc: Global) -> Result<Vec<bool>, AllocError>
+        ensures { IfOk result (λ marks. marks.items ≡ marks_of self.now) }
+    {
+        let mut marks = Vec::with_capacity(alloc, self.targets.len())?;
+        for i in 0..self.len() {
+            marks.push(self.must_close(i))?;
+        }
+        Ok(marks)
+    }
+
     /// The place where a target is listed, if it is. The look-up is by hash.
     pub fn find(&self, name: &TargetName) -> Option<u32>
         ensures { result ≡ position (pointwise nat_eq name.now) (names_of self.now) }
@@ -104,7 +131,7 @@ impl Index {
     }
 }
 
-/// Reads an index: lines of which each is a number, a space and the name of a target. A refusal
+/// Reads an index: lines of which each is a number, a space and the name of a target, perhaps behind a mark. A refusal
 /// names the least line that can't be listed, with its first cause. docs/format.md has the rule.
 pub fn read_index(alloc: Global, bytes: &[u8]) -> Result<Index, IndexFault>
     ensures listed { IfOk result (λ index. IsIndexOf (all_lines bytes.now) index) }
@@ -137,7 +164,7 @@ fn first_line(bytes: &[u8]) -> (&[u8], &[u8])
 fn add(
     alloc: Global,
     numbers: &mut IndexSet<u32>,
-    targets: &mut IndexMap<TargetName, u32>,
+    targets: &mut IndexMap<TargetName, LogFile>,
     line: &[u8],
 ) -> Result<(), IndexFault>
     ensures holds { (listed : List Listed) → Hold numbers.old.keys targets.old.entries listed →
@@ -146,14 +173,22 @@ fn add(
         IfErr result (λ fault. IsFaultBehind listed line.now fault) }
 {
     let place = numbers.len() as u64 + 1;
-    let Some(Listed { number, target }) = read_listed(alloc, line)? else {
+    let Some(
+        Listed {
+            number,
+            target,
+            must_close,
+        },
+    ) = read_listed(alloc, line)?
+    else {
         return Err(IndexFault::BadLine { line: place });
     };
     let (_, differs) = numbers.insert_full(number)?;
     if !differs {
         return Err(IndexFault::FidTwice { line: place });
     }
-    if targets.insert(target, number)?.is_some() {
+    let file = LogFile { number, must_close };
+    if targets.insert(target, file)?.is_some() {
         return Err(IndexFault::NameTwice { line: place });
     }
     if targets.len() > MOST {
@@ -166,6 +201,21 @@ fn add(
 fn read_listed(alloc: Global, line: &[u8]) -> Result<Option<Listed>, AllocError>
     ensures { IfOk result (λ listed. listed ≡ listed_by line.now) }
 {
+    if !line.is_empty() && line[0] == b'!' {
+        read_listed_as(alloc, true, &line[1..])
+    } else {
+        read_listed_as(alloc, false, line)
+    }
+}
+
+// What a line lists that is marked or not, or what stands behind the mark.
+fn read_listed_as(
+    alloc: Global,
+    must_close: bool,
+    line: &[u8],
+) -> Result<Option<Listed>, AllocError>
+    ensures { IfOk result (λ listed. listed ≡ listed_as must_close line.now) }
+{
     let Some(at) = memchr(b' ', line) else {
         return Ok(None);
     };
@@ -173,7 +223,11 @@ fn read_listed(alloc: Global, line: &[u8]) -> Result<Option<Listed>, AllocError>
         return Ok(None);
     };
     match TargetName::resolve(alloc, None, &line[at + 1..]) {
-        Ok(target) => Ok(Some(Listed { number, target })),
+        Ok(target) => Ok(Some(Listed {
+            number,
+            target,
+            must_close,
+        })),
         Err(NameFault::Empty) => Ok(None),
         Err(NameFault::OutOfMemory) => Err(AllocError),
     }

@@ -5,7 +5,7 @@ use Rattle.std.proofs.lemmas.Bool.{ltb-true, ltb-false, lt-ltb, le-ltb}
 use Rattle.std.proofs.lemmas.List.{append_assoc, map-append, length-append, length-map, take_all, take-append-le}
 use Rattle.redo_line.specs.declared.entry.Entry.{Entry}
 use Rattle.redo_line.specs.declared.stream_fault.StreamFault.{StreamFault}
-use Rattle.redo_line.specs.declared.stream_fault.StreamFault.TheVariants.{BadRecord, AfterClose, TooLong, Read, OutOfMemory}
+use Rattle.redo_line.specs.declared.stream_fault.StreamFault.TheVariants.{BadRecord, AfterClose, TooLong, Read, OutOfMemory, NotClosed}
 use Rattle.redo_line.specs.Entry.{entry_of}
 use Rattle.redo_line.specs.Laws.{IsMetEarly}
 use Rattle.redo_line.specs.Fault.{ending_fault}
@@ -114,6 +114,7 @@ not_a_read (AfterClose line) met is = absurd (cc)
 not_a_read TooLong met is = absurd (cc)
 not_a_read Read met is = absurd met
 not_a_read OutOfMemory met is = absurd met
+not_a_read NotClosed met is = absurd met
 
 -- lines that stand behind the one at fault are not before it
 pub lines_before-append : (place : ℕ) (fault : StreamFault) (lines more : List (List ℕ)) → IsFaultAt 1 place fault → place ≤ length lines

@@ -74,8 +74,8 @@ first_fault_known p u [] fault after of_place is =
 first_fault_known p u (byte ∷ left) fault after of_place is = one_fault p u after byte fault of_place is
 
 -- the same of a scan as it is seen, which came so far
-pub known_of : (p : Progress) (u left : List ℕ) (refused : Option StreamFault) (seen : Scanned) (fault : StreamFault)
-    → record { target = p.target; max_bytes = p.max_bytes; bytes = u; refused = refused } ≡ seen → IsAfter p u → RefusesFirst seen left fault → first_byte_fault p left ≡ Some fault
-known_of p u left refused seen fault seen_is after first =
-    let here : RefusesFirst (record { target = p.target; max_bytes = p.max_bytes; bytes = u; refused = refused }) left fault = subst (λ (s : Scanned). RefusesFirst s left fault) (sym seen_is) first in
+pub known_of : (p : Progress) (u left : List ℕ) (must_close : Bool) (refused : Option StreamFault) (seen : Scanned) (fault : StreamFault)
+    → record { target = p.target; max_bytes = p.max_bytes; must_close = must_close; bytes = u; refused = refused } ≡ seen → IsAfter p u → RefusesFirst seen left fault → first_byte_fault p left ≡ Some fault
+known_of p u left must_close refused seen fault seen_is after first =
+    let here : RefusesFirst (record { target = p.target; max_bytes = p.max_bytes; must_close = must_close; bytes = u; refused = refused }) left fault = subst (λ (s : Scanned). RefusesFirst s left fault) (sym seen_is) first in
     first_fault_known p u left fault after here.of_place here.fault_is

@@ -21,5 +21,7 @@ mod RecordRows
 mod ScanEnds
 mod ScanLemmas
 mod ScanSteps
+pub mod SourceLemmas
+mod SourceRows
 mod StatusLemmas
 mod Stripping

@@ -10,11 +10,11 @@ use Rattle.redo_line.specs.declared.stream_fault.StreamFault.TheVariants.{BadRec
 use Rattle.redo_line.specs.Entry.{entry_of}
 use Rattle.redo_line.specs.Fault.{ending_fault}
 use Rattle.redo_device.specs.Feed.{Stream}
-use Rattle.redo_line.specs.Laws.{IsFront, HasEachEntry, ClosesLast, EntriesLeadPart, EntriesLeadLog}
+use Rattle.redo_line.specs.Laws.{IsFront, HasEachEntry, ClosesLast}
 use Rattle.redo_line.specs.Lines.{ended, rest}
-use Rattle.redo_line.specs.Log.{stream_of, closes, line_entries, entries_of, first_fault, line_fault, or_else, fault_of, lines_before, unless_fault, log_of}
+use Rattle.redo_line.specs.Log.{stream_of, closes, line_entries, entries_of, first_fault, line_fault, or_else, fault_of, lines_before, part_of, unless_fault, log_of}
 use Rattle.redo_line.specs.Private.Progress.{closed_by}
-use Rattle.redo_line.specs.Scan.{so_far, fault_so_far}
+use Rattle.redo_line.specs.Scan.{so_far, entries_so_far, fault_so_far}
 use Rattle.redo_line.proofs.EntryListLemmas.{first_fault-append-none, first_fault-front-none, IsFaultAt, fault_within, each_some}
 use Rattle.redo_line.proofs.FaultLemmas.{rest_entries, entries_of-append, no_fault, an_entry_for_each_line}
 use Rattle.redo_line.proofs.LineLemmas.{ended-append}
@@ -139,10 +139,12 @@ module _ (target : List ℕ) (max_bytes : ℕ) (u more : List ℕ) (fails : Bool
             ∙ ap (λ es. es ++ filter_map (λ entry. entry) (entries_of target (rest u ++ more))) (each_found target (ended u)),
       )
 
-pub entries_lead_part : (target : List ℕ) (max_bytes : ℕ) → EntriesLeadPart target max_bytes
+pub entries_lead_part : (target : List ℕ) (max_bytes : ℕ) (bytes more : List ℕ) (fails : Bool) → fault_so_far target max_bytes bytes ≡ None
+    → IsFront (entries_so_far target max_bytes bytes) (part_of target max_bytes (stream_of (bytes ++ more) fails))
 entries_lead_part target max_bytes bytes more fails fine =
     rw (fine_part target max_bytes bytes fine (fine_u target max_bytes bytes more fails fine).1) (lead_part target max_bytes bytes more fails fine)
 
-pub entries_lead_log : (target : List ℕ) (max_bytes : ℕ) → EntriesLeadLog target max_bytes
+pub entries_lead_log : (target : List ℕ) (max_bytes : ℕ) (bytes more : List ℕ) (fails : Bool) → fault_so_far target max_bytes bytes ≡ None
+    → IfSome (log_of target max_bytes (stream_of (bytes ++ more) fails)) (IsFront (entries_so_far target max_bytes bytes))
 entries_lead_log target max_bytes bytes more fails fine =
     rw (fine_part target max_bytes bytes fine (fine_u target max_bytes bytes more fails fine).1) (lead_log target max_bytes bytes more fails fine)

@@ -105,10 +105,10 @@ a_failed_read_leaves_no_log = refl
 
 -- a scan that took a closing record, and one that took as many bytes as it may
 abbrev behind_closing : Scanned
-behind_closing = record { target = codes "a"; max_bytes = most; bytes = closing; refused = None }
+behind_closing = record { target = codes "a"; max_bytes = most; must_close = false; bytes = closing; refused = None }
 
 abbrev at_the_limit : Scanned
-at_the_limit = record { target = codes "a"; max_bytes = 27; bytes = closing; refused = None }
+at_the_limit = record { target = codes "a"; max_bytes = 27; must_close = false; bytes = closing; refused = None }
 
 a_late_byte_is_refused_first : RefusesFirst behind_closing (codes "zz") (AfterClose 2)
 unfolding cutting ended rest first_fault entry_of record_entry fields_of status_of parted behind number normal from_back

@@ -3,7 +3,7 @@ use Rattle.std.specs.Prelude.{◌≡◌, ℕ, ◌+◌, ◌-◌, ◌<◌, Bool, t
 use Rattle.redo_line.specs.declared.entry.Entry.{Entry}
 use Rattle.redo_line.specs.declared.entry.Entry.TheVariants.{Text, Mention, Done, Closing, Note}
 use Rattle.redo_line.specs.declared.stream_fault.StreamFault.{StreamFault}
-use Rattle.redo_line.specs.declared.stream_fault.StreamFault.TheVariants.{BadRecord, AfterClose, TooLong, Read, OutOfMemory}
+use Rattle.redo_line.specs.declared.stream_fault.StreamFault.TheVariants.{BadRecord, AfterClose, TooLong, Read, OutOfMemory, NotClosed}
 use Rattle.redo_device.specs.Feed.{Stream}
 use Rattle.redo_line.specs.Fault.{ending_fault}
 use Rattle.redo_line.specs.Lines.{ended, rest, unended, all_lines}
@@ -77,7 +77,7 @@ abbrev pub or_else : Option StreamFault → Option StreamFault → Option Stream
 or_else (Some fault) other = Some fault
 or_else None other = other
 
--- The fault of a stream with so many bytes allowed. A line counts for it as far as its bytes are among these.
+-- The fault of a stream that may end with any line, with so many bytes allowed. A line counts for it as far as its bytes are among these.
 abbrev pub fault_of : List ℕ → ℕ → Stream → Option StreamFault
 fault_of target max_bytes stream = or_else (line_fault target (take max_bytes stream.bytes)) (ending_fault max_bytes stream)
 
@@ -88,6 +88,7 @@ lines_before (Some (AfterClose line)) lines = take (line - 1) lines
 lines_before (Some TooLong) lines = lines
 lines_before (Some Read) lines = lines
 lines_before (Some OutOfMemory) lines = lines
+lines_before (Some NotClosed) lines = lines
 lines_before None lines = lines
 
 -- the entries of the ended lines before a fault

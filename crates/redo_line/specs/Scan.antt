@@ -1,20 +1,23 @@
 -- What a scan took, and what it answers.
-use Rattle.std.specs.Prelude.{◌≡◌, ℕ, true, false, ◌⊎◌, List, [], ◌∷◌, ◌++◌, Option, None, Some, take}
+use Rattle.std.specs.Prelude.{◌≡◌, ℕ, Bool, true, false, ◌⊎◌, List, [], ◌∷◌, ◌++◌, Option, None, Some, take}
 use Rattle.redo_line.specs.declared.entry.Entry.{Entry}
 use Rattle.redo_line.specs.declared.entry.Entry.TheVariants.{Text}
 use Rattle.redo_line.specs.declared.scan.Step.{Step}
 use Rattle.redo_line.specs.declared.scan.Step.TheVariants.{Found, More}
 use Rattle.redo_line.specs.declared.stream_fault.StreamFault.{StreamFault}
-use Rattle.redo_line.specs.declared.stream_fault.StreamFault.TheVariants.{BadRecord, AfterClose, TooLong, Read, OutOfMemory}
+use Rattle.redo_line.specs.declared.stream_fault.StreamFault.TheVariants.{BadRecord, AfterClose, TooLong, Read, OutOfMemory, NotClosed}
 use Rattle.redo_device.specs.Feed.{Stream}
 use Rattle.redo_line.specs.Lines.{ended, rest}
 use Rattle.redo_line.specs.Entry.{entry_of}
 use Rattle.redo_line.specs.Log.{stream_of, fault_of, part_of}
+use Rattle.redo_line.specs.Source.{Source, source}
 
--- A scan as contracts see it: of whose log, how many bytes this may have, the bytes that were taken, and what was refused.
+-- A scan as contracts see it: of whose log, how many bytes this may have, whether it has to be closed, the bytes that
+-- were taken, and what was refused.
 pub record Scanned : Type 0 where
   pub target : List ℕ
   pub max_bytes : ℕ
+  pub must_close : Bool
   pub bytes : List ℕ
   pub refused : Option StreamFault
 
@@ -62,11 +65,11 @@ pub record IsFine (scan : Scanned) : Type 0 where
 
 -- it took these bytes too
 abbrev pub took : List ℕ → Scanned → Scanned
-took bytes scan = record { target = scan.target; max_bytes = scan.max_bytes; bytes = scan.bytes ++ bytes; refused = None }
+took bytes scan = record { target = scan.target; max_bytes = scan.max_bytes; must_close = scan.must_close; bytes = scan.bytes ++ bytes; refused = None }
 
 -- it refused with this fault, and took nothing
 abbrev pub refused_with : StreamFault → Scanned → Scanned
-refused_with fault scan = record { target = scan.target; max_bytes = scan.max_bytes; bytes = scan.bytes; refused = Some fault }
+refused_with fault scan = record { target = scan.target; max_bytes = scan.max_bytes; must_close = scan.must_close; bytes = scan.bytes; refused = Some fault }
 
 -- these bytes were taken: they end one line more, and with it comes its entry
 abbrev pub Finds : Scanned → Scanned → List ℕ → Entry → Type 0
@@ -93,6 +96,7 @@ IsOfPlace (AfterClose line) = Unit {0}
 IsOfPlace TooLong = Unit {0}
 IsOfPlace Read = ⊥
 IsOfPlace OutOfMemory = ⊥
+IsOfPlace NotClosed = ⊥
 
 -- a scan that refused nothing yet has to refuse the very first of these bytes by where it stands
 pub record RefusesFirst (scan : Scanned) (bytes : List ℕ) (fault : StreamFault) : Type 0 where
@@ -103,6 +107,10 @@ pub record RefusesFirst (scan : Scanned) (bytes : List ℕ) (fault : StreamFault
 -- the entries of the lines that ended in the bytes taken
 abbrev pub entries_in : Scanned → List Entry
 entries_in scan = entries_so_far scan.target scan.max_bytes scan.bytes
+
+-- the log that is scanned is made from this, if an end of input stands behind the bytes taken
+abbrev pub source_in : Scanned → Source Stream
+source_in scan = source scan.target scan.must_close (so_far scan.bytes)
 
 -- a fact of an entry and of the place after its line
 abbrev pub IfFound : Step → (Entry → ℕ → Type 0) → Type 0

@@ -1,11 +1,12 @@
 //! Laws about the definitions alone: their contracts are theorems, and their bodies are empty.
-ghost use Rattle.std.specs.Prelude.{◌≡◌, ℕ, Bool, true, List, ◌++◌, None, Some, IfSome, IsSome};
+ghost use Rattle.std.specs.Prelude.{◌≡◌, ℕ, Bool, true, false, List, ◌++◌, None, Some, IfSome, IsSome};
 ghost use Rattle.redo_device.specs.Feed.{Stream};
 ghost use Rattle.redo_line.specs.declared.stream_fault.StreamFault.{StreamFault};
 ghost use Rattle.redo_line.specs.Entry.{IsEntry, entry_of};
 ghost use Rattle.redo_line.specs.Laws.{IsOnly, IsOnlyCutting, HasEachEntry, ClosesLast, EarlyFaultStays, PartBeforeItStays, FailedReadIsFault, FailedReadLosesNone, EntriesLeadPart, EntriesLeadLog};
 ghost use Rattle.redo_line.specs.Lines.{AreLines, ended, rest};
-ghost use Rattle.redo_line.specs.Log.{IsFineLine, IsLeastFault, line_fault, log_of};
+ghost use Rattle.redo_line.specs.Log.{IsFineLine, IsLeastFault, fault_of, line_fault, log_of};
+ghost use Rattle.redo_line.specs.Source.{Source, fault_from, log_from, source};
 ghost use Rattle.redo_line.specs.Record.{Fields, IsRecord};
 
 /// Bytes are cut into lines and a rest in just one way.
@@ -43,29 +44,37 @@ pub fn least_line_at_fault()
 /// A bad record, a line behind the closing one or too many bytes are met before a stream was read to its
 /// end. Such a fault is that of the whole stream, and the same entries stand before it.
 pub fn early_fault()
-    ensures fault { (target : List ℕ) (max_bytes : ℕ) → EarlyFaultStays target max_bytes }
-    ensures part { (target : List ℕ) (max_bytes : ℕ) → PartBeforeItStays target max_bytes }
+    ensures fault { (target : List ℕ) (max_bytes : ℕ) (must_close : Bool) → EarlyFaultStays target max_bytes must_close }
+    ensures part { (target : List ℕ) (max_bytes : ℕ) (must_close : Bool) → PartBeforeItStays target max_bytes must_close }
 {}
 
 /// Where a read fails behind bytes that have no fault, that is the fault, and no entry is lost.
 pub fn failed_read()
-    ensures fault { (target : List ℕ) (max_bytes : ℕ) → FailedReadIsFault target max_bytes }
-    ensures part { (target : List ℕ) (max_bytes : ℕ) → FailedReadLosesNone target max_bytes }
+    ensures fault { (target : List ℕ) (max_bytes : ℕ) (must_close : Bool) → FailedReadIsFault target max_bytes must_close }
+    ensures part { (target : List ℕ) (max_bytes : ℕ) (must_close : Bool) → FailedReadLosesNone target max_bytes must_close }
 {}
 
 /// Where bytes have no fault, their entries are the first ones of every stream that begins with them: of
 /// those before its fault, if it has one, and of its log, if it has that.
 pub fn entries_stay()
-    ensures part { (target : List ℕ) (max_bytes : ℕ) → EntriesLeadPart target max_bytes }
-    ensures log { (target : List ℕ) (max_bytes : ℕ) → EntriesLeadLog target max_bytes }
+    ensures part { (target : List ℕ) (max_bytes : ℕ) (must_close : Bool) → EntriesLeadPart target max_bytes must_close }
+    ensures log { (target : List ℕ) (max_bytes : ℕ) (must_close : Bool) → EntriesLeadLog target max_bytes must_close }
+{}
+
+/// A log that need not be closed is that of the stream's bytes alone, and so is its fault.
+pub fn may_end_with_any_line()
+    ensures fault { (target : List ℕ) (max_bytes : ℕ) (stream : Stream) →
+        fault_from max_bytes (source target false stream) ≡ fault_of target max_bytes stream }
+    ensures log { (target : List ℕ) (max_bytes : ℕ) (stream : Stream) →
+        log_from max_bytes (source target false stream) ≡ log_of target max_bytes stream }
 {}
 
 /// A log has one entry for each line of its stream, in order.
 pub fn an_entry_for_each_line()
-    ensures { (target : List ℕ) (max_bytes : ℕ) (stream : Stream) → IfSome (log_of target max_bytes stream) (HasEachEntry target stream) }
+    ensures { (max_bytes : ℕ) (given : Source Stream) → IfSome (log_from max_bytes given) (HasEachEntry given.target given.stream) }
 {}
 
 /// In a log nothing stands behind the record that closes it.
 pub fn closing_stands_last()
-    ensures { (target : List ℕ) (max_bytes : ℕ) (stream : Stream) → IfSome (log_of target max_bytes stream) ClosesLast }
+    ensures { (max_bytes : ℕ) (given : Source Stream) → IfSome (log_from max_bytes given) ClosesLast }
 {}

@@ -27,7 +27,8 @@ pub use entries::{Entries, EntryAt, Layout};
 pub use entry::{Entry, How};
 pub use laws::{
     an_entry_for_each_line, closing_stands_last, cutting_goes_on, early_fault, entries_stay,
-    entry_of_a_line, failed_read, least_line_at_fault, one_cutting, one_reading,
+    entry_of_a_line, failed_read, least_line_at_fault, may_end_with_any_line, one_cutting,
+    one_reading,
 };
 pub use line::{LineFault, read_line};
 pub use line_text::LineText;

@@ -129,6 +129,13 @@ impl Progress {
         }
     }
 
+    // Whether the last line that ended closes the log.
+    pub fn is_closed(&self) -> bool
+        ensures { result ≡ self.now.closed }
+    {
+        self.closed
+    }
+
     // The unended line of all bytes that were taken.
     pub fn finish(self) -> Option<LineText>
         ensures { result ≡ unended self.kept }

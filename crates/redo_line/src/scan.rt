@@ -1,9 +1,9 @@
 ghost use Rattle.std.specs.Prelude.{◌≡◌, ◌≢◌, ◌<◌, ◌≤◌, ◌^◌, ◌++◌, [], None, Some, Ok, Err, IfOk, IfErr, IfSome, IfNone, length, drop, slice_range, option_to_list};
 ghost use Rattle.redo_line.specs.Lines.{rest, unended};
-ghost use Rattle.redo_line.specs.Log.{log_of};
-ghost use Rattle.redo_line.specs.Scan.{Finds, FindsMore, TakesAll, IfFound, IfMore, IsFine, MayRefuse, RefusesFirst, entries_in, refused_with, so_far, text_of};
+ghost use Rattle.redo_line.specs.Source.{fault_from, log_from};
+ghost use Rattle.redo_line.specs.Scan.{Finds, FindsMore, TakesAll, IfFound, IfMore, IsFine, MayRefuse, RefusesFirst, entries_in, refused_with, source_in, text_of};
 ghost use Rattle.redo_line.specs.declared.stream_fault.StreamFault.{StreamFault};
-ghost use Rattle.redo_line.specs.declared.stream_fault.StreamFault.TheVariants.{Read};
+ghost use Rattle.redo_line.specs.declared.stream_fault.StreamFault.TheVariants.{NotClosed, Read};
 
 use crate::entries::Entries;
 use crate::entry::Entry;
@@ -29,6 +29,7 @@ pub enum Step {
 pub struct Scan {
     alloc: Global,
     progress: Progress,
+    must_close: bool,
     history: History,
     refused: Option<StreamFault>,
 }
@@ -42,6 +43,7 @@ impl Model for Scan {
     ghost view = { λ scan. record {
       target = scan.progress.target;
       max_bytes = scan.progress.max_bytes;
+      must_close = scan.must_close;
       bytes = scan.history.bytes;
       refused = scan.refused;
     } };
@@ -51,17 +53,20 @@ impl Model for Scan {
 
 impl Scan {
     /// A scan of the log of a target, which may have `max_bytes` bytes, from 1 to
-    /// 1,099,511,627,776. It asks for no memory, and its calls take theirs from `alloc`.
-    pub fn new(alloc: Global, target: TargetName, max_bytes: u64) -> Scan
+    /// 1,099,511,627,776. Where it `must_close`, its stream has to end with the record that closes the log.
+    /// The scan asks for no memory, and its calls take theirs from `alloc`.
+    pub fn new(alloc: Global, target: TargetName, max_bytes: u64, must_close: bool) -> Scan
         requires at_least { 1 ≤ max_bytes }
         requires at_most { max_bytes ≤ 2 ^ 40 }
-        ensures scan { result ≡ record { target = target; max_bytes = max_bytes; bytes = []; refused = None } }
+        ensures scan { result ≡
+            record { target = target; max_bytes = max_bytes; must_close = must_close; bytes = []; refused = None } }
         ensures fine { IsFine result }
         ensures none_found { entries_in result ≡ [] }
     {
         Scan {
             alloc,
             progress: Progress::new(alloc, target, max_bytes),
+            must_close,
             history: History::none(),
             refused: None,
         }
@@ -71,8 +76,8 @@ impl Scan {
     /// again with the place that it answered, until it answers `More`; then with the next piece.
     ///
     /// A stream is refused at the first line that is at fault, or at the first byte past the limit;
-    /// docs/format.md has the rule. `Read` is never answered. Whatever was refused, want of memory
-    /// too, is answered to every later call.
+    /// docs/format.md has the rule. `Read` and `NotClosed` are never answered. Whatever was refused, want
+    /// of memory too, is answered to every later call.
     pub fn step(&mut self, piece: &[u8], from: usize) -> Result<Step, StreamFault>
         requires { from ≤ length piece.now }
 
@@ -159,21 +164,41 @@ impl Scan {
         }
     }
 
-    /// The unended line of all bytes that were taken, as text, or `None` if there is none. What was
-    /// refused before is answered again.
+    /// The unended line of all bytes that were taken, as text, or `None` if there is none; or `NotClosed`, where
+    /// the log has to be closed and isn't. What was refused before is answered again.
     pub fn finish(self) -> Result<Option<Entry>, StreamFault>
-        ensures rest { self.refused ≡ None → result ≡ Ok (text_of (unended (rest self.bytes))) }
+        ensures rest { self.refused ≡ None → IfOk result (λ last. last ≡ text_of (unended (rest self.bytes))) }
         ensures log { self.refused ≡ None →
-            IfOk result (λ last. log_of self.target self.max_bytes (so_far self.bytes) ≡ Some (entries_in self ++ option_to_list last)) }
+            IfOk result (λ last. log_from self.max_bytes (source_in self) ≡ Some (entries_in self ++ option_to_list last)) }
+        ensures not_closed { self.refused ≡ None →
+            IfErr result (λ fault. (fault ≡ NotClosed) × (fault_from self.max_bytes (source_in self) ≡ Some NotClosed)) }
         ensures again { (fault : StreamFault) → self.refused ≡ Some fault → result ≡ Err fault }
         ensures reads_nothing { IfErr result (λ fault. fault ≢ Read) }
     {
         if let Some(refused) = self.refused {
             return Err(refused);
         }
+        if let Some(fault) = self.closing_fault() {
+            return Err(fault);
+        }
         match self.progress.finish() {
             Some(line) => Ok(Some(Entry::Text(line))),
             None => Ok(None),
+        }
+    }
+
+    // The fault that is left if an end of input stands behind the bytes taken.
+    fn closing_fault(&self) -> Option<StreamFault>
+        requires { self.now.refused ≡ None }
+        ensures left { result ≡ fault_from self.now.max_bytes (source_in self.now) }
+        ensures not_closed { IfSome result (λ fault. fault ≡ NotClosed) }
+    {
+        if !self.must_close {
+            None
+        } else if self.progress.is_closed() {
+            None
+        } else {
+            Some(StreamFault::NotClosed)
         }
     }
 }

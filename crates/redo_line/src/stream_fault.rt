@@ -16,6 +16,8 @@ pub enum StreamFault {
     Read,
     /// There was no memory.
     OutOfMemory,
+    /// The stream has to end with the record that closes its log, and doesn't.
+    NotClosed,
 }
 
 impl From<AllocError> for StreamFault {

@@ -50,7 +50,7 @@ fn new_scan(alloc: Global, target: &str, max_bytes: u64) -> Result<Scan, Fail> {
         return Err("no such limit".into());
     }
     let target = TargetName::resolve(alloc, None, target.as_bytes())?;
-    Ok(Scan::new(alloc, target, max_bytes))
+    Ok(Scan::new(alloc, target, max_bytes, false))
 }
 
 /// Adds the unended line, or the fault.

@@ -103,10 +103,10 @@ fn gathered_of(alloc: Global, index: &Index, readers: Vec<Pieces>) -> Result<Log
     requires { length readers.items ≡ length index.now }
     ensures { IfOk result (λ table. list_all has_ended table ≡ true) }
 {
-    match index.names(alloc) {
-        Ok(names) => gather_plain(alloc, names, readers, MAX_BYTES).map_err(Missing::Logs),
-        Err(_) => Err(Missing::Memory),
-    }
+    let (Ok(names), Ok(marks)) = (index.names(alloc), index.marks(alloc)) else {
+        return Err(Missing::Memory);
+    };
+    gather_plain(alloc, names, marks, readers, MAX_BYTES).map_err(Missing::Logs)
 }
 
 fn gathered_by<T: AllocGlobal + Threads + Wait + Sync>(
@@ -127,12 +127,10 @@ fn gathered_of_by<T: AllocGlobal + Threads + Wait + Sync>(
     requires { length readers.items ≡ length index.now }
 {
     let alloc = rt.alloc();
-    match index.names(alloc) {
-        Ok(names) => {
-            redo_gather::gather(rt, alloc, names, readers, plan, &Free).map_err(Missing::Logs)
-        }
-        Err(_) => Err(Missing::Memory),
-    }
+    let (Ok(names), Ok(marks)) = (index.names(alloc), index.marks(alloc)) else {
+        return Err(Missing::Memory);
+    };
+    redo_gather::gather(rt, alloc, names, marks, readers, plan, &Free).map_err(Missing::Logs)
 }
 
 /// An index of the targets, with a reader for each, which gives 16 bytes at once.

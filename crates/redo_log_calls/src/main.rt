@@ -290,7 +290,7 @@ fn step(rt: &impl Print, alloc: Global) -> io::Result<()> {
     let Ok(target) = TargetName::resolve(alloc, None, b"d/a") else {
         return println!(rt; "resolve: no memory");
     };
-    let mut scan = Scan::new(alloc, target, 1000);
+    let mut scan = Scan::new(alloc, target, 1000, false);
     tell_pieces(rt, &mut scan)?;
     tell_finish(rt, scan)
 }
@@ -351,7 +351,12 @@ fn scan_of_input(rt: &(impl Input + Print + AllocGlobal)) -> io::Result<()> {
         return println!(rt; "a bad first line");
     };
     match TargetName::resolve(rt.alloc(), None, target) {
-        Ok(target) => scan_stream(rt, Scan::new(rt.alloc(), target, max_bytes), stream, size),
+        Ok(target) => scan_stream(
+            rt,
+            Scan::new(rt.alloc(), target, max_bytes, false),
+            stream,
+            size,
+        ),
         Err(_) => println!(rt; "a bad target"),
     }
 }

@@ -75,7 +75,7 @@ fn share(alloc: Global) -> Result<Share<Pieces>, AllocError> {
         let Ok(target) = TargetName::resolve(alloc, None, name) else {
             return Err(AllocError);
         };
-        share.push((*number, target, reader(alloc, stream)?))?;
+        share.push((*number, target, false, reader(alloc, stream)?))?;
     }
     Ok(share)
 }

@@ -4,6 +4,7 @@ use Rattle.std.specs.Global.{Vec}
 use Rattle.redo_device.specs.Feed.{Stream, SomeStream}
 use Rattle.redo_device.specs.Sink.{Taken}
 use Rattle.redo_gather.specs.Plan.{Numbers}
+use Rattle.redo_gather.specs.Streams.{Told}
 use Rattle.redo_index.specs.declared.listed.Listed.{Listed}
 use Rattle.redo_index.specs.Index.{names_of}
 use Rattle.redo_view.specs.declared.options.Options.{Options}
@@ -23,7 +24,7 @@ pub asked_is : (job : Parts) (index : List Listed) (plan : Numbers) (options : O
     → plan.max_bytes ≡ most_bytes → options ≡ job.options → bytes_of_words words ≡ job.targets → question index plan options words ≡ asked_by job index
 asked_is job index plan options words max_is options_are words_are i = record { targets = names_of index; max_bytes = max_is i; options = options_are i; words = words_are i }
 
-module _ (asked : Question) (told : List (Option Stream)) where
+module _ (asked : Question) (told : List Told) where
   a_text : (P : List ℕ → Type 0) → SomeText asked told P → HasText asked told
   a_text P shown = (shown.0, shown.1, (shown.2.0, shown.2.1, tt))
 

@@ -17,6 +17,7 @@ status_of_stream (stream.AfterClose line) = 4
 status_of_stream stream.TooLong = 4
 status_of_stream stream.Read = 5
 status_of_stream stream.OutOfMemory = 7
+status_of_stream stream.NotClosed = 4
 
 -- the status with which the program ends
 abbrev pub status_of : Failure → ℕ
@@ -50,6 +51,7 @@ text_of_stream name (stream.AfterClose line) = name ++ codes ": " ++ of_line lin
 text_of_stream name stream.TooLong = name ++ codes ": too long"
 text_of_stream name stream.Read = name ++ codes ": cannot be read"
 text_of_stream name stream.OutOfMemory = codes "out of memory"
+text_of_stream name stream.NotClosed = name ++ codes ": not closed"
 
 -- what is wrong with an index
 abbrev pub index_text : IndexFault → List ℕ

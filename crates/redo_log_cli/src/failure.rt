@@ -72,5 +72,6 @@ fn stream_status(fault: StreamFault) -> u8
         StreamFault::TooLong => 4,
         StreamFault::Read => 5,
         StreamFault::OutOfMemory => 7,
+        StreamFault::NotClosed => 4,
     }
 }

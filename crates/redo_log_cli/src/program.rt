@@ -1,7 +1,9 @@
-ghost use Rattle.std.specs.Prelude.{◌≡◌, ◌≢◌, ◌<◌, ◌⊎◌, Err, IfOk, IfErr, length, map};
+ghost use Rattle.std.specs.Prelude.{◌≡◌, ◌≢◌, ◌<◌, ◌⊎◌, Err, IfOk, IfErr, length};
 ghost use Rattle.std.specs.IoError.{error_kind};
 ghost use Rattle.redo_line.specs.declared.stream_fault.StreamFault.TheVariants as stream;
 ghost use Rattle.redo_device.specs.Feed.{SomeStream};
+ghost use Rattle.redo_gather.specs.Streams.{told_of};
+ghost use Rattle.redo_index.specs.Index.{marks_of};
 ghost use Rattle.redo_run.specs.RunFault.{IfStreamFault, IfUnknown};
 ghost use Rattle.redo_log_cli.specs.declared.failure.Failure.TheVariants.{Memory};
 ghost use Rattle.redo_log_cli.specs.Failure.{IfOfStream, IfOfWord, IsOfNoRun, IsStatus, status_of};
@@ -193,7 +195,7 @@ fn show<T: Threads + Wait + Sync + AllocGlobal, F: Feed + Send, W: Write>(
     out: &mut W,
 ) -> Result<(), RunFault>
     requires { length readers.items ≡ length index.now }
-    ensures answer { IsAnswer (asked_by job.now index.now) (map F.tells readers.items) result }
+    ensures answer { IsAnswer (asked_by job.now index.now) (told_of F.tells (marks_of index.now) readers.items) result }
     ensures place { IfUnknown result (λ place. place < length job.now.targets) }
     ensures number { IfStreamFault result (λ number _. number < length index.now) }
     ensures no_memory { IfStreamFault result (λ _ fault. fault ≢ stream.OutOfMemory) }

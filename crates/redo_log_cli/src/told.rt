@@ -66,6 +66,7 @@ fn told_of_stream(alloc: Global, name: &[u8], fault: StreamFault) -> Result<Vec<
         StreamFault::TooLong => told(alloc, &[name, b": too long"]),
         StreamFault::Read => told(alloc, &[name, b": cannot be read"]),
         StreamFault::OutOfMemory => told(alloc, &[b"out of memory"]),
+        StreamFault::NotClosed => told(alloc, &[name, b": not closed"]),
     }
 }
 

@@ -24,7 +24,7 @@ Exit status:
    0  the text was written, or this help, or the version
    2  the command line is refused
    3  `names` is refused: a bad line, a number or a name twice, too many
-   4  a log has a bad record, goes on behind its closing record, or is too long
+   4  a log has a bad record, goes on behind its closing record, is too long, or isn't closed
    5  a log, or `names`, can't be read
    6  writing failed
    7  there was no memory

@@ -158,6 +158,7 @@ static OF_STREAMS: &[(u32, StreamFault, &[u8], u8)] = &[
     (0, StreamFault::TooLong, b"redo-log: d/a: too long\n", 4),
     (1, StreamFault::Read, b"redo-log: b: cannot be read\n", 5),
     (0, StreamFault::OutOfMemory, NO_MEMORY, 7),
+    (1, StreamFault::NotClosed, b"redo-log: b: not closed\n", 4),
 ];
 
 #[test]

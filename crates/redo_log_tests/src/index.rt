@@ -11,6 +11,15 @@ static LISTED: &[(&str, &[(u32, &str)])] = &[
     ("1 all\n", &[(1, "all")]),
     ("7 d/./a\n999999999 b", &[(7, "d/a"), (999999999, "b")]),
     ("1  a\n", &[(1, " a")]),
+    ("!1 a\n2 b\n", &[(1, "a"), (2, "b")]),
+    ("1 !a\n", &[(1, "!a")]),
+];
+
+/// An index, and of each of its lines whether it is marked.
+static MARKED: &[(&str, &[bool])] = &[
+    ("!1 a\n2 b\n", &[true, false]),
+    ("1 a\n!2 b", &[false, true]),
+    ("1 !a\n", &[false]),
 ];
 
 /// An index, and its fault.
@@ -25,6 +34,10 @@ static REFUSED: &[(&str, IndexFault)] = &[
     ("1\n", IndexFault::BadLine { line: 1 }),
     ("1 \n", IndexFault::BadLine { line: 1 }),
     ("\n", IndexFault::BadLine { line: 1 }),
+    ("!\n", IndexFault::BadLine { line: 1 }),
+    ("! 1 a\n", IndexFault::BadLine { line: 1 }),
+    ("!!1 a\n", IndexFault::BadLine { line: 1 }),
+    ("!1 a\n1 b\n", IndexFault::FidTwice { line: 2 }),
 ];
 
 #[test]
@@ -32,6 +45,21 @@ fn an_index_lists_its_lines(rt: HostRuntime) -> Result<(), Fail> {
     for (bytes, entries) in LISTED {
         expect_listed(&rt, bytes, entries)?;
     }
+    Ok(())
+}
+
+#[test]
+fn a_marked_line_tells_that_its_stream_must_close(rt: HostRuntime) -> Result<(), Fail> {
+    for (bytes, marks) in MARKED {
+        expect_marks(&rt, bytes, marks)?;
+    }
+    Ok(())
+}
+
+fn expect_marks(rt: &(impl Abort + AllocGlobal), bytes: &str, marks: &[bool]) -> Result<(), Fail> {
+    let index = read_index(rt.alloc(), bytes.as_bytes())?;
+    let found = index.marks(rt.alloc())?;
+    assert_eq!(rt; found.as_slice(), marks, "{bytes:?}");
     Ok(())
 }
 

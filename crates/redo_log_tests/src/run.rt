@@ -517,3 +517,146 @@ fn answer_side_by_side(
     let readers = readers_for(alloc, index, &PAIR, Cut::InReadsOf(3))?;
     Ok(run(rt, alloc, index, readers, &plan, &PLAIN, words, gate, out))
 }
+
+const CLOSING_UNENDED: &str = "@@REDO:done:7:1.0000@@ 0 a";
+
+const CLOSING_ANOTHER: &str = "@@REDO:done:7:1.0000@@ 0 b\n";
+
+const A_IS_OPEN: Want<'static> = Err((
+    RunFault::Stream {
+        number: 0,
+        fault: StreamFault::NotClosed,
+    },
+    "redo-log: a: not closed\n",
+    4,
+));
+
+/// An index, the streams of `a` and `b`, how many bytes each may have, and what is answered where `a` is asked for.
+type Marked = (&'static str, &'static [Given<'static>], u64, Want<'static>);
+
+static MARKED: &[Marked] = &[
+    (
+        "!1 a\n2 b\n",
+        &[("a", CLOSING, false), ("b", "", false)],
+        1000,
+        Ok("redo  a\n"),
+    ),
+    (
+        "!1 a\n2 b\n",
+        &[("a", "x\n", false), ("b", "", false)],
+        1000,
+        A_IS_OPEN,
+    ),
+    (
+        "!1 a\n2 b\n",
+        &[("a", "", false), ("b", "", false)],
+        1000,
+        A_IS_OPEN,
+    ),
+    (
+        "!1 a\n2 b\n",
+        &[("a", CLOSING_UNENDED, false), ("b", "", false)],
+        1000,
+        A_IS_OPEN,
+    ),
+    (
+        "!1 a\n2 b\n",
+        &[("a", CLOSING_ANOTHER, false), ("b", "", false)],
+        1000,
+        A_IS_OPEN,
+    ),
+    (
+        "!1 a\n2 b\n",
+        &[("a", "x\n", false), ("b", BAD, false)],
+        1000,
+        A_IS_OPEN,
+    ),
+    (
+        "!1 a\n2 b\n",
+        &[("a", CLOSING_AND_MORE, false), ("b", "", false)],
+        1000,
+        AFTER_CLOSE,
+    ),
+    (
+        "!1 a\n2 b\n",
+        &[("a", CLOSING, true), ("b", "", false)],
+        1000,
+        Err((
+            RunFault::Stream {
+                number: 0,
+                fault: StreamFault::Read,
+            },
+            "redo-log: a: cannot be read\n",
+            5,
+        )),
+    ),
+    (
+        "!1 a\n2 b\n",
+        &[("a", "abc\nd", false), ("b", "", false)],
+        4,
+        TOO_LONG,
+    ),
+    (
+        "1 a\n!2 b\n",
+        &[("a", "x\n", false), ("b", "", false)],
+        1000,
+        Err((
+            RunFault::Stream {
+                number: 1,
+                fault: StreamFault::NotClosed,
+            },
+            "redo-log: b: not closed\n",
+            4,
+        )),
+    ),
+    (
+        "1 a\n2 b\n",
+        &[("a", "x\n", false), ("b", "", false)],
+        1000,
+        Ok("redo  a\nx\n"),
+    ),
+];
+
+#[test]
+fn a_stream_that_must_close_and_is_open_is_told(rt: HostRuntime) -> Result<(), Fail> {
+    for (index, given, max_bytes, want) in MARKED {
+        for senders in [1, 2, 64] {
+            expect_marked(&rt, index, given, *max_bytes, senders, *want)?;
+        }
+    }
+    Ok(())
+}
+
+fn expect_marked(
+    rt: &(impl Abort + AllocGlobal + Threads + Wait + Sync),
+    index: &str,
+    given: &[Given<'_>],
+    max_bytes: u64,
+    senders: u32,
+    want: Want<'_>,
+) -> Result<(), Fail> {
+    let alloc = rt.alloc();
+    let index = read_index(alloc, index.as_bytes())?;
+    let plan = Plan::new(senders, 1, max_bytes)?;
+    let (outcome, text) = outcome_of(alloc, want)?;
+    let mut out = Taker::new(alloc, 1000, 1000)?;
+    let ran = answer_of_a(rt, &index, given, &plan, &mut out)?;
+    expect_outcome(rt, &ran, &outcome, out.bytes(), text.as_bytes());
+    Ok(())
+}
+
+fn answer_of_a(
+    rt: &(impl AllocGlobal + Threads + Wait + Sync),
+    index: &Index,
+    given: &[Given<'_>],
+    plan: &Plan,
+    out: &mut Taker,
+) -> Result<Outcome, Fail> {
+    let words = words(rt.alloc(), &["a"])?;
+    let request = Request {
+        plan,
+        options: &PLAIN,
+        words: &words,
+    };
+    ran_over(rt, index, given, Cut::InReadsOf(3), request, out)
+}

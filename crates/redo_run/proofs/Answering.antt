@@ -5,12 +5,13 @@ use Rattle.std.specs.List.{cons_option, position_from}
 use Rattle.std.proofs.lemmas.Iterator.Adapters.{position_from-zero}
 use Rattle.redo_line.specs.declared.stream_fault.StreamFault.{StreamFault}
 use Rattle.redo_device.specs.Feed.{Stream}
+use Rattle.redo_line.specs.Source.{Marked}
 use Rattle.redo_name.specs.Names.{normal}
 use Rattle.redo_logs.specs.Logs.{Log, targets_of}
 use Rattle.redo_gather.specs.declared.gather_fault.GatherFault.{GatherFault}
 use Rattle.redo_gather.specs.declared.gather_fault.GatherFault.TheVariants as gather
 use Rattle.redo_gather.specs.GatherFault as gathering
-use Rattle.redo_gather.specs.Streams.{AreTold, SomeStreams, logs_of, fault_among}
+use Rattle.redo_gather.specs.Streams.{AreTold, IsGiven, SomeStreams, Told, fault_among, logs_of}
 use Rattle.redo_view.specs.Expansion.{is_among, expansion}
 use Rattle.redo_view.specs.View.{unknown_among}
 use Rattle.redo_run.specs.declared.run_fault.RunFault.{RunFault}
@@ -20,12 +21,18 @@ use Rattle.redo_run.specs.RunFault.{IfTold, fault_of_gathering}
 use Rattle.redo_run.specs.Shown.{SomeText}
 
 -- readers give some streams
-pub some_streams : (told : List (Option Stream)) → (streams : List Stream) × AreTold told streams
-some_streams [] = ([], tt)
-some_streams (None ∷ told) = let others = some_streams told in (record { bytes = []; fails = false } ∷ others.0, (tt, others.1))
-some_streams (Some stream ∷ told) = let others = some_streams told in (stream ∷ others.0, (refl, others.1))
+some_stream : (told : Option Stream) → (stream : Stream) × IsGiven told stream
+some_stream None = (record { bytes = []; fails = false }, tt)
+some_stream (Some stream) = (stream, refl)
 
-module _ (question : Question) (streams : List Stream) where
+pub some_streams : (told : List Told) → (streams : List (Marked Stream)) × AreTold told streams
+some_streams [] = ([], tt)
+some_streams (one ∷ told) =
+    let others = some_streams told in
+    let given = some_stream one.stream in
+    (record { must_close = one.must_close; stream = given.0 } ∷ others.0, ((refl, given.1), others.1))
+
+module _ (question : Question) (streams : List (Marked Stream)) where
   -- what comes behind the look-up of the words
   abbrev behind_words : Option (ℕ × StreamFault) → Option Answer
   behind_words told = unless (option_map fault_of_stream told) (option_map (text_of question) (logs_of question.max_bytes question.targets streams))
@@ -51,7 +58,7 @@ if_told fault.OutOfMemory P p = tt
 if_told fault.Write P p = tt
 
 -- the answer where words are refused
-pub told_word : (question : Question) (told : List (Option Stream)) (refusal : RunFault) → (refusal ≡ fault.OutOfMemory) ⊎ (option_map fault_of_word (unknown_word question.targets question.words) ≡ Some refusal)
+pub told_word : (question : Question) (told : List Told) (refusal : RunFault) → (refusal ≡ fault.OutOfMemory) ⊎ (option_map fault_of_word (unknown_word question.targets question.words) ≡ Some refusal)
     → IfTold (Err refusal) (λ f. SomeStreams told (λ streams. answer question streams ≡ Some (Err f)))
 told_word question told refusal (inl is) = subst (λ f. IfTold (Err f) (λ g. SomeStreams told (λ streams. answer question streams ≡ Some (Err g)))) (sym is) tt
 told_word question told refusal (inr is) =
@@ -87,10 +94,10 @@ all_known logs names asked words targets_are asked_are =
 
 -- the law that streams have logs or a fault, and not both
 abbrev pub LogsUnlessFault : Type 0
-LogsUnlessFault = (max_bytes : ℕ) (targets : List (List ℕ)) (streams : List Stream) → IsSome (logs_of max_bytes targets streams) ↔ (fault_among max_bytes targets streams ≡ None)
+LogsUnlessFault = (max_bytes : ℕ) (targets : List (List ℕ)) (streams : List (Marked Stream)) → IsSome (logs_of max_bytes targets streams) ↔ (fault_among max_bytes targets streams ≡ None)
 
 -- what was shown of these logs is a fact of the text
-pub some_text : (question : Question) (told : List (Option Stream)) (P : List ℕ → Type 0) (max_bytes : ℕ) (names asked : List (List ℕ)) (logs : List Log)
+pub some_text : (question : Question) (told : List Told) (P : List ℕ → Type 0) (max_bytes : ℕ) (names asked : List (List ℕ)) (logs : List Log)
     → max_bytes ≡ question.max_bytes → names ≡ question.targets → unknown_word question.targets question.words ≡ None → asked ≡ targets_named question.targets question.words → LogsUnlessFault
     → SomeStreams told (λ streams. logs_of max_bytes names streams ≡ Some logs) → P (expansion logs question.options asked) → SomeText question told P
 some_text question told P max_bytes names asked logs max_is names_are known asked_are law given shown =
@@ -106,7 +113,7 @@ some_text question told P max_bytes names asked logs max_is names_are known aske
     )
 
 -- the answer where a stream is at fault
-pub told_stream : (question : Question) (told : List (Option Stream)) (max_bytes : ℕ) (names : List (List ℕ)) (refusal : GatherFault)
+pub told_stream : (question : Question) (told : List Told) (max_bytes : ℕ) (names : List (List ℕ)) (refusal : GatherFault)
     → max_bytes ≡ question.max_bytes → names ≡ question.targets → unknown_word question.targets question.words ≡ None
     → gathering.IfStreamFault {A = Unit {0}} (Err refusal) (λ number fault. SomeStreams told (λ streams. fault_among max_bytes names streams ≡ Some (number, fault)))
     → IfTold (Err (fault_of_gathering refusal)) (λ f. SomeStreams told (λ streams. answer question streams ≡ Some (Err f)))
@@ -115,7 +122,7 @@ told_stream question told max_bytes names (gather.Stream number fault) max_is na
 told_stream question told max_bytes names gather.OutOfMemory max_is names_are known given = tt
 
 -- a run has an answer
-module _ (law : LogsUnlessFault) (question : Question) (streams : List Stream) where
+module _ (law : LogsUnlessFault) (question : Question) (streams : List (Marked Stream)) where
   some_logs : (told : Option (ℕ × StreamFault)) (logs : Option (List Log)) → (told ≡ None → IsSome logs) → IsSome (unless (option_map fault_of_stream told) (option_map (text_of question) logs))
   some_logs (Some told) logs some = refl
   some_logs None None some = absurd (let none : false ≡ true = some refl in cc)

@@ -3,10 +3,11 @@ use Rattle.std.proofs.Common.{◌≡◌, ℕ, Bool, true, false, List, [], ◌�
 use Rattle.std.specs.Prelude.{codes}
 use Rattle.std.specs.Fmt.{digits}
 use Rattle.std.specs.List.{AllByRecursion}
-use Rattle.redo_line.specs.declared.stream_fault.StreamFault.TheVariants.{BadRecord, AfterClose, TooLong, Read}
+use Rattle.redo_line.specs.declared.stream_fault.StreamFault.TheVariants.{BadRecord, AfterClose, TooLong, Read, NotClosed}
 use Rattle.redo_line.specs.Decimal.{number}
 use Rattle.redo_line.specs.Entry.{record_entry, entry_of}
 use Rattle.redo_device.specs.Feed.{Stream}
+use Rattle.redo_line.specs.Source.{Marked}
 use Rattle.redo_line.specs.Lines.{line_feed, cutting, ended, rest}
 use Rattle.redo_line.specs.Log.{stream_of, first_fault}
 use Rattle.redo_name.specs.Names.{from_back, normal}
@@ -27,11 +28,15 @@ closing = line (codes "@@REDO:done:7:1.0000@@ 0 a")
 
 record Row : Type 0 where
   question : Question
-  streams : List Stream
+  streams : List (Marked Stream)
   answer_is : Answer
 
-abbrev whole : List ℕ → Stream
-whole bytes = stream_of bytes false
+abbrev whole : List ℕ → Marked Stream
+whole bytes = record { must_close = false; stream = stream_of bytes false }
+
+-- ..that has to end with the record that closes its log
+abbrev closed : List ℕ → Marked Stream
+closed bytes = record { must_close = true; stream = stream_of bytes false }
 
 -- targets, streams that no failed read ends, whether mentions are opened, at most so many bytes, and words
 abbrev asks : List (List ℕ) → List (List ℕ) → Bool → ℕ → List (List ℕ) → Answer → Row
@@ -48,6 +53,15 @@ all_asks stream max_bytes words answer_is = asks (codes "all" ∷ []) (stream �
 
 abbrev a_asks : List ℕ → ℕ → Answer → Row
 a_asks stream max_bytes answer_is = asks (codes "a" ∷ []) (stream ∷ []) false max_bytes (codes "a" ∷ []) answer_is
+
+-- the streams of `a` and `b`, asked for `a`
+abbrev marked_asks : Marked Stream → Marked Stream → Answer → Row
+marked_asks a b answer_is =
+    record {
+      question = record { targets = codes "a" ∷ codes "b" ∷ []; max_bytes = 1000; options = record { recursive = false; unchanged = false; details = true; debug_locks = false; debug_pids = false }; words = codes "a" ∷ [] };
+      streams = a ∷ b ∷ [];
+      answer_is = answer_is;
+    }
 
 abbrev all : List (List ℕ)
 all = codes "all" ∷ []
@@ -73,16 +87,21 @@ rows =
     all_asks bad 1000 (codes "all" ∷ codes "nope" ∷ []) (Err (Unknown 1)) ∷
     all_asks bad 1000 ([] ∷ []) (Err (Unknown 0)) ∷
     asks [] [] false 1000 (codes "a" ∷ []) (Err (Unknown 0)) ∷
+    -- a stream that has to be closed
+    marked_asks (closed closing) (whole []) (Ok (line (codes "redo  a"))) ∷
+    marked_asks (closed (line (codes "x"))) (whole bad) (Err (OfStream 0 NotClosed)) ∷
+    marked_asks (whole (line (codes "x"))) (closed []) (Err (OfStream 1 NotClosed)) ∷
+    marked_asks (closed (closing ++ codes "z")) (whole []) (Err (OfStream 0 (AfterClose 2))) ∷
     []
 
 these_answers : AllByRecursion (λ row. answer row.question row.streams ≡ Some row.answer_is) rows
 unfolding cutting ended rest first_fault entry_of record_entry fields_of status_of parted behind number normal from_back opened_within opened_log digits
-these_answers = (refl, (refl, (refl, (refl, (refl, (refl, (refl, (refl, (refl, (refl, (refl, (refl, (refl, (refl, tt))))))))))))))
+these_answers = (refl, (refl, (refl, (refl, (refl, (refl, (refl, (refl, (refl, (refl, (refl, (refl, (refl, (refl, (refl, (refl, (refl, (refl, tt))))))))))))))))))
 
 -- a failed read counts behind the bytes before it
 failed_reads :
     (answer (record { targets = codes "a" ∷ codes "b" ∷ []; max_bytes = 1000; options = record { recursive = false; unchanged = false; details = true; debug_locks = false; debug_pids = false }; words = codes "a" ∷ [] }) (
-    stream_of (line (codes "x")) true ∷ stream_of bad false ∷ []
+    record { must_close = false; stream = stream_of (line (codes "x")) true } ∷ whole bad ∷ []
     ) ≡ Some (Err (OfStream 0 Read)))
 unfolding cutting ended rest first_fault entry_of record_entry fields_of status_of parted behind number normal from_back
 failed_reads = refl

@@ -4,6 +4,7 @@ use Rattle.std.specs.Option.{option_map}
 use Rattle.std.specs.Global.{Vec}
 use Rattle.redo_line.specs.declared.stream_fault.StreamFault.{StreamFault}
 use Rattle.redo_device.specs.Feed.{Stream}
+use Rattle.redo_line.specs.Source.{Marked}
 use Rattle.redo_name.specs.Names.{normal}
 use Rattle.redo_logs.specs.Logs.{Log}
 use Rattle.redo_gather.specs.Plan.{Numbers}
@@ -66,7 +67,7 @@ text_of question logs = Ok (expansion logs question.options (targets_named quest
 
 -- What a run comes to, with the streams of its targets: the least place of a word that is unknown, or else the least
 -- number of a stream that has a fault, or else the text of the logs of the streams at the targets asked for.
-abbrev pub answer : Question → List Stream → Option Answer
+abbrev pub answer : Question → List (Marked Stream) → Option Answer
 answer question streams =
     unless (option_map fault_of_word (unknown_word question.targets question.words))
     (unless (option_map fault_of_stream (fault_among question.max_bytes question.targets streams))

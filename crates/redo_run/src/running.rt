@@ -3,11 +3,11 @@ ghost use Rattle.std.specs.List.{list_all};
 ghost use Rattle.redo_line.specs.declared.stream_fault.StreamFault.TheVariants as stream;
 ghost use Rattle.redo_logs.specs.Logs.{has_ended, targets_of};
 ghost use Rattle.redo_gather.specs.GatherFault as gathering;
-ghost use Rattle.redo_gather.specs.Streams.{AreLogs, IsFault};
+ghost use Rattle.redo_gather.specs.Streams.{AreLogs, IsFault, told_of};
 ghost use Rattle.redo_view.specs.Expansion.{expansion};
 ghost use Rattle.redo_view.specs.View.{unknown_among};
 ghost use Rattle.redo_view.specs.Written.{WroteAll, WroteFront, WroteUntilFailed};
-ghost use Rattle.redo_index.specs.Index.{names_of};
+ghost use Rattle.redo_index.specs.Index.{marks_of, names_of};
 ghost use Rattle.redo_run.specs.declared.run_fault.RunFault.TheVariants.{OutOfMemory, Write};
 ghost use Rattle.redo_run.specs.Private.LookUp.{IsFaultOfWords};
 ghost use Rattle.redo_run.specs.Run.{bytes_of_words, question, target_of, targets_named, unknown_word};
@@ -36,7 +36,8 @@ use std::thread::Threads;
 /// the text, laws of `redo_view` (`opening_a_log`, `at_first_mention`, `each_log_once`). The streams are read by
 /// the plan's senders, in threads of their own and through a mailbox, as [`redo_gather::gather`] has it.
 ///
-/// Each reader gives the stream of the target at its place in the index, so there has to be one for each.
+/// Each reader gives the stream of the target at its place in the index, so there has to be one for each. Where the
+/// index says that a stream must close, it has to end with the record that closes its log.
 /// A word is the name of a target, relative to the base. The words are looked up before a byte is read,
 /// and nothing is written before all streams were read. `out` isn't flushed.
 pub fn run<T: Threads + Wait + Sync, R: Feed + Send, W: Sink, G: Gate>(
@@ -54,11 +55,12 @@ pub fn run<T: Threads + Wait + Sync, R: Feed + Send, W: Sink, G: Gate>(
 
     // The whole text was written, and no other byte.
     ensures ok { IfOk result (λ _.
-        WritesAll (question index.now plan.now options.now asked.now) (map R.tells readers.items) (W.tells out.old) (W.tells out.new)) }
+        WritesAll (question index.now plan.now options.now asked.now) (told_of R.tells (marks_of index.now) readers.items)
+        (W.tells out.old) (W.tells out.new)) }
 
     // A word is unknown, or a stream is at fault: which one, and that nothing was written.
     ensures fault { IfTold result (λ fault.
-        HasFault (question index.now plan.now options.now asked.now) (map R.tells readers.items) fault) }
+        HasFault (question index.now plan.now options.now asked.now) (told_of R.tells (marks_of index.now) readers.items) fault) }
     ensures unwritten { IfTold result (λ _. W.tells out.new ≡ W.tells out.old) }
     ensures place { IfUnknown result (λ place. place < length asked.now) }
     ensures number { IfStreamFault result (λ number _. number < length index.now) }
@@ -66,11 +68,13 @@ pub fn run<T: Threads + Wait + Sync, R: Feed + Send, W: Sink, G: Gate>(
 
     // The writer failed, once, behind a front of the text.
     ensures write { result ≡ Err Write →
-        FailsInText (question index.now plan.now options.now asked.now) (map R.tells readers.items) (W.tells out.old) (W.tells out.new) }
+        FailsInText (question index.now plan.now options.now asked.now) (told_of R.tells (marks_of index.now) readers.items)
+        (W.tells out.old) (W.tells out.new) }
 
     // There was no memory, and the writer didn't fail: nothing was written, or a front of the text.
     ensures memory { result ≡ Err OutOfMemory → (W.tells out.new ≡ W.tells out.old) ⊎
-        WritesFront (question index.now plan.now options.now asked.now) (map R.tells readers.items) (W.tells out.old) (W.tells out.new) }
+        WritesFront (question index.now plan.now options.now asked.now) (told_of R.tells (marks_of index.now) readers.items)
+        (W.tells out.old) (W.tells out.new) }
 {
     let targets = find_targets(alloc, index, asked)?;
     logs_unless_fault();
@@ -88,15 +92,17 @@ fn gather_listed<T: Threads + Wait + Sync, R: Feed + Send, G: Gate>(
     gate: &G,
 ) -> Result<LogTable, GatherFault>
     requires { length readers.items ≡ length index.now }
-    ensures logs { IfOk result (AreLogs plan.now.max_bytes (names_of index.now) (map R.tells readers.items)) }
+    ensures logs { IfOk result (AreLogs plan.now.max_bytes (names_of index.now) (told_of R.tells (marks_of index.now) readers.items)) }
     ensures targets { IfOk result (λ table. targets_of table ≡ names_of index.now) }
     ensures ended { IfOk result (λ table. list_all has_ended table ≡ true) }
-    ensures fault { gathering.IfStreamFault result (IsFault plan.now.max_bytes (names_of index.now) (map R.tells readers.items)) }
+    ensures fault { gathering.IfStreamFault result
+        (IsFault plan.now.max_bytes (names_of index.now) (told_of R.tells (marks_of index.now) readers.items)) }
     ensures number { gathering.IfStreamFault result (λ number fault. number < length index.now) }
     ensures no_memory { gathering.IfStreamFault result (λ number fault. fault ≢ stream.OutOfMemory) }
 {
     let names = index.names(alloc)?;
-    gather(rt, alloc, names, readers, plan, gate)
+    let marks = index.marks(alloc)?;
+    gather(rt, alloc, names, marks, readers, plan, gate)
 }
 
 // Shows logs at targets that have one each.

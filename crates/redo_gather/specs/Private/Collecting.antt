@@ -17,7 +17,7 @@ use Rattle.redo_gather.specs.GatherFault.{IfStreamFault}
 use Rattle.redo_gather.specs.Owed.{Given}
 use Rattle.redo_gather.specs.Private.Dealing.{AreReady, share_from}
 use Rattle.redo_gather.specs.Sending.{AreOwed, singles}
-use Rattle.redo_gather.specs.Streams.{AreLogs, IsFault}
+use Rattle.redo_gather.specs.Streams.{AreLogs, IsFault, Told}
 
 -- what an item makes of a log that is in this state: a log that has ended takes nothing any more
 abbrev pub changed_by : LogState → What → Log → Log
@@ -53,7 +53,7 @@ Owes max_bytes senders given met = AreOwed max_bytes met.0 (share_from senders m
 
 -- what was collected of ends whose senders sent these shares: the same mailbox, what was taken is kept, and each end that
 -- was met besides posted what it owes
-pub record Collects {A : Type 0} (tells : A → Option Stream) (max_bytes : ℕ) (ends : List Poster) (shares : List (List (ℕ × List ℕ × A))) (before after : Collector) : Type 0 where
+pub record Collects {A : Type 0} (tells : A → Option Stream) (max_bytes : ℕ) (ends : List Poster) (shares : List (List (ℕ × List ℕ × Bool × A))) (before after : Collector) : Type 0 where
   pub mailbox : after.mailbox.mailbox ≡ before.mailbox.mailbox
   pub holds : (names : List (List ℕ)) → Holds names before.mailbox.taken before.table before.refused → Holds names after.mailbox.taken after.table after.refused
   pub owed : (given : List Given) → AreReady tells before.mailbox.mailbox.senders given ends shares
@@ -61,21 +61,21 @@ pub record Collects {A : Type 0} (tells : A → Option Stream) (max_bytes : ℕ)
       → AllByRecursion (Owes max_bytes before.mailbox.mailbox.senders given) after.mailbox.met
 
 -- of streams that were dealt to senders, the ends that were met posted what is owed, and a collector kept what it took
-pub record AllOwed (max_bytes : ℕ) (names : List (List ℕ)) (told : List (Option Stream)) (collector : Collector) : Type 0 where
+pub record AllOwed (max_bytes : ℕ) (names : List (List ℕ)) (told : List Told) (collector : Collector) : Type 0 where
   pub count : length names ≡ length told
   pub some : 0 < collector.mailbox.mailbox.senders
   pub owed : AllByRecursion (Owes max_bytes collector.mailbox.mailbox.senders (sources names told)) collector.mailbox.met
   pub holds : Holds names collector.mailbox.taken collector.table collector.refused
 
 -- ..and all that was posted was taken
-pub record AllTaken (max_bytes : ℕ) (names : List (List ℕ)) (told : List (Option Stream)) (collector : Collector) : Type 0 where
+pub record AllTaken (max_bytes : ℕ) (names : List (List ℕ)) (told : List Told) (collector : Collector) : Type 0 where
   pub owed : AllOwed max_bytes names told collector
   pub met : AreAllMet collector.mailbox
   pub whole : AreWhole collector.mailbox
   pub own : AreOfSenders collector.mailbox
 
 -- the logs of these streams, or the fault of the least-numbered one that has one, or want of memory
-pub record IsGathered (max_bytes : ℕ) (names : List (List ℕ)) (told : List (Option Stream)) (result : Result (List Log) GatherFault) : Type 0 where
+pub record IsGathered (max_bytes : ℕ) (names : List (List ℕ)) (told : List Told) (result : Result (List Log) GatherFault) : Type 0 where
   pub logs : IfOk result (AreLogs max_bytes names told)
   pub targets : IfOk result (λ table. targets_of table ≡ names)
   pub ended : IfOk result (λ table. list_all has_ended table ≡ true)

@@ -1,5 +1,5 @@
 -- How streams are dealt to senders.
-use Rattle.std.specs.Prelude.{◌≡◌, ℕ, suc, ◌%◌, nat_eq, List, [], ◌∷◌, Option, Some, cond, length, map, replicate, slice_get}
+use Rattle.std.specs.Prelude.{◌≡◌, ℕ, suc, ◌%◌, nat_eq, Bool, List, [], ◌∷◌, Option, Some, cond, length, map, replicate, slice_get}
 use Rattle.redo_device.specs.Feed.{Stream}
 use Rattle.redo_wire.specs.Mailbox.{Poster}
 use Rattle.redo_gather.specs.Owed.{Given}
@@ -17,13 +17,13 @@ abbrev pub AreEmpty : {A : Type 0} → ℕ → List (List A) → Type 0
 AreEmpty {A} senders shares = shares ≡ replicate senders []
 
 -- every sender has its share
-abbrev pub AreDealt : {A : Type 0} → (A → Option Stream) → ℕ → List Given → List (List (ℕ × List ℕ × A)) → Type 0
+abbrev pub AreDealt : {A : Type 0} → (A → Option Stream) → ℕ → List Given → List (List (ℕ × List ℕ × Bool × A)) → Type 0
 AreDealt {A} tells senders given shares =
     (length shares ≡ senders)
-    × ((sender : ℕ) (share : List (ℕ × List ℕ × A)) → slice_get shares sender ≡ Some share → map (numbered tells) share ≡ share_from senders sender 0 given)
+    × ((sender : ℕ) (share : List (ℕ × List ℕ × Bool × A)) → slice_get shares sender ≡ Some share → map (numbered tells) share ≡ share_from senders sender 0 given)
 
 -- ends and shares at the same places: each end has the number of its place, and posted nothing so far
-pub record AreReady {A : Type 0} (tells : A → Option Stream) (senders : ℕ) (given : List Given) (ends : List Poster) (shares : List (List (ℕ × List ℕ × A))) : Type 0 where
+pub record AreReady {A : Type 0} (tells : A → Option Stream) (senders : ℕ) (given : List Given) (ends : List Poster) (shares : List (List (ℕ × List ℕ × Bool × A))) : Type 0 where
   pub count : length ends ≡ length shares
   pub fresh : (place : ℕ) (end : Poster) → slice_get ends place ≡ Some end → (end.number ≡ place) × (end.posted ≡ [])
-  pub dealt : (sender : ℕ) (share : List (ℕ × List ℕ × A)) → slice_get shares sender ≡ Some share → map (numbered tells) share ≡ share_from senders sender 0 given
+  pub dealt : (sender : ℕ) (share : List (ℕ × List ℕ × Bool × A)) → slice_get shares sender ≡ Some share → map (numbered tells) share ≡ share_from senders sender 0 given

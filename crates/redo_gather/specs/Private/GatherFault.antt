@@ -12,3 +12,4 @@ fault_of_stream number (stream.AfterClose line) = Stream number (stream.AfterClo
 fault_of_stream number stream.TooLong = Stream number stream.TooLong
 fault_of_stream number stream.Read = Stream number stream.Read
 fault_of_stream number stream.OutOfMemory = OutOfMemory
+fault_of_stream number stream.NotClosed = Stream number stream.NotClosed

@@ -22,7 +22,7 @@ pub record ArePiecesPosted {A : Type 0} (stream : ℕ) (told : Option Stream) (o
   pub entries : List Entry
   pub posted : HasPosted before after (map (line_of before.number stream) entries)
   pub ended : OnOk result (IsReadToEnd told old new entries)
-  pub owed : IfErr result (λ fault. IsOwedFor old.max_bytes (source old.target told) entries (Some fault))
+  pub owed : IfErr result (λ fault. IsOwedFor old.max_bytes (source old.target old.must_close told) entries (Some fault))
 
 -- the entries of a stream were posted, with what becomes of it
 pub record AreLinesPosted {A : Type 0} (max_bytes stream : ℕ) (given : Given) (before after : Poster) (result : Result A StreamFault) : Type 0 where

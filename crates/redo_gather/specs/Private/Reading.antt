@@ -20,6 +20,7 @@ IsReadTo begun piece place scan entries = (scan ≡ took (take place piece) begu
 pub record IsReadToEnd (told : Option Stream) (old new : Scanned) (entries : List Entry) : Type 0 where
   pub target_is : new.target ≡ old.target
   pub limit_is : new.max_bytes ≡ old.max_bytes
+  pub mark_is : new.must_close ≡ old.must_close
   pub read : IsRead new entries
   pub all : SomeStream told (λ stream. (stream.bytes ≡ new.bytes) × (stream.fails ≡ false))
 

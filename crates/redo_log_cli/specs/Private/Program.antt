@@ -8,6 +8,7 @@ use Rattle.redo_index.specs.declared.listed.Listed.{Listed}
 use Rattle.redo_index.specs.Index.{IsIndexOf, IsRefused, names_of}
 use Rattle.redo_run.specs.declared.run_fault.RunFault.{RunFault}
 use Rattle.redo_run.specs.declared.run_fault.RunFault.TheVariants.{Unknown, Stream as OfStream, OutOfMemory, Write}
+use Rattle.redo_gather.specs.Streams.{Told}
 use Rattle.redo_run.specs.Run.{Question}
 use Rattle.redo_run.specs.Shown.{HasFault, SomeText}
 use Rattle.redo_log_cli.specs.declared.failure.Failure.{Failure}
@@ -30,12 +31,12 @@ IsFlushedAfter (Ok done) result = (result ≡ Ok tt) ⊎ (result ≡ Err Write)
 IsFlushedAfter (Err fault) result = result ≡ Err fault
 
 -- a run comes to a text
-abbrev pub HasText : Question → List (Option Stream) → Type 0
+abbrev pub HasText : Question → List Told → Type 0
 HasText question told = SomeText question told (λ text. Unit {0})
 
 -- What an answer says of the streams, whatever becomes of the writer: after a fault of a word or of a stream the run
 -- comes to that fault, and where the text was written, or a write failed, it comes to a text.
-abbrev pub IsAnswer : Question → List (Option Stream) → Result (Unit {0}) RunFault → Type 0
+abbrev pub IsAnswer : Question → List Told → Result (Unit {0}) RunFault → Type 0
 IsAnswer question told (Ok done) = HasText question told
 IsAnswer question told (Err (Unknown place)) = HasFault question told (Unknown place)
 IsAnswer question told (Err (OfStream number fault)) = HasFault question told (OfStream number fault)

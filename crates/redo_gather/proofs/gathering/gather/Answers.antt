@@ -1,10 +1,12 @@
-use Rattle.std.proofs.Common.{◌≡◌, ℕ, ◌≤◌, length, map, sym, ap, ◌∙◌, subst, arith}
+use Rattle.std.proofs.Common.{◌≡◌, ℕ, ◌≤◌, length, map, zip, sym, ap, ◌∙◌, subst, arith}
 use Rattle.std.proofs.lemmas.List.{length-map}
 use Rattle.std.proofs.lemmas.Result.{err_from_is_err_and}
 use Rattle.redo_logs.specs.Logs.{most, new_log, targets_of}
 use Rattle.redo_gather.specs.Private.Collecting.{IsGathered}
+use Rattle.redo_gather.specs.Streams.{told_by, told_of}
 use Rattle.redo_gather.proofs.EnteringLemmas.{targets-entered}
 use Rattle.redo_gather.proofs.GatheredLemmas.{none_asked}
+use Rattle.redo_gather.proofs.MarkLemmas.{count_zip}
 use Rattle.redo_gather.proofs.gathering.gather.Goals as goal
 
 pub enter_all-requires : goal.enter_all-requires
@@ -18,7 +20,8 @@ returns-in_err-table g c =
 pub returns-then-senders-eq0 : goal.returns-then-senders-eq0
 returns-then-senders-eq0 g c =
     let empty : length c.in_ok-table.table ≡ 0 = omega (arith, c.senders.ensures.limits, c.len.ensures.len, c.min-senders.ensures, c.if-senders-eq0.true) in
-    let gathered = none_asked g.R.Feed.tells c.args.plan.now.max_bytes c.args.names.items c.args.readers.items c.in_ok-table.table c.in_ok-table.ensures c.requires.readers empty in record {
+    let gathered = none_asked (told_by g.R.Feed.tells) c.args.plan.now.max_bytes c.args.names.items (zip c.args.marks.items c.args.readers.items) c.in_ok-table.table c.in_ok-table.ensures
+    (count_zip c.args.marks.items c.args.readers.items (c.requires.readers ∙ sym c.requires.marks) ∙ c.requires.readers) empty in record {
       logs = gathered.logs;
       targets = gathered.targets;
       ended = gathered.ended;
@@ -27,12 +30,21 @@ returns-then-senders-eq0 g c =
       no_memory = tt;
     }
 
+pub with_marks-requires : goal.with_marks-requires
+with_marks-requires g c = c.requires.readers ∙ sym c.requires.marks
+
+pub returns-in_err-readers : goal.returns-in_err-readers
+returns-in_err-readers g c =
+    let given = err_from_is_err_and c.from_residual-in_err-readers.result c.from_residual-in_err-readers.ensures.1 in
+    rw (given.1, given.2) (record { logs = tt; targets = tt; ended = tt; fault = tt; number = tt; no_memory = tt })
+
 pub gather_by-requires-clause-begins : goal.gather_by-requires-clause-begins
 gather_by-requires-clause-begins g c κs within =
     c.in_ok-table.ensures ∙ ap (map new_log) (sym (ap targets_of c.in_ok-table.ensures ∙ targets-entered c.args.names.items))
 
 pub gather_by-requires-clause-readers : goal.gather_by-requires-clause-readers
-gather_by-requires-clause-readers g c κs within = c.requires.readers ∙ sym (ap length c.in_ok-table.ensures ∙ length-map c.args.names.items new_log)
+gather_by-requires-clause-readers g c κs within =
+    ap length c.in_ok-readers.ensures ∙ count_zip c.args.marks.items c.args.readers.items (c.requires.readers ∙ sym c.requires.marks) ∙ c.requires.readers ∙ sym (ap length c.in_ok-table.ensures ∙ length-map c.args.names.items new_log)
 
 pub gather_by-requires-clause-size : goal.gather_by-requires-clause-size
 gather_by-requires-clause-size g c κs within =
@@ -48,7 +60,10 @@ gather_by-requires-clause-senders g c κs within =
 pub returns : goal.returns
 returns g c =
     let targets = ap targets_of c.in_ok-table.ensures ∙ targets-entered c.args.names.items in
-    let gathered = subst (λ names. IsGathered c.args.plan.now.max_bytes names (map g.R.Feed.tells c.args.readers.items) c.gather_by.result) targets c.gather_by.ensures.gathered in record {
+    let marked = c.in_ok-readers.ensures in
+    let of_marks =
+    subst (λ given. IsGathered c.args.plan.now.max_bytes (targets_of c.in_ok-table.table) (map (told_by g.R.Feed.tells) given) c.gather_by.result) marked c.gather_by.ensures.gathered in
+    let gathered = subst (λ names. IsGathered c.args.plan.now.max_bytes names (told_of g.R.Feed.tells c.args.marks.items c.args.readers.items) c.gather_by.result) targets of_marks in record {
       logs = gathered.logs;
       targets = gathered.targets;
       ended = gathered.ended;

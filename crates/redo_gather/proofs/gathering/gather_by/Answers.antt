@@ -3,6 +3,7 @@ use Rattle.std.proofs.lemmas.List.{length-map}
 use Rattle.redo_logs.specs.Logs.{Log, targets_of}
 use Rattle.redo_wire.proofs.EndLemmas.{ends_of_one}
 use Rattle.redo_gather.specs.Private.Collecting.{IsGathered}
+use Rattle.redo_gather.specs.Streams.{told_by}
 use Rattle.redo_gather.proofs.ReadyLemmas.{all_owed}
 use Rattle.redo_gather.proofs.gathering.gather_by.Goals as goal
 
@@ -15,8 +16,9 @@ pub returns-clause-gathered : goal.returns-clause-gathered
 returns-clause-gathered g c =
     let tells = g.R.Feed.tells in
     let targets = targets_of c.args.table in
-    let told = map tells c.args.readers.items in
-    let same : length targets ≡ length told = length-map c.args.table (λ (log : Log). log.target) ∙ sym c.requires.readers ∙ sym (length-map c.args.readers.items tells) in
+    let told = map (told_by tells) c.args.readers.items in
+    let same : length targets ≡ length told =
+    length-map c.args.table (λ (log : Log). log.target) ∙ sym c.requires.readers ∙ sym (length-map c.args.readers.items (told_by tells)) in
     let limit = c.max_bytes-max_bytes.ensures.value in
     let opened = c.in_ok-collector.ensures in
     subst (λ max_bytes. IsGathered max_bytes targets told c.finish.result) limit

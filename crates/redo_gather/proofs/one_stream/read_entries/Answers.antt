@@ -1,10 +1,10 @@
-use Rattle.std.proofs.Common.{None, Some, sym, subst}
+use Rattle.std.proofs.Common.{None, Some, sym, ap, ◌∙◌, subst}
 use Rattle.std.proofs.lemmas.List.{append-nil}
 use Rattle.std.proofs.lemmas.Result.{err_from_is_err_and}
 use Rattle.redo_line.specs.declared.stream_fault.StreamFault.TheVariants.{OutOfMemory}
 use Rattle.redo_line.specs.Source.{source}
 use Rattle.redo_gather.specs.Owed.{IsOwedFor}
-use Rattle.redo_gather.proofs.ReadingLemmas.{at_end, cut_at_end}
+use Rattle.redo_gather.proofs.ReadingLemmas.{at_end, cut_at_end, open_at_end}
 use Rattle.redo_gather.proofs.one_stream.read_entries.Goals as goal
 
 pub returns-in_err-read_pieces : goal.returns-in_err-read_pieces
@@ -14,8 +14,14 @@ returns-in_err-read_pieces g c =
 
 pub returns-in_err-last : goal.returns-in_err-last
 returns-in_err-last g c =
-    let no = c.in_err-last.ensures.rest c.in_ok-read_pieces.ensures.ended.read.fine.refused_none in
-    absurd (cc (no))
+    let ended = c.in_ok-read_pieces.ensures.ended in
+    let fault = c.in_err-last.ensures.not_closed ended.read.fine.refused_none in
+    let given = err_from_is_err_and c.from_residual-in_err-last.result c.from_residual-in_err-last.ensures.1 in
+    rw (given.1, given.2)
+    (record {
+      owed = open_at_end _ c.args.scan _ _ ended c.in_err-last.field-0.0 (fault.1 ∙ ap Some (sym fault.0));
+      buf = c.read_pieces.ensures.buf;
+    })
 
 pub returns-in_err-push : goal.returns-in_err-push
 returns-in_err-push g c =
@@ -24,7 +30,7 @@ returns-in_err-push g c =
     let given = err_from_is_err_and c.from_residual-in_err-push.result c.from_residual-in_err-push.ensures.1 in
     rw (given.1, given.2)
     (record {
-      owed = subst (λ es. IsOwedFor scan.max_bytes (source scan.target (g.R.Feed.tells c.args.reader.now)) es (Some OutOfMemory)) (sym c.in_err-push.ensures.err) (cut_at_end _ scan _ _ ended);
+      owed = subst (λ es. IsOwedFor scan.max_bytes (source scan.target scan.must_close (g.R.Feed.tells c.args.reader.now)) es (Some OutOfMemory)) (sym c.in_err-push.ensures.err) (cut_at_end _ scan _ _ ended);
       buf = c.read_pieces.ensures.buf;
     })
 

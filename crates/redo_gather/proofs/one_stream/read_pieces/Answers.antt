@@ -8,7 +8,7 @@ pub reads-init : goal.reads-init
 reads-init g c = (
   c.requires.callable,
   refl,
-  record { target_is = refl; limit_is = refl },
+  record { target_is = refl; limit_is = refl; mark_is = refl },
   none_read _ c.args.scan.now c.args.entries.now c.requires.begins c.requires.read,
   zero-le,
 )
@@ -17,7 +17,7 @@ pub returns-in-Err : goal.returns-in-Err
 returns-in-Err g c =
     let kept = c.reads.invariant in record {
       ended = tt;
-      owed = at_failure c.args.scan.now.target c.args.scan.now.max_bytes _ _ _ c.reads.scan c.reads.entries kept.3 kept.2 _ _ c.in-Err.ensures.gives;
+      owed = at_failure c.args.scan.now.target c.args.scan.now.max_bytes c.args.scan.now.must_close _ _ _ c.reads.scan c.reads.entries kept.3 kept.2 _ _ c.in-Err.ensures.gives;
       buf = c.pull.auto.buf ∙ kept.1;
     }
 
@@ -27,9 +27,10 @@ returns-in-Ok-eq0 g c =
       ended = record {
         target_is = kept.2.target_is;
         limit_is = kept.2.limit_is;
+        mark_is = kept.2.mark_is;
         read = kept.3.read;
         all =
-            all_taken c.args.scan.now.target c.args.scan.now.max_bytes _ _ _ c.reads.scan c.reads.entries kept.3 kept.2 c.pull.new.buf
+            all_taken c.args.scan.now.target c.args.scan.now.max_bytes c.args.scan.now.must_close _ _ _ c.reads.scan c.reads.entries kept.3 kept.2 c.pull.new.buf
             (rw c.in-Ok-eq0.field-0-test at c.in-Ok-eq0.ensures.gives);
       };
       owed = tt;
@@ -46,7 +47,7 @@ returns-in_err-read_piece-in-Ok g c =
     (record {
       ended = tt;
       owed =
-          at_refusal c.args.scan.now.target c.args.scan.now.max_bytes _ _ _ c.reads.scan c.reads.entries kept.3 kept.2 c.in-Ok.n c.pull.new.buf some c.in-Ok.ensures.gives c.read_piece.new.entries
+          at_refusal c.args.scan.now.target c.args.scan.now.max_bytes c.args.scan.now.must_close _ _ _ c.reads.scan c.reads.entries kept.3 kept.2 c.in-Ok.n c.pull.new.buf some c.in-Ok.ensures.gives c.read_piece.new.entries
           c.in_err-read_piece-in-Ok.field-0.0 refused.reads_nothing refused.refused;
       buf = c.pull.auto.buf ∙ kept.1;
     })
@@ -55,7 +56,7 @@ pub reads-smaller : goal.reads-smaller
 reads-smaller g c =
     let kept = c.reads.invariant in
     let some : 0 < c.in-Ok.n = let nonzero = c.in-Ok.n-test.1 in omega (arith, nonzero) in
-    let limit = within c.args.scan.now.target c.args.scan.now.max_bytes _ _ (g.R.Feed.tells c.reads.reader) c.reads.scan c.reads.entries kept.3 kept.2 in
+    let limit = within c.args.scan.now.target c.args.scan.now.max_bytes c.args.scan.now.must_close _ _ (g.R.Feed.tells c.reads.reader) c.reads.scan c.reads.entries kept.3 kept.2 in
     let taken = ap (λ s. length s.bytes) c.in_ok-read_piece-in-Ok.ensures.took ∙ length-append c.reads.scan.bytes (take c.in-Ok.n c.pull.new.buf) in
     let piece = length-take c.in-Ok.n c.pull.new.buf in
     omega (arith, some, limit, taken, piece, c.in-Ok.ensures.bound)
@@ -69,7 +70,7 @@ reads-preserved g c =
     let taken = ap (λ s. length s.bytes) read.took ∙ length-append c.reads.scan.bytes (take c.in-Ok.n buf) in (
       c.requires.callable,
       c.pull.auto.buf ∙ kept.1,
-      record { target_is = ap (λ s. s.target) read.took ∙ kept.2.target_is; limit_is = ap (λ s. s.max_bytes) read.took ∙ kept.2.limit_is },
-      one_piece c.args.scan.now.target c.args.scan.now.max_bytes _ _ _ c.reads.scan c.reads.entries kept.3 kept.2 c.in-Ok.n buf some c.in-Ok.ensures.gives c.read_piece.new.scan c.read_piece.new.entries read.took read.read,
+      record { target_is = ap (λ s. s.target) read.took ∙ kept.2.target_is; limit_is = ap (λ s. s.max_bytes) read.took ∙ kept.2.limit_is; mark_is = ap (λ s. s.must_close) read.took ∙ kept.2.mark_is },
+      one_piece c.args.scan.now.target c.args.scan.now.max_bytes c.args.scan.now.must_close _ _ _ c.reads.scan c.reads.entries kept.3 kept.2 c.in-Ok.n buf some c.in-Ok.ensures.gives c.read_piece.new.scan c.read_piece.new.entries read.took read.read,
       (let turns = kept.4 in let piece = length-take c.in-Ok.n buf in omega (arith, turns, some, taken, piece, c.in-Ok.ensures.bound)),
     )

@@ -7,7 +7,7 @@ abbrev pub invariant-reads : goal.invariant-reads
 invariant-reads g l =
     goal.B-IsAlwaysCallable g l.before_read
     × (length l.buf ≡ length l.initial.buf)
-    × IsFor l.initial.scan.target l.initial.scan.max_bytes l.scan
+    × IsFor l.initial.scan.target l.initial.scan.max_bytes l.initial.scan.must_close l.scan
     × Reading (g.R.Feed.tells l.initial.reader) (g.R.Feed.tells l.reader) l.scan l.entries
     × (l.turn ≤ length l.scan.bytes)
 

@@ -27,8 +27,8 @@ returns-in-Some-clause-fault g c target here =
     of_stream (Unit {0}) c.args.number fault _
     (λ other. (
       refl,
-      subst (λ (of : List ℕ). HasFault max_bytes (source of told) fault) same
-          (is_fault max_bytes (source c.in_ok-target.target told) log.entries log.fault c.read_stream-log.ensures.owed fault c.in-Some.is other),
+      subst (λ (of : List ℕ). HasFault max_bytes (source of c.args.must_close told) fault) same
+          (is_fault max_bytes (source c.in_ok-target.target c.args.must_close told) log.entries log.fault c.read_stream-log.ensures.owed fault c.in-Some.is other),
     ))
     c.of.result c.of.ensures
 
@@ -49,7 +49,7 @@ returns-clause-completed g c target here =
     let same : c.in_ok-target.target ≡ target = cc (copied, named, here) in record {
       entries = log.entries;
       entries_are =
-          subst (λ (of : List ℕ). SomeStream told (λ stream. log_from max_bytes (source of stream) ≡ Some log.entries)) same
-          (is_log max_bytes (source c.in_ok-target.target told) log.entries log.fault c.read_stream-log.ensures.owed none);
+          subst (λ (of : List ℕ). SomeStream told (λ stream. log_from max_bytes (source of c.args.must_close stream) ≡ Some log.entries)) same
+          (is_log max_bytes (source c.in_ok-target.target c.args.must_close told) log.entries log.fault c.read_stream-log.ensures.owed none);
       table_is = c.in_ok-store.ensures.stored ∙ ap (λ fault. changed c.args.number (completed log.entries fault) c.args.table.now) none;
     }

@@ -1,4 +1,4 @@
-use Rattle.std.proofs.Common.{◌≡◌, ℕ, List, ◌∷◌, [], ◌++◌, length, map, refl, sym, ap, ◌∙◌, subst, arith}
+use Rattle.std.proofs.Common.{◌≡◌, ℕ, Bool, List, ◌∷◌, [], ◌++◌, length, map, refl, sym, ap, ◌∙◌, subst, arith}
 use Rattle.std.proofs.lemmas.List.{append_assoc, map_push}
 use Rattle.redo_line.specs.Source.{source}
 use Rattle.redo_gather.specs.Sending.{HasSent, numbered}
@@ -11,10 +11,10 @@ loop-stream-preserved g c =
     let kept = c.loop-stream.invariant in
     let tells = g.R.Feed.tells in
     let yielded = c.loop-stream.yielded in
-    let item : ℕ × List ℕ × g.row.R.Denot = (c.in-Some.stream, c.in-Some.target, c.in-Some.reader) in (
+    let item : ℕ × List ℕ × Bool × g.row.R.Denot = (c.in-Some.stream, c.in-Some.target, c.in-Some.must_close, c.in-Some.reader) in (
       kept.0 ∙ ap (λ left. yielded ++ left) c.in-Some.ensures.steps.0 ∙ sym (append_assoc yielded (item ∷ []) c.next.new.self.rest.items),
       subst (λ share. HasSent c.args.max_bytes share c.args.end c.send_stream.new.end) (sym (map_push (numbered tells) yielded item))
-          (one_sent c.args.max_bytes (map (numbered tells) yielded) c.in-Some.stream (source c.in-Some.target (tells c.in-Some.reader)) c.args.end c.loop-stream.end c.send_stream.new.end kept.1 c.send_stream.ensures),
+          (one_sent c.args.max_bytes (map (numbered tells) yielded) c.in-Some.stream (source c.in-Some.target c.in-Some.must_close (tells c.in-Some.reader)) c.args.end c.loop-stream.end c.send_stream.new.end kept.1 c.send_stream.ensures),
     )
 
 pub loop-stream-init : goal.loop-stream-init

@@ -1,8 +1,8 @@
-use Rattle.std.proofs.Common.{[], ◌∷◌, ◌++◌, None, Some, refl, sym}
+use Rattle.std.proofs.Common.{[], ◌∷◌, ◌++◌, None, Some, refl, sym, ap, ◌∙◌}
 use Rattle.std.proofs.lemmas.List.{append-nil}
 use Rattle.std.proofs.lemmas.Result.{err_from_is_err_and}
 use Rattle.redo_gather.proofs.PostedLemmas.{lines_posted}
-use Rattle.redo_gather.proofs.ReadingLemmas.{at_end}
+use Rattle.redo_gather.proofs.ReadingLemmas.{at_end, open_at_end}
 use Rattle.redo_gather.proofs.sending.send_entries.Goals as goal
 
 pub returns-in_err-send_pieces : goal.returns-in_err-send_pieces
@@ -13,8 +13,15 @@ returns-in_err-send_pieces g c =
 
 pub returns-in_err-last : goal.returns-in_err-last
 returns-in_err-last g c =
-    let no = c.in_err-last.ensures.rest c.in_ok-send_pieces.ensures.ended.read.fine.refused_none in
-    absurd (cc (no))
+    let sent = c.in_ok-send_pieces.ensures in
+    let fault = c.in_err-last.ensures.not_closed sent.ended.read.fine.refused_none in
+    let given = err_from_is_err_and c.from_residual-in_err-last.result c.from_residual-in_err-last.ensures.1 in
+    rw (given.1, given.2)
+    (record {
+      entries = sent.entries;
+      posted = sent.posted;
+      owed = open_at_end _ c.args.scan _ _ sent.ended c.in_err-last.field-0.0 (fault.1 ∙ ap Some (sym fault.0));
+    })
 
 pub returns-in-Some : goal.returns-in-Some
 returns-in-Some g c =

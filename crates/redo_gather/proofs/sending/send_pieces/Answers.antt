@@ -11,8 +11,8 @@ returns-then-is_empty g c = record {
   posted = nothing_posted c.args.end.now;
   ended = tt;
   owed =
-      no_memory_left c.args.scan.now.target c.args.scan.now.max_bytes _ _ (g.R.Feed.tells c.args.reader.now) c.args.scan.now []
-      (none_read _ c.args.scan.now [] c.requires.begins c.requires.read) (record { target_is = refl; limit_is = refl });
+      no_memory_left c.args.scan.now.target c.args.scan.now.max_bytes c.args.scan.now.must_close _ _ (g.R.Feed.tells c.args.reader.now) c.args.scan.now []
+      (none_read _ c.args.scan.now [] c.requires.begins c.requires.read) (record { target_is = refl; limit_is = refl; mark_is = refl });
 }
 
 pub returns-in-Err : goal.returns-in-Err
@@ -22,7 +22,7 @@ returns-in-Err g c =
       entries = kept.4.0;
       posted = kept.4.1;
       ended = tt;
-      owed = at_failure c.args.scan.now.target c.args.scan.now.max_bytes _ _ _ c.reads.scan kept.4.0 kept.4.2 kept.2 _ _ c.in-Err.ensures.gives;
+      owed = at_failure c.args.scan.now.target c.args.scan.now.max_bytes c.args.scan.now.must_close _ _ _ c.reads.scan kept.4.0 kept.4.2 kept.2 _ _ c.in-Err.ensures.gives;
     }
 
 pub returns-in-Ok-eq0 : goal.returns-in-Ok-eq0
@@ -34,9 +34,10 @@ returns-in-Ok-eq0 g c =
       ended = record {
         target_is = kept.2.target_is;
         limit_is = kept.2.limit_is;
+        mark_is = kept.2.mark_is;
         read = kept.4.2.read;
         all =
-            all_taken c.args.scan.now.target c.args.scan.now.max_bytes _ _ _ c.reads.scan kept.4.0 kept.4.2 kept.2 c.pull.new.buf
+            all_taken c.args.scan.now.target c.args.scan.now.max_bytes c.args.scan.now.must_close _ _ _ c.reads.scan kept.4.0 kept.4.2 kept.2 c.pull.new.buf
             (rw c.in-Ok-eq0.field-0-test at c.in-Ok-eq0.ensures.gives);
       };
       owed = tt;
@@ -47,7 +48,7 @@ reads-smaller g c =
     let kept = c.reads.invariant in
     let now = c.in_ok-send_piece-in-Ok.ensures.posted.read kept.4.0 kept.4.2.read in
     let some : 0 < c.in-Ok.n = let nonzero = c.in-Ok.n-test.1 in omega (arith, nonzero) in
-    let limit = within c.args.scan.now.target c.args.scan.now.max_bytes _ _ (g.R.Feed.tells c.reads.reader) c.reads.scan kept.4.0 kept.4.2 kept.2 in
+    let limit = within c.args.scan.now.target c.args.scan.now.max_bytes c.args.scan.now.must_close _ _ (g.R.Feed.tells c.reads.reader) c.reads.scan kept.4.0 kept.4.2 kept.2 in
     let taken = ap (λ s. length s.bytes) now.0 ∙ length-append c.reads.scan.bytes (take c.in-Ok.n c.pull.new.buf) in
     let piece = length-take c.in-Ok.n c.pull.new.buf in
     omega (arith, some, limit, taken, piece, c.in-Ok.ensures.bound)
@@ -62,12 +63,12 @@ reads-preserved g c =
     let taken = ap (λ s. length s.bytes) now.0 ∙ length-append c.reads.scan.bytes (take c.in-Ok.n buf) in (
       c.requires.callable,
       c.pull.auto.buf ∙ kept.1,
-      record { target_is = ap (λ s. s.target) now.0 ∙ kept.2.target_is; limit_is = ap (λ s. s.max_bytes) now.0 ∙ kept.2.limit_is },
+      record { target_is = ap (λ s. s.target) now.0 ∙ kept.2.target_is; limit_is = ap (λ s. s.max_bytes) now.0 ∙ kept.2.limit_is; mark_is = ap (λ s. s.must_close) now.0 ∙ kept.2.mark_is },
       (let turns = kept.3 in let piece = length-take c.in-Ok.n buf in omega (arith, turns, some, taken, piece, c.in-Ok.ensures.bound)),
       (
         kept.4.0 ++ sent.entries,
         lines_posted c.args.stream c.args.end.now c.reads.end c.send_piece.new.end kept.4.0 sent.entries kept.4.1 sent.posted,
-        one_piece c.args.scan.now.target c.args.scan.now.max_bytes _ _ _ c.reads.scan kept.4.0 kept.4.2 kept.2 c.in-Ok.n buf some c.in-Ok.ensures.gives c.send_piece.new.scan (kept.4.0 ++ sent.entries) now.0 now.1,
+        one_piece c.args.scan.now.target c.args.scan.now.max_bytes c.args.scan.now.must_close _ _ _ c.reads.scan kept.4.0 kept.4.2 kept.2 c.in-Ok.n buf some c.in-Ok.ensures.gives c.send_piece.new.scan (kept.4.0 ++ sent.entries) now.0 now.1,
       ),
     )
 
@@ -83,6 +84,6 @@ returns-in_err-send_piece-in-Ok g c =
       posted = lines_posted c.args.stream c.args.end.now c.reads.end c.send_piece.new.end kept.4.0 sent.posted.entries kept.4.1 sent.posted.posted;
       ended = tt;
       owed =
-          at_refusal c.args.scan.now.target c.args.scan.now.max_bytes _ _ _ c.reads.scan kept.4.0 kept.4.2 kept.2 c.in-Ok.n c.pull.new.buf some c.in-Ok.ensures.gives (kept.4.0 ++ sent.posted.entries)
+          at_refusal c.args.scan.now.target c.args.scan.now.max_bytes c.args.scan.now.must_close _ _ _ c.reads.scan kept.4.0 kept.4.2 kept.2 c.in-Ok.n c.pull.new.buf some c.in-Ok.ensures.gives (kept.4.0 ++ sent.posted.entries)
           c.in_err-send_piece-in-Ok.field-0.0 sent.reads_nothing (sent.posted.refused kept.4.0 kept.4.2.read);
     })

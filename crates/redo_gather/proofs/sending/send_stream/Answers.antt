@@ -17,6 +17,6 @@ returns g c =
           last_posted c.args.stream c.args.end.now between c.post.new.end sent.entries (fault_in c.send_entries-answer.result) sent.posted
           (subst (λ what. HasPosted between c.post.new.end (singles_in between.number c.args.stream what)) c.last_item.ensures c.post.ensures);
       owed =
-          subst (λ (scan : Scanned). IsOwedFor scan.max_bytes (source scan.target (g.R.Feed.tells c.args.reader.now)) sent.entries (fault_in c.send_entries-answer.result)) c.new-scan.ensures.scan
+          subst (λ (scan : Scanned). IsOwedFor scan.max_bytes (source scan.target scan.must_close (g.R.Feed.tells c.args.reader.now)) sent.entries (fault_in c.send_entries-answer.result)) c.new-scan.ensures.scan
           sent.owed;
     }

@@ -1,6 +1,8 @@
-use Rattle.std.proofs.Common.{◌≢◌, ◌<◌, None, length, map, sym, ap, ◌∙◌, subst}
+use Rattle.std.proofs.Common.{◌≢◌, ◌<◌, None, length, sym, ap, ◌∙◌, subst}
 use Rattle.std.proofs.lemmas.List.{length-map}
 use Rattle.redo_line.specs.declared.stream_fault.StreamFault.TheVariants as stream
+use Rattle.redo_gather.specs.Streams.{told_of}
+use Rattle.redo_index.specs.Index.{marks_of}
 use Rattle.redo_run.specs.RunFault.{IfStreamFault, IfUnknown}
 use Rattle.redo_run.specs.Run.{question}
 use Rattle.redo_log_cli.specs.Private.Program.{IsAnswer}
@@ -9,7 +11,7 @@ use Rattle.redo_log_cli.proofs.program.show.Goals as goal
 
 pub returns-clause-answer : goal.returns-clause-answer
 returns-clause-answer g c =
-    let told = map g.F.Feed.tells c.args.readers.items in
+    let told = told_of g.F.Feed.tells (marks_of c.args.index.now) c.args.readers.items in
     let asked = question c.args.index.now c.plan_of-plan.result c.options.result.now c.targets.result.now in
     let is = asked_is c.args.job.now c.args.index.now c.plan_of-plan.result c.options.result.now c.targets.result.now (ap (λ plan. plan.max_bytes) c.plan_of-plan.ensures) c.options.ensures c.targets.ensures.value in
     subst (λ q. IsAnswer q told c.flush_after-flushed.result) is

@@ -1,6 +1,7 @@
 use Rattle.std.proofs.Common.{◌≡◌, ◌<◌, ℕ, List, is_some, true, false, length, slice_get, ap, sym, ◌∙◌, arith}
 use Rattle.std.specs.Option.{option_map}
 use Rattle.std.proofs.lemmas.Option.{slice_get-map}
+use Rattle.redo_index.specs.declared.index.LogFile.{LogFile}
 use Rattle.redo_index.proofs.Listing.{seen}
 use Rattle.redo_index.proofs.index.Index.name.Goals as goal
 
@@ -15,4 +16,4 @@ pub returns : goal.returns
 returns c =
     let entries = c.self.inside.targets.entries in
     ap (λ names. slice_get names c.args.i) (seen _ _ c.self.view_is c.self.invariant).names_are ∙ slice_get-map (λ entry. entry.0) entries c.args.i
-    ∙ ap (option_map (λ (entry : List ℕ × ℕ). entry.0)) (sym (rw c.in-Some.is at c.get_index.ensures.entry))
+    ∙ ap (option_map (λ (entry : List ℕ × LogFile). entry.0)) (sym (rw c.in-Some.is at c.get_index.ensures.entry))

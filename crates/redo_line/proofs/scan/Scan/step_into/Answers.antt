@@ -24,19 +24,19 @@ invariant_of-self-in-Err c =
 
 pub returns-in-Err-clause-at_once : goal.returns-in-Err-clause-at_once
 returns-in-Err-clause-at_once c fault first =
-    let known = known_of c.self.inside.progress c.self.inside.history.bytes _ c.self.inside.refused c.args.self.now fault c.self.view_is (c.self.invariant.after c.in_default.is) first in
+    let known = known_of c.self.inside.progress c.self.inside.history.bytes _ c.self.inside.must_close c.self.inside.refused c.args.self.now fault c.self.view_is (c.self.invariant.after c.in_default.is) first in
     let told = c.in-Err.ensures.at_once fault known in
     told
 
 pub returns-in-Ok-Some-clause-at_once : goal.returns-in-Ok-Some-clause-at_once
 returns-in-Ok-Some-clause-at_once c fault first =
-    let known = known_of c.self.inside.progress c.self.inside.history.bytes _ c.self.inside.refused c.args.self.now fault c.self.view_is (c.self.invariant.after c.in_default.is) first in
+    let known = known_of c.self.inside.progress c.self.inside.history.bytes _ c.self.inside.must_close c.self.inside.refused c.args.self.now fault c.self.view_is (c.self.invariant.after c.in_default.is) first in
     let told = c.in-Ok-Some.ensures.at_once fault known in
     absurd (cc)
 
 pub returns-in-Ok-None-clause-at_once : goal.returns-in-Ok-None-clause-at_once
 returns-in-Ok-None-clause-at_once c fault first =
-    let known = known_of c.self.inside.progress c.self.inside.history.bytes _ c.self.inside.refused c.args.self.now fault c.self.view_is (c.self.invariant.after c.in_default.is) first in
+    let known = known_of c.self.inside.progress c.self.inside.history.bytes _ c.self.inside.must_close c.self.inside.refused c.args.self.now fault c.self.view_is (c.self.invariant.after c.in_default.is) first in
     let told = c.in-Ok-None.ensures.at_once fault known in
     absurd (cc)
 
