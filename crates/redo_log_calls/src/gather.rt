@@ -22,13 +22,13 @@ pub struct Streams {
     streams: &'static [&'static [u8]],
 }
 
-/// Three streams that have logs.
+/// Three streams that have logs. The second must close.
 pub const WHOLE: Streams = Streams {
-    index: b"1 all\n2 a.o\n3 b.o\n",
+    index: b"1 all\n!2 a.o\n3 b.o\n",
     streams: &[
         b"@@REDO:do:7:1.0000@@ a.o\n@@REDO:do:7:1.0000@@ b.o\n@@REDO:done:7:1.0000@@ 0 a.o\n\
           @@REDO:done:7:1.0000@@ 1 b.o\nlink\n",
-        b"cc a\n",
+        b"cc a\n@@REDO:done:7:1.0000@@ 0 a.o\n",
         b"cc b",
     ],
 };
@@ -55,6 +55,15 @@ pub const BOTH_BAD: Streams = Streams {
     streams: &[
         b"ok\nok\nok\nok\nok\nok\nok\nok\n@@REDO:do:7\n",
         b"@@REDO:do:7\n",
+    ],
+};
+
+/// Two streams that must close, of which the second is open, as its last line is unended.
+pub const OPEN: Streams = Streams {
+    index: b"!1 a\n!2 b\n",
+    streams: &[
+        b"ok\n@@REDO:done:7:1.0000@@ 0 a\n",
+        b"ok\n@@REDO:done:7:1.0000@@ 0 b",
     ],
 };
 

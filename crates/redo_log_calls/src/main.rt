@@ -99,6 +99,7 @@ fn make_with_logs(
         "gather_whole" => gather::gather(rt, &gather::WHOLE, plan),
         "gather_bad" => gather::gather(rt, &gather::BAD, plan),
         "gather_both_bad" => gather::gather(rt, &gather::BOTH_BAD, plan),
+        "gather_open" => gather::gather(rt, &gather::OPEN, plan),
         "mailbox" => mailbox::mailbox(rt),
         "send" => send::send_shares(rt, plan),
         "table" => table::table(rt, rt.alloc()),
@@ -115,6 +116,7 @@ fn make_with_texts(
     match calls {
         "chain" => chain::view_chain(rt, rt.alloc()),
         "run_bad" => view::run_streams(rt, &view::AT_FAULT, plan),
+        "run_open" => view::run_streams(rt, &view::NOT_CLOSED, plan),
         "run_locks" => view::run_streams(rt, &view::LOCKED, plan),
         "run_unknown" => view::run_streams(rt, &view::UNKNOWN, plan),
         "run_whole" => view::run_streams(rt, &view::OPENED, plan),
@@ -167,7 +169,7 @@ fn next(rt: &impl Print, cutter: &mut Cutter, piece: &[u8], from: usize) -> io::
 
 /// An index, and where it lists a target.
 fn index(rt: &impl Print, alloc: Global) -> io::Result<()> {
-    tell_index_of(rt, alloc, b"7 d/./a\n1  b\n12 c")
+    tell_index_of(rt, alloc, b"7 d/./a\n!1  b\n12 c")
 }
 
 /// The index that standard input is: how much it lists, and all of it, or its fault.
@@ -194,7 +196,8 @@ fn tell_index(rt: &impl Print, index: &Index) -> io::Result<()> {
     for i in 0..index.len() {
         let name = index.name(i);
         println!(rt;
-            "{} {:?} at {:?}",
+            "{}{} {:?} at {:?}",
+            if index.must_close(i) { "!" } else { "" },
             index.fid(i),
             name.bytes(),
             index.find(name)
@@ -343,17 +346,22 @@ fn tell_step(
     Ok(None)
 }
 
-/// The scan of the stream that standard input is behind its first line, which says how: the most
-/// bytes that are allowed, a space, the size of a piece, a space, and the target.
+/// The scan of the stream that standard input is behind its first line, which says how: a mark, if the
+/// stream must close, the most bytes that are allowed, a space, the size of a piece, a space, and the
+/// target.
 fn scan_of_input(rt: &(impl Input + Print + AllocGlobal)) -> io::Result<()> {
     let bytes = all_input(rt)?;
-    let Some((max_bytes, size, target, stream)) = read_job(&bytes) else {
+    let (must_close, job) = match bytes.split_first() {
+        Some((b'!', job)) => (true, job),
+        _ => (false, bytes.as_slice()),
+    };
+    let Some((max_bytes, size, target, stream)) = read_job(job) else {
         return println!(rt; "a bad first line");
     };
     match TargetName::resolve(rt.alloc(), None, target) {
         Ok(target) => scan_stream(
             rt,
-            Scan::new(rt.alloc(), target, max_bytes, false),
+            Scan::new(rt.alloc(), target, max_bytes, must_close),
             stream,
             size,
         ),

@@ -11,10 +11,12 @@ use std::io;
 use std::sync::Wait;
 use std::thread::Threads;
 
-/// The streams of a share, with their numbers and targets: one with a bad record, and one that is whole.
-const SHARE: [(u32, &[u8], &[u8]); 2] = [
-    (0, b"a", b"ok\nok\n@@REDO:do:7\n"),
-    (1, b"b", b"@@REDO:do:7:1.0000@@ c\nb1\nb2"),
+/// The streams of a share, with their numbers and targets, and whether they must close: one with a bad record, one that is
+/// whole, and one that is open.
+const SHARE: [(u32, &[u8], bool, &[u8]); 3] = [
+    (0, b"a", true, b"ok\nok\n@@REDO:do:7\n"),
+    (1, b"b", false, b"@@REDO:do:7:1.0000@@ c\nb1\nb2"),
+    (2, b"c", true, b"c1\n"),
 ];
 
 /// How many items there may be.
@@ -71,11 +73,11 @@ fn shares(alloc: Global, senders: u32) -> Result<Vec<Sending>, AllocError> {
 
 fn share(alloc: Global) -> Result<Share<Pieces>, AllocError> {
     let mut share = Vec::new(alloc);
-    for (number, name, stream) in &SHARE {
+    for (number, name, must_close, stream) in &SHARE {
         let Ok(target) = TargetName::resolve(alloc, None, name) else {
             return Err(AllocError);
         };
-        share.push((*number, target, false, reader(alloc, stream)?))?;
+        share.push((*number, target, *must_close, reader(alloc, stream)?))?;
     }
     Ok(share)
 }

@@ -3,7 +3,9 @@ ghost use Rattle.std.specs.Prelude.{◌≡◌, true, length};
 ghost use Rattle.std.specs.List.{list_all};
 ghost use Rattle.redo_logs.specs.Logs.{has_ended};
 
-use crate::gather::{BAD, LOCKS, MAX_BYTES, Streams, WHOLE, captured, gathered, tell_missing};
+use crate::gather::{
+    BAD, LOCKS, MAX_BYTES, OPEN, Streams, WHOLE, captured, gathered, tell_missing,
+};
 use redo_gather::{Free, Plan};
 use redo_line::{Pieces, Taker, TargetName};
 use redo_log_cli::{Index, run};
@@ -51,6 +53,13 @@ pub const LOCKED: Case = Case {
 pub const AT_FAULT: Case = Case {
     given: BAD,
     asked: b"all",
+    options: DEEP,
+};
+
+/// A log of a stream that must close, beside one that is open.
+pub const NOT_CLOSED: Case = Case {
+    given: OPEN,
+    asked: b"a",
     options: DEEP,
 };
 
