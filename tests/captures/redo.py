@@ -56,9 +56,16 @@ def text_of(folder, name):
         return file.read()
 
 
+def listed(folder):
+    """The targets that `names` lists: whether each is marked, and its number."""
+    path = os.path.join(folder, ".redo/names")
+    lines = text_of(folder, ".redo/names").splitlines() if os.path.exists(path) else []
+    words = [line.lstrip("!").split(" ", 1) for line in lines]
+    return {name: (line.startswith("!"), number) for line, (number, name) in zip(lines, words)}
+
+
 def log_of(folder, name):
-    numbers = dict(reversed(line.split(" ", 1)) for line in text_of(folder, ".redo/names").splitlines())
-    return text_of(folder, f".redo/log.{numbers[name]}")
+    return text_of(folder, f".redo/log.{listed(folder)[name][1]}")
 
 
 def touch(path):
@@ -261,9 +268,9 @@ def refusals(checks, at):
     folder = project(at("damaged"), all_do="")
     checks.expect("a list of names: redo", redo(folder), (0, "", ""))
     write(os.path.join(folder, ".redo/names"), "7 all\n")
-    checks.expect("a list of names with other numbers", (redo(folder, "all", "new"), text_of(folder, ".redo/names")), ((1, "", "redo: no rule to make new\n"), "7 all\n"))
+    checks.expect("a list of names with other numbers", (redo(folder, "all", "new"), text_of(folder, ".redo/names")), ((1, "", "redo: no rule to make new\n"), "!8 all\n"))
     write(os.path.join(folder, "new.do"), "")
-    checks.expect("goes on with the next number", (redo(folder, "new"), text_of(folder, ".redo/names")), ((0, "", ""), "7 all\n8 new\n"))
+    checks.expect("goes on with the next number", (redo(folder, "new"), text_of(folder, ".redo/names")), ((0, "", ""), "!8 all\n!9 new\n"))
     folder = project(at("nested"), all_do="env -u REDO_RUN redo x 2>said || true\n", x_do="")
     checks.expect("a redo below that knows of none: redo", redo(folder), (0, "", ""))
     checks.expect("a redo below that knows of none", text_of(folder, "said"), f"redo: another redo makes targets of {folder}\n")
@@ -430,7 +437,7 @@ def killed(checks, at):
             victim = "none, it was over"
         build.wait()
         build.stderr.close()
-        if os.path.exists(os.path.join(folder, ".redo/log.1")):
+        if "all" in listed(folder):
             checks.expect(f"killed, {turn}: its captures", isinstance(shown(folder, "-r", "all"), str), True)
         left = [process for process in others if turn % 2 == 0 and is_running(process)]
         checks.expect(f"killed, {turn}: again", redo(folder, "-j4", "all"), (0, "", ""))
@@ -464,7 +471,7 @@ def moments(checks, at):
         build = started(folder, "-j6")
         while build.poll() is None and views < 200:
             time.sleep(rng.random() * 0.02)
-            if os.path.exists(os.path.join(folder, ".redo/log.1")):
+            if "all" in listed(folder):
                 text = shown(folder, "-r", "--debug-locks", "all")
                 views += 1
                 if not isinstance(text, str) or "\0" in text:
