@@ -701,8 +701,14 @@ def a_book(checks, at):
         checks.expect(f"a book, -j{count}: locks", "contents (WAITING)" in locks, count > 1)
 
 
+def ranked(text):
+    """A text with pids, each replaced by how many others come before it."""
+    pids = list(dict.fromkeys(re.findall(r"^(\d+) +redo", text, re.M)))
+    return re.sub(r"^(\d+) +redo", lambda found: f"{pids.index(found[1])} redo", text, flags=re.M)
+
+
 def readme(checks, at):
-    """The example of README.md, with the output of each of its commands."""
+    """The example of README.md, with the output of each of its commands; pids are those of another run."""
     block = "".join(re.findall(r"^    (.*\n)", contents("examples/redo/README.md"), re.M))
     runs = re.findall(r"^\$ (.*)\n((?:(?!\$ ).*\n)*)", block, re.M)
     folder = project(at("readme"))
@@ -714,8 +720,8 @@ def readme(checks, at):
             checks.expect(f"README.md: {words}", redo(folder, *rest), (0, output, ""))
         else:
             found = shown(folder, *[word for word in rest if word not in ("--dir", ".redo")])
-            checks.expect(f"README.md: {words}", found, output)
-    checks.expect("README.md: commands", [words.split()[0] for words, _ in runs], ["cat"] * 5 + ["redo"] + ["redo-log"] * 2)
+            checks.expect(f"README.md: {words}", ranked(found), ranked(output))
+    checks.expect("README.md: commands", [words.split()[0] for words, _ in runs], ["cat"] * 5 + ["redo"] + ["redo-log"] * 3)
 
 
 PARTS = (readme, same_text, promises, anew, refusals, logs, jobs, signals, killed, marks, at_once, moments, chain, no_space)
