@@ -556,27 +556,41 @@ def marks(checks, at):
 
 
 def marks_of_the_killed(checks, at):
-    """Builds, each over the one before, of which redo is killed at a random moment."""
+    """A build of which redo is killed when one of two has ended, and builds, each over the one before, at random moments."""
+    folder = project(at("one"), all_do="redo-ifchange a b\n", a_do="until [ -e begun ]; do sleep 0.01; done; echo a >&2\n",
+                     b_do="touch begun; until [ -e go ]; do sleep 0.01; done; echo b >&2\n")  # fmt: skip
+    build = started(folder, "-j2")
+    wait_until("a has ended", lambda: "all" in listed(folder) and "done" in log_of(folder, "all"))
+    build.kill()
+    build.communicate()
+    checks.expect("a target that had ended when redo was killed", (unmarked(folder), kinds_of(folder, "a")), (["all", "a", "b"], "a\ndone 0 a\n"))
+    write(os.path.join(folder, "go"), "")
+    number = listed(folder)["a"][1]
+    checks.expect("is not made again", (redo(folder, "all", command="redo-ifchange"), listed(folder)["a"]), ((0, "", ""), (True, number)))
+    checks.expect("and all are marked", (unmarked(folder), marked_open(folder)), ([], []))
+
     rng, names = random.Random(44), [f"t{number}" for number in range(20)]
-    folder = project(at("ends"), all_do=f"redo-ifchange {' '.join(names)}\n", default_do="echo $1 >&2\n")
+    folder = project(at("ends"), all_do=f"redo-ifchange {' '.join(names)}\n", default_do="echo $1 >&2; sleep 0.05\n")
     text = "redo  all\n" + "".join(f"redo    {name}\n{name}\n" for name in names)
     checks.expect("killed at a moment: a first build", redo(folder, "-j4"), (0, "", ""))
-    at_fault, refused, marked = [], [], set()
+    at_fault, refused, halves = [], [], 0
     for turn in range(30):
         touch(os.path.join(folder, "default.do"))
+        before, count = listed(folder), rng.randrange(len(names))
         build = started(folder, "-j4")
-        time.sleep(rng.random() * 0.6)
+        wait_until("begun", lambda: len([name for name, line in listed(folder).items() if line[1] != before[name][1]]) > count)
+        time.sleep(rng.random() * 0.05)
         build.kill()
         build.communicate()
         at_fault += marked_open(folder)
-        marked.add(len(unmarked(folder)))
+        halves += 0 < len(unmarked(folder)) < len(names)
         if not isinstance(shown(folder, "-r", "all"), str):
             refused.append(shown(folder, "-r", "all"))
         if turn % 5 == 4:
             checks.expect(f"killed at a moment, {turn}: again", redo(folder, "-j4", "all", command="redo-ifchange"), (0, "", ""))
             checks.expect(f"killed at a moment, {turn}: all is marked", (unmarked(folder), marked_open(folder)), ([], []))
             checks.expect(f"killed at a moment, {turn}: the text", shown(folder, "-ru", "all"), text)
-    checks.expect("killed at 30 moments: marks and captures", (at_fault, refused, len(marked) > 3), ([], [], True))
+    checks.expect("killed at 30 moments: marks and captures", (at_fault, refused, halves > 20), ([], [], True))
 
 
 def chain(checks, at):
