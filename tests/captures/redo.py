@@ -480,8 +480,9 @@ def copied(folder, to):
     """A copy of its captures, `names` first, while they are written."""
     shutil.rmtree(to, ignore_errors=True)
     os.makedirs(os.path.join(to, ".redo"))
-    for name in ["names", *(f"log.{number}" for _, number in listed(folder).values())]:
-        shutil.copy(os.path.join(folder, ".redo", name), os.path.join(to, ".redo", name))
+    shutil.copy(os.path.join(folder, ".redo/names"), os.path.join(to, ".redo/names"))
+    for _, number in listed(to).values():
+        shutil.copy(os.path.join(folder, f".redo/log.{number}"), os.path.join(to, ".redo"))
     return to
 
 
@@ -534,14 +535,12 @@ def marks(checks, at):
         write(path, whole)
 
     write(os.path.join(folder, "b.do"), "redo-ifchange d; touch begun; until [ -e go ]; do sleep 0.01; done\n")
-    path = os.path.join(folder, f".redo/log.{listed(folder)['c'][1]}")
-    whole = text_of(folder, path)
     touch(os.path.join(folder, "d.do"))
     build = started(folder)
     wait_until("begun", lambda: os.path.exists(os.path.join(folder, "begun")))
     checks.expect("what is being made is not marked", (unmarked(folder), marked_open(folder)), (["all", "b", "d"], []))
     checks.expect("and needs no end", shown(folder, "-r", "all"), "redo  all\nredo    b\nredo      d\nd\n")
-    write(path, "")
+    write(os.path.join(folder, f".redo/log.{listed(folder)['c'][1]}"), "")
     write(os.path.join(folder, "go"), "")
     checks.expect("the second build", (build.communicate(timeout=20)[1], build.wait()), ("", 0))
     checks.expect("has marked the others", unmarked(folder), [])
@@ -551,7 +550,7 @@ def marks(checks, at):
     folder = project(at("full"), all_do="redo-ifchange x y\n", x_do="yes x | head -c 200000 >&2\n", y_do="echo y >&2\n")
     subprocess.run(["sh", "-c", "trap '' XFSZ; ulimit -f 16; exec redo"], cwd=folder, env=settings(), capture_output=True)
     checks.expect("a log that could not be written to its end", (unmarked(folder), marked_open(folder)), (["x"], []))
-    checks.expect("and could be", (redo(folder, command="redo-ifchange")[0], redo(folder, "all"), unmarked(folder)), (0, (0, "", ""), []))
+    checks.expect("and could be", (redo(folder), unmarked(folder)), ((0, "", ""), []))
     marks_of_the_killed(checks, at)
 
 
