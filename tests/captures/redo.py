@@ -410,6 +410,7 @@ def signals(checks, at):
         text = re.sub(r"redo *[a-z]+ \(exit -\d+\)\n|redo: .*\n", "", shown(folder, "-r", "all"))
         checks.expect(f"{what}: its captures", text, "redo  all\nredo    x\nx begun\nredo    y\nredo      z\nz begun\n")
         checks.expect(f"{what}: a log is closed", kinds_of(folder, "x"), f"x begun\ndone -{int(number)} x\n")
+        checks.expect(f"{what}: and all are marked", (unmarked(folder), marked_open(folder)), ([], []))
         told = re.compile(r"redo: (\w+ failed with status -\d+|.* the build is being stopped)\n")
         checks.expect(f"{what}: what else is told", [line for line in build.stderr if not told.fullmatch(line)], [])
         build.stderr.close()
