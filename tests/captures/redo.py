@@ -1,5 +1,6 @@
 """What examples/redo makes, and what redo-log shows of it: parts of tests/captures/run, each a function of its checks and of
 a place for its folders."""
+import json
 import os
 import random
 import re
@@ -56,9 +57,31 @@ def text_of(folder, name):
         return file.read()
 
 
+def listed(folder):
+    """The targets that `names` lists: whether each is marked, and its number."""
+    path = os.path.join(folder, ".redo/names")
+    lines = text_of(folder, ".redo/names").splitlines() if os.path.exists(path) else []
+    words = [line.lstrip("!").split(" ", 1) for line in lines]
+    return {name: (line.startswith("!"), number) for line, (number, name) in zip(lines, words)}
+
+
 def log_of(folder, name):
-    numbers = dict(reversed(line.split(" ", 1)) for line in text_of(folder, ".redo/names").splitlines())
-    return text_of(folder, f".redo/log.{numbers[name]}")
+    return text_of(folder, f".redo/log.{listed(folder)[name][1]}")
+
+
+def marked_open(folder):
+    """The targets that `names` marks though their logs don't end with the records that close them."""
+    found = []
+    for name, (is_marked, number) in listed(folder).items():
+        path = os.path.join(folder, f".redo/log.{number}")
+        *_, last = ["", *text_of(folder, path).splitlines(keepends=True)] if os.path.exists(path) else [""]
+        if is_marked and not re.fullmatch(rf"@@REDO:done:\d+:\d+\.\d{{4}}@@ -?\d+ {re.escape(os.path.basename(name))}\n", last):
+            found.append(name)
+    return found
+
+
+def unmarked(folder):
+    return [name for name, (is_marked, _) in listed(folder).items() if not is_marked]
 
 
 def touch(path):
@@ -261,9 +284,9 @@ def refusals(checks, at):
     folder = project(at("damaged"), all_do="")
     checks.expect("a list of names: redo", redo(folder), (0, "", ""))
     write(os.path.join(folder, ".redo/names"), "7 all\n")
-    checks.expect("a list of names with other numbers", (redo(folder, "all", "new"), text_of(folder, ".redo/names")), ((1, "", "redo: no rule to make new\n"), "7 all\n"))
+    checks.expect("a list of names with other numbers", (redo(folder, "all", "new"), text_of(folder, ".redo/names")), ((1, "", "redo: no rule to make new\n"), "!8 all\n"))
     write(os.path.join(folder, "new.do"), "")
-    checks.expect("goes on with the next number", (redo(folder, "new"), text_of(folder, ".redo/names")), ((0, "", ""), "7 all\n8 new\n"))
+    checks.expect("goes on with the next number", (redo(folder, "new"), text_of(folder, ".redo/names")), ((0, "", ""), "!8 all\n!9 new\n"))
     folder = project(at("nested"), all_do="env -u REDO_RUN redo x 2>said || true\n", x_do="")
     checks.expect("a redo below that knows of none: redo", redo(folder), (0, "", ""))
     checks.expect("a redo below that knows of none", text_of(folder, "said"), f"redo: another redo makes targets of {folder}\n")
@@ -387,6 +410,7 @@ def signals(checks, at):
         text = re.sub(r"redo *[a-z]+ \(exit -\d+\)\n|redo: .*\n", "", shown(folder, "-r", "all"))
         checks.expect(f"{what}: its captures", text, "redo  all\nredo    x\nx begun\nredo    y\nredo      z\nz begun\n")
         checks.expect(f"{what}: a log is closed", kinds_of(folder, "x"), f"x begun\ndone -{int(number)} x\n")
+        checks.expect(f"{what}: and all are marked", (unmarked(folder), marked_open(folder)), ([], []))
         told = re.compile(r"redo: (\w+ failed with status -\d+|.* the build is being stopped)\n")
         checks.expect(f"{what}: what else is told", [line for line in build.stderr if not told.fullmatch(line)], [])
         build.stderr.close()
@@ -430,7 +454,8 @@ def killed(checks, at):
             victim = "none, it was over"
         build.wait()
         build.stderr.close()
-        if os.path.exists(os.path.join(folder, ".redo/log.1")):
+        checks.expect(f"killed, {turn}: its marks", marked_open(folder), [])
+        if "all" in listed(folder):
             checks.expect(f"killed, {turn}: its captures", isinstance(shown(folder, "-r", "all"), str), True)
         left = [process for process in others if turn % 2 == 0 and is_running(process)]
         checks.expect(f"killed, {turn}: again", redo(folder, "-j4", "all"), (0, "", ""))
@@ -438,6 +463,7 @@ def killed(checks, at):
         checks.expect(f"killed, {turn}: what is made", made, {"shared": "shared\n", **dict.fromkeys(names, "half\nwhole\n")})
         checks.expect(f"killed, {turn}: what still runs", list(filter(is_running, left)), [])
         checks.expect(f"killed, {turn}: the text", shown(folder, "-ru", "all"), text)
+        checks.expect(f"killed, {turn}: all is marked", (unmarked(folder), marked_open(folder)), ([], []))
 
 
 def at_once(checks, at):
@@ -451,21 +477,34 @@ def at_once(checks, at):
     checks.expect("two at once: made once", shown(folder, "-r", "all"), "redo  all\nredo    x\nmade\n")
 
 
+def copied(folder, to):
+    """A copy of its captures, `names` first, while they are written."""
+    shutil.rmtree(to, ignore_errors=True)
+    os.makedirs(os.path.join(to, ".redo"))
+    shutil.copy(os.path.join(folder, ".redo/names"), os.path.join(to, ".redo/names"))
+    for _, number in listed(to).values():
+        shutil.copy(os.path.join(folder, f".redo/log.{number}"), os.path.join(to, ".redo"))
+    return to
+
+
 def moments(checks, at):
-    """Captures at 200 random moments of builds that run: each is accepted, and has a front of the lines of each target."""
+    """Captures at 200 random moments of builds that run, each over the one before: each is accepted, and so is each copy,
+    and no log is marked that isn't closed."""
     names = [f"d{number % 5}/t{number}" for number in range(25)]
     folder = project(at("moments"), all_do=f"redo-ifchange {' '.join(names)}\necho all >&2\n", shared_do="sleep 0.1; echo shared >&2\n")
     say = "for word in 1 2 3 4 5; do printf \"$1 $word\" >&2; redo-ifchange ../shared; echo >&2; sleep 0.0$word; done\n"
     write(os.path.join(folder, "default.do"), "")
     for number in range(5):
         write(os.path.join(folder, f"d{number}/default.do"), say)
-    rng, refused, views = random.Random(7), [], 0
+    rng, refused, views, at_fault, halves = random.Random(7), [], 0, [], 0
     while views < 200:
         build = started(folder, "-j6")
         while build.poll() is None and views < 200:
             time.sleep(rng.random() * 0.02)
-            if os.path.exists(os.path.join(folder, ".redo/log.1")):
-                text = shown(folder, "-r", "--debug-locks", "all")
+            if "all" in listed(folder):
+                at_fault += marked_open(folder)
+                halves += 0 < len(unmarked(folder)) < 20
+                text = shown(copied(folder, at("copy")) if views % 2 else folder, "-r", "--debug-locks", "all")
                 views += 1
                 if not isinstance(text, str) or "\0" in text:
                     refused.append(text)
@@ -473,9 +512,106 @@ def moments(checks, at):
         for number in range(5):
             touch(os.path.join(folder, f"d{number}/default.do"))
     checks.expect("captures at 200 moments", refused, [])
+    checks.expect("and their marks", (at_fault, halves > 20), ([], True))
     lines = "".join(f"redo    {name}\n" + "".join(f"{os.path.basename(name)} {word}\n" for word in range(1, 6)) + "\n" * 0 for name in names)
     text = f"redo  all\n{lines}all\n".replace("t0 1\n", "t0 1\nredo      shared\nshared\n", 1)
     checks.expect("the whole in the end", re.sub("\n\n+", "\n", shown(folder, "-r", "-u", "all")), text)
+
+
+def marks(checks, at):
+    folder = project(at("marks"), all_do="redo-ifchange a b c\n", a_do="echo a >&2\n", b_do="redo-ifchange d ../marks/!e; exit 3\n",
+                     c_do="", d_do="echo d >&2\n", **{"!e_do": "printf e >&2\n"})  # fmt: skip
+    checks.expect("marks: redo", redo(folder)[0], 1)
+    checks.expect("all that have ended are marked", (sorted(listed(folder)), unmarked(folder)), (["!e", "a", "all", "b", "c", "d"], []))
+    checks.expect("and are closed", (marked_open(folder), isinstance(shown(folder, "-r", "all"), str)), ([], True))
+    for name in listed(folder):
+        path = os.path.join(folder, f".redo/log.{listed(folder)[name][1]}")
+        whole = text_of(folder, path)
+        begin = whole.rindex("@@REDO:")
+        for count in sorted({0, begin, begin + 7, len(whole) - 1}):
+            write(path, whole[:count])
+            checks.expect(f"{name}, of which {count} bytes are left", shown(folder, "a"), (4, f"redo-log: {name}: not closed\n"))
+        os.remove(path)
+        checks.expect(f"{name}, of which none is left", shown(folder, "a"), (4, f"redo-log: {name}: not closed\n"))
+        write(path, whole)
+
+    write(os.path.join(folder, "b.do"), "redo-ifchange d; touch begun; until [ -e go ]; do sleep 0.01; done\n")
+    touch(os.path.join(folder, "d.do"))
+    build = started(folder)
+    wait_until("begun", lambda: os.path.exists(os.path.join(folder, "begun")))
+    checks.expect("what is being made is not marked", (unmarked(folder), marked_open(folder)), (["all", "b", "d"], []))
+    checks.expect("and needs no end", shown(folder, "-r", "all"), "redo  all\nredo    b\nredo      d\nd\n")
+    write(os.path.join(folder, f".redo/log.{listed(folder)['c'][1]}"), "")
+    write(os.path.join(folder, "go"), "")
+    checks.expect("the second build", (build.communicate(timeout=20)[1], build.wait()), ("", 0))
+    checks.expect("has marked the others", unmarked(folder), [])
+    checks.expect("a log that was damaged, of a target that was not made", shown(folder, "-r", "all"), (4, "redo-log: c: not closed\n"))
+    checks.expect("and is made now", (redo(folder, "c"), shown(folder, "c")), ((0, "", ""), "redo  c\n"))
+
+    folder = project(at("full"), all_do="redo-ifchange x y\n", x_do="yes x | head -c 200000 >&2\n", y_do="echo y >&2\n")
+    subprocess.run(["sh", "-c", "trap '' XFSZ; ulimit -f 16; exec redo"], cwd=folder, env=settings(), capture_output=True)
+    checks.expect("a log that could not be written to its end", (unmarked(folder), marked_open(folder)), (["x"], []))
+    checks.expect("and could be", (redo(folder), unmarked(folder)), ((0, "", ""), []))
+    marks_of_the_killed(checks, at)
+
+
+def marks_of_the_killed(checks, at):
+    """A build of which redo is killed when one of two has ended, and builds, each over the one before, at random moments."""
+    folder = project(at("one"), all_do="redo-ifchange a b\n", a_do="until [ -e begun ]; do sleep 0.01; done; echo a >&2\n",
+                     b_do="touch begun; until [ -e go ]; do sleep 0.01; done; echo b >&2\n")  # fmt: skip
+    build = started(folder, "-j2")
+    wait_until("a has ended", lambda: "all" in listed(folder) and "done" in log_of(folder, "all"))
+    build.kill()
+    build.communicate()
+    checks.expect("a target that had ended when redo was killed", (unmarked(folder), kinds_of(folder, "a")), (["all", "a", "b"], "a\ndone 0 a\n"))
+    write(os.path.join(folder, "go"), "")
+    number = listed(folder)["a"][1]
+    checks.expect("is not made again", (redo(folder, "all", command="redo-ifchange"), listed(folder)["a"]), ((0, "", ""), (True, number)))
+    checks.expect("and all are marked", (unmarked(folder), marked_open(folder)), ([], []))
+
+    rng, names = random.Random(44), [f"t{number}" for number in range(20)]
+    folder = project(at("ends"), all_do=f"redo-ifchange {' '.join(names)}\n", default_do="echo $1 >&2; sleep 0.05\n")
+    text = "redo  all\n" + "".join(f"redo    {name}\n{name}\n" for name in names)
+    checks.expect("killed at a moment: a first build", redo(folder, "-j4"), (0, "", ""))
+    at_fault, refused, halves = [], [], 0
+    for turn in range(30):
+        touch(os.path.join(folder, "default.do"))
+        before, count = listed(folder), rng.randrange(len(names))
+        build = started(folder, "-j4")
+        wait_until("begun", lambda: len([name for name, line in listed(folder).items() if line[1] != before[name][1]]) > count)
+        time.sleep(rng.random() * 0.05)
+        build.kill()
+        build.communicate()
+        at_fault += marked_open(folder)
+        halves += 0 < len(unmarked(folder)) < len(names)
+        if not isinstance(shown(folder, "-r", "all"), str):
+            refused.append(shown(folder, "-r", "all"))
+        if turn % 5 == 4:
+            checks.expect(f"killed at a moment, {turn}: again", redo(folder, "-j4", "all", command="redo-ifchange"), (0, "", ""))
+            checks.expect(f"killed at a moment, {turn}: all is marked", (unmarked(folder), marked_open(folder)), ([], []))
+            checks.expect(f"killed at a moment, {turn}: the text", shown(folder, "-ru", "all"), text)
+    checks.expect("killed at 30 moments: marks and captures", (at_fault, refused, halves > 20), ([], [], True))
+
+
+def chain(checks, at):
+    """10,000 targets of which each needs the next one, written as they are when they were made."""
+    folder = project(at("chain"), default_do="echo $1 >&2\n", leaf="")
+
+    def stamp(name):
+        found = os.stat(os.path.join(folder, name))
+        return f"{found.st_mtime_ns} {found.st_size} {found.st_ino}"
+
+    need, known = "leaf", stamp("leaf")
+    for number in range(10_000, 0, -1):
+        name = f".redo/known.{number}"
+        write(os.path.join(folder, name), json.dumps([None, {"default.do": stamp("default.do"), need: known}]))
+        need, known = f"t{number}", stamp(name)
+    write(os.path.join(folder, ".redo/names"), "".join(f"{number} t{number}\n" for number in range(1, 10_001)))
+    checks.expect("a long chain: redo", redo(folder, "t1", command="redo-ifchange"), (0, "", ""))
+    checks.expect("is unchanged", (listed(folder)["t1"], listed(folder)["t10000"]), ((True, "1"), (True, "10000")))
+    touch(os.path.join(folder, "leaf"))
+    checks.expect("a long chain of which the end has changed: redo", redo(folder, "t1", command="redo-ifchange"), (0, "", ""))
+    checks.expect("is made anew", (listed(folder)["t1"], log_of(folder, "t1")[:3]), ((True, "10001"), "t1\n"))
 
 
 def no_space(checks, at):
@@ -579,8 +715,14 @@ def a_book(checks, at):
         checks.expect(f"a book, -j{count}: locks", "contents (WAITING)" in locks, count > 1)
 
 
+def ranked(text):
+    """A text with pids, each replaced by how many others come before it."""
+    pids = list(dict.fromkeys(re.findall(r"^(\d+) +redo", text, re.M)))
+    return re.sub(r"^(\d+) +redo", lambda found: f"{pids.index(found[1])} redo", text, flags=re.M)
+
+
 def readme(checks, at):
-    """The example of README.md, with the output of each of its commands."""
+    """The example of README.md, with the output of each of its commands; pids are those of another run."""
     block = "".join(re.findall(r"^    (.*\n)", contents("examples/redo/README.md"), re.M))
     runs = re.findall(r"^\$ (.*)\n((?:(?!\$ ).*\n)*)", block, re.M)
     folder = project(at("readme"))
@@ -592,8 +734,8 @@ def readme(checks, at):
             checks.expect(f"README.md: {words}", redo(folder, *rest), (0, output, ""))
         else:
             found = shown(folder, *[word for word in rest if word not in ("--dir", ".redo")])
-            checks.expect(f"README.md: {words}", found, output)
-    checks.expect("README.md: commands", [words.split()[0] for words, _ in runs], ["cat"] * 5 + ["redo"] + ["redo-log"] * 2)
+            checks.expect(f"README.md: {words}", ranked(found), ranked(output))
+    checks.expect("README.md: commands", [words.split()[0] for words, _ in runs], ["cat"] * 5 + ["redo"] + ["redo-log"] * 3)
 
 
-PARTS = (readme, same_text, promises, anew, refusals, logs, jobs, signals, killed, at_once, moments, no_space)
+PARTS = (readme, same_text, promises, anew, refusals, logs, jobs, signals, killed, marks, at_once, moments, chain, no_space)
