@@ -4,6 +4,7 @@
 #include <stdio.h>
 #include <stdlib.h>
 #include <string.h>
+#include <time.h>
 #include <unistd.h>
 
 /* A target that is listed, and what the book says of it. */
@@ -120,6 +121,7 @@ static void close_log(const struct entry *target) {
   const char *name = target->name[0] == '/' ? target->name : leaf(target->name);
   append_line(log, "%s@@REDO:done:%d:%lld@@ %d %s", is_within_line(log) ? "\n" : "", target->process, target->ended,
               target->status, name);
+  set_closed(target->number, 1);
 }
 
 /* Those that failed, of which nothing that they led to did. */
@@ -145,15 +147,21 @@ static unsigned sort_begun(struct entry **sorted) {
   return count;
 }
 
-struct failures finish(void) {
-  int held = lock();
-  char *book = contents(path_of(".capture/run"), NULL), *run = run_of_book();
+/* The run's own log, if no recipe has that one, ends as the run does. */
+static void end_run(int status) {
+  if (entries[1].is_begun) return;
+  entries[1].process = getpid(), entries[1].ended = time(NULL), entries[1].status = status;
+}
+
+static struct failures finish_run(const char *run, int status) {
+  char *book = contents(path_of(".capture/run"), NULL);
   mark = mark_of(run);
   read_names();
   read_book(book);
+  write_closed(); /* which are fewer than there were, and only the book that is there still knows that */
   char *ended = text("ended %s\n", run); /* so that no log is closed twice */
   replace(path_of(".capture/run"), ended, strlen(ended));
-  if (!entries[1].is_begun) entries[1].process = getpid();
+  end_run(status);
 
   struct entry **sorted = calloc(last, sizeof *sorted);
   if (!sorted) fail(1, "out of memory");
@@ -164,8 +172,20 @@ struct failures finish(void) {
     struct entry *target = &entries[number];
     if (target->led_stream && fclose(target->led_stream) != 0) fail(1, "out of memory");
     if (target->is_leader) put_in_order(target);
-    if (target->is_begun && target->status >= 0) close_log(target);
+    if ((target->is_begun || number == 1) && target->status >= 0) close_log(target);
   }
-  unlock(held);
+  write_closed();
   return failures_among(sorted, count);
+}
+
+/* Of a run that was finished already only marks are left to do. */
+struct failures finish(int status, int must_close) {
+  struct failures failed = {NULL, 0};
+  int held = lock();
+  char *run = run_of_book();
+  read_closed();
+  if (strncmp(run, "ended", 5) != 0) failed = finish_run(run, status);
+  if (must_close) write_marks(1);
+  unlock(held);
+  return failed;
 }

@@ -97,7 +97,7 @@ static void mention_needs(struct front *front, const char *needs) {
   }
 }
 
-/* Begins the run, if no other has the directory. */
+/* Begins the run, if no other has the directory. No log is begun anew as long as it is marked, or listed as closed. */
 static void begin_run(const char *book) {
   char *names = path_of("names");
   struct stat listed;
@@ -111,6 +111,10 @@ static void begin_run(const char *book) {
     replace(path_of(".capture/last"), "1\n", 2);
     append_line(names, "1 all");
   }
+  write_marks(0);
+  read_closed();
+  set_closed(1, 0);
+  write_closed();
   if (unlink(log_of(1)) < 0 && errno != ENOENT) cannot_write(log_of(1));
   char *begun = text("%s\n", own_run);
   replace(path_of(".capture/run"), begun, strlen(begun));
