@@ -1,5 +1,6 @@
 """Which logs have to be closed of a build that was captured with --must-close: that `names` marks these and no others, at any time,
 and that a copy which lost the end of one is refused."""
+import contextlib
 import fcntl
 import os
 import re
@@ -8,7 +9,7 @@ import signal
 import subprocess
 import time
 
-from builds import BY_SHELL, TOOL, log_of, make, make_by_shell, of_a_terminal, preloaded, project, ran, shown, wait_for, wait_until, write
+from builds import BY_SHELL, TOOL, log_of, make, make_by_shell, of_a_terminal, preloaded, project, ran, shown, wait_for, write
 from checks import environment, install_capture
 
 MARKING = ("--must-close",)
@@ -19,11 +20,17 @@ def names_of(folder, at="capture"):
         return names.read()
 
 
-def copied(folder, to, at="capture"):
+def copy_what_is_there(path, to):
+    with contextlib.suppress(FileNotFoundError):
+        shutil.copy(path, to)
+
+
+def copied(folder, to):
     """A copy of the captures, `names` first: `to`, as a folder that has them."""
-    os.makedirs(os.path.join(to, at))
-    shutil.copy(os.path.join(folder, at, "names"), os.path.join(to, at))
-    shutil.copytree(os.path.join(folder, at), os.path.join(to, at), dirs_exist_ok=True, ignore=lambda *_: ["names"])
+    place, there = (os.path.join(at, "capture") for at in (folder, to))
+    os.makedirs(there)
+    shutil.copy(os.path.join(place, "names"), there)
+    shutil.copytree(place, there, dirs_exist_ok=True, ignore=lambda *_: ["names"], copy_function=copy_what_is_there)
     return to
 
 
