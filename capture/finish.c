@@ -35,7 +35,7 @@ static void read_names(void) {
   if (!names) fail(1, "cannot read %s", path_of("names"));
   for (char *line = strtok_r(names, "\n", &left); line; line = strtok_r(NULL, "\n", &left)) {
     char *space = strchr(line, ' ');
-    unsigned number = atoi(line);
+    unsigned number = atoi(line + (*line == '!'));
     if (!space) fail(1, "%s: a bad line: %s", path_of("names"), line);
     if (number > last) {
       entries = realloc(entries, (number + 1) * sizeof *entries);
