@@ -8,9 +8,9 @@
 static char *closed;
 static size_t count;
 
-static int is_closed(unsigned number) { return number < count && closed[number]; }
+static int is_listed(unsigned number) { return number < count && closed[number]; }
 
-void set_closed(unsigned number, int is) {
+void set_closed(unsigned number, int is_closed) {
   if (number >= count) {
     size_t more = 2 * (size_t)number + 1;
     closed = realloc(closed, more);
@@ -18,7 +18,7 @@ void set_closed(unsigned number, int is) {
     memset(closed + count, 0, more - count);
     count = more;
   }
-  closed[number] = is;
+  closed[number] = is_closed;
 }
 
 static char *list_path(void) { return path_of(".capture/closed"); }
@@ -53,7 +53,7 @@ void write_marks(int must_close) {
     behind = line + strcspn(line, "\n");
     behind += *behind == '\n';
     line += *line == '!';
-    if (must_close && is_closed(atoi(line))) fputc('!', stream);
+    if (must_close && is_listed(atoi(line))) fputc('!', stream);
     fwrite(line, 1, behind - line, stream);
   }
   if (fclose(stream) != 0) fail(1, "out of memory");

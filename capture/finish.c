@@ -158,7 +158,7 @@ static struct failures finish_run(const char *run, int status) {
   mark = mark_of(run);
   read_names();
   read_book(book);
-  write_closed(); /* which are fewer than there were, and only the book that is there still knows that */
+  write_closed(); /* without what was begun anew: no book tells that any more */
   char *ended = text("ended %s\n", run); /* so that no log is closed twice */
   replace(path_of(".capture/run"), ended, strlen(ended));
   end_run(status);
