@@ -1,5 +1,5 @@
-"""Which logs have to be closed of a build that was captured with --must-close: that `names` marks these and no others, at any time,
-and that a copy which lost the end of one is refused."""
+"""Which logs have to be closed of a build that was captured with --must-close: that `names` marks these and no others, at any
+time, and that a copy which lost the end of one is refused."""
 import contextlib
 import fcntl
 import os
@@ -15,9 +15,13 @@ from checks import environment, install_capture
 MARKING = ("--must-close",)
 
 
+def read(path):
+    with open(path, encoding="utf-8") as file:
+        return file.read()
+
+
 def names_of(folder, at="capture"):
-    with open(os.path.join(folder, at, "names"), encoding="utf-8") as names:
-        return names.read()
+    return read(os.path.join(folder, at, "names"))
 
 
 def copy_what_is_there(path, to):
@@ -40,7 +44,7 @@ def open_and_marked(folder):
     for line in names_of(folder).splitlines():
         number, name = line.split(" ", 1)
         log = os.path.join(folder, "capture/log." + number.lstrip("!"))
-        text = open(log, encoding="utf-8").read() if os.path.exists(log) else ""
+        text = read(log) if os.path.exists(log) else ""
         own = name if name.startswith("/") else os.path.basename(name)
         record = rf"(.*\n)?@@REDO:done:\d+:\d+@@ \d+ {re.escape(own)}\n"
         if number.startswith("!") and not re.fullmatch(record, text, re.S):
@@ -135,7 +139,7 @@ def runs(checks, at):
 
     folder = project(at("list"), STEPWISE)
     make(folder, "N=0")
-    checks.expect("the list of closed logs", open(os.path.join(folder, "capture/.capture/closed"), encoding="utf-8").read(), "1\n2\n3\n")
+    checks.expect("the list of closed logs", read(os.path.join(folder, "capture/.capture/closed")), "1\n2\n3\n")
     os.remove(os.path.join(folder, "capture/.capture/closed"))
     checks.expect("captures of an older version", (ran(folder, [TOOL, "--finish", *MARKING]), names_of(folder)), ((0, "", ""), "1 all\n2 x\n3 y\n"))
     os.remove(os.path.join(folder, "x"))
@@ -155,8 +159,7 @@ def runs(checks, at):
     make(folder, "N=0", options=MARKING)
     os.remove(os.path.join(folder, "capture/names"))
     checks.expect("where the list of names is gone", (make(folder, "v", "N=1", options=MARKING), names_of(folder)), ((0, "", ""), "!1 all\n!2 v\n"))
-    with open(os.path.join(folder, "capture/.capture/closed"), encoding="utf-8") as closed:
-        checks.expect("the list of closed logs goes with it", closed.read(), "1\n2\n")
+    checks.expect("the list of closed logs goes with it", read(os.path.join(folder, "capture/.capture/closed")), "1\n2\n")
 
     folder = project(at("removed"), "all: x clean y\nx y: ; @echo $@ >&2\nclean: ; @rm -rf capture\n")
     make(folder, "x", options=MARKING)
@@ -229,56 +232,69 @@ def moments(checks, at):
     checks.expect("moments: many of them in the middle", unmarked > 40, True)
 
 
+class Breaking:
+    """Builds over captures in which all is marked, and of which x is to be made anew, by a command that can be broken off."""
+
+    def __init__(self, checks, at):
+        self.checks, self.at = checks, at
+        self.library, self.tool = preloaded("break"), install_capture(at("dynamic"), "STATIC=")
+        self.original = project(at("original"), "all: x v\nx y: ; @echo $@ $(N) >&2; touch $@\nv: x ; @$(MAKE) -s w; echo v >&2\nw: ; @echo w >&2\n")
+        first = make(self.original, "-s", "N=0", "x", "y", "v", options=MARKING)
+        checks.expect("to break off: before", (first, names_of(self.original)), ((0, "", ""), "!1 all\n!2 x\n!3 y\n!4 v\n!5 w\n"))
+        os.remove(os.path.join(self.original, "x"))
+
+    def placed(self, name):
+        write(os.path.join(copied(self.original, self.at(name)), "Makefile"), read(os.path.join(self.original, "Makefile")))
+        return self.at(name)
+
+    def run(self, place, command, number, is_full):
+        """The status of a command that is broken off at this change, and whether it came that far."""
+        count = f"{place}.count"
+        more = {"LD_PRELOAD": self.library, "BREAK_AT": str(number), "BREAK_COUNT": count, **({"BREAK_FULL": "yes"} if is_full else {})}
+        build = subprocess.Popen([self.tool, *MARKING, *command], cwd=place, env=environment(more), stderr=subprocess.DEVNULL, preexec_fn=of_a_terminal)
+        return build.wait(timeout=60), os.path.getsize(count) >= number
+
+    def expect_right(self, what, place):
+        self.checks.expect(f"{what}: open and marked", open_and_marked(place), [])
+        self.checks.expect(f"{what}: it is shown", str(shown(place, "all")).startswith("redo  all\n"), True)
+
+
 def broken_off(checks, at):
-    """A second build, and its finish, that is killed in front of each change of a file, or has no room from then on."""
-    library, tool = preloaded("break"), install_capture(at("dynamic"), "STATIC=")
-    original = project(at("original"), "all: x v\nx y: ; @echo $@ $(N) >&2; touch $@\nv: x ; @$(MAKE) -s w; echo v >&2\nw: ; @echo w >&2\n")
-    checks.expect("broken off: before", (make(original, "-s", "N=0", "x", "y", "v", options=MARKING), names_of(original)), ((0, "", ""), "!1 all\n!2 x\n!3 y\n!4 v\n!5 w\n"))
-    os.remove(os.path.join(original, "x"))
-
-    def placed(name):
-        write(os.path.join(copied(original, at(name)), "Makefile"), open(os.path.join(original, "Makefile"), encoding="utf-8").read())
-        return at(name)
-
-    def expect_right(what, place):
-        checks.expect(f"{what}: open and marked", open_and_marked(place), [])
-        checks.expect(f"{what}: it is shown", str(shown(place, "all")).startswith("redo  all\n"), True)
-
-    for is_full in (False, True):
-        number, is_whole = 0, False
-        while not is_whole:
+    """A build that is killed in front of each change of a file, or has no room from then on; what --finish, and the next run, make
+    of it."""
+    breaking = Breaking(checks, at)
+    for is_full, statuses in ((False, (-signal.SIGKILL,)), (True, (1, 2))):
+        number, is_broken = 0, True
+        while is_broken:
             number += 1
-            what = f"{'no room' if is_full else 'killed'} from change {number} on"
-            place, count = placed(f"{is_full}{number}"), at(f"count{is_full}{number}")
-            more = {"LD_PRELOAD": library, "BREAK_AT": str(number), "BREAK_COUNT": count, **({"BREAK_FULL": "yes"} if is_full else {})}
-            build = subprocess.Popen([tool, *MARKING, "make", "-s", "N=1"], cwd=place, env=environment(more), stderr=subprocess.DEVNULL, preexec_fn=of_a_terminal)
-            status = build.wait(timeout=60)
-            is_whole = os.path.getsize(count) < number
-            expect_right(what, place)
-            checks.expect(f"{what}: its status", status in ((0,) if is_whole else (1, 2) if is_full else (-signal.SIGKILL,)), True)
-            for options in ((), MARKING):
-                finished = copied(place, at(f"finished{is_full}{number}{len(options)}"))
-                checks.expect(f"{what}: finished, {options}", ran(finished, [tool, "--finish", *options]), (0, "", ""))
-                expect_right(f"{what}: finished, {options}", finished)
-                checks.expect(f"{what}: y stays closed", names_of(finished).splitlines()[2] in (("!3 y",) if options else ("!3 y", "3 y")), True)
+            what, place = f"{'no room' if is_full else 'killed'} from change {number} on", breaking.placed(f"{is_full}{number}")
+            status, is_broken = breaking.run(place, ["make", "-s", "N=1"], number, is_full)
+            breaking.expect_right(what, place)
+            checks.expect(f"{what}: its status", status in (statuses if is_broken else (0,)), True)
+            for options, lines in (((), ("!3 y", "3 y")), (MARKING, ("!3 y",))):
+                finished = copied(place, f"{place}{len(options)}")
+                checks.expect(f"{what}: finished, {options}", ran(finished, [TOOL, "--finish", *options]), (0, "", ""))
+                breaking.expect_right(f"{what}: finished, {options}", finished)
+                checks.expect(f"{what}: finished, {options}: y stays closed", names_of(finished).splitlines()[2] in lines, True)
             checks.expect(f"{what}: the next run", make(place, "-s", "w", options=MARKING), (0, "", ""))
-            expect_right(f"{what}: the next run", place)
+            breaking.expect_right(f"{what}: the next run", place)
             checks.expect(f"{what}: the next run: y stays closed", names_of(place).splitlines()[2], "!3 y")
-        checks.expect(f"changes, {is_full}", number > 20, True)
+        checks.expect(f"changes in all, {is_full}", number > 20, True)
 
-    for number in range(1, 100):
-        place, count = placed(f"unfinished{number}"), at(f"count{number}")
-        write(os.path.join(place, "break"), "")
-        more = {"LD_PRELOAD": library, "BREAK_AT": str(number), "BREAK_COUNT": count}
-        # By the shell, the build is unfinished; then its finish is killed.
-        ran(place, ["make", "-s", f"SHELL={os.path.dirname(tool)}/../libexec/redo-log/sh", BY_SHELL[1], "N=1"])
-        finish = subprocess.Popen([tool, *MARKING, "--finish"], cwd=place, env=environment(more), preexec_fn=of_a_terminal)
-        is_whole = finish.wait(timeout=60) == 0
-        expect_right(f"a finish that is killed, {number}", place)
-        checks.expect(f"a finish that is killed, {number}: again", ran(place, [tool, "--finish", *MARKING]), (0, "", ""))
-        expect_right(f"a finish that is killed, {number}: again", place)
-        if is_whole:
-            break
+
+def finish_broken_off(checks, at):
+    """The same of a --finish behind a make that has the shell which captures."""
+    breaking = Breaking(checks, at)
+    number, is_broken = 0, True
+    while is_broken:
+        number += 1
+        what, place = f"a finish that is killed from change {number} on", breaking.placed(str(number))
+        checks.expect(f"{what}: make", ran(place, ["make", "-s", *BY_SHELL, "N=1"]), (0, "", ""))
+        status, is_broken = breaking.run(place, ["--finish"], number, False)
+        breaking.expect_right(what, place)
+        checks.expect(f"{what}: its status", status, -signal.SIGKILL if is_broken else 0)
+        checks.expect(f"{what}: again", ran(place, [TOOL, "--finish", *MARKING]), (0, "", ""))
+        breaking.expect_right(f"{what}: again", place)
     checks.expect("a finish that is whole", (number > 10, names_of(place)), (True, "1 all\n!2 x\n!3 y\n!4 v\n!5 w\n"))
 
 
@@ -332,8 +348,7 @@ def cut_copies(checks, at):
 def many_marks(checks, at):
     """A list of 20,000 names, of which one is made anew."""
     count = 20000
-    names = " ".join(f"t{number}" for number in range(count))
-    folder = project(at("many"), f"all: x\nx: ; @echo x >&2\n")
+    folder = project(at("many"), "all: x\nx: ; @echo x >&2\n")
     make(folder)
     listed = "1 all\n2 x\n" + "".join(f"{number} t{number}\n" for number in range(3, count))
     write(os.path.join(folder, "capture/names"), listed)
@@ -345,4 +360,4 @@ def many_marks(checks, at):
     checks.expect("and none", (make(folder), names_of(folder) == listed), ((0, "", ""), True))
 
 
-PARTS = (marks, runs, killed, moments, broken_off, cut_copies, many_marks)
+PARTS = (marks, runs, killed, moments, broken_off, finish_broken_off, cut_copies, many_marks)
