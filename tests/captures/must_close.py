@@ -272,7 +272,7 @@ def broken_off(checks, at):
             breaking.expect_right(what, place)
             checks.expect(f"{what}: its status", status in (statuses if is_broken else (0,)), True)
             for options, lines in (((), ("!3 y", "3 y")), (MARKING, ("!3 y",))):
-                finished = copied(place, f"{place}{len(options)}")
+                finished = copied(place, f"{place}-{len(options)}")
                 checks.expect(f"{what}: finished, {options}", ran(finished, [TOOL, "--finish", *options]), (0, "", ""))
                 breaking.expect_right(f"{what}: finished, {options}", finished)
                 checks.expect(f"{what}: finished, {options}: y stays closed", names_of(finished).splitlines()[2] in lines, True)
