@@ -23,11 +23,20 @@ struct entry {
 };
 
 static struct entry *entries; /* by number */
-static unsigned last;
+static unsigned last, room;
 static char *mark;
 
 static int by_name(const void *left, const void *right) {
   return strcmp((*(struct entry *const *)left)->name, (*(struct entry *const *)right)->name);
+}
+
+static void make_room(unsigned number) {
+  if (number > last) last = number;
+  if (number < room) return;
+  entries = realloc(entries, (2 * (size_t)number + 1) * sizeof *entries);
+  if (!entries) fail(1, "out of memory");
+  memset(entries + room, 0, (2 * (size_t)number + 1 - room) * sizeof *entries);
+  room = 2 * number + 1;
 }
 
 static void read_names(void) {
@@ -37,12 +46,7 @@ static void read_names(void) {
     char *space = strchr(line, ' ');
     unsigned number = atoi(line + (*line == '!'));
     if (!space) fail(1, "%s: a bad line: %s", path_of("names"), line);
-    if (number > last) {
-      entries = realloc(entries, (number + 1) * sizeof *entries);
-      if (!entries) fail(1, "out of memory");
-      memset(entries + last + 1, 0, (number - last) * sizeof *entries);
-      last = number;
-    }
+    make_room(number);
     entries[number].name = space + 1;
     entries[number].number = number;
     entries[number].status = -1;
