@@ -5,6 +5,7 @@
      lock       who holds it (flock) may read and write the others, and add to a log
      run        the book of the last run: which that is, a process and when it began; then what came of each target
      last       the last number that a target got
+     closed     the numbers of the logs that are closed, but for those that the run of the book has begun anew
      spaces     is there once a target with a space in its name is
      targets/   what is known of each target, in a file of its own, so that no line has to go over a list */
 extern const char *at;
@@ -123,11 +124,21 @@ void show_next(int listening);
 /* Of a recipe: has what it said shown, if that is asked for, and waits for it. */
 void ask_to_show(unsigned number, int status, const char *name);
 
+/* closed.c: which logs are closed, and the marks by which `names` says of a log that it has to be */
+
+/* Reads the list, without what the run that the book is of has begun. It is kept by number, and written again. */
+void read_closed(void);
+void set_closed(unsigned number, int is_closed);
+void write_closed(void);
+/* Marks all that is closed, or nothing. */
+void write_marks(int must_close);
+
 /* recipe.c and finish.c */
 
 /* Runs a command as a recipe of the target that CAPTURE says. Of make it may be one that is none. */
 _Noreturn void recipe(char **command, int is_of_make);
-/* Does what can be done only when the run that the book is of has ended. Answers the targets that failed, of which nothing
-   that they led to did, and how many they are. */
+/* Does what can be done only when the run that the book is of has ended, with this status, or -1 if it isn't known; and marks
+   the logs that are closed, if they must be. Answers the targets that failed, of which nothing that they led to did, and how
+   many they are. */
 struct failures { char **names; unsigned count; };
-struct failures finish(void);
+struct failures finish(int status, int must_close);

@@ -4,6 +4,7 @@
 #include <stdio.h>
 #include <stdlib.h>
 #include <string.h>
+#include <time.h>
 #include <unistd.h>
 
 /* A target that is listed, and what the book says of it. */
@@ -22,11 +23,20 @@ struct entry {
 };
 
 static struct entry *entries; /* by number */
-static unsigned last;
+static unsigned last, room;
 static char *mark;
 
 static int by_name(const void *left, const void *right) {
   return strcmp((*(struct entry *const *)left)->name, (*(struct entry *const *)right)->name);
+}
+
+static void make_room(unsigned number) {
+  if (number > last) last = number;
+  if (number < room) return;
+  entries = realloc(entries, (2 * (size_t)number + 1) * sizeof *entries);
+  if (!entries) fail(1, "out of memory");
+  memset(entries + room, 0, (2 * (size_t)number + 1 - room) * sizeof *entries);
+  room = 2 * number + 1;
 }
 
 static void read_names(void) {
@@ -34,14 +44,9 @@ static void read_names(void) {
   if (!names) fail(1, "cannot read %s", path_of("names"));
   for (char *line = strtok_r(names, "\n", &left); line; line = strtok_r(NULL, "\n", &left)) {
     char *space = strchr(line, ' ');
-    unsigned number = atoi(line);
+    unsigned number = atoi(line + (*line == '!'));
     if (!space) fail(1, "%s: a bad line: %s", path_of("names"), line);
-    if (number > last) {
-      entries = realloc(entries, (number + 1) * sizeof *entries);
-      if (!entries) fail(1, "out of memory");
-      memset(entries + last + 1, 0, (number - last) * sizeof *entries);
-      last = number;
-    }
+    make_room(number);
     entries[number].name = space + 1;
     entries[number].number = number;
     entries[number].status = -1;
@@ -120,6 +125,7 @@ static void close_log(const struct entry *target) {
   const char *name = target->name[0] == '/' ? target->name : leaf(target->name);
   append_line(log, "%s@@REDO:done:%d:%lld@@ %d %s", is_within_line(log) ? "\n" : "", target->process, target->ended,
               target->status, name);
+  set_closed(target->number, 1);
 }
 
 /* Those that failed, of which nothing that they led to did. */
@@ -145,15 +151,21 @@ static unsigned sort_begun(struct entry **sorted) {
   return count;
 }
 
-struct failures finish(void) {
-  int held = lock();
-  char *book = contents(path_of(".capture/run"), NULL), *run = run_of_book();
+/* The run's own log, if no recipe has that one, ends as the run does. */
+static void end_run(int status) {
+  if (entries[1].is_begun) return;
+  entries[1].process = getpid(), entries[1].ended = time(NULL), entries[1].status = status;
+}
+
+static struct failures finish_run(const char *run, int status) {
+  char *book = contents(path_of(".capture/run"), NULL);
   mark = mark_of(run);
   read_names();
   read_book(book);
+  write_closed(); /* without what was begun anew: no book tells that any more */
   char *ended = text("ended %s\n", run); /* so that no log is closed twice */
   replace(path_of(".capture/run"), ended, strlen(ended));
-  if (!entries[1].is_begun) entries[1].process = getpid();
+  end_run(status);
 
   struct entry **sorted = calloc(last, sizeof *sorted);
   if (!sorted) fail(1, "out of memory");
@@ -164,8 +176,20 @@ struct failures finish(void) {
     struct entry *target = &entries[number];
     if (target->led_stream && fclose(target->led_stream) != 0) fail(1, "out of memory");
     if (target->is_leader) put_in_order(target);
-    if (target->is_begun && target->status >= 0) close_log(target);
+    if ((target->is_begun || number == 1) && target->status >= 0) close_log(target);
   }
-  unlock(held);
+  write_closed();
   return failures_among(sorted, count);
+}
+
+/* Of a run that was finished already only marks are left to do. */
+struct failures finish(int status, int must_close) {
+  struct failures failed = {NULL, 0};
+  int held = lock();
+  char *run = run_of_book();
+  read_closed();
+  if (strncmp(run, "ended", 5) != 0) failed = finish_run(run, status);
+  if (must_close) write_marks(1);
+  unlock(held);
+  return failed;
 }

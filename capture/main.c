@@ -13,19 +13,20 @@ static const char help[] =
     "Runs a build by GNU make, and captures what each recipe says on standard error as a log for redo-log.\n"
     "\n"
     "Usage: redo-log-capture [OPTIONS] [--] <COMMAND>...\n"
-    "       redo-log-capture [--dir <DIR>] --finish\n"
+    "       redo-log-capture [--dir <DIR>] [--must-close] --finish\n"
     "\n"
     "Arguments:\n"
     "  <COMMAND>...  A make with its words, or a command that runs some\n"
     "\n"
     "Options:\n"
-    "      --dir <DIR>  The capture directory [default: capture]\n"
-    "      --both       Capture standard output too\n"
-    "      --live       Show what each recipe said, once it has ended\n"
-    "      --quiet      Show nothing of that; without it, what the recipes said that failed is shown\n"
-    "      --finish     Finish the logs of a build that was killed, or run without this command in front\n"
-    "  -h, --help       Print help\n"
-    "  -V, --version    Print the version\n"
+    "      --dir <DIR>   The capture directory [default: capture]\n"
+    "      --both        Capture standard output too\n"
+    "      --live        Show what each recipe said, once it has ended\n"
+    "      --quiet       Show nothing of that; without it, what the recipes said that failed is shown\n"
+    "      --must-close  Mark logs that are closed: redo-log refuses a copy that lost the end of one\n"
+    "      --finish      Finish the logs of a build that was killed, or run without this command in front\n"
+    "  -h, --help        Print help\n"
+    "  -V, --version     Print the version\n"
     "\n"
     "Example:\n"
     "  redo-log-capture make -j8 all      captures a build\n"
@@ -36,6 +37,9 @@ static const char help[] =
     "    2  the words are refused\n"
     "  126  the command can't be run\n"
     "  127  the command isn't found\n";
+
+/* Whether each log that is closed has to be, from then on. */
+static int must_close;
 
 static _Noreturn void print(const char *told) { exit(fputs(told, stdout) < 0 || fflush(stdout) != 0); }
 
@@ -55,7 +59,7 @@ static _Noreturn void finish_left(const char *directory) {
   char *run = run_of_book();
   if (!*run) fail(1, "%s: nothing was captured there", directory);
   if (is_running(run)) fail(1, "%s is in use by another make, process %d", directory, atoi(run));
-  if (strncmp(run, "ended", 5) != 0) finish();
+  if (strncmp(run, "ended", 5) != 0 || must_close) finish(-1, must_close);
   exit(0);
 }
 
@@ -93,7 +97,7 @@ static void tell_failed(struct failures failed, const char *directory, const cha
 /* What came of a build that failed, or of which there is nothing to show. */
 static void tell(int status, const char *directory, const char *command, int is_captured) {
   char *all[] = {"all"}, *whole = way_to(directory, " -r", all, 1);
-  struct failures failed = is_captured ? finish() : (struct failures){NULL, 0};
+  struct failures failed = is_captured ? finish(status, must_close) : (struct failures){NULL, 0};
   if (!is_captured && access(path_of("names"), F_OK) < 0)
     note("no recipe was captured");
   else if (!is_captured && status != 0 && strncmp(run_of_book(), "ended", 5) == 0)
@@ -168,6 +172,7 @@ int main(int count, char **words) {
     if (strcmp(word, "--both") == 0) both = 1;
     else if (strcmp(word, "--live") == 0) shown = "all";
     else if (strcmp(word, "--quiet") == 0) shown = NULL;
+    else if (strcmp(word, "--must-close") == 0) must_close = 1;
     else if (strcmp(word, "--finish") == 0) finishes = 1;
     else if (strcmp(word, "--dir") == 0) directory = words[1] ? *++words : "";
     else if (strncmp(word, "--dir=", 6) == 0) directory = word + 6;

@@ -57,7 +57,7 @@ static char *way_up_from(const char *known) {
 
 /* What begins in the log of the target, and in the book: mentions of what it needs, if that is known. */
 struct front {
-  FILE *records, *book;
+  FILE *records, *named;
   unsigned count;
   const char *stamp;
 };
@@ -70,7 +70,7 @@ static void mention(struct front *front, const char *known) {
   fprintf(front->records, "@@REDO:%s:%s@@ %s\n", is_made ? "do" : "unchanged", front->stamp, path);
   front->count++;
   if (!is_made) return;
-  fprintf(front->book, "named %u\n", need.number);
+  fprintf(front->named, "named %u\n", need.number);
   if (need.status < 0) return;
   fprintf(front->records, "@@REDO:done:%s@@ %d %s\n", front->stamp, need.status, path);
   front->count++;
@@ -97,7 +97,7 @@ static void mention_needs(struct front *front, const char *needs) {
   }
 }
 
-/* Begins the run, if no other has the directory. */
+/* Begins the run, if no other has the directory. No log is begun anew as long as it is marked, or listed as closed. */
 static void begin_run(const char *book) {
   char *names = path_of("names");
   struct stat listed;
@@ -111,6 +111,10 @@ static void begin_run(const char *book) {
     replace(path_of(".capture/last"), "1\n", 2);
     append_line(names, "1 all");
   }
+  write_marks(0);
+  read_closed();
+  set_closed(1, 0);
+  write_closed();
   if (unlink(log_of(1)) < 0 && errno != ENOENT) cannot_write(log_of(1));
   char *begun = text("%s\n", own_run);
   replace(path_of(".capture/run"), begun, strlen(begun));
@@ -152,21 +156,22 @@ static char *needs_of(char *given) {
   return needs;
 }
 
-/* The log is a new file: who reads the one that was goes on with that. */
+/* The log is a new file: who reads the one that was goes on with that. The book knows that it is begun before the one that was
+   is gone, and what it names once it does. */
 static void begin_first(char *needs) {
-  char *records, *book, *log = log_of(target.number);
-  size_t records_size, book_size;
-  struct front front = {open_memstream(&records, &records_size), open_memstream(&book, &book_size), 0,
+  char *records, *named, *log = log_of(target.number), *book = path_of(".capture/run");
+  size_t records_size, named_size;
+  struct front front = {open_memstream(&records, &records_size), open_memstream(&named, &named_size), 0,
                         text("%d:%lld", getpid(), (long long)time(NULL))};
-  if (!front.records || !front.book) fail(1, "out of memory");
+  if (!front.records || !front.named) fail(1, "out of memory");
   mention_needs(&front, needs_of(needs));
-  fprintf(front.book, "began %u %d %lld %u %u\n", target.number, getpid(), (long long)time(NULL), leader, front.count);
-  if (fclose(front.records) != 0 || fclose(front.book) != 0) fail(1, "out of memory");
+  if (fclose(front.records) != 0 || fclose(front.named) != 0) fail(1, "out of memory");
+  append_line(book, "began %u %d %lld %u %u", target.number, getpid(), (long long)time(NULL), leader, front.count);
   if (unlink(log) < 0 && errno != ENOENT) cannot_write(log);
   append(log, records, records_size);
   target.run = own_run, target.status = -1;
   keep(target, name);
-  append(path_of(".capture/run"), book, book_size);
+  if (named_size > 0) append(book, named, named_size);
   tell_leader("do", "");
 }
 

@@ -67,6 +67,7 @@ void keep(struct target target, const char *name) {
 
 void forget_targets(void) {
   char *path = path_of(".capture/targets");
+  unlink(path_of(".capture/closed")); /* which has their numbers */
   make_directory(path);
   DIR *targets = opendir(path);
   if (!targets) cannot_write(path);

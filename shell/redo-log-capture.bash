@@ -9,7 +9,7 @@ _redo_log_capture() {
         ((place++))
         [[ ${COMP_WORDS[place]} == = ]] && ((place++))
         ;;
-      --both | --live | --quiet | --finish) ;;
+      --both | --live | --quiet | --must-close | --finish) ;;
       --)
         ((place++))
         break
@@ -29,7 +29,7 @@ _redo_log_capture() {
       compopt -o default
     fi
   elif [[ $2 == -* ]]; then
-    mapfile -t COMPREPLY < <(compgen -W '--dir --both --live --quiet --finish -h --help -V --version' -- "$2")
+    mapfile -t COMPREPLY < <(compgen -W '--dir --both --live --quiet --must-close --finish -h --help -V --version' -- "$2")
   else
     mapfile -t COMPREPLY < <(compgen -c -- "$2")
   fi

@@ -6,6 +6,8 @@ complete -c redo-log-capture -n __fish_no_arguments -l dir -x -a '(__fish_comple
 complete -c redo-log-capture -n __fish_no_arguments -l both -d 'Capture standard output too'
 complete -c redo-log-capture -n __fish_no_arguments -l live -d 'Show what each recipe said'
 complete -c redo-log-capture -n __fish_no_arguments -l quiet -d 'Show nothing of what recipes said'
+complete -c redo-log-capture -n __fish_no_arguments -l must-close \
+    -d 'Mark logs that are closed, so that a copy that lost an end is refused'
 complete -c redo-log-capture -n __fish_no_arguments -l finish -d 'Finish the logs of a build that was killed'
 complete -c redo-log-capture -n __fish_no_arguments -s h -l help -d 'Print help'
 complete -c redo-log-capture -n __fish_no_arguments -s V -l version -d 'Print the version'

@@ -33,7 +33,7 @@ _redo_log_names() {
       quote = ENVIRON["quote"]
       dashes = ENVIRON["option"] == "--"
     }
-    sub(/^[0-9]+ /, "") && substr($0, 1, length(typed)) == typed && (dashes || !/^-/) {
+    sub(/^!?[0-9]+ /, "") && substr($0, 1, length(typed)) == typed && (dashes || !/^-/) {
       if (++count == 1)
         common = $0
       if (substr($0, 1, length(common)) == common && count > 1000)

@@ -37,7 +37,7 @@ function __redo_log_names
             typed = ENVIRON["typed"]
             dashes = ENVIRON["option"] == "--"
         }
-        sub(/^[0-9]+ /, "") && substr($0, 1, length(typed)) == typed && (dashes || !/^-/) && !/^~|\t/ {
+        sub(/^!?[0-9]+ /, "") && substr($0, 1, length(typed)) == typed && (dashes || !/^-/) && !/^~|\t/ {
             if (++count == 1)
                 common = $0
             if (substr($0, 1, length(common)) == common && count > 1000)

@@ -74,7 +74,7 @@ def log_of(folder, name, at="capture"):
     """The bytes of a target's log."""
     at = os.path.join(folder, at)
     with open(os.path.join(at, "names"), encoding="utf-8") as names:
-        numbers = {line.rstrip("\n").split(" ", 1)[1]: line.split(" ", 1)[0] for line in names}
+        numbers = {line.rstrip("\n").split(" ", 1)[1]: line.split(" ", 1)[0].lstrip("!") for line in names}
     with open(os.path.join(at, "log." + numbers[name]), encoding="utf-8") as log:
         return log.read()
 

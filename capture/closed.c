@@ -1,0 +1,61 @@
+/* Which logs are closed, and the marks by which `names` says of a log that it has to be. */
+#include "capture.h"
+#include <stdio.h>
+#include <stdlib.h>
+#include <string.h>
+
+/* By number: whether the log is closed. */
+static char *closed;
+static size_t count;
+
+static int is_listed(unsigned number) { return number < count && closed[number]; }
+
+void set_closed(unsigned number, int is_closed) {
+  if (number >= count) {
+    size_t more = 2 * (size_t)number + 1;
+    closed = realloc(closed, more);
+    if (!closed) fail(1, "out of memory");
+    memset(closed + count, 0, more - count);
+    count = more;
+  }
+  closed[number] = is_closed;
+}
+
+static char *list_path(void) { return path_of(".capture/closed"); }
+
+void read_closed(void) {
+  char *list = contents(list_path(), NULL), *book = contents(path_of(".capture/run"), NULL), *left;
+  unsigned number;
+  if (!list || !book) return;
+  for (char *line = strtok_r(list, "\n", &left); line; line = strtok_r(NULL, "\n", &left)) set_closed(atoi(line), 1);
+  for (char *line = strtok_r(book, "\n", &left); line; line = strtok_r(NULL, "\n", &left))
+    if (sscanf(line, "began %u", &number) == 1) set_closed(number, 0);
+}
+
+void write_closed(void) {
+  char *list;
+  size_t size;
+  FILE *stream = open_memstream(&list, &size);
+  if (!stream) fail(1, "out of memory");
+  for (unsigned number = 1; number < count; number++)
+    if (closed[number]) fprintf(stream, "%u\n", number);
+  if (fclose(stream) != 0) fail(1, "out of memory");
+  replace(list_path(), list, size);
+}
+
+void write_marks(int must_close) {
+  char *names = contents(path_of("names"), NULL), *marked;
+  size_t size;
+  if (!names) fail(1, "cannot read %s", path_of("names"));
+  FILE *stream = open_memstream(&marked, &size);
+  if (!stream) fail(1, "out of memory");
+  for (char *line = names, *behind; *line; line = behind) {
+    behind = line + strcspn(line, "\n");
+    behind += *behind == '\n';
+    line += *line == '!';
+    if (must_close && is_listed(atoi(line))) fputc('!', stream);
+    fwrite(line, 1, behind - line, stream);
+  }
+  if (fclose(stream) != 0) fail(1, "out of memory");
+  if (strcmp(names, marked) != 0) replace(path_of("names"), marked, size);
+}

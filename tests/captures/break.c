@@ -1,0 +1,57 @@
+/* Preloaded into a build: the n-th time that one of its processes called redo-log-capture, or sh as its link, is about to change a
+   file, the whole process group is killed; or from then on nothing can be written, as on a full device. The environment says n, by
+   BREAK_AT, a file that counts, by BREAK_COUNT, and whether the device is full, by BREAK_FULL. */
+#define _GNU_SOURCE
+#include <dlfcn.h>
+#include <errno.h>
+#include <fcntl.h>
+#include <signal.h>
+#include <stdio.h>
+#include <stdlib.h>
+#include <string.h>
+#include <sys/stat.h>
+#include <unistd.h>
+
+static ssize_t (*real_write)(int, const void *, size_t);
+static int is_capture;
+
+__attribute__((constructor)) static void begin(void) {
+    char program[4096];
+    ssize_t size = readlink("/proc/self/exe", program, sizeof program - 1);
+    program[size > 0 ? size : 0] = 0;
+    is_capture = strstr(program, "/redo-log-capture") != NULL && getenv("BREAK_COUNT") != NULL;
+    real_write = (__typeof__(real_write))dlsym(RTLD_NEXT, "write");
+}
+
+/* Whether it is the n-th time, or a later one. */
+static int is_over(void) {
+    struct stat counted;
+    int error = errno, count = open(getenv("BREAK_COUNT"), O_WRONLY | O_CREAT | O_APPEND | O_CLOEXEC, 0666);
+    if (count < 0 || real_write(count, "x", 1) != 1 || fstat(count, &counted) < 0) abort();
+    close(count);
+    errno = error;
+    if (counted.st_size < atoi(getenv("BREAK_AT"))) return 0;
+    if (getenv("BREAK_FULL") == NULL) kill(0, SIGKILL);
+    return 1;
+}
+
+static int is_file(int file) {
+    struct stat found;
+    return fstat(file, &found) == 0 && S_ISREG(found.st_mode);
+}
+
+ssize_t write(int file, const void *bytes, size_t size) {
+    if (!is_capture || !is_file(file) || !is_over()) return real_write(file, bytes, size);
+    errno = ENOSPC;
+    return -1;
+}
+
+int rename(const char *from, const char *to) {
+    if (is_capture && getenv("BREAK_FULL") == NULL) is_over();
+    return renameat(AT_FDCWD, from, AT_FDCWD, to);
+}
+
+int unlink(const char *path) {
+    if (is_capture && getenv("BREAK_FULL") == NULL) is_over();
+    return unlinkat(AT_FDCWD, path, 0);
+}
