@@ -9,8 +9,8 @@
 #                       `make -o build deb` takes what is built already
 # make dist             makes out/redo-log-VERSION-linux-x86_64.tar.gz so, which is unpacked below any prefix
 PREFIX ?= /usr/local
-# Where zsh looks below it.
-ZSH = share/zsh/site-functions
+# Where zsh looks for completions, below it.
+ZSH_FUNCTIONS = share/zsh/site-functions
 # Where packages are put.
 PACKAGES = out
 TO = $(DESTDIR)$(PREFIX)
@@ -41,7 +41,7 @@ install: build install-capture
 	install -D shell/launcher '$(TO)/bin/redo-log'
 	install -D -m 644 docs/redo-log.1 '$(TO)/share/man/man1/redo-log.1'
 	install -D -m 644 shell/redo-log.bash '$(TO)/share/bash-completion/completions/redo-log'
-	install -D -m 644 shell/_redo-log '$(TO)/$(ZSH)/_redo-log'
+	install -D -m 644 shell/_redo-log '$(TO)/$(ZSH_FUNCTIONS)/_redo-log'
 	install -D -m 644 shell/redo-log.fish '$(TO)/share/fish/vendor_completions.d/redo-log.fish'
 
 install-capture:
@@ -51,7 +51,7 @@ install-capture:
 	install -D -m 644 -t '$(TO)/share/redo-log' capture/capture.mk capture/recipe
 	install -D -m 644 docs/redo-log-capture.1 '$(TO)/share/man/man1/redo-log-capture.1'
 	install -D -m 644 shell/redo-log-capture.bash '$(TO)/share/bash-completion/completions/redo-log-capture'
-	install -D -m 644 shell/_redo-log-capture '$(TO)/$(ZSH)/_redo-log-capture'
+	install -D -m 644 shell/_redo-log-capture '$(TO)/$(ZSH_FUNCTIONS)/_redo-log-capture'
 	install -D -m 644 shell/redo-log-capture.fish '$(TO)/share/fish/vendor_completions.d/redo-log-capture.fish'
 
 deb dist: build
