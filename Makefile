@@ -5,14 +5,21 @@
 #                       manual page, completions for bash, zsh and fish, and what install-capture does;
 #                       `make -o build install` takes what is built already
 # make install-capture  installs $(PREFIX)/bin/redo-log-capture, which captures builds by make, and what that needs
+# make deb              proves and builds the program, and makes out/redo-log_VERSION_amd64.deb, a package of Debian;
+#                       `make -o build deb` takes what is built already
+# make dist             makes out/redo-log-VERSION-linux-x86_64.tar.gz so, which is unpacked below any prefix
 PREFIX ?= /usr/local
+# Where zsh looks for completions, below it.
+ZSH_FUNCTIONS = share/zsh/site-functions
+# Where packages are put.
+PACKAGES = out
 TO = $(DESTDIR)$(PREFIX)
 CFLAGS ?= -O2
 # What runs for each line of a recipe begins sooner without shared libraries: where the C library is there so.
 STATIC = $(shell echo 'int main(void) { return 0; }' | $(CC) -static -x c -o /dev/null - 2>/dev/null && echo -static)
 VERSION = $(shell sed -n 's/^const VERSION.*redo-log \([0-9.]*\).*/\1/p' crates/redo_log/src/main.rt)
 
-.PHONY: try run check build install install-capture
+.PHONY: try run check build install install-capture deb dist version
 
 try:
 	@told=$$(mktemp) && cd crates/redo_log && \
@@ -21,20 +28,20 @@ try:
 	else cat "$$told"; rm "$$told"; exit 1; fi
 
 run:
-	cd crates/redo_log && rt run -- --dir ../../sample all
+	packaging/prove --dir ../../sample all
 
 check:
 	bash .ci/run
 
 build:
-	cd crates/redo_log && rt run -- --help >/dev/null
+	packaging/prove --help >/dev/null
 
 install: build install-capture
 	install -D crates/redo_log/out/redo_log '$(TO)/libexec/redo-log/redo-log'
 	install -D shell/launcher '$(TO)/bin/redo-log'
 	install -D -m 644 docs/redo-log.1 '$(TO)/share/man/man1/redo-log.1'
 	install -D -m 644 shell/redo-log.bash '$(TO)/share/bash-completion/completions/redo-log'
-	install -D -m 644 shell/_redo-log '$(TO)/share/zsh/site-functions/_redo-log'
+	install -D -m 644 shell/_redo-log '$(TO)/$(ZSH_FUNCTIONS)/_redo-log'
 	install -D -m 644 shell/redo-log.fish '$(TO)/share/fish/vendor_completions.d/redo-log.fish'
 
 install-capture:
@@ -44,5 +51,11 @@ install-capture:
 	install -D -m 644 -t '$(TO)/share/redo-log' capture/capture.mk capture/recipe
 	install -D -m 644 docs/redo-log-capture.1 '$(TO)/share/man/man1/redo-log-capture.1'
 	install -D -m 644 shell/redo-log-capture.bash '$(TO)/share/bash-completion/completions/redo-log-capture'
-	install -D -m 644 shell/_redo-log-capture '$(TO)/share/zsh/site-functions/_redo-log-capture'
+	install -D -m 644 shell/_redo-log-capture '$(TO)/$(ZSH_FUNCTIONS)/_redo-log-capture'
 	install -D -m 644 shell/redo-log-capture.fish '$(TO)/share/fish/vendor_completions.d/redo-log-capture.fish'
+
+deb dist: build
+	@packaging/pack $@ '$(PACKAGES)'
+
+version:
+	@echo '$(VERSION)'

@@ -1,5 +1,6 @@
 """What the tests of the built programs share: where they are, and a count of what was as expected."""
 import os
+import re
 import subprocess
 import sys
 
@@ -13,6 +14,11 @@ def contents(path):
     """The text of a file of the repository."""
     with open(os.path.join(TOP, path), encoding="utf-8") as file:
         return file.read()
+
+
+def version():
+    """That of the program, as its source says it."""
+    return re.search(r'^const VERSION: &str = "redo-log (\d+\.\d+\.\d+)\\n";$', contents("crates/redo_log/src/main.rt"), re.M)[1]
 
 
 def environment(more=None):
