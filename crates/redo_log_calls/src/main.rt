@@ -351,21 +351,29 @@ fn tell_step(
 /// target.
 fn scan_of_input(rt: &(impl Input + Print + AllocGlobal)) -> io::Result<()> {
     let bytes = all_input(rt)?;
-    let (must_close, job) = match bytes.split_first() {
-        Some((b'!', job)) => (true, job),
-        _ => (false, bytes.as_slice()),
-    };
-    let Some((max_bytes, size, target, stream)) = read_job(job) else {
+    let mark = mark_of(&bytes);
+    let Some((max_bytes, size, target, stream)) = read_job(&bytes[mark..]) else {
         return println!(rt; "a bad first line");
     };
     match TargetName::resolve(rt.alloc(), None, target) {
         Ok(target) => scan_stream(
             rt,
-            Scan::new(rt.alloc(), target, max_bytes, must_close),
+            Scan::new(rt.alloc(), target, max_bytes, mark > 0),
             stream,
             size,
         ),
         Err(_) => println!(rt; "a bad target"),
+    }
+}
+
+/// How many bytes a mark at the front has: one, or none where there is no mark.
+fn mark_of(bytes: &[u8]) -> usize
+    ensures { result ≤ length bytes.now }
+{
+    if !bytes.is_empty() && bytes[0] == b'!' {
+        1
+    } else {
+        0
     }
 }
 
