@@ -5,8 +5,7 @@ use Rattle.std.proofs.lemmas.Bool.Decides.{eqb_tells}
 use Rattle.std.proofs.lemmas.List.{append-nil, length-append}
 use Rattle.redo_wire.specs.declared.item.Item.{Item}
 use Rattle.redo_wire.specs.Machine.{IsFront, of}
-use Rattle.redo_wire.specs.Mailbox.{Met, left_of}
-use Rattle.redo_wire.specs.Private.Rule.{AreApart}
+use Rattle.redo_wire.specs.Mailbox.{AreApart, Met, left_of}
 use Rattle.redo_wire.proofs.Steps.{of-append}
 
 -- how many of these ends are that of an item

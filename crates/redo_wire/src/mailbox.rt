@@ -1,6 +1,7 @@
 ghost use Rattle.std.specs.Prelude.{◌≡◌, ◌<◌, ◌≤◌, ◌^◌, true, ◌↔◌, IfOk, IfErr, OnOk, IfSome, IfNone};
 ghost use Rattle.std.specs.List.{list_all};
-ghost use Rattle.redo_wire.specs.Mailbox.{AreAllMet, AreEndsOf, AreFronts, AreOfSenders, AreWhole, IsAmong, IsOpened, LeavesRoom, meets, posts, takes};
+ghost use Rattle.redo_wire.specs.Machine.{FindsNothing, Takes};
+ghost use Rattle.redo_wire.specs.Mailbox.{AreAllMet, AreEndsOf, AreFronts, AreOfSenders, AreWhole, HasSchedule, IsAmong, IsOpened, LeavesRoom, MakesStep, meets, posts, takes};
 
 use crate::item::Item;
 use crate::rule::{Ends, Gets, Meets, Puts, Rule, Size, Sizes, View};
@@ -135,6 +136,8 @@ impl TakeEnd {
         ensures nothing { IfNone result (self.new ≡ self.old) }
         ensures fronts { AreFronts self.new }
         ensures whole { IfNone result (AreWhole self.new) }
+        ensures step { IfSome result (λ item. MakesStep (Takes item) self.old self.new) }
+        ensures idle { IfNone result (MakesStep FindsNothing self.old self.new) }
     {
         let Ok(item) = self.receiver.recv_as::<Gets, T>(rt, &mut self.pass) else {
             return None;
@@ -149,6 +152,7 @@ impl TakeEnd {
         ensures met { self.new ≡ meets end self.old }
         ensures first { ¬ IsAmong end.number self.old.met }
         ensures fronts { AreFronts self.new }
+        ensures schedule { HasSchedule self.new }
     {
         let PostEnd {
             sender,
@@ -179,6 +183,8 @@ impl TakeEnd {
         ensures fronts { AreFronts self.new }
         ensures whole { IfNone result (AreWhole self.new) }
         ensures own { IfNone result (AreOfSenders self.new) }
+        ensures step { IfSome result (λ item. MakesStep (Takes item) self.old self.new) }
+        ensures idle { IfNone result (MakesStep FindsNothing self.old self.new) }
     {
         let Ok(left) = self.receiver.try_recv_as::<Gets, T>(rt, &mut self.pass) else {
             return None;
