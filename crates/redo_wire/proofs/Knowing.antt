@@ -19,6 +19,7 @@ use Rattle.redo_wire.specs.Machine.{FindsNothing, IsFront, IsReached, State, of}
 use Rattle.redo_wire.specs.Mailbox.{AreApart, IsAmong, Met, Shows}
 use Rattle.redo_wire.specs.Private.Ends.{IsCollector, IsPoster, capacity_in, items_in, mailbox_of, met_in, senders_in}
 use Rattle.redo_wire.specs.Private.Rule.{KnowsMet, KnowsOf, KnowsState, KnowsStep, Rules, with_got, with_met, with_put}
+use Rattle.redo_wire.proofs.Counting.{not_among}
 use Rattle.redo_wire.proofs.Flags.{Tell, one_set}
 use Rattle.redo_wire.proofs.Moves.{gets, learns, meets, puts}
 use Rattle.redo_wire.proofs.Steps.{of-append}
@@ -126,11 +127,6 @@ apart_known Idle items knows = absurd knows
 apart_known Starting items knows = absurd knows
 apart_known (Posting capacity senders number put) items knows = absurd knows
 apart_known (Taking capacity senders made got met) items knows = knows.2
-
-not_among : (number : ℕ) (others : List Met) → AllByRecursion (λ other. other.0 ≢ number) others → IsAmong number others → ⊥
-not_among number [] apart among = among
-not_among number (other ∷ others) apart (inl same) = apart.0 same
-not_among number (other ∷ others) apart (inr among) = not_among number others apart.1 among
 
 pub first_met : (view : View) (number : ℕ) (put : List Item) (others : List Met) → met_in view ≡ (number, put) ∷ others → (items : List Item) × KnowsOf view items → IsAmong number others → ⊥
 first_met view number put others is knows = not_among number others (subst AreApart is (apart_known view knows.0 knows.1)).0

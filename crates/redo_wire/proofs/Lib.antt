@@ -2,6 +2,7 @@ mod Counting
 pub mod EndLemmas
 mod Flags
 mod Knowing
+mod Leading
 mod Moves
 mod Opening
 mod Steps
