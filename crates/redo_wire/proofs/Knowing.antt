@@ -15,10 +15,10 @@ use Rattle.crossbeam_channel.specs.Fifo.{Held, Learns, Merges, Pops, Pushes}
 use Rattle.redo_wire.specs.declared.item.Item.{Item}
 use Rattle.redo_wire.specs.declared.rule.View.{View}
 use Rattle.redo_wire.specs.declared.rule.View.TheVariants.{Idle, Starting, Posting, Taking}
-use Rattle.redo_wire.specs.Machine.{FindsNothing, IsFront, IsReached, State, of}
-use Rattle.redo_wire.specs.Mailbox.{AreApart, IsAmong, Met, Shows}
-use Rattle.redo_wire.specs.Private.Ends.{IsCollector, IsPoster, capacity_in, items_in, mailbox_of, met_in, senders_in}
-use Rattle.redo_wire.specs.Private.Rule.{KnowsMet, KnowsOf, KnowsState, KnowsStep, Rules, with_got, with_met, with_put}
+use Rattle.redo_wire.specs.Machine.{FindsNothing, IsFront, IsReached, IsThere, Posts, State, of}
+use Rattle.redo_wire.specs.Mailbox.{AreApart, IsAmong, MakesPost, Met, Shows}
+use Rattle.redo_wire.specs.Private.Ends.{IsCollector, IsPoster, capacity_in, items_in, mailbox_of, met_in, number_in, poster_of, senders_in}
+use Rattle.redo_wire.specs.Private.Rule.{KnowsMet, KnowsOf, KnowsPost, KnowsState, KnowsStep, Rules, with_got, with_met, with_put}
 use Rattle.redo_wire.proofs.Counting.{not_among}
 use Rattle.redo_wire.proofs.Flags.{Tell, one_set}
 use Rattle.redo_wire.proofs.Moves.{gets, learns, meets, puts}
@@ -27,9 +27,9 @@ use Rattle.redo_wire.proofs.Steps.{of-append}
 -- ---- moves
 
 pub puts_at : (room senders number pass : ℕ) (put : List Item) (item : Item) (view : View) → view ≡ Posting room senders number put → item.sender ≡ number
-    → Pushes Rules room pass view item (λ after. after ≡ with_put item view) × Learns Rules pass view (λ items. ⊤)
+    → Pushes Rules room pass view item (λ after. (after ≡ with_put item view) × KnowsPost view item after) × Learns Rules pass view (λ items. ⊤)
 puts_at room senders number pass put item view is own =
-    subst (λ v. Pushes Rules room pass v item (λ after. after ≡ with_put item v) × Learns Rules pass v (λ items. ⊤)) (sym is)
+    subst (λ v. Pushes Rules room pass v item (λ after. (after ≡ with_put item v) × KnowsPost v item after) × Learns Rules pass v (λ items. ⊤)) (sym is)
     (puts room room senders number pass put item own refl, λ items views rules at. tt)
 
 pub gets_at : (capacity senders made pass : ℕ) (got : List Item) (met : List Met) (view : View) → view ≡ Taking capacity senders made got met
@@ -120,6 +120,13 @@ module _ (before after : View) (same : after ≡ before) (held : Held 0 (KnowsOf
   own_at_none capacity senders made got met is =
       subst Own (sym (same ∙ is)) (subst (AllByRecursion (λ (item : Item). item.sender < senders)) (append-nil got) (subst (λ v. KnowsOf v []) is (none_held held)).1)
 
+-- where an item was put
+pub post_known : {Q M L A B : Type 0} (sender : Sending (Rows (Badge (Key Item)) (Doing Item View) Q M (Key Item) L A) B) (pass now : Pass Item View) (number : ℕ) (item : Item)
+    → IsPoster sender pass number → KnowsPost (view pass) item (view now) → MakesPost item (poster_of pass number) (poster_of now number)
+post_known sender pass now number item poster knows =
+    subst (λ n. (before after : State) × IsReached (capacity_in (view pass)) (senders_in (view pass)) before × IsThere n before × (items_in (view pass) ≡ before.posted n)
+    × Posts (capacity_in (view pass)) n item before after × (items_in (view now) ≡ after.posted n)) (ap number_in poster.view_is) knows
+
 -- ---- an end that was met
 
 apart_known : (view : View) (items : List Item) → KnowsOf view items → AreApart (met_in view)
@@ -157,6 +164,9 @@ module _ {Q M L A B : Type 0} (sender : Sending (Rows (Badge (Key Item)) (Doing 
           (one_set (senders_in (view pass)) flags (met_in (view pass)) (number, items_in (view end)) collector.count
           (subst (λ n. number < n) (ap (λ m. m.senders) one) poster.below) collector.flags_are);
     }
+
+-- what a call that posts needs
+pub ruleset posting = post_known
 
 -- what a call that takes needs
 pub ruleset taking = (fronts_met, fronts_at_none, whole_at_none, own_at_none, step_at_none)

@@ -96,24 +96,24 @@ second_split = inl (record { unmade = omega arith; none_posted = refl; made = re
 
 first_post : IsStep 1 2 two_ends one_posted
 first_post = inr (inl (
-    0,
-    a,
-    omega arith,
-    (omega arith, tt),
-    record { own = refl; room = omega arith; taken = refl; queued = refl; posted = refl; others = none_else [] [] (a ∷ []); ends = (refl, refl) },
-  ))
+  0,
+  a,
+  omega arith,
+  (omega arith, tt),
+  record { own = refl; room = omega arith; taken = refl; queued = refl; posted = refl; others = none_else [] [] (a ∷ []); ends = (refl, refl) },
+))
 
 first_take : IsStep 1 2 one_posted one_taken
 first_take = inr (inr (inl (a, record { queued = refl; taken = refl; posted = λ number. refl; ends = (refl, refl) })))
 
 second_post : IsStep 1 2 one_taken two_posted
 second_post = inr (inl (
-    1,
-    b,
-    omega arith,
-    (omega arith, tt),
-    record { own = refl; room = omega arith; taken = refl; queued = refl; posted = refl; others = nor_else (a ∷ []) [] (b ∷ []); ends = (refl, refl) },
-  ))
+  1,
+  b,
+  omega arith,
+  (omega arith, tt),
+  record { own = refl; room = omega arith; taken = refl; queued = refl; posted = refl; others = nor_else (a ∷ []) [] (b ∷ []); ends = (refl, refl) },
+))
 
 second_take : IsStep 1 2 two_posted two_taken
 second_take = inr (inr (inl (b, record { queued = refl; taken = refl; posted = λ number. refl; ends = (refl, refl) })))

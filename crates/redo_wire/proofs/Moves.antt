@@ -15,7 +15,7 @@ use Rattle.redo_wire.specs.declared.rule.View.{View}
 use Rattle.redo_wire.specs.declared.rule.View.TheVariants.{Idle, Starting, Posting, Taking}
 use Rattle.redo_wire.specs.Machine.{IsFront, IsLawful, IsReached, IsStep, IsThere, Posts, State, Takes, of}
 use Rattle.redo_wire.specs.Mailbox.{Met, Shows, left_of}
-use Rattle.redo_wire.specs.Private.Rule.{Fits, FitsPosting, FitsStarting, FitsTaking, IsMet, KnowsMet, KnowsOf, KnowsStep, Rules, with_got, with_put}
+use Rattle.redo_wire.specs.Private.Rule.{Fits, FitsPosting, FitsStarting, FitsTaking, IsMet, KnowsMet, KnowsOf, KnowsPost, KnowsStep, Rules, with_got, with_put}
 use Rattle.redo_wire.proofs.Counting.{left_within}
 use Rattle.redo_wire.proofs.Steps.{lawful_reached, of-append, of-other, of-own, reached_first, reached_next}
 
@@ -213,8 +213,9 @@ ends capacity senders made pass got met below items views rules at =
 -- ---- an item more
 
 pub puts : (room capacity senders number pass : ℕ) (put : List Item) (item : Item) → item.sender ≡ number → room ≡ capacity
-    → Pushes Rules room pass (Posting capacity senders number put) item (λ after. after ≡ with_put item (Posting capacity senders number put))
-puts room capacity senders number pass put item own fitting items views free rules at = (Posting capacity senders number (put ++ item ∷ []), now, refl)
+    → Pushes Rules room pass (Posting capacity senders number put) item
+    (λ after. (after ≡ with_put item (Posting capacity senders number put)) × KnowsPost (Posting capacity senders number put) item after)
+puts room capacity senders number pass put item own fitting items views free rules at = (Posting capacity senders number (put ++ item ∷ []), now, (refl, step))
   where
     mine : FitsPosting rules.capacity rules.senders rules.reader rules.seat rules.state pass capacity senders number put
     mine = rules.fit pass (Posting capacity senders number put) at
@@ -234,6 +235,31 @@ puts room capacity senders number pass put item own fitting items views free rul
     of_another : (other : ℕ) → other ≢ number → after.posted other ≡ rules.state.posted other
     of_another other differ =
         ap (λ items. rules.state.posted other ++ items) (of-other other item (λ is. differ (sym is ∙ own))) ∙ append-nil (rules.state.posted other)
+
+    posts : Posts rules.capacity number item rules.state after
+    posts = record {
+      own = own;
+      room = let limit = mine.limit_is in omega (arith, free, fitting, limit, ap length rules.queued_is);
+      taken = refl;
+      queued = refl;
+      posted = of_mine;
+      others = λ other differ. of_another other differ;
+      ends = (refl, refl);
+    }
+
+    put_is : put ++ item ∷ [] ≡ after.posted number
+    put_is = ap (λ items. items ++ item ∷ []) mine.put_is ∙ sym of_mine
+
+    step : KnowsPost (Posting capacity senders number put) item (Posting capacity senders number (put ++ item ∷ []))
+    step = (
+      rules.state,
+      after,
+      subst (λ n. IsReached n senders rules.state) (sym mine.limit_is) (subst (λ n. IsReached rules.capacity n rules.state) (sym mine.ends_are) rules.reached),
+      mine.there,
+      mine.put_is,
+      subst (λ n. Posts n number item rules.state after) (sym mine.limit_is) posts,
+      put_is,
+    )
 
     New : ℕ → View → Type 0
     New = Fits rules.capacity rules.senders rules.reader rules.seat after
@@ -276,24 +302,10 @@ puts room capacity senders number pass put item own fitting items views free rul
       queued_is = ap (λ queued. queued ++ item ∷ []) rules.queued_is;
       reached =
           reached_next rules.capacity rules.senders rules.state after rules.reached
-          (inr (inl (
-            number,
-            item,
-            mine.below,
-            mine.there,
-            record {
-              own = own;
-              room = let limit = mine.limit_is in omega (arith, free, fitting, limit, ap length rules.queued_is);
-              taken = refl;
-              queued = refl;
-              posted = of_mine;
-              others = λ other differ. of_another other differ;
-              ends = (refl, refl);
-            },
-          )));
+          (inr (inl (number, item, mine.below, mine.there, posts)));
       fit =
           all_set New views pass (Posting capacity senders number (put ++ item ∷ []))
-          (record { limit_is = mine.limit_is; ends_are = mine.ends_are; below = mine.below; seated = mine.seated; there = mine.there; put_is = ap (λ items. items ++ item ∷ []) mine.put_is ∙ sym of_mine })
+          (record { limit_is = mine.limit_is; ends_are = mine.ends_are; below = mine.below; seated = mine.seated; there = mine.there; put_is = put_is })
           (λ other view differ there. stays other view differ (rules.fit other view there));
     }
 

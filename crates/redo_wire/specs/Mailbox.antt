@@ -5,7 +5,7 @@ use Rattle.atomic_table.specs.Seated.{TableId}
 use Rattle.atomic_table.specs.declared.badge.Badge.{Badge}
 use Rattle.crossbeam_channel.specs.declared.flavors.array.Key.{Key}
 use Rattle.redo_wire.specs.declared.item.Item.{Item}
-use Rattle.redo_wire.specs.Machine.{IsFront, IsReached, State, of}
+use Rattle.redo_wire.specs.Machine.{IsFront, IsReached, IsThere, Posts, State, of}
 
 -- A mailbox: which channel it is, how many items it holds at most, and how many ends post to it.
 pub record Mailbox : Type 0 where
@@ -110,3 +110,9 @@ HasSchedule end = (state : State) × IsReached end.mailbox.capacity end.mailbox.
 abbrev pub MakesStep : (State → State → Type 0) → Collector → Collector → Type 0
 MakesStep Step old new =
     (before after : State) × IsReached old.mailbox.capacity old.mailbox.senders before × Shows old.taken old.met before × Step before after × Shows new.taken new.met after
+
+-- the same of an end that posts, which shows what it posted
+abbrev pub MakesPost : Item → Poster → Poster → Type 0
+MakesPost item old new =
+    (before after : State) × IsReached old.mailbox.capacity old.mailbox.senders before × IsThere old.number before × (old.posted ≡ before.posted old.number)
+    × Posts old.mailbox.capacity old.number item before after × (new.posted ≡ after.posted old.number)

@@ -1,7 +1,7 @@
 ghost use Rattle.std.specs.Prelude.{◌≡◌, ◌<◌, ◌≤◌, ◌^◌, true, ◌↔◌, IfOk, IfErr, OnOk, IfSome, IfNone};
 ghost use Rattle.std.specs.List.{list_all};
 ghost use Rattle.redo_wire.specs.Machine.{FindsNothing, Takes};
-ghost use Rattle.redo_wire.specs.Mailbox.{AreAllMet, AreEndsOf, AreFronts, AreOfSenders, AreWhole, HasSchedule, IsAmong, IsOpened, LeavesRoom, MakesStep, meets, posts, takes};
+ghost use Rattle.redo_wire.specs.Mailbox.{AreAllMet, AreEndsOf, AreFronts, AreOfSenders, AreWhole, HasSchedule, IsAmong, IsOpened, LeavesRoom, MakesPost, MakesStep, meets, posts, takes};
 
 use crate::item::Item;
 use crate::rule::{Ends, Gets, Meets, Puts, Rule, Size, Sizes, View};
@@ -112,11 +112,13 @@ impl PostEnd {
 
     /// Posts an item of this sender: puts it at the back of the mailbox, and waits while that is full. The
     /// item may be handed back, where nobody is left to take it, and then nothing has changed.
+    #[tactic(auto, using(crate::proofs::Knowing::posting))]
     pub fn post<T: Wait>(&mut self, rt: &T, item: Item) -> Result<(), Item>
         requires { item.sender ≡ self.old.number }
         ensures stays { (self.new.mailbox ≡ self.old.mailbox) × (self.new.number ≡ self.old.number) }
         ensures posted { OnOk result (self.new ≡ posts item self.old) }
         ensures back { IfErr result (λ back. (back ≡ item) × (self.new ≡ self.old)) }
+        ensures step { OnOk result (MakesPost item self.old self.new) }
     {
         match self.sender.send_as::<Puts, T>(rt, &mut self.pass, item) {
             Ok(()) => Ok(()),

@@ -88,14 +88,14 @@ impl Join<View> for Meets {
     ghost spent = { Idle };
 }
 
-// An item is put at the back.
+// An item is put at the back by a step of the machine.
 pub struct Puts;
 
 impl Outcome<Item, View> for Puts {
     ghost use Rattle.std.specs.Prelude.{◌≡◌};
-    ghost use Rattle.redo_wire.specs.Private.Rule.{with_put};
+    ghost use Rattle.redo_wire.specs.Private.Rule.{KnowsPost, with_put};
 
-    ghost then = { λ before item after. after ≡ with_put item before };
+    ghost then = { λ before item after. (after ≡ with_put item before) × KnowsPost before item after };
 }
 
 impl Lesson<Item, View> for Puts {

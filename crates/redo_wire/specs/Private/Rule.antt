@@ -7,9 +7,9 @@ use lib.ListN.{get_elem?}
 use Rattle.redo_wire.specs.declared.item.Item.{Item}
 use Rattle.redo_wire.specs.declared.rule.View.{View}
 use Rattle.redo_wire.specs.declared.rule.View.TheVariants.{Idle, Starting, Posting, Taking}
-use Rattle.redo_wire.specs.Machine.{IsFront, IsReached, IsThere, State, Takes, of}
+use Rattle.redo_wire.specs.Machine.{IsFront, IsReached, IsThere, Posts, State, Takes, of}
 use Rattle.redo_wire.specs.Mailbox.{AreApart, Met, Shows, left_of}
-use Rattle.redo_wire.specs.Private.Ends.{capacity_in, items_in, met_in, senders_in}
+use Rattle.redo_wire.specs.Private.Ends.{capacity_in, items_in, met_in, number_in, senders_in}
 
 -- ---- what a step makes of what is known
 
@@ -107,6 +107,12 @@ KnowsMet Starting = Unit {0}
 KnowsMet (Posting capacity senders number put) = Unit {0}
 KnowsMet (Taking capacity senders made got met) =
     AllByRecursion (λ (m : Met). IsFront (of m.0 got) m.1) met × (left_of got met < capacity)
+
+-- an item was put by a step of the machine, from a state that a schedule leads to
+abbrev pub KnowsPost : View → Item → View → Type 0
+KnowsPost view item now =
+    (before after : State) × IsReached (capacity_in view) (senders_in view) before × IsThere (number_in view) before × (items_in view ≡ before.posted (number_in view))
+    × Posts (capacity_in view) (number_in view) item before after × (items_in now ≡ after.posted (number_in view))
 
 -- the machine took the front, from a state that a schedule leads to
 abbrev pub KnowsStep : View → Item → View → Type 0
