@@ -47,10 +47,10 @@ opened = record { taken = []; queued = []; posted = posted [] []; made = 0; met 
 abbrev one_end : State
 one_end = record { taken = []; queued = []; posted = posted [] []; made = 1; met = [] }
 
-abbrev two_ends : State
+abbrev pub two_ends : State
 two_ends = record { taken = []; queued = []; posted = posted [] []; made = 2; met = [] }
 
-abbrev one_posted : State
+abbrev pub one_posted : State
 one_posted = record { taken = []; queued = a ∷ []; posted = posted (a ∷ []) []; made = 2; met = [] }
 
 abbrev one_taken : State
@@ -68,7 +68,7 @@ one_met = record { taken = a ∷ b ∷ []; queued = []; posted = posted (a ∷ [
 abbrev pub two_met : State
 two_met = record { taken = a ∷ b ∷ []; queued = []; posted = posted (a ∷ []) (b ∷ []); made = 2; met = 0 ∷ 1 ∷ [] }
 
-none_else : (first second more : List Item) (other : ℕ) → (other ≡ 0 → ⊥) → posted more second other ≡ posted first second other
+pub none_else : (first second more : List Item) (other : ℕ) → (other ≡ 0 → ⊥) → posted more second other ≡ posted first second other
 none_else first second more zero differ = absurd (differ refl)
 none_else first second more (suc zero) differ = refl
 none_else first second more (suc (suc other)) differ = refl
@@ -132,6 +132,10 @@ states = one_end ∷ two_ends ∷ one_posted ∷ one_taken ∷ two_posted ∷ tw
 
 schedule : IsSchedule 1 2 opened states
 schedule = (first_split, (second_split, (first_post, (first_take, (second_post, (second_take, (second_look, (first_meeting, (second_meeting, tt)))))))))
+
+-- the ends are split off
+pub reached_ends : IsReached 1 2 two_ends
+reached_ends = record { first = opened; states = one_end ∷ two_ends ∷ []; opens = opens; schedule = (first_split, (second_split, tt)); last = refl }
 
 pub reached : IsReached 1 2 two_met
 reached = record { first = opened; states = states; opens = opens; schedule = schedule; last = refl }
@@ -213,6 +217,12 @@ no_post_after : IsStep 1 2 one_met (record { taken = a ∷ b ∷ []; queued = b 
 no_post_after step =
     let posts = grows 1 2 one_met _ step refl in
     posts.3.1.0 (ap (λ (item : Item). item.sender) (the_last b posts.1 posts.4.queued) ∙ posts.4.own)
+
+-- an end posts that is none of this mailbox
+no_stranger : IsStep 1 1 two_ends (record { taken = []; queued = b ∷ []; posted = posted [] (b ∷ []); made = 2; met = [] }) → ⊥
+no_stranger step =
+    let posts = grows 1 1 two_ends _ step refl in let below = posts.2 in let own = posts.4.own in
+    omega (arith, below, own, ap (λ (item : Item). item.sender) (the_last b posts.1 posts.4.queued))
 
 -- an end posts an item of the other one, or where there is no room
 no_post_for_another : IsStep 1 2 two_ends (record { taken = []; queued = b ∷ []; posted = posted (b ∷ []) []; made = 2; met = [] }) → ⊥

@@ -1,5 +1,6 @@
 -- Examples of the ends of a mailbox, computed: of its two senders the first posts twice, and the second once.
-use Rattle.std.proofs.Common.{◌≡◌, ℕ, zero, suc, ◌+◌, ◌<◌, List, [], ◌∷◌, ◌++◌, Some, length, slice_get, refl, sym, ap, ◌∙◌, inl, inr, arith}
+use Rattle.std.proofs.Common.{◌≡◌, ℕ, zero, suc, ◌+◌, ◌<◌, List, [], ◌∷◌, ◌++◌, Some, if◌then◌else◌, length, slice_get, refl, sym, ap, ◌∙◌, inl, inr, arith}
+use Rattle.std.proofs.lemmas.Bool.Decides.{eqb_tells}
 use Rattle.std.proofs.lemmas.List.{length-append}
 use Rattle.std.proofs.lemmas.Option.{none-some}
 use Rattle.atomic_table.specs.Seated.{TableId}
@@ -8,9 +9,9 @@ use Rattle.crossbeam_channel.specs.declared.flavors.array.Key.{Key}
 use Rattle.redo_wire.specs.declared.item.Item.{Item}
 use Rattle.redo_wire.specs.declared.item.What.TheVariants.{End}
 use Rattle.redo_wire.specs.Machine.{FindsNothing, State, Takes, of}
-use Rattle.redo_wire.specs.Mailbox.{AreAllMet, AreApart, AreEndsOf, AreFronts, AreLeft, AreOfSenders, AreWhole, Collector, HasSchedule, IsAmong, IsOpened, LeavesRoom, Mailbox, MakesStep, Met, Poster, Shows, left_of, meets, posts, takes}
-use Rattle.redo_wire.proofs.MachineRows.{a, b, c, opened, opens, reached, the_first, two_met}
-use Rattle.redo_wire.proofs.Steps.{lawful_reached, of-append, reached_first}
+use Rattle.redo_wire.specs.Mailbox.{AreAllMet, AreApart, AreEndsOf, AreFronts, AreLeft, AreOfSenders, AreWhole, Collector, HasSchedule, IsAmong, IsOpened, LeavesRoom, Mailbox, MakesPost, MakesStep, Met, Poster, Shows, left_of, meets, posts, takes}
+use Rattle.redo_wire.proofs.MachineRows.{a, b, c, none_else, one_posted, opened, opens, reached, reached_ends, the_first, two_ends, two_met}
+use Rattle.redo_wire.proofs.Steps.{lawful_reached, made_reached, of-append, reached_first}
 
 -- the ends, once all posted what they have to, the second one met last
 abbrev both : List Met
@@ -45,6 +46,16 @@ not_shown_fewer shown = let is = ap length shown.1 in omega (arith, is)
 
 not_shown_shorter : Shows (a ∷ b ∷ []) ((0, []) ∷ (1, b ∷ []) ∷ []) two_met → ⊥
 not_shown_shorter shown = let is = ap length shown.2.0 in omega (arith, is)
+
+-- no item of the second end is among those of the first
+none_of_first : (items : List Item) → b ∷ [] ≡ of 0 items → ⊥
+none_of_first [] is = omega (arith, ap length is)
+none_of_first (item ∷ items) is = elim (eqb_tells item.sender 0) [
+  | inl same ↦
+      let own : b ∷ [] ≡ item ∷ of 0 items = is ∙ ap (λ own. if own then item ∷ of 0 items else of 0 items) same.0 in
+      omega (arith, same.1, ap (λ (item : Item). item.sender) (the_first b item [] (of 0 items) own))
+  | inr apart ↦ none_of_first items (is ∙ ap (λ own. if own then item ∷ of 0 items else of 0 items) apart.0)
+]
 
 module _ (table : TableId) (key : Badge (Key Item)) where
   abbrev mailbox : ℕ → Mailbox
@@ -126,6 +137,9 @@ module _ (table : TableId) (key : Badge (Key Item)) where
   not_whole : AreWhole (collector 2 (a ∷ b ∷ []) both) → ⊥
   not_whole are = omega (arith, ap length are.1.0)
 
+  not_so_ordered : AreWhole (collector 2 (b ∷ c ∷ a ∷ []) both) → ⊥
+  not_so_ordered are = omega (arith, ap (λ (item : Item). item.stream) (the_first a c (c ∷ []) (a ∷ []) are.1.0))
+
   not_more : AreWhole (collector 2 (a ∷ b ∷ c ∷ c ∷ []) both) → ⊥
   not_more are = omega (arith, ap length are.1.0)
 
@@ -175,3 +189,39 @@ module _ (table : TableId) (key : Badge (Key Item)) where
 
   not_kept : MakesStep (Takes b) (collector 1 [] []) (collector 1 [] []) → ⊥
   not_kept step = let is = ap length (step.5.0 ∙ step.4.taken) in omega (arith, is, length-append step.0.taken (b ∷ []))
+
+  not_two_taken : MakesStep (Takes b) (collector 1 [] []) (collector 1 (a ∷ b ∷ []) []) → ⊥
+  not_two_taken step =
+      let shown = step.3.0 in let is = ap length (step.5.0 ∙ step.4.taken) in
+      omega (arith, is, ap length shown, length-append step.0.taken (b ∷ []))
+
+  not_from_nowhere : MakesStep FindsNothing (collector 1 (a ∷ a ∷ []) ((0, a ∷ []) ∷ [])) (collector 1 (a ∷ a ∷ []) ((0, a ∷ []) ∷ [])) → ⊥
+  not_from_nowhere step = not_twice (step.0, step.2, step.3)
+
+  -- the first end of a mailbox for one item posts
+  abbrev poster_of_one : List Item → Poster
+  poster_of_one posted = record { mailbox = mailbox 1; number = 0; posted = posted }
+
+  posts_one : MakesPost a (poster_of_one []) (poster_of_one (a ∷ []))
+  posts_one = (
+    two_ends,
+    one_posted,
+    reached_ends,
+    (omega arith, tt),
+    refl,
+    record { own = refl; room = omega arith; taken = refl; queued = refl; posted = refl; others = none_else [] [] (a ∷ []); ends = (refl, refl) },
+    refl,
+  )
+
+  not_two_at_once : MakesPost a (poster_of_one []) (poster_of_one (a ∷ a ∷ [])) → ⊥
+  not_two_at_once post = let before = post.4 in let is = ap length (post.6 ∙ post.5.posted) in omega (arith, is, ap length before, length-append (post.0.posted 0) (a ∷ []))
+
+  not_by_a_stranger : (item : Item) → MakesPost item (record { mailbox = mailbox 1; number = 2; posted = [] }) (record { mailbox = mailbox 1; number = 2; posted = item ∷ [] }) → ⊥
+  not_by_a_stranger item post = let below = post.3.0 in omega (arith, below, made_reached 1 2 post.0 post.2)
+
+  not_after_another : MakesPost a (poster_of_one []) (poster_of_one (c ∷ a ∷ [])) → ⊥
+  not_after_another post = let before = post.4 in let is = ap length (post.6 ∙ post.5.posted) in omega (arith, is, ap length before, length-append (post.0.posted 0) (a ∷ []))
+
+  -- what was posted that is the other end's
+  not_posted_before : MakesPost a (poster_of_one (b ∷ [])) (poster_of_one (b ∷ a ∷ [])) → ⊥
+  not_posted_before post = none_of_first (post.0.taken ++ post.0.queued) (post.4 ∙ (lawful_reached 1 2 post.0 post.2).all_of_each 0)

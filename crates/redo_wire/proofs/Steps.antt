@@ -1,5 +1,5 @@
 -- Each step of the mailbox keeps it lawful.
-use Rattle.std.proofs.Common.{◌≡◌, ◌≢◌, ℕ, ◌+◌, ◌<◌, nat_eq, Bool, true, false, List, [], ◌∷◌, ◌++◌, if◌then◌else◌, length, refl, sym, ap, ◌∙◌, subst, inl, inr, arith}
+use Rattle.std.proofs.Common.{◌≡◌, ◌≢◌, ℕ, ◌+◌, ◌<◌, ◌≤◌, nat_eq, Bool, true, false, List, [], ◌∷◌, ◌++◌, if◌then◌else◌, length, refl, sym, ap, ◌∙◌, subst, inl, inr, arith}
 use Rattle.std.specs.List.{AllByRecursion}
 use Rattle.std.proofs.lemmas.Bool.{eq-eqb}
 use Rattle.std.proofs.lemmas.Bool.Decides.{eqb_tells}
@@ -103,6 +103,23 @@ module _ (capacity senders : ℕ) where
   pub lawful_reached : (state : State) → IsReached capacity senders state → IsLawful capacity senders state
   lawful_reached state reached =
       subst (IsLawful capacity senders) reached.last (lawful_last reached.first reached.states (lawful_opens reached.first reached.opens) reached.schedule)
+
+  -- no more ends are made than there are senders
+  made_step : (before after : State) → IsStep capacity senders before after → before.made ≤ senders → after.made ≤ senders
+  made_step before after (inl splits) within = let unmade = splits.unmade in let made = splits.made in omega (arith, unmade, made)
+  made_step before after (inr (inl posts)) within = omega (arith, within, posts.4.ends.0)
+  made_step before after (inr (inr (inl takes))) within = omega (arith, within, takes.1.ends.0)
+  made_step before after (inr (inr (inr (inl nothing)))) within = omega (arith, within, ap (λ (state : State). state.made) nothing.1)
+  made_step before after (inr (inr (inr (inr meets)))) within = let made = meets.1.made in omega (arith, within, made)
+
+  made_last : (first : State) (states : List State) → first.made ≤ senders → IsSchedule capacity senders first states → (last_of first states).made ≤ senders
+  made_last first [] within schedule = within
+  made_last first (after ∷ states) within schedule = made_last after states (made_step first after schedule.0 within) schedule.1
+
+  pub made_reached : (state : State) → IsReached capacity senders state → state.made ≤ senders
+  made_reached state reached =
+      subst (λ (state : State). state.made ≤ senders) reached.last
+      (made_last reached.first reached.states (let none = reached.opens.3 in omega (arith, none)) reached.schedule)
 
   longer : (first : State) (states : List State) (after : State) → IsSchedule capacity senders first states → IsStep capacity senders (last_of first states) after
       → IsSchedule capacity senders first (states ++ after ∷ [])
