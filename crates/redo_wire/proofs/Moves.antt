@@ -13,8 +13,8 @@ use Rattle.crossbeam_channel.specs.Fifo.{Pushes, Pops, Forks, Merges, Learns}
 use Rattle.redo_wire.specs.declared.item.Item.{Item}
 use Rattle.redo_wire.specs.declared.rule.View.{View}
 use Rattle.redo_wire.specs.declared.rule.View.TheVariants.{Idle, Starting, Posting, Taking}
-use Rattle.redo_wire.specs.Machine.{IsFront, IsLawful, IsReached, IsStep, IsThere, Posts, State, Takes, of}
-use Rattle.redo_wire.specs.Mailbox.{Met, Shows, left_of}
+use Rattle.redo_wire.specs.Machine.{IsFront, IsReached, Posts, State, Takes, of}
+use Rattle.redo_wire.specs.Mailbox.{Met, left_of}
 use Rattle.redo_wire.specs.Private.Rule.{Fits, FitsPosting, FitsStarting, FitsTaking, IsMet, KnowsMet, KnowsOf, KnowsPost, KnowsStep, Rules, with_got, with_put}
 use Rattle.redo_wire.proofs.Counting.{left_within}
 use Rattle.redo_wire.proofs.Steps.{lawful_reached, of-append, of-other, of-own, reached_first, reached_next}

@@ -5,7 +5,7 @@ use Rattle.std.proofs.lemmas.Bool.{eq-eqb}
 use Rattle.std.proofs.lemmas.Bool.Decides.{eqb_tells}
 use Rattle.std.proofs.lemmas.List.{append_assoc, append-nil, length-append}
 use Rattle.redo_wire.specs.declared.item.Item.{Item}
-use Rattle.redo_wire.specs.Machine.{FindsNothing, IsLawful, IsReached, IsSchedule, IsStep, IsThere, KeepsItems, Meets, Opens, Posts, Splits, State, Takes, last_of, of}
+use Rattle.redo_wire.specs.Machine.{IsLawful, IsReached, IsSchedule, IsStep, KeepsItems, Opens, Posts, State, Takes, last_of, of}
 
 pub of-append : (sender : ℕ) (front behind : List Item) → of sender (front ++ behind) ≡ of sender front ++ of sender behind
 of-append sender [] behind = refl
