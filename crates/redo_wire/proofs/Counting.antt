@@ -1,12 +1,12 @@
 -- What ends posted, counted.
-use Rattle.std.proofs.Common.{◌≡◌, ◌≢◌, ℕ, suc, ◌+◌, ◌<◌, ◌≤◌, nat_eq, Bool, true, false, List, [], ◌∷◌, ◌++◌, if◌then◌else◌, length, refl, sym, ap, ◌∙◌, inl, inr, arith}
+use Rattle.std.proofs.Common.{◌≡◌, ◌≢◌, ℕ, suc, ◌+◌, ◌<◌, ◌≤◌, nat_eq, Bool, true, false, List, [], ◌∷◌, ◌++◌, if◌then◌else◌, length, refl, sym, ap, subst, ◌∙◌, inl, inr, arith}
 use Rattle.std.specs.List.{AllByRecursion}
+use Rattle.std.proofs.lemmas.Bool.{eq-eqb}
 use Rattle.std.proofs.lemmas.Bool.Decides.{eqb_tells}
 use Rattle.std.proofs.lemmas.List.{append-nil, length-append}
 use Rattle.redo_wire.specs.declared.item.Item.{Item}
 use Rattle.redo_wire.specs.Machine.{IsFront, of}
-use Rattle.redo_wire.specs.Mailbox.{Met, left_of}
-use Rattle.redo_wire.specs.Private.Rule.{AreApart}
+use Rattle.redo_wire.specs.Mailbox.{AreApart, IsAmong, Met, left_of}
 use Rattle.redo_wire.proofs.Steps.{of-append}
 
 -- how many of these ends are that of an item
@@ -22,6 +22,11 @@ hits item (met ∷ others) = hit (nat_eq item.sender met.0) + hits item others
 abbrev total : List Item → List Met → ℕ
 total items [] = 0
 total items (met ∷ others) = length (of met.0 items) + total items others
+
+pub not_among : (number : ℕ) (others : List Met) → AllByRecursion (λ other. other.0 ≢ number) others → IsAmong number others → ⊥
+not_among number [] apart among = among
+not_among number (other ∷ others) apart (inl same) = apart.0 same
+not_among number (other ∷ others) apart (inr among) = not_among number others apart.1 among
 
 no_hit : (item : Item) (number : ℕ) (others : List Met) → item.sender ≡ number → AllByRecursion (λ other. other.0 ≢ number) others → hits item others ≡ 0
 no_hit item number [] is apart = refl
@@ -66,6 +71,25 @@ left_total front items (met ∷ others) are =
 -- no more is left of ends that are apart than there is
 pub left_within : (front items : List Item) (met : List Met) → AreApart met → AllByRecursion (λ (m : Met). m.1 ≡ of m.0 (front ++ items)) met → left_of front met ≤ length items
 left_within front items met apart are = omega (arith, left_total front items met are, within items met apart)
+
+-- where each item is of one of these ends, just as many are left as there are
+one_is_hit : (item : Item) (met : List Met) → AreApart met → IsAmong item.sender met → hits item met ≡ 1
+one_is_hit item [] apart among = absurd among
+one_is_hit item (met ∷ others) apart (inl same) =
+    let here = ap hit (eq-eqb item.sender met.0 (sym same)) in
+    let none = no_hit item met.0 others (sym same) apart.0 in omega (arith, here, none)
+one_is_hit item (met ∷ others) apart (inr among) = elim (eqb_tells item.sender met.0) [
+  | inl own ↦ absurd (not_among item.sender others (subst (λ n. AllByRecursion (λ (other : Met). other.0 ≢ n) others) (sym own.1) apart.0) among)
+  | inr differ ↦ let here = ap hit differ.0 in omega (arith, here, one_is_hit item others apart.1 among)
+]
+
+each_hit : (items : List Item) (met : List Met) → AreApart met → AllByRecursion (λ (item : Item). IsAmong item.sender met) items → total items met ≡ length items
+each_hit [] met apart among = let least = within [] met apart in omega (arith, least)
+each_hit (item ∷ items) met apart among = omega (arith, one_more item items met, one_is_hit item met apart among.0, each_hit items met apart among.1)
+
+pub left_count : (front items : List Item) (met : List Met) → AreApart met → AllByRecursion (λ (m : Met). m.1 ≡ of m.0 (front ++ items)) met
+    → AllByRecursion (λ (item : Item). IsAmong item.sender met) items → left_of front met ≡ length items
+left_count front items met apart are among = left_total front items met are ∙ each_hit items met apart among
 
 -- ---- the law of one place
 

@@ -1,5 +1,5 @@
 -- The moves of a pass whose view is known, and what is known then, in the words of contracts.
-use Rattle.std.proofs.Common.{◌≡◌, ◌≢◌, inl, inr, ℕ, ◌<◌, Bool, true, List, [], ◌∷◌, ◌++◌, length, slice_set, refl, sym, ap, subst, ◌∙◌, arith}
+use Rattle.std.proofs.Common.{◌≡◌, ℕ, ◌<◌, Bool, true, List, [], ◌∷◌, ◌++◌, length, slice_set, refl, sym, ap, subst, ◌∙◌, arith}
 use Rattle.std.specs.Bool.{⊤}
 use Rattle.std.specs.List.{AllByRecursion}
 use Rattle.std.proofs.lemmas.List.{append-nil, length-set}
@@ -15,10 +15,11 @@ use Rattle.crossbeam_channel.specs.Fifo.{Held, Learns, Merges, Pops, Pushes}
 use Rattle.redo_wire.specs.declared.item.Item.{Item}
 use Rattle.redo_wire.specs.declared.rule.View.{View}
 use Rattle.redo_wire.specs.declared.rule.View.TheVariants.{Idle, Starting, Posting, Taking}
-use Rattle.redo_wire.specs.Machine.{IsFront, of}
-use Rattle.redo_wire.specs.Mailbox.{IsAmong, Met}
-use Rattle.redo_wire.specs.Private.Ends.{IsCollector, IsPoster, capacity_in, items_in, mailbox_of, met_in, senders_in}
-use Rattle.redo_wire.specs.Private.Rule.{AreApart, KnowsMet, KnowsOf, Rules, with_got, with_met, with_put}
+use Rattle.redo_wire.specs.Machine.{FindsNothing, IsFront, IsReached, IsThere, Posts, State, of}
+use Rattle.redo_wire.specs.Mailbox.{AreApart, IsAmong, MakesPost, Met, Shows}
+use Rattle.redo_wire.specs.Private.Ends.{IsCollector, IsPoster, capacity_in, items_in, mailbox_of, met_in, number_in, poster_of, senders_in}
+use Rattle.redo_wire.specs.Private.Rule.{KnowsMet, KnowsOf, KnowsPost, KnowsState, KnowsStep, Rules, with_got, with_met, with_put}
+use Rattle.redo_wire.proofs.Counting.{not_among}
 use Rattle.redo_wire.proofs.Flags.{Tell, one_set}
 use Rattle.redo_wire.proofs.Moves.{gets, learns, meets, puts}
 use Rattle.redo_wire.proofs.Steps.{of-append}
@@ -26,15 +27,15 @@ use Rattle.redo_wire.proofs.Steps.{of-append}
 -- ---- moves
 
 pub puts_at : (room senders number pass : ℕ) (put : List Item) (item : Item) (view : View) → view ≡ Posting room senders number put → item.sender ≡ number
-    → Pushes Rules room pass view item (λ after. after ≡ with_put item view) × Learns Rules pass view (λ items. ⊤)
+    → Pushes Rules room pass view item (λ after. (after ≡ with_put item view) × KnowsPost view item after) × Learns Rules pass view (λ items. ⊤)
 puts_at room senders number pass put item view is own =
-    subst (λ v. Pushes Rules room pass v item (λ after. after ≡ with_put item v) × Learns Rules pass v (λ items. ⊤)) (sym is)
+    subst (λ v. Pushes Rules room pass v item (λ after. (after ≡ with_put item v) × KnowsPost v item after) × Learns Rules pass v (λ items. ⊤)) (sym is)
     (puts room room senders number pass put item own refl, λ items views rules at. tt)
 
 pub gets_at : (capacity senders made pass : ℕ) (got : List Item) (met : List Met) (view : View) → view ≡ Taking capacity senders made got met
-    → Pops Rules pass view (λ item after. (after ≡ with_got item view) × KnowsMet after) × Learns Rules pass view (KnowsOf view)
+    → Pops Rules pass view (λ item after. (after ≡ with_got item view) × KnowsMet after × KnowsStep view item after) × Learns Rules pass view (KnowsOf view)
 gets_at capacity senders made pass got met view is =
-    subst (λ v. Pops Rules pass v (λ item after. (after ≡ with_got item v) × KnowsMet after) × Learns Rules pass v (KnowsOf v)) (sym is)
+    subst (λ v. Pops Rules pass v (λ item after. (after ≡ with_got item v) × KnowsMet after × KnowsStep v item after) × Learns Rules pass v (KnowsOf v)) (sym is)
     (gets capacity senders made pass got met, learns capacity senders made pass got met)
 
 pub learns_at : (capacity senders made pass : ℕ) (got : List Item) (met : List Met) (view : View) → view ≡ Taking capacity senders made got met → Learns Rules pass view (KnowsOf view)
@@ -70,9 +71,9 @@ none_held {P} (items, none, held) = subst P (empty items none) held
     empty (item ∷ items) none = absurd (omega (arith, none))
 
 whole_of : (view : View) → KnowsOf view [] → Whole (items_in view) (met_in view)
-whole_of Idle knows = tt
-whole_of Starting knows = tt
-whole_of (Posting capacity senders number put) knows = tt
+whole_of Idle knows = absurd knows
+whole_of Starting knows = absurd knows
+whole_of (Posting capacity senders number put) knows = absurd knows
 whole_of (Taking capacity senders made got met) knows = subst (λ items. Whole items met) (append-nil got) knows.0
 
 abbrev Own : View → Type 0
@@ -87,10 +88,19 @@ fronts_with taken items [] whole = tt
 fronts_with taken items (met ∷ others) whole = ((of met.0 items, whole.0 ∙ of-append met.0 taken items), fronts_with taken items others whole.1)
 
 pub fronts_known : (view : View) (items : List Item) → KnowsOf view items → Fronts (items_in view) (met_in view)
-fronts_known Idle items knows = tt
-fronts_known Starting items knows = tt
-fronts_known (Posting capacity senders number put) items knows = tt
+fronts_known Idle items knows = absurd knows
+fronts_known Starting items knows = absurd knows
+fronts_known (Posting capacity senders number put) items knows = absurd knows
 fronts_known (Taking capacity senders made got met) items knows = fronts_with got items met knows.0
+
+pub state_known : (view : View) (items : List Item) → KnowsOf view items → KnowsState view items
+state_known Idle items knows = absurd knows
+state_known Starting items knows = absurd knows
+state_known (Posting capacity senders number put) items knows = absurd knows
+state_known (Taking capacity senders made got met) items knows = knows.3
+
+pub schedule_known : (view : View) (items : List Item) → KnowsOf view items → (state : State) × IsReached (capacity_in view) (senders_in view) state × Shows (items_in view) (met_in view) state
+schedule_known view items knows = let known = state_known view items knows in (known.0, known.1, known.2)
 
 -- where nothing was found
 module _ (before after : View) (same : after ≡ before) (held : Held 0 (KnowsOf before)) where
@@ -100,22 +110,30 @@ module _ (before after : View) (same : after ≡ before) (held : Held 0 (KnowsOf
   pub fronts_at_none : Fronts (items_in after) (met_in after)
   fronts_at_none = fronts_of (items_in after) (met_in after) whole_at_none
 
+  pub step_at_none : (old new : State) × IsReached (capacity_in before) (senders_in before) old × Shows (items_in before) (met_in before) old × FindsNothing old new
+      × Shows (items_in after) (met_in after) new
+  step_at_none =
+      let known = state_known before [] (none_held held) in
+      (known.0, known.0, known.1, known.2, (known.3, refl), subst (λ v. Shows (items_in v) (met_in v) known.0) (sym same) known.2)
+
   pub own_at_none : (capacity senders made : ℕ) (got : List Item) (met : List Met) → before ≡ Taking capacity senders made got met → Own after
   own_at_none capacity senders made got met is =
       subst Own (sym (same ∙ is)) (subst (AllByRecursion (λ (item : Item). item.sender < senders)) (append-nil got) (subst (λ v. KnowsOf v []) is (none_held held)).1)
 
+-- where an item was put
+pub post_known : {Q M L A B : Type 0} (sender : Sending (Rows (Badge (Key Item)) (Doing Item View) Q M (Key Item) L A) B) (pass now : Pass Item View) (number : ℕ) (item : Item)
+    → IsPoster sender pass number → KnowsPost (view pass) item (view now) → MakesPost item (poster_of pass number) (poster_of now number)
+post_known sender pass now number item poster knows =
+    subst (λ n. (before after : State) × IsReached (capacity_in (view pass)) (senders_in (view pass)) before × IsThere n before × (items_in (view pass) ≡ before.posted n)
+    × Posts (capacity_in (view pass)) n item before after × (items_in (view now) ≡ after.posted n)) (ap number_in poster.view_is) knows
+
 -- ---- an end that was met
 
 apart_known : (view : View) (items : List Item) → KnowsOf view items → AreApart (met_in view)
-apart_known Idle items knows = tt
-apart_known Starting items knows = tt
-apart_known (Posting capacity senders number put) items knows = tt
+apart_known Idle items knows = absurd knows
+apart_known Starting items knows = absurd knows
+apart_known (Posting capacity senders number put) items knows = absurd knows
 apart_known (Taking capacity senders made got met) items knows = knows.2
-
-not_among : (number : ℕ) (others : List Met) → AllByRecursion (λ other. other.0 ≢ number) others → IsAmong number others → ⊥
-not_among number [] apart among = among
-not_among number (other ∷ others) apart (inl same) = apart.0 same
-not_among number (other ∷ others) apart (inr among) = not_among number others apart.1 among
 
 pub first_met : (view : View) (number : ℕ) (put : List Item) (others : List Met) → met_in view ≡ (number, put) ∷ others → (items : List Item) × KnowsOf view items → IsAmong number others → ⊥
 first_met view number put others is knows = not_among number others (subst AreApart is (apart_known view knows.0 knows.1)).0
@@ -147,5 +165,8 @@ module _ {Q M L A B : Type 0} (sender : Sending (Rows (Badge (Key Item)) (Doing 
           (subst (λ n. number < n) (ap (λ m. m.senders) one) poster.below) collector.flags_are);
     }
 
+-- what a call that posts needs
+pub ruleset posting = post_known
+
 -- what a call that takes needs
-pub ruleset taking = (fronts_met, fronts_at_none, whole_at_none, own_at_none)
+pub ruleset taking = (fronts_met, fronts_at_none, whole_at_none, own_at_none, step_at_none)

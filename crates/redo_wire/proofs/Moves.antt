@@ -1,5 +1,5 @@
 -- Each move of a pass keeps the rule.
-use Rattle.std.proofs.Common.{◌≡◌, ◌≢◌, ◌⊎◌, inl, inr, ℕ, zero, suc, ◌+◌, ◌<◌, ◌≤◌, nat_eq, cond, List, [], ◌∷◌, ◌++◌, Option, None, Some, length, refl, sym, ap, ◌∙◌, subst, arith, zero-le, le_refl}
+use Rattle.std.proofs.Common.{◌≡◌, ◌≢◌, ◌⊎◌, inl, inr, ℕ, zero, suc, ◌+◌, ◌<◌, ◌≤◌, nat_eq, cond, List, [], ◌∷◌, ◌++◌, map, Option, None, Some, length, refl, sym, ap, ◌∙◌, subst, arith, zero-le, le_refl}
 use Rattle.std.specs.List.{AllByRecursion}
 use Rattle.std.proofs.lemmas.Bool.{eq-eqb}
 use Rattle.std.proofs.lemmas.Bool.Decides.{eqb_tells}
@@ -13,11 +13,11 @@ use Rattle.crossbeam_channel.specs.Fifo.{Pushes, Pops, Forks, Merges, Learns}
 use Rattle.redo_wire.specs.declared.item.Item.{Item}
 use Rattle.redo_wire.specs.declared.rule.View.{View}
 use Rattle.redo_wire.specs.declared.rule.View.TheVariants.{Idle, Starting, Posting, Taking}
-use Rattle.redo_wire.specs.Machine.{IsFront, State, of}
+use Rattle.redo_wire.specs.Machine.{IsFront, IsReached, Posts, State, Takes, of}
 use Rattle.redo_wire.specs.Mailbox.{Met, left_of}
-use Rattle.redo_wire.specs.Private.Rule.{Fits, FitsPosting, FitsStarting, FitsTaking, IsMet, KnowsMet, KnowsOf, Rules, with_got, with_put}
+use Rattle.redo_wire.specs.Private.Rule.{Fits, FitsPosting, FitsStarting, FitsTaking, IsMet, KnowsMet, KnowsOf, KnowsPost, KnowsStep, Rules, with_got, with_put}
 use Rattle.redo_wire.proofs.Counting.{left_within}
-use Rattle.redo_wire.proofs.Steps.{lawful_opens, lawful_posts, lawful_takes, of-append, of-other, of-own}
+use Rattle.redo_wire.proofs.Steps.{lawful_reached, of-append, of-other, of-own, reached_first, reached_next}
 
 -- ---- lists of views
 
@@ -45,6 +45,11 @@ all_map : (P Q : Met → Type 0) → ((met : Met) → P met → Q met) → (list
 all_map P Q f [] all = tt
 all_map P Q f (met ∷ list) all = (f met all.0, all_map P Q f list all.1)
 
+-- what holds of each number
+numbers_all : (P : ℕ → Type 0) (list : List Met) → AllByRecursion (λ (m : Met). P m.0) list → AllByRecursion P (map (λ (m : Met). m.0) list)
+numbers_all P [] all = tt
+numbers_all P (met ∷ list) all = (all.0, numbers_all P list all.1)
+
 -- ---- seats
 
 -- a seat more, or one less
@@ -70,7 +75,7 @@ one_pass seat number other pass another mine theirs apart same = let both : Some
 -- ---- the beginning
 
 abbrev empty : State
-empty = record { taken = []; queued = []; posted = λ number. [] }
+empty = record { taken = []; queued = []; posted = λ number. []; made = 0; met = [] }
 
 pub begins : Rules [] (Starting ∷ [])
 begins = record {
@@ -80,10 +85,10 @@ begins = record {
   seat = λ number. None;
   state = empty;
   queued_is = refl;
-  lawful = lawful_opens 0 0 empty (refl, refl, λ sender. refl);
+  reached = reached_first 0 0 empty (refl, refl, λ sender. refl, refl, refl);
   fit =
       all_snoc (Fits 0 0 0 (λ number. None) empty) [] Starting (λ pass view there. absurd (some-ne-none view (sym there)))
-      (record { reads = refl; nobody = λ number. refl; none_taken = refl; none_queued = refl });
+      (record { reads = refl; nobody = λ number. refl; none_queued = refl });
 }
 
 pub sizes : (capacity senders pass : ℕ) → Forks Rules pass Starting (Taking capacity senders 0 [] []) Idle
@@ -96,11 +101,11 @@ sizes capacity senders pass items views rules at =
       seat = λ number. None;
       state = empty;
       queued_is = sym mine.none_queued ∙ rules.queued_is;
-      lawful = lawful_opens capacity senders empty (refl, refl, λ sender. refl);
+      reached = reached_first capacity senders empty (refl, refl, λ sender. refl, refl, refl);
       fit =
           all_snoc New (set views pass (Taking capacity senders 0 [] [])) Idle
           (all_set New views pass (Taking capacity senders 0 [] [])
-          (record { limit_is = refl; ends_are = refl; reads = refl; made_fit = zero-le; got_is = refl; unmade = λ number from. (refl, refl); met_are = tt; apart = tt })
+          (record { limit_is = refl; ends_are = refl; reads = refl; made_fit = zero-le; made_is = refl; numbers_are = refl; got_is = refl; unmade = λ number from. (refl, refl); met_are = tt; apart = tt })
           (λ other view differ there. stays mine other view differ (rules.fit other view there))) tt;
     }
   where
@@ -125,9 +130,18 @@ ends capacity senders made pass got met below items views rules at =
       senders = rules.senders;
       reader = rules.reader;
       seat = seat;
-      state = rules.state;
+      state = split rules.state;
       queued_is = rules.queued_is;
-      lawful = rules.lawful;
+      reached =
+          let unmade : rules.state.made < rules.senders = let made_is = mine.made_is in let ends = mine.ends_are in omega (arith, below, made_is, ends) in
+          reached_next rules.capacity rules.senders rules.state (split rules.state) rules.reached
+          (inl (record {
+            unmade = unmade;
+            none_posted = subst (λ n. rules.state.posted n ≡ []) mine.made_is (mine.unmade made (le_refl made)).1;
+            made = refl;
+            met = refl;
+            items = (refl, refl, λ sender. refl);
+          }));
       fit =
           all_snoc New left (Posting capacity senders made [])
           (all_set New views pass (Taking capacity senders (made + 1) got met) (taking mine) (λ other view differ there. stays mine other view differ (rules.fit other view there)))
@@ -136,10 +150,19 @@ ends capacity senders made pass got met below items views rules at =
             ends_are = mine.ends_are;
             below = subst (λ n. made < n) mine.ends_are below;
             seated = seated_here rules.seat made (Some (length left));
+            there = (
+              let made_is = mine.made_is in omega (arith, made_is),
+              subst (AllByRecursion (λ (other : ℕ). other ≢ made)) mine.numbers_are
+                  (numbers_all (λ other. other ≢ made) met
+                  (all_map (IsMet rules.capacity rules.senders rules.reader rules.seat rules.state made) (λ m. m.0 ≢ made) (λ m is same. let lower = is.0 in omega (arith, lower, same)) met mine.met_are)),
+            );
             put_is = sym (mine.unmade made (le_refl made)).1;
           });
     }
   where
+    split : State → State
+    split state = record { taken = state.taken; queued = state.queued; posted = state.posted; made = state.made + 1; met = state.met }
+
     left : List View
     left = set views pass (Taking capacity senders (made + 1) got met)
 
@@ -147,7 +170,7 @@ ends capacity senders made pass got met below items views rules at =
     seat = seat_with rules.seat made (Some (length left))
 
     New : ℕ → View → Type 0
-    New = Fits rules.capacity rules.senders rules.reader seat rules.state
+    New = Fits rules.capacity rules.senders rules.reader seat (split rules.state)
 
     Old : ℕ → View → Type 0
     Old = Fits rules.capacity rules.senders rules.reader rules.seat rules.state
@@ -161,12 +184,14 @@ ends capacity senders made pass got met below items views rules at =
       ends_are = mine.ends_are;
       reads = mine.reads;
       made_fit = let ends = mine.ends_are in omega (arith, below, ends);
+      made_is = let made_is = mine.made_is in omega (arith, made_is);
+      numbers_are = mine.numbers_are;
       got_is = mine.got_is;
       unmade = λ number from.
           let free = mine.unmade number (omega (arith, from)) in
           (seated_else rules.seat made (Some (length left)) number (λ same. omega (arith, from, same)) ∙ free.0, free.1);
       met_are =
-          all_map (IsMet rules.capacity rules.senders rules.reader rules.seat rules.state made) (IsMet rules.capacity rules.senders rules.reader seat rules.state (made + 1))
+          all_map (IsMet rules.capacity rules.senders rules.reader rules.seat rules.state made) (IsMet rules.capacity rules.senders rules.reader seat (split rules.state) (made + 1))
           (λ m is. (omega (arith, is.0), (let lower = is.0 in seated_else rules.seat made (Some (length left)) m.0 (λ same. omega (arith, lower, same))) ∙ is.1, is.2)) met mine.met_are;
       apart = mine.apart;
     }
@@ -180,6 +205,7 @@ ends capacity senders made pass got met below items views rules at =
       below = fits.below;
       seated =
           seated_else rules.seat made (Some (length left)) number (λ same. not_free rules.seat number made other fits.seated (mine.unmade made (le_refl made)).0 (sym same)) ∙ fits.seated;
+      there = (let there = fits.there.0 in omega (arith, there), fits.there.1);
       put_is = fits.put_is;
     }
     stays mine other (Taking limit sized made' got' met') differ fits = absurd (differ (fits.reads ∙ sym mine.reads))
@@ -187,14 +213,21 @@ ends capacity senders made pass got met below items views rules at =
 -- ---- an item more
 
 pub puts : (room capacity senders number pass : ℕ) (put : List Item) (item : Item) → item.sender ≡ number → room ≡ capacity
-    → Pushes Rules room pass (Posting capacity senders number put) item (λ after. after ≡ with_put item (Posting capacity senders number put))
-puts room capacity senders number pass put item own fitting items views free rules at = (Posting capacity senders number (put ++ item ∷ []), now, refl)
+    → Pushes Rules room pass (Posting capacity senders number put) item
+    (λ after. (after ≡ with_put item (Posting capacity senders number put)) × KnowsPost (Posting capacity senders number put) item after)
+puts room capacity senders number pass put item own fitting items views free rules at = (Posting capacity senders number (put ++ item ∷ []), now, (refl, step))
   where
     mine : FitsPosting rules.capacity rules.senders rules.reader rules.seat rules.state pass capacity senders number put
     mine = rules.fit pass (Posting capacity senders number put) at
 
     after : State
-    after = record { taken = rules.state.taken; queued = rules.state.queued ++ item ∷ []; posted = λ other. rules.state.posted other ++ of other (item ∷ []) }
+    after = record {
+      taken = rules.state.taken;
+      queued = rules.state.queued ++ item ∷ [];
+      posted = λ other. rules.state.posted other ++ of other (item ∷ []);
+      made = rules.state.made;
+      met = rules.state.met;
+    }
 
     of_mine : after.posted number ≡ rules.state.posted number ++ item ∷ []
     of_mine = ap (λ items. rules.state.posted number ++ items) (of-own number item own)
@@ -202,6 +235,31 @@ puts room capacity senders number pass put item own fitting items views free rul
     of_another : (other : ℕ) → other ≢ number → after.posted other ≡ rules.state.posted other
     of_another other differ =
         ap (λ items. rules.state.posted other ++ items) (of-other other item (λ is. differ (sym is ∙ own))) ∙ append-nil (rules.state.posted other)
+
+    posts : Posts rules.capacity number item rules.state after
+    posts = record {
+      own = own;
+      room = let limit = mine.limit_is in omega (arith, free, fitting, limit, ap length rules.queued_is);
+      taken = refl;
+      queued = refl;
+      posted = of_mine;
+      others = λ other differ. of_another other differ;
+      ends = (refl, refl);
+    }
+
+    put_is : put ++ item ∷ [] ≡ after.posted number
+    put_is = ap (λ items. items ++ item ∷ []) mine.put_is ∙ sym of_mine
+
+    step : KnowsPost (Posting capacity senders number put) item (Posting capacity senders number (put ++ item ∷ []))
+    step = (
+      rules.state,
+      after,
+      subst (λ n. IsReached n senders rules.state) (sym mine.limit_is) (subst (λ n. IsReached rules.capacity n rules.state) (sym mine.ends_are) rules.reached),
+      mine.there,
+      mine.put_is,
+      subst (λ n. Posts n number item rules.state after) (sym mine.limit_is) posts,
+      put_is,
+    )
 
     New : ℕ → View → Type 0
     New = Fits rules.capacity rules.senders rules.reader rules.seat after
@@ -214,6 +272,7 @@ puts room capacity senders number pass put item own fitting items views free rul
       ends_are = fits.ends_are;
       below = fits.below;
       seated = fits.seated;
+      there = fits.there;
       put_is = fits.put_is ∙ sym (of_another another (one_pass rules.seat number another pass other mine.seated fits.seated differ));
     }
     stays other (Taking limit sized made got met) differ fits = record {
@@ -221,6 +280,8 @@ puts room capacity senders number pass put item own fitting items views free rul
       ends_are = fits.ends_are;
       reads = fits.reads;
       made_fit = fits.made_fit;
+      made_is = fits.made_is;
+      numbers_are = fits.numbers_are;
       got_is = fits.got_is;
       unmade = λ another from.
           let free = fits.unmade another from in
@@ -239,19 +300,12 @@ puts room capacity senders number pass put item own fitting items views free rul
       seat = rules.seat;
       state = after;
       queued_is = ap (λ queued. queued ++ item ∷ []) rules.queued_is;
-      lawful =
-          lawful_posts rules.capacity rules.senders number item rules.state after mine.below
-          (record {
-            own = own;
-            room = let limit = mine.limit_is in omega (arith, free, fitting, limit, ap length rules.queued_is);
-            taken = refl;
-            queued = refl;
-            posted = of_mine;
-            others = λ other differ. of_another other differ;
-          }) rules.lawful;
+      reached =
+          reached_next rules.capacity rules.senders rules.state after rules.reached
+          (inr (inl (number, item, mine.below, mine.there, posts)));
       fit =
           all_set New views pass (Posting capacity senders number (put ++ item ∷ []))
-          (record { limit_is = mine.limit_is; ends_are = mine.ends_are; below = mine.below; seated = mine.seated; put_is = ap (λ items. items ++ item ∷ []) mine.put_is ∙ sym of_mine })
+          (record { limit_is = mine.limit_is; ends_are = mine.ends_are; below = mine.below; seated = mine.seated; there = mine.there; put_is = put_is })
           (λ other view differ there. stays other view differ (rules.fit other view there));
     }
 
@@ -262,17 +316,37 @@ posted_of : (capacity senders made pass : ℕ) (got : List Item) (met : List Met
     → FitsTaking rules.capacity rules.senders rules.reader rules.seat rules.state pass capacity senders made got met → AllByRecursion (λ (m : Met). m.1 ≡ of m.0 (got ++ items)) met
 posted_of capacity senders made pass got met items views rules mine =
     all_map (IsMet rules.capacity rules.senders rules.reader rules.seat rules.state made) (λ (m : Met). m.1 ≡ of m.0 (got ++ items))
-    (λ m is. is.2 ∙ rules.lawful.all_of_each m.0 ∙ ap (of m.0) (λ i. sym mine.got_is i ++ rules.queued_is i)) met mine.met_are
+    (λ m is. is.2 ∙ (lawful_reached rules.capacity rules.senders rules.state rules.reached).all_of_each m.0 ∙ ap (of m.0) (λ i. sym mine.got_is i ++ rules.queued_is i)) met mine.met_are
+
+-- what a pass that takes shows of the state
+module _ (capacity senders made pass : ℕ) (got : List Item) (met : List Met) (items : List Item) (views : List View) (rules : Rules items views)
+    (mine : FitsTaking rules.capacity rules.senders rules.reader rules.seat rules.state pass capacity senders made got met) where
+  shown_reached : IsReached capacity senders rules.state
+  shown_reached = subst (λ n. IsReached n senders rules.state) (sym mine.limit_is) (subst (λ n. IsReached rules.capacity n rules.state) (sym mine.ends_are) rules.reached)
+
+  shown_posted : AllByRecursion (λ (m : Met). m.1 ≡ rules.state.posted m.0) met
+  shown_posted = all_map (IsMet rules.capacity rules.senders rules.reader rules.seat rules.state made) (λ (m : Met). m.1 ≡ rules.state.posted m.0) (λ m is. is.2) met mine.met_are
 
 pub gets : (capacity senders made pass : ℕ) (got : List Item) (met : List Met)
-    → Pops Rules pass (Taking capacity senders made got met) (λ item after. (after ≡ with_got item (Taking capacity senders made got met)) × KnowsMet after)
-gets capacity senders made pass got met item items views rules at = (Taking capacity senders made (got ++ item ∷ []) met, now, (refl, (fronts, bound)))
+    → Pops Rules pass (Taking capacity senders made got met) (λ item after. (after ≡ with_got item (Taking capacity senders made got met)) × KnowsMet after × KnowsStep (Taking capacity senders made got met) item after)
+gets capacity senders made pass got met item items views rules at = (Taking capacity senders made (got ++ item ∷ []) met, now, (refl, (fronts, bound), step))
   where
     mine : FitsTaking rules.capacity rules.senders rules.reader rules.seat rules.state pass capacity senders made got met
     mine = rules.fit pass (Taking capacity senders made got met) at
 
     after : State
-    after = record { taken = rules.state.taken ++ item ∷ []; queued = items; posted = rules.state.posted }
+    after = record { taken = rules.state.taken ++ item ∷ []; queued = items; posted = rules.state.posted; made = rules.state.made; met = rules.state.met }
+
+    takes : Takes item rules.state after
+    takes = record { queued = rules.queued_is; taken = refl; posted = λ sender. refl; ends = (refl, refl) }
+
+    got_is : got ++ item ∷ [] ≡ after.taken
+    got_is = ap (λ items. items ++ item ∷ []) mine.got_is
+
+    step : KnowsStep (Taking capacity senders made got met) item (Taking capacity senders made (got ++ item ∷ []) met)
+    step =
+        let posted = shown_posted capacity senders made pass got met (item ∷ items) views rules mine in
+        (rules.state, after, shown_reached capacity senders made pass got met (item ∷ items) views rules mine, (mine.got_is, mine.numbers_are, posted), takes, (got_is, mine.numbers_are, posted))
 
     New : ℕ → View → Type 0
     New = Fits rules.capacity rules.senders rules.reader rules.seat after
@@ -281,7 +355,7 @@ gets capacity senders made pass got met item items views rules at = (Taking capa
     stays other Idle differ fits = tt
     stays other Starting differ fits = absurd (differ (fits.reads ∙ sym mine.reads))
     stays other (Posting limit sized number put) differ fits =
-        record { limit_is = fits.limit_is; ends_are = fits.ends_are; below = fits.below; seated = fits.seated; put_is = fits.put_is }
+        record { limit_is = fits.limit_is; ends_are = fits.ends_are; below = fits.below; seated = fits.seated; there = fits.there; put_is = fits.put_is }
     stays other (Taking limit sized made' got' met') differ fits = absurd (differ (fits.reads ∙ sym mine.reads))
 
     now : Rules items (set views pass (Taking capacity senders made (got ++ item ∷ []) met))
@@ -292,7 +366,7 @@ gets capacity senders made pass got met item items views rules at = (Taking capa
       seat = rules.seat;
       state = after;
       queued_is = refl;
-      lawful = lawful_takes rules.capacity rules.senders item rules.state after (record { queued = rules.queued_is; taken = refl; posted = λ sender. refl }) rules.lawful;
+      reached = reached_next rules.capacity rules.senders rules.state after rules.reached (inr (inr (inl (item, takes))));
       fit =
           all_set New views pass (Taking capacity senders made (got ++ item ∷ []) met)
           (record {
@@ -300,7 +374,9 @@ gets capacity senders made pass got met item items views rules at = (Taking capa
             ends_are = mine.ends_are;
             reads = mine.reads;
             made_fit = mine.made_fit;
-            got_is = ap (λ items. items ++ item ∷ []) mine.got_is;
+            made_is = mine.made_is;
+            numbers_are = mine.numbers_are;
+            got_is = got_is;
             unmade = mine.unmade;
             met_are =
                 all_map (IsMet rules.capacity rules.senders rules.reader rules.seat rules.state made) (IsMet rules.capacity rules.senders rules.reader rules.seat after made) (λ m is. is) met mine.met_are;
@@ -319,7 +395,7 @@ gets capacity senders made pass got met item items views rules at = (Taking capa
 
     bound : left_of (got ++ item ∷ []) met < capacity
     bound =
-        let fits = rules.lawful.fits in let limit = mine.limit_is in
+        let fits = (lawful_reached rules.capacity rules.senders rules.state rules.reached).fits in let limit = mine.limit_is in
         let behind =
         all_map (λ (m : Met). m.1 ≡ of m.0 (got ++ item ∷ items)) (λ (m : Met). m.1 ≡ of m.0 ((got ++ item ∷ []) ++ items))
         (λ m is. is ∙ ap (of m.0) (sym (append_assoc got (item ∷ []) items))) met posted_are in
@@ -332,8 +408,14 @@ learns capacity senders made pass got met items views rules at =
     let mine : FitsTaking rules.capacity rules.senders rules.reader rules.seat rules.state pass capacity senders made got met = rules.fit pass (Taking capacity senders made got met) at in (
       posted_of capacity senders made pass got met items views rules mine,
       subst (λ n. AllByRecursion (λ (item : Item). item.sender < n) (got ++ items)) (sym mine.ends_are)
-          (subst (AllByRecursion (λ (item : Item). item.sender < rules.senders)) (λ i. sym mine.got_is i ++ rules.queued_is i) rules.lawful.of_senders),
+          (subst (AllByRecursion (λ (item : Item). item.sender < rules.senders)) (λ i. sym mine.got_is i ++ rules.queued_is i) (lawful_reached rules.capacity rules.senders rules.state rules.reached).of_senders),
       mine.apart,
+      (
+        rules.state,
+        shown_reached capacity senders made pass got met items views rules mine,
+        (mine.got_is, mine.numbers_are, shown_posted capacity senders made pass got met items views rules mine),
+        rules.queued_is,
+      ),
     )
 
 -- ---- an end is met
@@ -345,12 +427,17 @@ meets capacity senders made pass limit sized number other got met put items view
   senders = rules.senders;
   reader = rules.reader;
   seat = seat;
-  state = rules.state;
+  state = after;
   queued_is = rules.queued_is;
-  lawful = rules.lawful;
+  reached =
+      reached_next rules.capacity rules.senders rules.state after rules.reached
+      (inr (inr (inr (inr (number, record { there = theirs.there; made = refl; met = refl; items = (refl, refl, λ sender. refl) })))));
   fit = all_set New both other Idle tt (λ another view differ there. behind another view differ there);
 }
   where
+    after : State
+    after = record { taken = rules.state.taken; queued = rules.state.queued; posted = rules.state.posted; made = rules.state.made; met = number ∷ rules.state.met }
+
     both : List View
     both = set views pass (Taking capacity senders made got ((number, put) ∷ met))
 
@@ -370,7 +457,7 @@ meets capacity senders made pass limit sized number other got met put items view
     seat = seat_with rules.seat number None
 
     New : ℕ → View → Type 0
-    New = Fits rules.capacity rules.senders rules.reader seat rules.state
+    New = Fits rules.capacity rules.senders rules.reader seat after
 
     free : (another : ℕ) → rules.seat another ≡ None → seat another ≡ None
     free another is = elim (eqb_tells another number) [
@@ -394,11 +481,13 @@ meets capacity senders made pass limit sized number other got met put items view
       ends_are = mine.ends_are;
       reads = mine.reads;
       made_fit = mine.made_fit;
+      made_is = mine.made_is;
+      numbers_are = ap (λ numbers. number ∷ numbers) mine.numbers_are;
       got_is = mine.got_is;
       unmade = λ another from. (free another (mine.unmade another from).0, (mine.unmade another from).1);
       met_are = (
         (made_before, seated_here rules.seat number None, theirs.put_is),
-        all_map (IsMet rules.capacity rules.senders rules.reader rules.seat rules.state made) (IsMet rules.capacity rules.senders rules.reader seat rules.state made) (λ m is. (is.0, free m.0 is.1, is.2)) met mine.met_are,
+        all_map (IsMet rules.capacity rules.senders rules.reader rules.seat rules.state made) (IsMet rules.capacity rules.senders rules.reader seat after made) (λ m is. (is.0, free m.0 is.1, is.2)) met mine.met_are,
       );
       apart = (apart_from met mine.met_are, mine.apart);
     }
@@ -411,6 +500,7 @@ meets capacity senders made pass limit sized number other got met put items view
       ends_are = fits.ends_are;
       below = fits.below;
       seated = seated_else rules.seat number None number' (one_pass rules.seat number number' other another theirs.seated fits.seated apart) ∙ fits.seated;
+      there = (fits.there.0, (λ same. one_pass rules.seat number number' other another theirs.seated fits.seated apart (sym same), fits.there.1));
       put_is = fits.put_is;
     }
     stays another (Taking limit' sized' made' got' met') differ apart fits = absurd (differ (fits.reads ∙ sym mine.reads))

@@ -1,11 +1,11 @@
 -- Each step of the mailbox keeps it lawful.
-use Rattle.std.proofs.Common.{◌≡◌, ◌≢◌, ℕ, ◌<◌, nat_eq, Bool, true, false, List, [], ◌∷◌, ◌++◌, if◌then◌else◌, length, refl, sym, ap, ◌∙◌, subst, inl, inr, arith}
+use Rattle.std.proofs.Common.{◌≡◌, ◌≢◌, ℕ, ◌+◌, ◌<◌, ◌≤◌, nat_eq, Bool, true, false, List, [], ◌∷◌, ◌++◌, if◌then◌else◌, length, refl, sym, ap, ◌∙◌, subst, inl, inr, arith}
 use Rattle.std.specs.List.{AllByRecursion}
 use Rattle.std.proofs.lemmas.Bool.{eq-eqb}
 use Rattle.std.proofs.lemmas.Bool.Decides.{eqb_tells}
 use Rattle.std.proofs.lemmas.List.{append_assoc, append-nil, length-append}
 use Rattle.redo_wire.specs.declared.item.Item.{Item}
-use Rattle.redo_wire.specs.Machine.{IsLawful, IsSchedule, IsStep, Opens, Posts, State, Takes, of}
+use Rattle.redo_wire.specs.Machine.{IsLawful, IsReached, IsSchedule, IsStep, KeepsItems, Opens, Posts, State, Takes, last_of, of}
 
 pub of-append : (sender : ℕ) (front behind : List Item) → of sender (front ++ behind) ≡ of sender front ++ of sender behind
 of-append sender [] behind = refl
@@ -72,12 +72,73 @@ module _ (capacity senders : ℕ) where
       whole : after.taken ++ after.queued ≡ before.taken ++ before.queued
       whole = ap (λ taken. taken ++ after.queued) takes.taken ∙ append_assoc before.taken (item ∷ []) after.queued ∙ ap (λ queued. before.taken ++ queued) (sym takes.queued)
 
+  lawful_keeps : (before after : State) → KeepsItems before after → IsLawful capacity senders before → IsLawful capacity senders after
+  lawful_keeps before after keeps lawful = record {
+    all_of_each = λ sender. keeps.2 sender ∙ lawful.all_of_each sender ∙ ap (of sender) (sym whole);
+    of_senders = subst (AllByRecursion (λ (item : Item). item.sender < senders)) (sym whole) lawful.of_senders;
+    fits = let fits = lawful.fits in omega (arith, fits, ap length keeps.1);
+  }
+    where
+      whole : after.taken ++ after.queued ≡ before.taken ++ before.queued
+      whole = λ i. keeps.0 i ++ keeps.1 i
+
   pub lawful_step : (before after : State) → IsStep capacity senders before after → IsLawful capacity senders before → IsLawful capacity senders after
-  lawful_step before after (inl posts) lawful = lawful_posts posts.0 posts.1 before after posts.2 posts.3 lawful
-  lawful_step before after (inr (inl takes)) lawful = lawful_takes takes.0 before after takes.1 lawful
-  lawful_step before after (inr (inr stays)) lawful = subst (IsLawful capacity senders) (sym stays) lawful
+  lawful_step before after (inl splits) lawful = lawful_keeps before after splits.items lawful
+  lawful_step before after (inr (inl posts)) lawful = lawful_posts posts.0 posts.1 before after posts.2 posts.4 lawful
+  lawful_step before after (inr (inr (inl takes))) lawful = lawful_takes takes.0 before after takes.1 lawful
+  lawful_step before after (inr (inr (inr (inl nothing)))) lawful = subst (IsLawful capacity senders) (sym nothing.1) lawful
+  lawful_step before after (inr (inr (inr (inr meets)))) lawful = lawful_keeps before after meets.1.items lawful
 
   pub lawful_schedule : (first : State) (states : List State) → IsLawful capacity senders first → IsSchedule capacity senders first states → AllByRecursion (IsLawful capacity senders) states
   lawful_schedule first [] lawful schedule = tt
   lawful_schedule first (after ∷ states) lawful schedule =
       let now = lawful_step first after schedule.0 lawful in (now, lawful_schedule after states now schedule.1)
+
+  -- ---- what a schedule leads to
+
+  lawful_last : (first : State) (states : List State) → IsLawful capacity senders first → IsSchedule capacity senders first states → IsLawful capacity senders (last_of first states)
+  lawful_last first [] lawful schedule = lawful
+  lawful_last first (after ∷ states) lawful schedule = lawful_last after states (lawful_step first after schedule.0 lawful) schedule.1
+
+  pub lawful_reached : (state : State) → IsReached capacity senders state → IsLawful capacity senders state
+  lawful_reached state reached =
+      subst (IsLawful capacity senders) reached.last (lawful_last reached.first reached.states (lawful_opens reached.first reached.opens) reached.schedule)
+
+  -- no more ends are made than there are senders
+  made_step : (before after : State) → IsStep capacity senders before after → before.made ≤ senders → after.made ≤ senders
+  made_step before after (inl splits) within = let unmade = splits.unmade in let made = splits.made in omega (arith, unmade, made)
+  made_step before after (inr (inl posts)) within = omega (arith, within, posts.4.ends.0)
+  made_step before after (inr (inr (inl takes))) within = omega (arith, within, takes.1.ends.0)
+  made_step before after (inr (inr (inr (inl nothing)))) within = omega (arith, within, ap (λ (state : State). state.made) nothing.1)
+  made_step before after (inr (inr (inr (inr meets)))) within = let made = meets.1.made in omega (arith, within, made)
+
+  made_last : (first : State) (states : List State) → first.made ≤ senders → IsSchedule capacity senders first states → (last_of first states).made ≤ senders
+  made_last first [] within schedule = within
+  made_last first (after ∷ states) within schedule = made_last after states (made_step first after schedule.0 within) schedule.1
+
+  pub made_reached : (state : State) → IsReached capacity senders state → state.made ≤ senders
+  made_reached state reached =
+      subst (λ (state : State). state.made ≤ senders) reached.last
+      (made_last reached.first reached.states (let none = reached.opens.3 in omega (arith, none)) reached.schedule)
+
+  longer : (first : State) (states : List State) (after : State) → IsSchedule capacity senders first states → IsStep capacity senders (last_of first states) after
+      → IsSchedule capacity senders first (states ++ after ∷ [])
+  longer first [] after schedule step = (step, tt)
+  longer first (next ∷ states) after schedule step = (schedule.0, longer next states after schedule.1 step)
+
+  last_longer : (first : State) (states : List State) (after : State) → last_of first (states ++ after ∷ []) ≡ after
+  last_longer first [] after = refl
+  last_longer first (next ∷ states) after = last_longer next states after
+
+  pub reached_first : (state : State) → Opens state → IsReached capacity senders state
+  reached_first state opens = record { first = state; states = []; opens = opens; schedule = tt; last = refl }
+
+  -- a step more
+  pub reached_next : (before after : State) → IsReached capacity senders before → IsStep capacity senders before after → IsReached capacity senders after
+  reached_next before after reached step = record {
+    first = reached.first;
+    states = reached.states ++ after ∷ [];
+    opens = reached.opens;
+    schedule = longer reached.first reached.states after reached.schedule (subst (λ state. IsStep capacity senders state after) (sym reached.last) step);
+    last = last_longer reached.first reached.states after;
+  }

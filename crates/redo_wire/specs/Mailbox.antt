@@ -1,11 +1,11 @@
 -- A mailbox and its ends, as contracts see them.
-use Rattle.std.specs.Prelude.{◌≡◌, ℕ, ◌+◌, ◌-◌, ◌<◌, List, [], ◌∷◌, ◌++◌, Some, ◌⊎◌, length, slice_get}
+use Rattle.std.specs.Prelude.{◌≡◌, ◌≢◌, ℕ, ◌+◌, ◌-◌, ◌<◌, List, [], ◌∷◌, ◌++◌, Some, ◌⊎◌, ⊤, length, map, slice_get}
 use Rattle.std.specs.List.{AllByRecursion}
 use Rattle.atomic_table.specs.Seated.{TableId}
 use Rattle.atomic_table.specs.declared.badge.Badge.{Badge}
 use Rattle.crossbeam_channel.specs.declared.flavors.array.Key.{Key}
 use Rattle.redo_wire.specs.declared.item.Item.{Item}
-use Rattle.redo_wire.specs.Machine.{IsFront, of}
+use Rattle.redo_wire.specs.Machine.{IsFront, IsReached, IsThere, Posts, State, of}
 
 -- A mailbox: which channel it is, how many items it holds at most, and how many ends post to it.
 pub record Mailbox : Type 0 where
@@ -62,6 +62,11 @@ abbrev pub IsAmong : ℕ → List Met → Type 0
 IsAmong number [] = ⊥
 IsAmong number (met ∷ others) = (met.0 ≡ number) ⊎ IsAmong number others
 
+-- no end is met twice
+abbrev pub AreApart : List Met → Type 0
+AreApart [] = ⊤
+AreApart (met ∷ others) = AllByRecursion (λ (other : Met). other.0 ≢ met.0) others × AreApart others
+
 abbrev pub AreAllMet : Collector → Type 0
 AreAllMet collector = (number : ℕ) → number < collector.mailbox.senders → IsAmong number collector.met
 
@@ -85,3 +90,29 @@ left_of taken (met ∷ others) = (length met.1 - length (of met.0 taken)) + left
 -- less than fits was posted by the ends that were met and is still to be taken
 abbrev pub LeavesRoom : Collector → Type 0
 LeavesRoom collector = left_of collector.taken collector.met < collector.mailbox.capacity
+
+-- just these items are left of the ends that were met: with them all was taken that they posted, and each is of one of them
+abbrev pub AreLeft : List Item → Collector → Type 0
+AreLeft items collector =
+    AllByRecursion (λ (met : Met). met.1 ≡ of met.0 (collector.taken ++ items)) collector.met × AllByRecursion (λ (item : Item). IsAmong item.sender collector.met) items
+
+-- ---- the mailbox as a machine
+
+-- What the end that takes shows of a state: what was taken, and which ends were met with what they posted.
+abbrev pub Shows : List Item → List Met → State → Type 0
+Shows taken met state = (taken ≡ state.taken) × (map (λ (m : Met). m.0) met ≡ state.met) × AllByRecursion (λ (m : Met). m.1 ≡ state.posted m.0) met
+
+-- a schedule leads to a state that this end shows
+abbrev pub HasSchedule : Collector → Type 0
+HasSchedule end = (state : State) × IsReached end.mailbox.capacity end.mailbox.senders state × Shows end.taken end.met state
+
+-- the machine takes such a step, from a state that a schedule leads to: the end shows the one before it and the other after it
+abbrev pub MakesStep : (State → State → Type 0) → Collector → Collector → Type 0
+MakesStep Step old new =
+    (before after : State) × IsReached old.mailbox.capacity old.mailbox.senders before × Shows old.taken old.met before × Step before after × Shows new.taken new.met after
+
+-- the same of an end that posts, which shows what it posted
+abbrev pub MakesPost : Item → Poster → Poster → Type 0
+MakesPost item old new =
+    (before after : State) × IsReached old.mailbox.capacity old.mailbox.senders before × IsThere old.number before × (old.posted ≡ before.posted old.number)
+    × Posts old.mailbox.capacity old.number item before after × (new.posted ≡ after.posted old.number)

@@ -1,6 +1,7 @@
 ghost use Rattle.std.specs.Prelude.{◌≡◌, ◌<◌, ◌≤◌, ◌^◌, true, ◌↔◌, IfOk, IfErr, OnOk, IfSome, IfNone};
 ghost use Rattle.std.specs.List.{list_all};
-ghost use Rattle.redo_wire.specs.Mailbox.{AreAllMet, AreEndsOf, AreFronts, AreOfSenders, AreWhole, IsAmong, IsOpened, LeavesRoom, meets, posts, takes};
+ghost use Rattle.redo_wire.specs.Machine.{FindsNothing, Takes};
+ghost use Rattle.redo_wire.specs.Mailbox.{AreAllMet, AreEndsOf, AreFronts, AreOfSenders, AreWhole, HasSchedule, IsAmong, IsOpened, LeavesRoom, MakesPost, MakesStep, meets, posts, takes};
 
 use crate::item::Item;
 use crate::rule::{Ends, Gets, Meets, Puts, Rule, Size, Sizes, View};
@@ -111,11 +112,13 @@ impl PostEnd {
 
     /// Posts an item of this sender: puts it at the back of the mailbox, and waits while that is full. The
     /// item may be handed back, where nobody is left to take it, and then nothing has changed.
+    #[tactic(auto, using(crate::proofs::Knowing::posting))]
     pub fn post<T: Wait>(&mut self, rt: &T, item: Item) -> Result<(), Item>
         requires { item.sender ≡ self.old.number }
         ensures stays { (self.new.mailbox ≡ self.old.mailbox) × (self.new.number ≡ self.old.number) }
         ensures posted { OnOk result (self.new ≡ posts item self.old) }
         ensures back { IfErr result (λ back. (back ≡ item) × (self.new ≡ self.old)) }
+        ensures step { OnOk result (MakesPost item self.old self.new) }
     {
         match self.sender.send_as::<Puts, T>(rt, &mut self.pass, item) {
             Ok(()) => Ok(()),
@@ -135,6 +138,8 @@ impl TakeEnd {
         ensures nothing { IfNone result (self.new ≡ self.old) }
         ensures fronts { AreFronts self.new }
         ensures whole { IfNone result (AreWhole self.new) }
+        ensures step { IfSome result (λ item. MakesStep (Takes item) self.old self.new) }
+        ensures idle { IfNone result (MakesStep FindsNothing self.old self.new) }
     {
         let Ok(item) = self.receiver.recv_as::<Gets, T>(rt, &mut self.pass) else {
             return None;
@@ -149,6 +154,7 @@ impl TakeEnd {
         ensures met { self.new ≡ meets end self.old }
         ensures first { ¬ IsAmong end.number self.old.met }
         ensures fronts { AreFronts self.new }
+        ensures schedule { HasSchedule self.new }
     {
         let PostEnd {
             sender,
@@ -179,6 +185,8 @@ impl TakeEnd {
         ensures fronts { AreFronts self.new }
         ensures whole { IfNone result (AreWhole self.new) }
         ensures own { IfNone result (AreOfSenders self.new) }
+        ensures step { IfSome result (λ item. MakesStep (Takes item) self.old self.new) }
+        ensures idle { IfNone result (MakesStep FindsNothing self.old self.new) }
     {
         let Ok(left) = self.receiver.try_recv_as::<Gets, T>(rt, &mut self.pass) else {
             return None;

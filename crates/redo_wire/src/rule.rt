@@ -88,14 +88,14 @@ impl Join<View> for Meets {
     ghost spent = { Idle };
 }
 
-// An item is put at the back.
+// An item is put at the back by a step of the machine.
 pub struct Puts;
 
 impl Outcome<Item, View> for Puts {
     ghost use Rattle.std.specs.Prelude.{◌≡◌};
-    ghost use Rattle.redo_wire.specs.Private.Rule.{with_put};
+    ghost use Rattle.redo_wire.specs.Private.Rule.{KnowsPost, with_put};
 
-    ghost then = { λ before item after. after ≡ with_put item before };
+    ghost then = { λ before item after. (after ≡ with_put item before) × KnowsPost before item after };
 }
 
 impl Lesson<Item, View> for Puts {
@@ -104,14 +104,15 @@ impl Lesson<Item, View> for Puts {
     ghost fact = { λ view items. ⊤ };
 }
 
-// The front is taken, and what is known of the met ends then; or nothing is found, and what is known then.
+// The front is taken by a step of the machine, and what is known of the met ends then; or nothing is found, and what is
+// known then.
 pub struct Gets;
 
 impl Outcome<Item, View> for Gets {
     ghost use Rattle.std.specs.Prelude.{◌≡◌};
-    ghost use Rattle.redo_wire.specs.Private.Rule.{KnowsMet, with_got};
+    ghost use Rattle.redo_wire.specs.Private.Rule.{KnowsMet, KnowsStep, with_got};
 
-    ghost then = { λ before item after. (after ≡ with_got item before) × KnowsMet after };
+    ghost then = { λ before item after. (after ≡ with_got item before) × KnowsMet after × KnowsStep before item after };
 }
 
 impl Lesson<Item, View> for Gets {

@@ -27,6 +27,12 @@ senders_in Starting = 0
 senders_in (Posting capacity senders number put) = senders
 senders_in (Taking capacity senders made got met) = senders
 
+abbrev pub number_in : View → ℕ
+number_in Idle = 0
+number_in Starting = 0
+number_in (Posting capacity senders number put) = number
+number_in (Taking capacity senders made got met) = 0
+
 abbrev pub items_in : View → List Item
 items_in Idle = []
 items_in Starting = []

@@ -1,19 +1,15 @@
--- The rule of the mailbox: there is a lawful state whose queue is what the channel holds, and every pass knows its part of
--- it.
-use Rattle.std.specs.Prelude.{◌≡◌, ◌≢◌, ℕ, ◌+◌, ◌<◌, ◌≤◌, List, [], ◌∷◌, ◌++◌, Option, None, Some}
+-- The rule of the mailbox: a schedule of the machine leads to a state whose queue is what the channel holds, and every pass
+-- knows its part of it.
+use Rattle.std.specs.Prelude.{◌≡◌, ℕ, ◌+◌, ◌<◌, ◌≤◌, List, [], ◌∷◌, ◌++◌, Option, None, Some, map}
 use Rattle.std.specs.List.{AllByRecursion}
 use mathlib.Core.Option.{some}
 use lib.ListN.{get_elem?}
 use Rattle.redo_wire.specs.declared.item.Item.{Item}
 use Rattle.redo_wire.specs.declared.rule.View.{View}
 use Rattle.redo_wire.specs.declared.rule.View.TheVariants.{Idle, Starting, Posting, Taking}
-use Rattle.redo_wire.specs.Machine.{State, IsFront, IsLawful, of}
-use Rattle.redo_wire.specs.Mailbox.{Met, left_of}
-
--- no end was met twice
-abbrev pub AreApart : List Met → Type 0
-AreApart [] = Unit {0}
-AreApart (met ∷ others) = AllByRecursion (λ other. other.0 ≢ met.0) others × AreApart others
+use Rattle.redo_wire.specs.Machine.{IsFront, IsReached, IsThere, Posts, State, Takes, of}
+use Rattle.redo_wire.specs.Mailbox.{AreApart, Met, Shows, left_of}
+use Rattle.redo_wire.specs.Private.Ends.{capacity_in, items_in, met_in, number_in, senders_in}
 
 -- ---- what a step makes of what is known
 
@@ -65,6 +61,7 @@ module _ (capacity senders reader : ℕ) (seat : ℕ → Option ℕ) (state : St
     pub ends_are : ends ≡ senders
     pub below : number < senders
     pub seated : seat number ≡ Some pass
+    pub there : IsThere number state
     pub put_is : put ≡ state.posted number
 
   pub record FitsTaking (pass limit ends made : ℕ) (got : List Item) (met : List Met) : Type 0 where
@@ -72,6 +69,8 @@ module _ (capacity senders reader : ℕ) (seat : ℕ → Option ℕ) (state : St
     pub ends_are : ends ≡ senders
     pub reads : pass ≡ reader
     pub made_fit : made ≤ senders
+    pub made_is : made ≡ state.made
+    pub numbers_are : map (λ (m : Met). m.0) met ≡ state.met
     pub got_is : got ≡ state.taken
     pub unmade : (number : ℕ) → made ≤ number → (seat number ≡ None) × (state.posted number ≡ [])
     pub met_are : AllByRecursion (IsMet made) met
@@ -80,7 +79,6 @@ module _ (capacity senders reader : ℕ) (seat : ℕ → Option ℕ) (state : St
   pub record FitsStarting (pass : ℕ) : Type 0 where
     pub reads : pass ≡ reader
     pub nobody : (number : ℕ) → seat number ≡ None
-    pub none_taken : state.taken ≡ []
     pub none_queued : state.queued ≡ []
 
   abbrev pub Fits : ℕ → View → Type 0
@@ -96,7 +94,7 @@ pub record Rules (items : List Item) (views : List View) : Type 0 where
   pub seat : ℕ → Option ℕ
   pub state : State
   pub queued_is : state.queued ≡ items
-  pub lawful : IsLawful capacity senders state
+  pub reached : IsReached capacity senders state
   pub fit : (pass : ℕ) (view : View) → get_elem? views pass ≡ some view → Fits capacity senders reader seat state pass view
 
 -- ---- what is told
@@ -110,10 +108,27 @@ KnowsMet (Posting capacity senders number put) = Unit {0}
 KnowsMet (Taking capacity senders made got met) =
     AllByRecursion (λ (m : Met). IsFront (of m.0 got) m.1) met × (left_of got met < capacity)
 
+-- an item was put by a step of the machine, from a state that a schedule leads to
+abbrev pub KnowsPost : View → Item → View → Type 0
+KnowsPost view item now =
+    (before after : State) × IsReached (capacity_in view) (senders_in view) before × IsThere (number_in view) before × (items_in view ≡ before.posted (number_in view))
+    × Posts (capacity_in view) (number_in view) item before after × (items_in now ≡ after.posted (number_in view))
+
+-- the machine took the front, from a state that a schedule leads to
+abbrev pub KnowsStep : View → Item → View → Type 0
+KnowsStep view item now =
+    (before after : State) × IsReached (capacity_in view) (senders_in view) before × Shows (items_in view) (met_in view) before × Takes item before after
+    × Shows (items_in now) (met_in now) after
+
+-- a schedule leads to a state that is known, and that holds this
+abbrev pub KnowsState : View → List Item → Type 0
+KnowsState view items = (state : State) × IsReached (capacity_in view) (senders_in view) state × Shows (items_in view) (met_in view) state × (state.queued ≡ items)
+
 -- what the mailbox holds completes what was taken
 abbrev pub KnowsOf : View → List Item → Type 0
-KnowsOf Idle items = Unit {0}
-KnowsOf Starting items = Unit {0}
-KnowsOf (Posting capacity senders number put) items = Unit {0}
+KnowsOf Idle items = ⊥
+KnowsOf Starting items = ⊥
+KnowsOf (Posting capacity senders number put) items = ⊥
 KnowsOf (Taking capacity senders made got met) items =
     AllByRecursion (λ (m : Met). m.1 ≡ of m.0 (got ++ items)) met × AllByRecursion (λ (item : Item). item.sender < senders) (got ++ items) × AreApart met
+    × KnowsState (Taking capacity senders made got met) items

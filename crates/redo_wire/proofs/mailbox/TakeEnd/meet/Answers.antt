@@ -3,7 +3,7 @@ use Rattle.redo_wire.specs.declared.item.Item.{Item}
 use Rattle.redo_wire.specs.Mailbox.{IsAmong, Met}
 use Rattle.redo_wire.specs.Private.Ends.{mailbox_of}
 use Rattle.redo_wire.specs.Private.Rule.{KnowsOf}
-use Rattle.redo_wire.proofs.Knowing.{collector_meets, first_met, fronts_known, learns_at, meets_at, met_are, with_met_is}
+use Rattle.redo_wire.proofs.Knowing.{collector_meets, first_met, fronts_known, learns_at, meets_at, met_are, schedule_known, with_met_is}
 use Rattle.redo_wire.proofs.mailbox.TakeEnd.meet.Goals as goal
 
 pub absorb-requires-clause-rule : goal.absorb-requires-clause-rule
@@ -31,6 +31,11 @@ pub returns-clause-fronts : goal.returns-clause-fronts
 returns-clause-fronts g c =
     let knows = subst (λ v. (items : List Item) × KnowsOf v items) (sym c.learn_as.ensures.channel.2) c.learn_as.ensures.rule in
     fronts_known _ knows.0 knows.1
+
+pub returns-clause-schedule : goal.returns-clause-schedule
+returns-clause-schedule g c =
+    let knows = subst (λ v. (items : List Item) × KnowsOf v items) (sym c.learn_as.ensures.channel.2) c.learn_as.ensures.rule in
+    schedule_known _ knows.0 knows.1
 
 pub returns-clause-met : goal.returns-clause-met
 returns-clause-met g c = search rules

@@ -1,0 +1,284 @@
+-- An example of the mailbox as a machine, computed: two ends, and room for one item. And steps that there are not.
+use Rattle.std.proofs.Common.{◌≡◌, ℕ, zero, suc, ◌+◌, ◌<◌, List, [], ◌∷◌, ◌++◌, length, refl, ap, ◌∙◌, inl, inr, arith}
+use Rattle.std.proofs.lemmas.List.{length-append}
+use Rattle.redo_wire.specs.declared.item.Item.{Item}
+use Rattle.redo_wire.specs.declared.item.What.TheVariants.{End}
+use Rattle.redo_wire.specs.Machine.{IsFront, IsLawful, IsReached, IsSchedule, IsStep, IsThere, Meets, Opens, Posts, Splits, State, Takes, of}
+use Rattle.redo_wire.proofs.Leading.{nothing_queued}
+use Rattle.redo_wire.proofs.Steps.{lawful_reached}
+
+-- what these ends post: the first one two items, of two streams, and the second one
+abbrev pub a : Item
+a = record { sender = 0; stream = 0; what = End }
+
+abbrev pub b : Item
+b = record { sender = 1; stream = 1; what = End }
+
+abbrev pub c : Item
+c = record { sender = 0; stream = 2; what = End }
+
+ofs : (of 0 (a ∷ b ∷ c ∷ []) ≡ a ∷ c ∷ []) × (of 1 (a ∷ b ∷ c ∷ []) ≡ b ∷ []) × (of 2 (a ∷ b ∷ c ∷ []) ≡ [])
+ofs = (refl, refl, refl)
+
+fronts : IsFront [] (a ∷ b ∷ []) × IsFront (a ∷ []) (a ∷ b ∷ []) × IsFront (a ∷ b ∷ []) (a ∷ b ∷ [])
+fronts = ((a ∷ b ∷ [], refl), (b ∷ [], refl), ([], refl))
+
+-- what was posted later is no front, nor is more than was posted
+pub the_first : (x y : Item) (xs ys : List Item) → x ∷ xs ≡ y ∷ ys → x ≡ y
+the_first x y xs ys is = cc
+
+not_first : IsFront (b ∷ []) (a ∷ b ∷ []) → ⊥
+not_first front = omega (arith, ap (λ (item : Item). item.sender) (the_first a b (b ∷ []) front.0 front.1))
+
+not_so_many : IsFront (a ∷ b ∷ []) (a ∷ []) → ⊥
+not_so_many front = let is = ap length front.1 in omega (arith, is)
+
+-- ---- a schedule
+
+-- what was posted by each number
+abbrev posted : List Item → List Item → ℕ → List Item
+posted first second zero = first
+posted first second (suc zero) = second
+posted first second (suc (suc number)) = []
+
+abbrev pub opened : State
+opened = record { taken = []; queued = []; posted = posted [] []; made = 0; met = [] }
+
+abbrev one_end : State
+one_end = record { taken = []; queued = []; posted = posted [] []; made = 1; met = [] }
+
+abbrev pub two_ends : State
+two_ends = record { taken = []; queued = []; posted = posted [] []; made = 2; met = [] }
+
+abbrev pub one_posted : State
+one_posted = record { taken = []; queued = a ∷ []; posted = posted (a ∷ []) []; made = 2; met = [] }
+
+abbrev one_taken : State
+one_taken = record { taken = a ∷ []; queued = []; posted = posted (a ∷ []) []; made = 2; met = [] }
+
+abbrev two_posted : State
+two_posted = record { taken = a ∷ []; queued = b ∷ []; posted = posted (a ∷ []) (b ∷ []); made = 2; met = [] }
+
+abbrev two_taken : State
+two_taken = record { taken = a ∷ b ∷ []; queued = []; posted = posted (a ∷ []) (b ∷ []); made = 2; met = [] }
+
+abbrev one_met : State
+one_met = record { taken = a ∷ b ∷ []; queued = []; posted = posted (a ∷ []) (b ∷ []); made = 2; met = 1 ∷ [] }
+
+abbrev pub two_met : State
+two_met = record { taken = a ∷ b ∷ []; queued = []; posted = posted (a ∷ []) (b ∷ []); made = 2; met = 0 ∷ 1 ∷ [] }
+
+pub none_else : (first second more : List Item) (other : ℕ) → (other ≡ 0 → ⊥) → posted more second other ≡ posted first second other
+none_else first second more zero differ = absurd (differ refl)
+none_else first second more (suc zero) differ = refl
+none_else first second more (suc (suc other)) differ = refl
+
+nor_else : (first second more : List Item) (other : ℕ) → (other ≡ 1 → ⊥) → posted first more other ≡ posted first second other
+nor_else first second more zero differ = refl
+nor_else first second more (suc zero) differ = absurd (differ refl)
+nor_else first second more (suc (suc other)) differ = refl
+
+none_posted : (number : ℕ) → posted [] [] number ≡ []
+none_posted zero = refl
+none_posted (suc zero) = refl
+none_posted (suc (suc number)) = refl
+
+pub opens : Opens opened
+opens = (refl, refl, none_posted, refl, refl)
+
+-- both ends are split off; the first posts, its item is taken, and the second posts; that is taken, and then nothing is
+-- found; and the ends are met, the second one first
+first_split : IsStep 1 2 opened one_end
+first_split = inl (record { unmade = omega arith; none_posted = refl; made = refl; met = refl; items = (refl, refl, λ number. refl) })
+
+second_split : IsStep 1 2 one_end two_ends
+second_split = inl (record { unmade = omega arith; none_posted = refl; made = refl; met = refl; items = (refl, refl, λ number. refl) })
+
+first_post : IsStep 1 2 two_ends one_posted
+first_post = inr (inl (
+  0,
+  a,
+  omega arith,
+  (omega arith, tt),
+  record { own = refl; room = omega arith; taken = refl; queued = refl; posted = refl; others = none_else [] [] (a ∷ []); ends = (refl, refl) },
+))
+
+first_take : IsStep 1 2 one_posted one_taken
+first_take = inr (inr (inl (a, record { queued = refl; taken = refl; posted = λ number. refl; ends = (refl, refl) })))
+
+second_post : IsStep 1 2 one_taken two_posted
+second_post = inr (inl (
+  1,
+  b,
+  omega arith,
+  (omega arith, tt),
+  record { own = refl; room = omega arith; taken = refl; queued = refl; posted = refl; others = nor_else (a ∷ []) [] (b ∷ []); ends = (refl, refl) },
+))
+
+second_take : IsStep 1 2 two_posted two_taken
+second_take = inr (inr (inl (b, record { queued = refl; taken = refl; posted = λ number. refl; ends = (refl, refl) })))
+
+second_look : IsStep 1 2 two_taken two_taken
+second_look = inr (inr (inr (inl (refl, refl))))
+
+first_meeting : IsStep 1 2 two_taken one_met
+first_meeting = inr (inr (inr (inr (1, record { there = (omega arith, tt); made = refl; met = refl; items = (refl, refl, λ number. refl) }))))
+
+second_meeting : IsStep 1 2 one_met two_met
+second_meeting = inr (inr (inr (inr (0, record { there = (omega arith, ((λ same. omega (arith, same)), tt)); made = refl; met = refl; items = (refl, refl, λ number. refl) }))))
+
+abbrev states : List State
+states = one_end ∷ two_ends ∷ one_posted ∷ one_taken ∷ two_posted ∷ two_taken ∷ two_taken ∷ one_met ∷ two_met ∷ []
+
+schedule : IsSchedule 1 2 opened states
+schedule = (first_split, (second_split, (first_post, (first_take, (second_post, (second_take, (second_look, (first_meeting, (second_meeting, tt)))))))))
+
+-- the ends are split off
+pub reached_ends : IsReached 1 2 two_ends
+reached_ends = record { first = opened; states = one_end ∷ two_ends ∷ []; opens = opens; schedule = (first_split, (second_split, tt)); last = refl }
+
+pub reached : IsReached 1 2 two_met
+reached = record { first = opened; states = states; opens = opens; schedule = schedule; last = refl }
+
+-- ---- what is not lawful, and not reached
+
+-- an item that nobody posted; items in another order; an item of a third sender; more than fits
+not_posted : IsLawful 2 2 (record { taken = []; queued = a ∷ []; posted = posted [] []; made = 2; met = [] }) → ⊥
+not_posted lawful = let is = ap length (lawful.all_of_each 0) in omega (arith, is)
+
+not_in_order : IsLawful 2 2 (record { taken = c ∷ []; queued = a ∷ []; posted = posted (a ∷ c ∷ []) []; made = 2; met = [] }) → ⊥
+not_in_order lawful = let is = lawful.all_of_each 0 in differ (cc)
+  where
+    differ : a ≡ c → ⊥
+    differ same = omega (arith, ap (λ (item : Item). item.stream) same)
+
+not_of_a_sender : IsLawful 2 1 (record { taken = []; queued = b ∷ []; posted = posted [] (b ∷ []); made = 1; met = [] }) → ⊥
+not_of_a_sender lawful = let one = lawful.of_senders.0 in omega (arith, one)
+
+abbrev too_many : State
+too_many = record { taken = []; queued = a ∷ c ∷ []; posted = posted (a ∷ c ∷ []) []; made = 2; met = [] }
+
+not_fitting : IsLawful 1 2 too_many → ⊥
+not_fitting lawful = let fits = lawful.fits in omega (arith, fits)
+
+not_reached : IsReached 1 2 too_many → ⊥
+not_reached reached = not_fitting (lawful_reached 1 2 too_many reached)
+
+not_opened : Opens one_end → ⊥
+not_opened opens = let made = opens.3 in omega (arith, made)
+
+not_opened_so : Opens (record { taken = []; queued = []; posted = posted [] []; made = 0; met = 0 ∷ [] }) → ⊥
+not_opened_so opens = let is = ap length opens.4 in omega (arith, is)
+
+-- ---- what is no step
+
+-- the queue grows by a post alone, and shrinks by a taking alone
+grows : (capacity senders : ℕ) (before after : State) → IsStep capacity senders before after → length after.queued ≡ length before.queued + 1
+    → (sender : ℕ) × (item : Item) × (sender < senders) × IsThere sender before × Posts capacity sender item before after
+grows capacity senders before after (inl splits) more = absurd (omega (arith, more, ap length splits.items.1))
+grows capacity senders before after (inr (inl posts)) more = posts
+grows capacity senders before after (inr (inr (inl takes))) more = absurd (omega (arith, more, ap length takes.1.queued))
+grows capacity senders before after (inr (inr (inr (inl nothing)))) more = absurd (omega (arith, more, ap (λ (state : State). length state.queued) nothing.1))
+grows capacity senders before after (inr (inr (inr (inr meets)))) more = absurd (omega (arith, more, ap length meets.1.items.1))
+
+shrinks : (capacity senders : ℕ) (before after : State) → IsStep capacity senders before after → length before.queued ≡ length after.queued + 1 → (item : Item) × Takes item before after
+shrinks capacity senders before after (inl splits) less = absurd (omega (arith, less, ap length splits.items.1))
+shrinks capacity senders before after (inr (inl posts)) less = absurd (omega (arith, less, ap length posts.4.queued, length-append before.queued (posts.1 ∷ [])))
+shrinks capacity senders before after (inr (inr (inl takes))) less = takes
+shrinks capacity senders before after (inr (inr (inr (inl nothing)))) less = absurd (omega (arith, less, ap (λ (state : State). length state.queued) nothing.1))
+shrinks capacity senders before after (inr (inr (inr (inr meets)))) less = absurd (omega (arith, less, ap length meets.1.items.1))
+
+-- ends are made by splitting one off alone, and met by meeting them alone
+splits_off : (capacity senders : ℕ) (before after : State) → IsStep capacity senders before after → (after.made ≡ before.made → ⊥) → Splits senders before after
+splits_off capacity senders before after (inl splits) more = splits
+splits_off capacity senders before after (inr (inl posts)) more = absurd (more posts.4.ends.0)
+splits_off capacity senders before after (inr (inr (inl takes))) more = absurd (more takes.1.ends.0)
+splits_off capacity senders before after (inr (inr (inr (inl nothing)))) more = absurd (more (ap (λ (state : State). state.made) nothing.1))
+splits_off capacity senders before after (inr (inr (inr (inr meets)))) more = absurd (more meets.1.made)
+
+is_met : (capacity senders : ℕ) (before after : State) → IsStep capacity senders before after → length after.met ≡ length before.met + 1 → (sender : ℕ) × Meets sender before after
+is_met capacity senders before after (inl splits) more = absurd (omega (arith, more, ap length splits.met))
+is_met capacity senders before after (inr (inl posts)) more = absurd (omega (arith, more, ap length posts.4.ends.1))
+is_met capacity senders before after (inr (inr (inl takes))) more = absurd (omega (arith, more, ap length takes.1.ends.1))
+is_met capacity senders before after (inr (inr (inr (inl nothing)))) more = absurd (omega (arith, more, ap (λ (state : State). length state.met) nothing.1))
+is_met capacity senders before after (inr (inr (inr (inr meets)))) more = meets
+
+the_last : (x y : Item) → x ∷ [] ≡ y ∷ [] → x ≡ y
+the_last x y is = cc
+
+-- the second end posts before it is made, and after it was met
+no_post_before : IsStep 1 2 one_end (record { taken = []; queued = b ∷ []; posted = posted [] (b ∷ []); made = 1; met = [] }) → ⊥
+no_post_before step =
+    let posts = grows 1 2 one_end _ step refl in
+    let below = posts.3.0 in let own = posts.4.own in
+    omega (arith, below, own, ap (λ (item : Item). item.sender) (the_last b posts.1 posts.4.queued))
+
+no_post_after : IsStep 1 2 one_met (record { taken = a ∷ b ∷ []; queued = b ∷ []; posted = posted (a ∷ []) (b ∷ b ∷ []); made = 2; met = 1 ∷ [] }) → ⊥
+no_post_after step =
+    let posts = grows 1 2 one_met _ step refl in
+    posts.3.1.0 (ap (λ (item : Item). item.sender) (the_last b posts.1 posts.4.queued) ∙ posts.4.own)
+
+-- an end posts that is none of this mailbox
+no_stranger : IsStep 1 1 two_ends (record { taken = []; queued = b ∷ []; posted = posted [] (b ∷ []); made = 2; met = [] }) → ⊥
+no_stranger step =
+    let posts = grows 1 1 two_ends _ step refl in let below = posts.2 in let own = posts.4.own in
+    omega (arith, below, own, ap (λ (item : Item). item.sender) (the_last b posts.1 posts.4.queued))
+
+-- an end posts an item of the other one, or where there is no room
+no_post_for_another : IsStep 1 2 two_ends (record { taken = []; queued = b ∷ []; posted = posted (b ∷ []) []; made = 2; met = [] }) → ⊥
+no_post_for_another step =
+    let posts = grows 1 2 two_ends _ step refl in
+    by posts.0 posts.1 (ap (λ (item : Item). item.sender) (the_last b posts.1 posts.4.queued) ∙ posts.4.own) posts.4.posted
+  where
+    by : (number : ℕ) (item : Item) → 1 ≡ number → posted (b ∷ []) [] number ≡ posted [] [] number ++ item ∷ [] → ⊥
+    by zero item same is = omega (arith, same)
+    by (suc zero) item same is = omega (arith, ap length is)
+    by (suc (suc number)) item same is = omega (arith, same)
+
+no_post_where_full : IsStep 1 2 one_posted (record { taken = []; queued = a ∷ c ∷ []; posted = posted (a ∷ c ∷ []) []; made = 2; met = [] }) → ⊥
+no_post_where_full step = let posts = grows 1 2 one_posted _ step refl in let room = posts.4.room in omega (arith, room)
+
+-- the newest is taken, or the front is and is lost
+no_newest : IsStep 2 2 (record { taken = []; queued = a ∷ b ∷ []; posted = posted (a ∷ []) (b ∷ []); made = 2; met = [] })
+    (record { taken = b ∷ []; queued = a ∷ []; posted = posted (a ∷ []) (b ∷ []); made = 2; met = [] }) → ⊥
+no_newest step =
+    let takes = shrinks 2 2 _ _ step refl in
+    let is = takes.1.queued in differ (cc)
+  where
+    differ : b ≡ a → ⊥
+    differ same = omega (arith, ap (λ (item : Item). item.sender) same)
+
+no_loss : IsStep 1 2 one_posted (record { taken = []; queued = []; posted = posted (a ∷ []) []; made = 2; met = [] }) → ⊥
+no_loss step = let takes = shrinks 1 2 one_posted _ step refl in let is = ap length takes.1.taken in omega (arith, is)
+
+-- nothing is found where an item is queued
+no_empty_look : IsStep 1 2 one_posted one_posted → ⊥
+no_empty_look step = let is = ap length (nothing_queued 1 2 one_posted step) in omega (arith, is)
+
+-- a third end, and an end that posted before it was made
+no_third_end : IsStep 1 2 two_ends (record { taken = []; queued = []; posted = posted [] []; made = 3; met = [] }) → ⊥
+no_third_end step =
+    let splits = splits_off 1 2 two_ends _ step (λ same. omega (arith, same)) in let unmade = splits.unmade in omega (arith, unmade)
+
+no_used_end : IsStep 1 2 (record { taken = b ∷ []; queued = []; posted = posted [] (b ∷ []); made = 1; met = [] })
+    (record { taken = b ∷ []; queued = []; posted = posted [] (b ∷ []); made = 2; met = [] }) → ⊥
+no_used_end step =
+    let splits = splits_off 1 2 _ _ step (λ same. omega (arith, same)) in let is = ap length splits.none_posted in omega (arith, is)
+
+-- an end is met that is not made, or a second time, or with less than it posted
+the_number : (m n : ℕ) (ms : List ℕ) → m ∷ ms ≡ n ∷ ms → m ≡ n
+the_number m n ms is = cc
+
+not_met_before : IsStep 1 2 one_end (record { taken = []; queued = []; posted = posted [] []; made = 1; met = 1 ∷ [] }) → ⊥
+not_met_before step =
+    let meets = is_met 1 2 one_end _ step refl in let below = meets.1.there.0 in omega (arith, below, the_number 1 meets.0 [] meets.1.met)
+
+not_met_twice : IsStep 1 2 one_met (record { taken = a ∷ b ∷ []; queued = []; posted = posted (a ∷ []) (b ∷ []); made = 2; met = 1 ∷ 1 ∷ [] }) → ⊥
+not_met_twice step = let meets = is_met 1 2 one_met _ step refl in meets.1.there.1.0 (the_number 1 meets.0 (1 ∷ []) meets.1.met)
+
+not_met_with_less : IsStep 1 2 two_taken (record { taken = a ∷ b ∷ []; queued = []; posted = posted (a ∷ []) []; made = 2; met = 1 ∷ [] }) → ⊥
+not_met_with_less step = let meets = is_met 1 2 two_taken _ step refl in let is = ap length (meets.1.items.2 1) in omega (arith, is)
+
+-- what comes about in no step is in no schedule
+no_schedule : IsSchedule 1 2 opened (one_posted ∷ []) → ⊥
+no_schedule schedule = let posts = grows 1 2 opened one_posted schedule.0 refl in let below = posts.3.0 in omega (arith, below)
