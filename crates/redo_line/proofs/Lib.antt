@@ -1,5 +1,5 @@
 pub mod CutLemmas
-mod DigitLemmas
+pub mod DigitLemmas
 pub mod EntriesLemmas
 mod EntryLemmas
 mod EntryListLemmas
@@ -13,7 +13,7 @@ mod LineRows
 pub mod LogLemmas
 mod LogRows
 mod Numbers
-mod PartLemmas
+pub mod PartLemmas
 pub mod PlaceLemmas
 mod ReadingLemmas
 mod RecordLemmas
