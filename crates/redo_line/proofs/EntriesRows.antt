@@ -14,12 +14,12 @@ abbrev bytes : List ℕ
 bytes = codes "ab" ++ line_feed ∷ codes "checkx"
 
 abbrev names : List ℕ
-names = codes "ad/b"
+names = codes "cd/b"
 
 abbrev places : List EntryAt
 places = at.Text 0 2 ∷ at.Mention 7 Made 0 1 ∷ at.Done 8 (pos 1) 1 4 ∷ at.Closing 9 (pos 0) ∷ at.Note 6 3 8 9 ∷ []
 
-stand_there : entries_at bytes names places ≡ Text (codes "ab") ∷ Mention 7 Made (codes "a") ∷ Done 8 (pos 1) (codes "d/b") ∷ Closing 9 (pos 0) ∷ Note 6 (codes "check") (codes "x") ∷ []
+stand_there : entries_at bytes names places ≡ Text (codes "ab") ∷ Mention 7 Made (codes "c") ∷ Done 8 (pos 1) (codes "d/b") ∷ Closing 9 (pos 0) ∷ Note 6 (codes "check") (codes "x") ∷ []
 stand_there = refl
 
 are_within : AreWithin bytes names places

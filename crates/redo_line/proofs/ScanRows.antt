@@ -99,6 +99,7 @@ takes_all = (refl, record { fine = refl; lines = refl; entries = refl })
 
 -- what was taken is no less
 takes_no_less : TakesAll (scanned [] None) (scanned [] None) (codes "x") → ⊥
+unfolding cutting ended rest first_fault entry_of record_entry parted behind
 takes_no_less is = let bytes : [] ≡ codes "x" = ap (λ (scan : Scanned). scan.bytes) is.0 in absurd (cc)
 
 may_refuse : MayRefuse (scanned [] None) (codes "x") OutOfMemory × MayRefuse (scanned [] None) (codes "0123456789") TooLong
