@@ -3,5 +3,6 @@ mod FirstLine
 mod IndexLaws
 mod IndexLines
 mod IndexRows
+mod LineForm
 mod LineParts
 mod Listing

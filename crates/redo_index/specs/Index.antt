@@ -1,9 +1,10 @@
 -- What an index lists, and which of its lines is refused.
-use Rattle.std.specs.Prelude.{◌≡◌, ℕ, ◌+◌, ◌≤◌, nat_le, nat_eq, Bool, true, false, not, ◌==◌, ◌&&◌, List, [], ◌∷◌, ◌++◌, Option, None, Some, length, map, filter_map, if◌then◌else◌}
+use Rattle.std.specs.Prelude.{◌≡◌, ◌≢◌, ℕ, ◌+◌, ◌≤◌, nat_le, nat_eq, Bool, true, false, not, ◌==◌, ◌&&◌, List, [], ◌∷◌, ◌++◌, Option, None, Some, length, map, filter_map, codes, if◌then◌else◌}
 use Rattle.std.specs.List.{list_any, before_first, after_first, IsDistinct}
 use Rattle.std.specs.Cmp.Lexicographic.{pointwise}
-use Rattle.redo_line.specs.Decimal.{are_digits}
+use Rattle.redo_line.specs.Decimal.{AreDigits, are_digits}
 use Rattle.redo_line.specs.Decimal as decimal
+use Rattle.redo_line.specs.Record.{space}
 use Rattle.redo_name.specs.Names.{normal}
 use Rattle.redo_index.specs.declared.index_fault.IndexFault.{IndexFault}
 use Rattle.redo_index.specs.declared.index_fault.IndexFault.TheVariants.{BadLine, FidTwice, NameTwice, TooMany}
@@ -16,6 +17,26 @@ most = 1048575
 -- ---- a line
 
 -- one to nine digits, the first not 0
+pub record IsNumber (digits : List ℕ) : Type 0 where
+  pub digits_are : AreDigits 9 digits
+  pub first_not_0 : (others : List ℕ) → digits ≢ 48 ∷ others
+
+-- what a line begins with that is marked, or isn't
+abbrev pub mark_of : Bool → List ℕ
+mark_of true = codes "!"
+mark_of false = []
+
+-- a line lists a target: perhaps behind a mark stand a number, a space and a name that isn't empty, whose normal form the target is
+pub record IsListed (line : List ℕ) (listed : Listed) : Type 0 where
+  pub digits : List ℕ
+  pub name : List ℕ
+  pub whole : line ≡ mark_of listed.must_close ++ digits ++ space ∷ name
+  pub form : IsNumber digits
+  pub number_is : listed.number ≡ decimal.number digits
+  pub some : name ≢ []
+  pub target_is : normal None name ≡ Some listed.target
+
+-- The same, computed: `listed_of_a_line` says that it is. One to nine digits, the first not 0
 abbrev pub is_number : List ℕ → Bool
 is_number [] = false
 is_number (first ∷ others) = not (first == 48) && are_digits 9 (first ∷ others)

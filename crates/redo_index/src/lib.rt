@@ -10,4 +10,4 @@ mod listed;
 
 pub use index::{Index, read_index};
 pub use index_fault::IndexFault;
-pub use laws::one_answer_of_an_index;
+pub use laws::{listed_of_a_line, one_answer_of_an_index};

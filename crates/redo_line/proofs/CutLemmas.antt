@@ -6,7 +6,7 @@ use Rattle.std.proofs.lemmas.List.{append_assoc, length-take, get_or-take, get_o
 use Rattle.std.proofs.lemmas.List.Elements.{recursion_from_All}
 use Rattle.memchr.specs.Find.{Passes, Nowhere, NoneBefore, is_byte}
 use Rattle.redo_line.specs.Lines.{line_feed, HasNoLineFeed, ended, rest}
-use Rattle.redo_line.specs.Cut.{Cuts}
+use Rattle.redo_line.specs.Private.CutLine.{Cuts}
 use Rattle.redo_line.proofs.PartLemmas.{free-append}
 use Rattle.redo_line.proofs.LineLemmas.{ended-append, rest-append, ended-free, rest-free, ended-line, rest-line, are_lines}
 

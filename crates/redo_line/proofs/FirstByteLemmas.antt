@@ -7,11 +7,11 @@ use Rattle.std.proofs.Math.Seq.{take-nil}
 use Rattle.redo_line.specs.declared.entry.Entry.{Entry}
 use Rattle.redo_line.specs.declared.stream_fault.StreamFault.{StreamFault}
 use Rattle.redo_line.specs.declared.stream_fault.StreamFault.TheVariants.{BadRecord}
-use Rattle.redo_line.specs.Cut.{Cuts}
 use Rattle.redo_line.specs.Entry.{entry_of}
 use Rattle.redo_line.specs.Lines.{line_feed}
 use Rattle.redo_line.specs.Scan.{Scanned, fault_so_far, IsOfPlace, RefusesFirst}
 use Rattle.redo_line.specs.Private.Progress.{Progress, IsAfter, byte_fault, first_byte_fault}
+use Rattle.redo_line.specs.Private.CutLine.{Cuts}
 use Rattle.redo_line.proofs.CutLemmas.{cuts_line, cuts_none}
 use Rattle.redo_line.proofs.ScanLemmas.{bad_refuses, ends_line, ends_none}
 use Rattle.redo_line.proofs.ScanSteps.{refuses_first}

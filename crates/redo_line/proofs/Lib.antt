@@ -1,6 +1,9 @@
 pub mod CutLemmas
-mod DigitLemmas
+mod CutRows
+mod DecimalRows
+pub mod DigitLemmas
 pub mod EntriesLemmas
+mod EntriesRows
 mod EntryLemmas
 mod EntryListLemmas
 pub mod FaultLemmas
@@ -13,13 +16,15 @@ mod LineRows
 pub mod LogLemmas
 mod LogRows
 mod Numbers
-mod PartLemmas
+pub mod PartLemmas
+mod PartRows
 pub mod PlaceLemmas
 mod ReadingLemmas
 mod RecordLemmas
 mod RecordRows
 mod ScanEnds
 mod ScanLemmas
+mod ScanRows
 mod ScanSteps
 pub mod SourceLemmas
 mod SourceRows

@@ -3,7 +3,7 @@ use Rattle.std.proofs.Common.{◌≡◌, [], ◌∷◌, ◌++◌, true, false, N
 use Rattle.std.specs.Prelude.{codes}
 use Rattle.redo_line.specs.declared.stream_fault.StreamFault.TheVariants.{TooLong, Read}
 use Rattle.redo_line.specs.Fault.{ending_fault}
-use Rattle.redo_line.specs.Lines.{line_feed, cutting, ended, rest, all_lines}
+use Rattle.redo_line.specs.Lines.{line_feed, with_line_feed, cutting, ended, rest, all_lines}
 
 no_bytes : all_lines [] ≡ []
 unfolding cutting ended rest
@@ -37,3 +37,6 @@ past_the_limit = refl
 
 a_failed_read : ending_fault 4 (record { bytes = codes "x" ++ line_feed ∷ []; fails = true }) ≡ Some Read
 a_failed_read = refl
+
+as_it_stands : with_line_feed (codes "ab") ≡ 97 ∷ 98 ∷ 10 ∷ []
+as_it_stands = refl

@@ -4,14 +4,14 @@ use Rattle.std.proofs.Common.{◌≡◌, ℕ, Bool, true, false, List, [], ◌�
 use Rattle.std.specs.Prelude.{codes}
 use Rattle.std.specs.List.{AllByRecursion}
 use Rattle.redo_line.specs.declared.entry.Entry.{Entry}
-use Rattle.redo_line.specs.declared.entry.Entry.TheVariants.{Text, Mention, Done, Closing}
+use Rattle.redo_line.specs.declared.entry.Entry.TheVariants.{Text, Mention, Done, Closing, Note}
 use Rattle.redo_line.specs.declared.entry.How.TheVariants.{Made}
 use Rattle.redo_line.specs.declared.stream_fault.StreamFault.{StreamFault}
-use Rattle.redo_line.specs.declared.stream_fault.StreamFault.TheVariants.{BadRecord, AfterClose, TooLong, Read}
+use Rattle.redo_line.specs.declared.stream_fault.StreamFault.TheVariants.{BadRecord, AfterClose, TooLong, Read, OutOfMemory, NotClosed}
 use Rattle.redo_line.specs.Decimal.{number}
 use Rattle.redo_line.specs.Entry.{record_entry, entry_of}
 use Rattle.redo_line.specs.Lines.{line_feed, cutting, ended, rest}
-use Rattle.redo_line.specs.Log.{stream_of, first_fault, fault_of, part_of, log_of}
+use Rattle.redo_line.specs.Log.{stream_of, closes, first_fault, fault_of, lines_before, part_of, log_of}
 use Rattle.redo_name.specs.Names.{from_back, normal}
 use Rattle.redo_line.specs.Parts.{parted, behind}
 use Rattle.redo_line.specs.Record.{fields_of, status_of}
@@ -117,3 +117,21 @@ a_late_byte_is_refused_first = record { refused_none = refl; of_place = tt; faul
 a_byte_too_many_is_refused_first : RefusesFirst at_the_limit (codes "zz") TooLong
 unfolding cutting ended rest first_fault entry_of record_entry fields_of status_of parted behind number normal from_back
 a_byte_too_many_is_refused_first = record { refused_none = refl; of_place = tt; fault_is = refl }
+
+-- only the record that closes the log does
+what_closes : (closes (Some (Closing 7 (pos 1))) ≡ true) × (closes (Some (Done 7 (pos 0) (codes "a"))) ≡ false) × (closes (Some (Note 7 (codes "done") (codes "a"))) ≡ false) × (closes (Some (Text closing)) ≡ false) × (closes None ≡ false)
+what_closes = (refl, refl, refl, refl, refl)
+
+-- of three lines, those before a fault
+abbrev three : List (List ℕ)
+three = codes "x" ∷ codes "y" ∷ codes "z" ∷ []
+
+before_a_fault :
+    (lines_before (Some (BadRecord 2)) three ≡ codes "x" ∷ [])
+    × (lines_before (Some (AfterClose 3)) three ≡ codes "x" ∷ codes "y" ∷ [])
+    × (lines_before (Some TooLong) three ≡ three)
+    × (lines_before (Some Read) three ≡ three)
+    × (lines_before (Some OutOfMemory) three ≡ three)
+    × (lines_before (Some NotClosed) three ≡ three)
+    × (lines_before None three ≡ three)
+before_a_fault = (refl, refl, refl, refl, refl, refl, refl)

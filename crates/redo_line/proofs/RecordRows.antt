@@ -8,7 +8,10 @@ use Rattle.redo_line.specs.declared.entry.How.TheVariants.{Made, Waiting, Locked
 use Rattle.redo_line.specs.Decimal.{number}
 use Rattle.redo_name.specs.Names.{from_back, normal}
 use Rattle.redo_line.specs.Parts.{parted, behind}
-use Rattle.redo_line.specs.Record.{fields_of, status_of}
+use Rattle.redo_name.specs.declared.name.NameFault.TheVariants as name
+use Rattle.redo_line.specs.declared.line.LineFault.TheVariants.{BadRecord, OutOfMemory}
+use Rattle.redo_line.specs.Line.{bad_name}
+use Rattle.redo_line.specs.Record.{is_kind, is_time, fields_of, status_of}
 use Rattle.redo_line.specs.Entry.{record_entry, entry_of}
 
 record Row : Type 0 where
@@ -88,3 +91,19 @@ closes_by_its_resolved_name = refl
 not_by_the_name_as_written : entry_of (codes "d/a") (codes "@@REDO:done:7:1@@ 0 d/a") true ≡ Some (Done 7 (pos 0) (codes "d/d/a"))
 unfolding entry_of record_entry fields_of status_of parted behind number normal from_back
 not_by_the_name_as_written = refl
+
+-- the parts of a record alone
+kinds : (is_kind (codes "x-y_z") ≡ true) × (is_kind (codes "xY") ≡ false) × (is_kind [] ≡ false)
+kinds = (refl, refl, refl)
+
+times : (is_time (codes "1.5") ≡ true) × (is_time (codes ".5") ≡ false) × (is_time (codes "x.5") ≡ false) × (is_time (codes "1.5.5") ≡ false)
+unfolding parted
+times = (refl, refl, refl, refl)
+
+statuses : (status_of (codes "-123456789") ≡ Some (negsuc 123456788)) × (status_of (codes "-1234567890") ≡ None) × (status_of (codes "--1") ≡ None) × (status_of (codes "123456789") ≡ Some (pos 123456789))
+unfolding status_of behind number
+statuses = (refl, refl, refl, refl)
+
+-- what becomes of a record whose name isn't read
+bad_names : (bad_name name.Empty ≡ BadRecord) × (bad_name name.OutOfMemory ≡ OutOfMemory)
+bad_names = (refl, refl)

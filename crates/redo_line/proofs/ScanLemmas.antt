@@ -8,13 +8,13 @@ use Rattle.std.proofs.Math.Seq.{take-append-add}
 use Rattle.redo_line.specs.declared.entry.Entry.{Entry}
 use Rattle.redo_line.specs.declared.stream_fault.StreamFault.{StreamFault}
 use Rattle.redo_line.specs.declared.stream_fault.StreamFault.TheVariants.{BadRecord, AfterClose, TooLong}
-use Rattle.redo_line.specs.Cut.{Cuts}
 use Rattle.redo_line.specs.Entry.{entry_of}
 use Rattle.redo_line.specs.Fault.{ending_fault}
 use Rattle.redo_line.specs.Lines.{line_feed, with_line_feed, ended, rest}
 use Rattle.redo_line.specs.Log.{closes, line_entries, entries_of, first_fault, line_fault, or_else, fault_of, lines_before, part_of}
 use Rattle.redo_line.specs.Scan.{so_far, entries_so_far, EndsLine, EndsNone}
 use Rattle.redo_line.specs.Private.Progress.{Progress, closed_by, IsAfter, Refuses}
+use Rattle.redo_line.specs.Private.CutLine.{Cuts}
 use Rattle.redo_line.proofs.EntryListLemmas.{first_fault-append-none, first_fault-front-none, closed_by-append, first_fault-bad, first_fault-fine, first_fault-nil, IsFaultAt}
 use Rattle.redo_line.proofs.FaultLemmas.{rest_entries, entries_of-append, late_byte, lines_before-append, no_fault}
 use Rattle.redo_line.proofs.LineLemmas.{ended-append, are_lines}

@@ -7,11 +7,11 @@ use Rattle.std.proofs.lemmas.Option.{same_Some}
 use Rattle.redo_line.specs.declared.entry.Entry.{Entry}
 use Rattle.redo_line.specs.declared.stream_fault.StreamFault.{StreamFault}
 use Rattle.redo_line.specs.declared.stream_fault.StreamFault.TheVariants.{BadRecord, AfterClose, TooLong, OutOfMemory}
-use Rattle.redo_line.specs.Cut.{Cuts}
 use Rattle.redo_line.specs.Entry.{entry_of}
 use Rattle.redo_line.specs.Lines.{ended, rest}
 use Rattle.redo_line.specs.Log.{closes}
 use Rattle.redo_line.specs.Private.Progress.{Progress, IsAfter, Finds, TakesAll, Refuses, byte_fault, first_byte_fault}
+use Rattle.redo_line.specs.Private.CutLine.{Cuts}
 use Rattle.redo_line.proofs.ScanLemmas.{late_refuses, bad_refuses, after_line, ends_line, long_refuses, after_rest, ends_none}
 
 -- a fault that is handed on

@@ -11,7 +11,7 @@ use Rattle.redo_line.specs.Decimal.{number}
 use Rattle.redo_line.specs.Entry.{record_entry, entry_of}
 use Rattle.redo_line.specs.Lines.{line_feed, cutting, ended, rest}
 use Rattle.redo_line.specs.Log.{stream_of, first_fault}
-use Rattle.redo_line.specs.Source.{fault_from, log_from, part_from, source}
+use Rattle.redo_line.specs.Source.{Marked, fault_from, log_from, part_from, source, sources, with_stream}
 use Rattle.redo_name.specs.Names.{from_back, normal}
 use Rattle.redo_line.specs.Parts.{parted, behind}
 use Rattle.redo_line.specs.Record.{fields_of, status_of}
@@ -85,3 +85,14 @@ no_log = refl
 may_end_anywhere : log_from most (source (codes "a") false (stream_of (line (codes "x")) false)) ≡ Some (Text (codes "x") ∷ [])
 unfolding cutting ended rest first_fault entry_of record_entry fields_of status_of parted behind number normal from_back
 may_end_anywhere = refl
+
+-- what logs are made from, with numbers in the place of streams
+abbrev marked : Bool → ℕ → Marked ℕ
+marked must_close stream = record { must_close = must_close; stream = stream }
+
+made_from :
+    (sources (codes "a" ∷ codes "b" ∷ []) (marked true 1 ∷ marked false 2 ∷ []) ≡ source (codes "a") true 1 ∷ source (codes "b") false 2 ∷ [])
+    × (sources [] (marked true 1 ∷ []) ≡ [])
+    × (sources {A = ℕ} (codes "a" ∷ []) [] ≡ [])
+    × (with_stream false (source (codes "a") true true) ≡ source (codes "a") true false)
+made_from = (refl, refl, refl, refl)

@@ -5,8 +5,8 @@ ghost use Rattle.redo_name.specs.Names.{IsNormal};
 ghost use Rattle.redo_line.specs.Private.CutLine.{line_bytes};
 ghost use Rattle.redo_line.specs.declared.entry.Entry.TheVariants.{Text, Mention, Done, Closing, Note};
 
-use crate::cutter::Line;
 use crate::entry::{Entry, How};
+use crate::line_start::Line;
 use crate::line_text::LineText;
 use redo_name::TargetName;
 use std::alloc::{AllocError, Global};

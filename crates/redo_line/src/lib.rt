@@ -14,6 +14,7 @@ mod entry;
 mod history;
 mod laws;
 mod line;
+mod line_start;
 mod line_text;
 mod parts;
 mod progress;

@@ -9,9 +9,9 @@ ghost use Rattle.redo_line.specs.Private.Line.{Reads, ReadsInto};
 ghost use Rattle.redo_line.specs.declared.entry.Entry.TheVariants.{Text};
 ghost use Rattle.redo_line.specs.declared.line.LineFault.TheVariants.{BadRecord, OutOfMemory};
 
-use crate::cutter::Line;
 use crate::entries::Entries;
 use crate::entry::Entry;
+use crate::line_start::Line;
 use crate::line_text::LineText;
 use crate::parts::split_at_first;
 use crate::record::{Kind, kind_of, read_fields, read_status};

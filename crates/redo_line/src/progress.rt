@@ -7,9 +7,9 @@ ghost use Rattle.redo_line.specs.Private.Progress.{IsAfter, FindsMore, TakesAll,
 ghost use Rattle.redo_line.specs.declared.stream_fault.StreamFault.{StreamFault};
 ghost use Rattle.redo_line.specs.declared.stream_fault.StreamFault.TheVariants.{BadRecord, OutOfMemory};
 
-use crate::cutter::{Cutter, Line};
 use crate::entries::Entries;
 use crate::line::{LineFault, read_into};
+use crate::line_start::{Line, LineStart};
 use crate::line_text::LineText;
 use crate::stream_fault::StreamFault;
 use redo_name::TargetName;
@@ -21,7 +21,7 @@ use std::marker::Model;
 pub struct Progress {
     target: TargetName,
     max_bytes: u64,
-    cutter: Cutter,
+    start: LineStart,
     // Room for names.
     path: Vec<u8>,
     taken: u64,
@@ -37,7 +37,7 @@ impl Model for Progress {
     ghost view = { λ p. record {
       target = p.target;
       max_bytes = p.max_bytes;
-      kept = p.cutter;
+      kept = p.start;
       taken = p.taken;
       lines = p.lines;
       closed = p.closed;
@@ -53,7 +53,7 @@ impl Progress {
         Progress {
             target,
             max_bytes,
-            cutter: Cutter::new(alloc),
+            start: LineStart::new(alloc),
             path: Vec::new(alloc),
             taken: 0,
             lines: 0,
@@ -91,7 +91,7 @@ impl Progress {
             return Err(fault);
         }
         let allowed = within(left, self.max_bytes - self.taken);
-        match self.cutter.next_line(allowed)? {
+        match self.start.next_line(allowed)? {
             Some((line, upto)) => {
                 let number = self.lines + 1;
                 self.closed = read_entry(entries, &mut self.path, &self.target, line, number)?;
@@ -140,7 +140,7 @@ impl Progress {
     pub fn finish(self) -> Option<LineText>
         ensures { result ≡ unended self.kept }
     {
-        self.cutter.finish()
+        self.start.finish()
     }
 }
 

@@ -1,8 +1,9 @@
 -- Examples of expansions, computed: the logs, the options, the targets asked for, and the text.
 use Rattle.std.proofs.Common.{◌≡◌, ℕ, Bool, true, false, List, [], ◌∷◌, ◌++◌, pos, negsuc, refl}
-use Rattle.std.specs.Prelude.{codes}
+use Rattle.std.specs.Prelude.{codes, nat_eq}
 use Rattle.std.specs.Fmt.{digits}
-use Rattle.std.specs.List.{AllByRecursion}
+use Rattle.std.specs.List.{AllByRecursion, IsDistinct}
+use Rattle.std.specs.Cmp.Lexicographic.{pointwise}
 use Rattle.redo_line.specs.declared.entry.Entry.{Entry}
 use Rattle.redo_line.specs.declared.entry.Entry.TheVariants.{Text, Mention, Done, Closing, Note}
 use Rattle.redo_line.specs.declared.entry.How.TheVariants.{Made, Waiting, Locked, Unlocked, Unchanged}
@@ -10,7 +11,8 @@ use Rattle.redo_line.specs.Lines.{line_feed}
 use Rattle.redo_logs.specs.declared.log_state.LogState.TheVariants.{Ended}
 use Rattle.redo_logs.specs.Logs.{Log}
 use Rattle.redo_view.specs.declared.options.Options.{Options}
-use Rattle.redo_view.specs.Expansion.{opened_within, opened_log, expansion}
+use Rattle.redo_view.specs.Expansion.{is_among, opened_within, opened_log, expanded, expansion}
+use Rattle.redo_view.specs.Text.{entry_text}
 
 abbrev line : List ℕ → List ℕ
 line text = text ++ line_feed ∷ []
@@ -117,3 +119,33 @@ rows =
 these_texts : AllByRecursion (λ row. expansion row.logs row.options row.asked ≡ row.text) rows
 unfolding opened_within opened_log digits
 these_texts = (refl, (refl, (refl, (refl, (refl, (refl, (refl, (refl, (refl, (refl, (refl, (refl, (refl, (refl, (refl, (refl, (refl, (refl, (refl, (refl, tt))))))))))))))))))))
+
+-- a name is one of others if it is the same as one of them, with each byte
+among : (is_among a (b ∷ a ∷ []) ≡ true) × (is_among a (b ∷ x ∷ []) ≡ false) × (is_among a [] ≡ false) × (is_among a (all ∷ []) ≡ false)
+among = (refl, refl, refl, refl)
+
+-- what was named and opened in the end, each in the order in which it was
+abbrev in_a_circle : List Log
+in_a_circle = log a (Mention 7 Made b ∷ Mention 7 Made x ∷ []) ∷ log b (Mention 7 Made a ∷ []) ∷ []
+
+named_in_order : ((expanded in_a_circle deep (a ∷ [])).named ≡ a ∷ b ∷ x ∷ []) × ((expanded in_a_circle plain (b ∷ [])).named ≡ b ∷ a ∷ [])
+unfolding opened_within opened_log
+named_in_order = (refl, refl)
+
+opened_in_order : ((expanded in_a_circle deep (b ∷ a ∷ [])).opened ≡ b ∷ a ∷ []) × ((expanded in_a_circle plain (a ∷ b ∷ a ∷ [])).opened ≡ a ∷ b ∷ [])
+unfolding opened_within opened_log
+opened_in_order = (refl, refl)
+
+-- none of them twice
+opened_once : IsDistinct (pointwise nat_eq) (expanded in_a_circle deep (a ∷ b ∷ a ∷ [])).opened
+unfolding IsDistinct opened_within opened_log
+opened_once = ((refl, tt), (tt, tt))
+
+-- an entry that mentions a target has no text of its own
+no_text : entry_text plain 1 (Mention 7 Made a) ≡ []
+no_text = refl
+
+-- of two logs of one target, which no table has, the first one is shown
+the_first_of_two : expansion (log a (Text b ∷ []) ∷ log a (Text x ∷ []) ∷ []) plain (a ∷ []) ≡ line (codes "redo  a") ++ line b
+unfolding opened_within opened_log
+the_first_of_two = refl

@@ -1,12 +1,12 @@
 -- A log is shown at its first mention or asking, and not again.
-use Rattle.std.proofs.Common.{◌≡◌, ℕ, ◌+◌, Bool, true, false, List, [], ◌∷◌, ◌++◌, refl, ap, ◌∙◌}
+use Rattle.std.proofs.Common.{◌≡◌, ℕ, ◌+◌, Bool, true, false, inl, inr, List, [], ◌∷◌, ◌++◌, refl, ap, ◌∙◌}
 use Rattle.std.specs.Prelude.{◌&&◌, not}
 use Rattle.std.proofs.lemmas.Bool.{and_from}
 use Rattle.redo_line.specs.declared.entry.How.{How}
 use Rattle.redo_logs.specs.Logs.{Log, targets_of}
 use Rattle.redo_view.specs.declared.options.Options.{Options}
 use Rattle.redo_view.specs.Expansion.{Shown, is_among, mentions, mention, opens, opened_if, mentioned_if, opened_log, unless_opened, expanded}
-use Rattle.redo_view.specs.Laws.{MentionedFirst, MentionedAgain, AskedFirst, AskedAgain}
+use Rattle.redo_view.specs.Laws.{MentionedFirst, MentionedAgain, MentionedAlone, AskedFirst, AskedAgain}
 use Rattle.redo_view.proofs.Asking.{asked-append}
 
 never : (first : Bool) → (first && false) ≡ false
@@ -32,6 +32,13 @@ module _ (logs : List Log) (options : Options) where
   mentioned_again how name depth pid shown counts known =
       let there = options.recursive && is_among name (targets_of logs) in
       is_mention how name depth pid shown counts ∙ ap (then how name depth pid shown counts) (ap (λ old. there && not old) known ∙ never there)
+
+  pub mentioned_alone : (how : How) (name : List ℕ) → MentionedAlone logs options how name
+  mentioned_alone how name depth pid shown counts alone =
+      let there = is_among name (targets_of logs) in
+      let new = not (is_among name shown.opened) in
+      is_mention how name depth pid shown counts
+      ∙ ap (then how name depth pid shown counts) (ap (λ first. first && new) (elim alone [ inl shallow ↦ ap (λ recursive. recursive && there) shallow | inr none ↦ ap (λ listed. options.recursive && listed) none ∙ never options.recursive ]))
 
   -- one target more that is asked for
   one_more : (asked : List (List ℕ)) (target : List ℕ) (known : Bool) → is_among target (expanded logs options asked).opened ≡ known

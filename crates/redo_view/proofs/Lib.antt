@@ -4,9 +4,12 @@ mod FirstMention
 mod Growing
 mod Left
 mod Marking
+mod Naming
 mod OneEntry
 mod Opening
 mod Reaching
 mod Shifting
+mod TargetEntries
 mod Walking
 mod WritingLemmas
+mod WrittenRows

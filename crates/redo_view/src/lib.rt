@@ -9,6 +9,9 @@ mod stop;
 mod texts;
 mod viewer;
 
-pub use laws::{at_first_mention, each_log_once, entries_in_order, opening_a_log, text_is_added};
+pub use laws::{
+    at_first_mention, each_log_once, entries_in_order, entries_of_a_target, named_once,
+    opening_a_log, text_is_added,
+};
 pub use options::Options;
 pub use viewer::{ViewFault, view};

@@ -1,7 +1,8 @@
--- A line that a cutter found, as its bytes.
-use Rattle.std.specs.Prelude.{⊤, ℕ, List}
-use Rattle.redo_line.specs.declared.cutter.Line.{Line}
-use Rattle.redo_line.specs.declared.cutter.Line.TheVariants.{Within, Joined}
+-- A line that was found, as its bytes, and what bytes do to the line that was begun before them.
+use Rattle.std.specs.Prelude.{◌≡◌, ⊤, ℕ, List, ◌++◌}
+use Rattle.redo_line.specs.declared.line_start.Line.{Line}
+use Rattle.redo_line.specs.declared.line_start.Line.TheVariants.{Within, Joined}
+use Rattle.redo_line.specs.Lines.{ended, rest}
 
 abbrev pub line_bytes : Line → List ℕ
 line_bytes (Within bytes) = bytes.now
@@ -10,3 +11,8 @@ line_bytes (Joined bytes) = bytes.items
 abbrev pub IsWithin : Line → Type 0
 IsWithin (Within bytes) = ⊤
 IsWithin (Joined bytes) = ⊥
+
+-- Whatever bytes were taken before, if `before` is their rest: these bytes add just these lines to their ended
+-- ones, and `after` is the rest then.
+abbrev pub Cuts : List ℕ → List ℕ → List (List ℕ) → List ℕ → Type 0
+Cuts before bytes lines after = (taken : List ℕ) → rest taken ≡ before → (ended (taken ++ bytes) ≡ ended taken ++ lines) × (rest (taken ++ bytes) ≡ after)

@@ -1,6 +1,6 @@
 use Rattle.std.proofs.Common.{◌++◌, rules, ap, ◌∙◌}
 use Rattle.redo_line.proofs.CutLemmas.{line_in, no_feed, none_in}
-use Rattle.redo_line.proofs.cutter.Cutter.next_line.Goals as goal
+use Rattle.redo_line.proofs.line_start.LineStart.next_line.Goals as goal
 
 pub returns-in_ok-line-in-Some-clause-line : goal.returns-in_ok-line-in-Some-clause-line
 returns-in_ok-line-in-Some-clause-line c = line_in c.args.self.now _ c.args.piece.now c.in-Some.at c.in-Some.ensures c.in_ok-line-in-Some.ensures.line

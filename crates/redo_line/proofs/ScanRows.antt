@@ -1,0 +1,125 @@
+-- Examples of what a scan took and answers, computed: in the log of the target `a`, which may have nine bytes.
+use Rattle.std.proofs.Common.{◌≡◌, ℕ, true, false, inl, inr, List, [], ◌∷◌, ◌++◌, Option, None, Some, refl, ap}
+use Rattle.std.specs.Prelude.{codes}
+use Rattle.redo_line.specs.declared.entry.Entry.TheVariants.{Text}
+use Rattle.redo_line.specs.declared.stream_fault.StreamFault.{StreamFault}
+use Rattle.redo_line.specs.declared.stream_fault.StreamFault.TheVariants.{BadRecord, AfterClose, TooLong, Read, OutOfMemory, NotClosed}
+use Rattle.redo_line.specs.Entry.{record_entry, entry_of}
+use Rattle.redo_line.specs.Lines.{line_feed, cutting, ended, rest}
+use Rattle.redo_line.specs.Log.{first_fault}
+use Rattle.redo_line.specs.Parts.{parted, behind}
+use Rattle.redo_line.specs.Scan.{Scanned, so_far, fault_so_far, entries_so_far, EndsLine, EndsNone, AreAtFault, IsFine, took, refused_with, Finds, FindsMore, TakesAll, MayRefuse, IsOfPlace, RefusesFirst, entries_in, source_in, text_of}
+
+abbrev a : List ℕ
+a = codes "a"
+
+abbrev line : List ℕ → List ℕ
+line text = text ++ line_feed ∷ []
+
+-- a scan that took these bytes, and refused nothing or this
+abbrev scanned : List ℕ → Option StreamFault → Scanned
+scanned bytes refused = record { target = a; max_bytes = 9; must_close = true; bytes = bytes; refused = refused }
+
+-- ---- bytes as far as they came
+
+so_far_told : ((so_far (codes "x")).bytes ≡ codes "x") × ((so_far (codes "x")).fails ≡ false)
+so_far_told = (refl, refl)
+
+faults_so_far : (fault_so_far a 9 (line (codes "x") ++ codes "y") ≡ None) × (fault_so_far a 2 (line (codes "x") ++ codes "y") ≡ Some TooLong)
+unfolding cutting ended rest first_fault entry_of record_entry parted behind
+faults_so_far = (refl, refl)
+
+entries_told : (entries_so_far a 9 (line (codes "x") ++ codes "y") ≡ Text (codes "x") ∷ []) × (entries_in (scanned (line (codes "x") ++ line (codes "y")) None) ≡ Text (codes "x") ∷ Text (codes "y") ∷ [])
+unfolding cutting ended rest first_fault entry_of record_entry parted behind
+entries_told = (refl, refl)
+
+a_line_ends : EndsLine a 9 (codes "x") (line (codes "y")) (Text (codes "xy"))
+unfolding cutting ended rest first_fault entry_of record_entry parted behind
+a_line_ends = record { fine = refl; line = codes "xy"; lines_are = refl; nothing_behind = refl; entry_is = refl; entries = refl }
+
+no_line_ends : EndsNone a 9 (line (codes "x")) (codes "y")
+unfolding cutting ended rest first_fault entry_of record_entry parted behind
+no_line_ends = record { fine = refl; lines = refl; entries = refl }
+
+-- what is at fault, ends more than a line, or leaves a rest ends no line
+ends_no_line :
+    (EndsLine a 1 [] (line (codes "x")) (Text (codes "x")) → ⊥)
+    × (EndsLine a 9 [] (line (codes "x") ++ codes "y") (Text (codes "x")) → ⊥)
+    × (EndsLine a 9 [] (line (codes "x") ++ line (codes "y")) (Text (codes "y")) → ⊥)
+    × (EndsLine a 9 [] (line (codes "x")) (Text []) → ⊥)
+unfolding cutting ended rest first_fault entry_of record_entry parted behind
+ends_no_line = (
+  (λ is. let same : Some TooLong ≡ None = is.fine in absurd (cc)),
+  (λ is. let same : codes "y" ≡ [] = is.nothing_behind in absurd (cc)),
+  (λ is. let same : codes "x" ∷ codes "y" ∷ [] ≡ is.line ∷ [] = is.lines_are in absurd (cc)),
+  (λ is. let same : Text (codes "x") ∷ [] ≡ Text [] ∷ [] = is.entries in absurd (cc)),
+)
+
+-- what ends a line, or is at fault, doesn't end none
+ends_none_of_these : (EndsNone a 9 [] (line (codes "x")) → ⊥) × (EndsNone a 0 [] (codes "x") → ⊥)
+unfolding cutting ended rest first_fault entry_of record_entry parted behind
+ends_none_of_these = ((λ is. let same : codes "x" ∷ [] ≡ [] = is.lines in absurd (cc)), (λ is. let same : Some TooLong ≡ None = is.fine in absurd (cc)))
+
+at_fault : AreAtFault a 1 [] (line (codes "x")) TooLong
+unfolding cutting ended rest first_fault entry_of record_entry parted behind
+at_fault = record { fault_is = refl; entries = refl }
+
+-- not with another fault, and not where an entry comes before it
+at_no_fault : (AreAtFault a 1 [] (line (codes "x")) (BadRecord 1) → ⊥) × (AreAtFault a 2 [] (line (codes "x") ++ codes "y") TooLong → ⊥)
+unfolding cutting ended rest first_fault entry_of record_entry parted behind
+at_no_fault = ((λ is. let same : Some TooLong ≡ Some (BadRecord 1) = is.fault_is in absurd (cc)), (λ is. let same : Text (codes "x") ∷ [] ≡ [] = is.entries in absurd (cc)))
+
+-- ---- what a scan answers
+
+fine : IsFine (scanned (codes "x") None)
+unfolding cutting ended rest first_fault entry_of record_entry parted behind
+fine = record { refused_none = refl; no_fault = refl }
+
+not_fine : (IsFine (scanned (codes "x") (Some TooLong)) → ⊥) × (IsFine (scanned (codes "0123456789") None) → ⊥)
+unfolding cutting ended rest first_fault entry_of record_entry parted behind
+not_fine = ((λ is. let same : Some TooLong ≡ None = is.refused_none in absurd (cc)), (λ is. let same : Some TooLong ≡ None = is.no_fault in absurd (cc)))
+
+took_more : took (codes "y") (scanned (codes "x") (Some TooLong)) ≡ scanned (codes "xy") None
+took_more = refl
+
+refused_more : refused_with OutOfMemory (scanned (codes "x") None) ≡ scanned (codes "x") (Some OutOfMemory)
+refused_more = refl
+
+finds : Finds (scanned (codes "x") None) (scanned (line (codes "xy")) None) (line (codes "y")) (Text (codes "xy"))
+unfolding cutting ended rest first_fault entry_of record_entry parted behind
+finds = (refl, record { fine = refl; line = codes "xy"; lines_are = refl; nothing_behind = refl; entry_is = refl; entries = refl })
+
+finds_more : FindsMore (scanned [] None) (scanned (line (codes "y")) None) (line (codes "y")) (Text (codes "x") ∷ []) (Text (codes "x") ∷ Text (codes "y") ∷ [])
+unfolding cutting ended rest first_fault entry_of record_entry parted behind
+finds_more = record { entry = Text (codes "y"); finds = (refl, record { fine = refl; line = codes "y"; lines_are = refl; nothing_behind = refl; entry_is = refl; entries = refl }); put = refl }
+
+takes_all : TakesAll (scanned (codes "x") None) (scanned (codes "xy") None) (codes "y")
+unfolding cutting ended rest first_fault entry_of record_entry parted behind
+takes_all = (refl, record { fine = refl; lines = refl; entries = refl })
+
+-- what was taken is no less
+takes_no_less : TakesAll (scanned [] None) (scanned [] None) (codes "x") → ⊥
+unfolding cutting ended rest first_fault entry_of record_entry parted behind
+takes_no_less is = let bytes : [] ≡ codes "x" = ap (λ (scan : Scanned). scan.bytes) is.0 in absurd (cc)
+
+may_refuse : MayRefuse (scanned [] None) (codes "x") OutOfMemory × MayRefuse (scanned [] None) (codes "0123456789") TooLong
+unfolding cutting ended rest first_fault entry_of record_entry parted behind
+may_refuse = (inl refl, inr (record { fault_is = refl; entries = refl }))
+
+-- the two faults by where a byte stands
+of_place : IsOfPlace (AfterClose 2) × IsOfPlace TooLong
+of_place = (tt, tt)
+
+not_of_place : (IsOfPlace (BadRecord 1) → ⊥) × (IsOfPlace Read → ⊥) × (IsOfPlace OutOfMemory → ⊥) × (IsOfPlace NotClosed → ⊥)
+not_of_place = ((λ is. is), (λ is. is), (λ is. is), (λ is. is))
+
+-- nothing was refused, and one byte is enough
+refuses_nothing_first : (RefusesFirst (scanned (codes "012345678") (Some TooLong)) (codes "x") TooLong → ⊥) × (RefusesFirst (scanned (codes "01234567") None) (codes "xy") TooLong → ⊥)
+unfolding cutting ended rest first_fault entry_of record_entry parted behind
+refuses_nothing_first = ((λ is. let same : Some TooLong ≡ None = is.refused_none in absurd (cc)), (λ is. let same : None ≡ Some TooLong = is.fault_is in absurd (cc)))
+
+source_told : ((source_in (scanned (codes "x") None)).target ≡ a) × ((source_in (scanned (codes "x") None)).must_close ≡ true) × ((source_in (scanned (codes "x") None)).stream ≡ so_far (codes "x"))
+source_told = (refl, refl, refl)
+
+texts : (text_of (Some (codes "x")) ≡ Some (Text (codes "x"))) × (text_of None ≡ None)
+texts = (refl, refl)
