@@ -1,0 +1,281 @@
+"""Tries the wrong definitions of a crate: one check of a library that has, of each, a copy of what stands on it.
+
+The copies are modules of that library, below specs/wrong_K. They stand on the crate itself and on those below it, which
+are given as sources: of these nothing is proved, only what the copies import is read.
+"""
+import os
+import re
+import shutil
+import subprocess
+
+from contracts import TOP, Names, Specs, closing, is_private, read
+from kept import BadEdit
+
+KIT = os.path.dirname(os.path.dirname(os.path.realpath(shutil.which("rt") or "rt")))
+ERROR = re.compile(r"^\./specs/(\w+)/(\w+)\.antt:\d+:\d+: error: (.*(?:\n[ \t].*)*)", re.M)
+# How the two types that don't fit are told apart, the most telling way first.
+TWO = r"two types differ only\s+where one has `(.*?)`\s+\(expected\).*?the other has `(.*?)`\s+\(found\)"
+DIFFER = [re.compile(how, re.S) for how in (rf"computed as far as they go, the {TWO}", rf"as printed, the {TWO}", r"expected type `(.*?)`,?\s+but this has type `(.*?)`(?!\S)")]
+# The first word of a value: a number, a constructor, or what begins a list, a pair or a record.
+VALUE = re.compile(r"\d+|\[\]|∷|true|false|zero|suc|pos|negsuc|record|tt|(?:\w+\.)*[A-Z]\w*")
+COMMON = "Rattle.std.proofs.Common"
+NO_TEXT = re.compile(r'"[^"]*"')
+# What every trial has: two values that a test tells apart are not equal; and that what is wrong is found at all.
+DIFFERS = f"""-- Values that a test tells apart are not equal.
+use {COMMON}.{{◌≡◌, Bool, true, false, sym, ap, ◌∙◌}}
+
+pub differ : {{A : Type 0}} (test : A → Bool) {{a b : A}} → test a ≡ true → test b ≡ false → a ≡ b → ⊥
+differ test of_a of_b same = let both : true ≡ false = sym of_a ∙ (ap test same ∙ of_b) in cc
+"""
+CONTROL = f"""-- What has to be refused.
+use {COMMON}.{{◌≡◌, ℕ, refl}}
+
+refused : ◌≡◌ {{A = ℕ}} 1 2
+refused = refl
+"""
+
+
+class Crate:
+    """The definitions of a crate that public contracts cite, its examples and its laws."""
+
+    def __init__(self, name):
+        self.name = name
+        self.specs = Specs([name])
+        self.modules = [place.split(".")[-1] for place in self.specs.files if not is_private((place,))]
+        self.texts = {module: read("crates", name, "specs", module + ".antt") for module in self.modules}
+        proofs = os.path.join(TOP, "crates", name, "proofs")
+        self.rows = {file.removesuffix(".antt"): read("crates", name, "proofs", file) for file in sorted(os.listdir(proofs)) if file.endswith("Rows.antt")}
+        laws = os.path.join("crates", name, "src/laws.rt")
+        self.laws = read(laws) if os.path.isfile(os.path.join(TOP, laws)) else ""
+        self.imports = {module: self.imported(text) for module, text in self.texts.items()}
+
+    def imported(self, text):
+        return {module for module in re.findall(rf"Rattle\.{self.name}\.specs\.(\w+)", text) if module in self.modules}
+
+    def below(self, modules):
+        """These modules of definitions, and those that they stand on."""
+        found, left = set(), set(modules)
+        while left:
+            found |= left
+            left = {other for module in left for other in self.imports[module]} - found
+        return found
+
+    def statement(self, where):
+        """A clause of the laws."""
+        function, _, clause = where.partition(".")
+        head = re.search(rf"^pub fn {function}\(\)\n((?:(?!\{{\}}|pub ).*\n)*)", self.laws, re.M)
+        clauses = {}
+        for ensures in re.finditer(r"\bensures\b *(\w*) *\{", head[1] if head else ""):
+            end = closing(head[1], ensures.end() - 1)
+            clauses[ensures[1]] = re.sub(r"\s+", " ", head[1][ensures.end() : end]).strip()
+        if clause not in clauses:
+            raise BadEdit(f"src/laws.rt has no clause {where}")
+        return clauses[clause]
+
+    def uses_for(self, text, known):
+        """`use` lines for the names that a text cites, but for those that stand in other ones."""
+        origin = {name: (COMMON, name) for names in re.findall(r"\.\{([^}]*)\}", common()) for name in map(str.strip, names.split(","))}
+        aliases = {}
+        for source in [*self.rows.values(), *self.texts.values()]:
+            names = Names(source)
+            origin.update({word: place for word, place in names.words.items() if f"Rattle.{self.name}.proofs." not in place[0]})
+            aliases.update(names.modules)
+        origin.update({name: (module, name) for module, name in self.specs.texts if not is_private((module,))})
+        has = Names("\n".join(known))
+        words = set(re.findall(r"[^\W\d][\w'-]*(?:_[\w'-]+)*", text))
+        operators = {name for name in origin if "◌" in name and all(part in NO_TEXT.sub("", text) for part in name.split("◌"))}
+        for word in sorted((words & set(origin) | operators) - set(has.words)):
+            module, name = origin[word]
+            yield f"use {module}.{{{name}{'' if name == word else f' as {word}'}}}"
+        for alias in sorted(word for word in aliases if f"{word}." in text and word not in has.modules):
+            yield f"use {aliases[alias]} as {alias}"
+
+    def unfoldable(self):
+        return [(module, name) for module in self.modules for name in re.findall(r"^unfoldable (?:pub )?(\S+) *:", self.texts[module], re.M)]
+
+
+def common():
+    with open(os.path.join(KIT, "rattle/std/proofs/Common.antt"), encoding="utf-8") as file:
+        return file.read()
+
+
+def parts_of_rows(text):
+    """The examples of a file by their names, and all else of it."""
+    rows, others, given, name = {}, "", set(), None
+    for part in re.split(r"^(?=\S)", text, flags=re.M):
+        first = re.match(r"(?:(abbrev|record|data|pub|use|unfoldable|module|--)(?: pub)? *)?(\S*)", part)
+        if first[1] in ("abbrev", "unfoldable"):
+            given.add(first[2])
+        if first[1] or first[2] in given:
+            others, name = others + part, None
+        elif part.startswith("unfolding ") and name:
+            rows[name] += part
+        elif first[2]:
+            name = first[2]
+            rows[name] = rows.get(name, "") + part
+    return rows, others
+
+
+class Trial:
+    """A library of copies, in a folder of its own."""
+
+    def __init__(self, crate, wrongs, folder):
+        self.crate, self.wrongs, self.folder = crate, wrongs, folder
+        self.name = "wrong_" + crate.name
+        self.checked, self.bad = [], {}
+        self.write("differs", {"Differs": DIFFERS, "Control": CONTROL})
+        self.write("wrong_0", {**crate.texts, **{rows: crate.rows[rows] for rows in self.rows_named()}}, crate.modules)
+        for number, wrong in enumerate(wrongs, 1):
+            try:
+                self.write(f"wrong_{number}", *self.copies(wrong))
+            except BadEdit as error:
+                self.bad[number] = str(error)
+        folders = sorted({folder for folder, _ in self.checked})
+        self.put("specs/Lib.antt", "".join(f"pub mod {name}\n" for name in folders))
+        uses = "".join(f"ghost use Rattle.{self.name}.specs.{folder}.{module} as {folder}_{module};\n" for folder, module in self.checked)
+        self.put("src/lib.rt", f"//! Wrong definitions.\n{uses}\npub fn tried()\n    ensures {{ Unit {{0}} }}\n{{}}\n")
+
+    def rows_named(self):
+        return sorted({wrong.where.split(".")[0] for wrong in self.wrongs if wrong.by == "row"} & set(self.crate.rows))
+
+    def copies(self, wrong):
+        """The texts of the modules that a wrong definition changes, and of those that stand on them up to what refuses it."""
+        changed = wrong.texts()
+        if wrong.by == "row":
+            name, text = self.rows_with(wrong)
+        else:
+            name, text = "Refuted", self.refuted(wrong)
+        needed = self.crate.below(self.crate.imported(text))
+        copied = {module for module in self.crate.modules if module in changed or (module in needed and self.crate.below({module}) & set(changed))}
+        return {**{module: changed.get(module, self.crate.texts[module]) for module in copied}, name: text}, copied
+
+    def rows_with(self, wrong):
+        """An example alone, with what its file has beside the examples; or that it fails."""
+        file, _, name = wrong.where.partition(".")
+        if file not in self.crate.rows:
+            raise BadEdit(f"there is no proofs/{file}.antt")
+        rows, others = parts_of_rows(self.crate.rows[file])
+        if name not in rows:
+            raise BadEdit(f"proofs/{file}.antt has no {name}")
+        if not wrong.term:
+            return file, others + rows[name]
+        head = re.match(rf"{re.escape(name)}\s*:\s*(.*?)\n(unfolding [^\n]*\n)?{re.escape(name)} ", rows[name], re.S)
+        uses = [f"use Rattle.{self.name}.specs.differs.Differs.{{differ}}", *wrong.uses]
+        more = self.crate.uses_for(wrong.term, [*uses, others])
+        own = parts_of_rows(others)[1]
+        local = set(re.findall(r"^(?:abbrev|record|data) (?:pub )?(\S+)", own, re.M))
+        uses += [use for use in more if not re.search(r"\{(\S+)\}$", use) or re.search(r"\{(\S+)\}$", use)[1] not in local]
+        return file, "\n".join(uses) + "\n" + others + f"refuted :\n    ({head[1]}) → ⊥\n{head[2] or ''}{wrong.term}\n"
+
+    def refuted(self, wrong):
+        """That a law fails."""
+        statement = self.crate.statement(wrong.where)
+        uses = re.findall(r"^ghost (use .*);$", self.crate.laws, re.M)
+        uses += [f"use Rattle.{self.name}.specs.differs.Differs.{{differ}}", *wrong.uses]
+        unfoldable = self.crate.unfoldable()
+        uses += self.crate.uses_for(" ".join([statement, wrong.term, *(name for _, name in unfoldable)]), uses)
+        unfolding = f"unfolding {' '.join(name for _, name in unfoldable)}\n" if unfoldable else ""
+        return "\n".join(uses) + f"\n\nrefuted : ({statement}) → ⊥\n{unfolding}{wrong.term}\n"
+
+    def write(self, folder, texts, copied=()):
+        """Modules in a folder, which import each other where they are copies."""
+        for module, text in texts.items():
+            for other in copied:
+                text = re.sub(rf"\bRattle\.{self.crate.name}\.specs\.{other}\b", f"Rattle.{self.name}.specs.{folder}.{other}", text)
+            self.put(f"specs/{folder}/{module}.antt", text)
+            self.checked.append((folder, module))
+        self.put(f"specs/{folder}.antt", "".join(f"pub mod {module}\n" for module in sorted(texts)))
+
+    def put(self, path, text):
+        path = os.path.join(self.folder, path)
+        os.makedirs(os.path.dirname(path), exist_ok=True)
+        with open(path, "w", encoding="utf-8") as file:
+            file.write(text)
+
+    def command(self):
+        """The check: `rt check` alone would first prove and build the libraries below."""
+        below, own = libraries(), []
+
+        def visit(crate):
+            for lower in below.get(crate, []):
+                visit(lower)
+            if crate in below and crate not in own:
+                own.append(crate)
+
+        visit(self.crate.name)
+        theirs = sorted({"core", "std", *(lower for crate in own for lower in below[crate] if lower not in below)})
+        words = [os.path.join(KIT, "bin/rattle"), "check", "--crate-name", self.name, "src/lib.rt", "-L", f"dependency={KIT}/rlibs"]
+        for library in theirs:
+            words += ["--extern", f"{library}={KIT}/rlibs/{library}.rlib"]
+        for crate in own:
+            words += ["--lib", f"{crate}:{','.join(dict.fromkeys(['core', 'std', *below[crate]]))}={TOP}/crates/{crate}/src/lib.rt"]
+        logic = ["--antt-project", f"{KIT}/rattle/logic/antt-project.json", "--logic-built", f"{KIT}/logic_built"]
+        return words + logic + ["--links", f"{self.name}=", "--jobs", "1", "--only", "tried"]
+
+    def run(self):
+        """What became of each wrong definition: whether it was refused, and how."""
+        ran = subprocess.run(self.command(), cwd=self.folder, stdout=subprocess.PIPE, stderr=subprocess.STDOUT, text=True, errors="replace", timeout=1800)
+        with open(os.path.join(self.folder, "output"), "w", encoding="utf-8") as file:
+            file.write(ran.stdout)
+        errors = [(folder, module, text) for folder, module, text in ERROR.findall(ran.stdout)]
+        of = lambda folder: [(module, text) for folder_of, module, text in errors if folder_of == folder]
+        if not re.search(r"^only=1 ", ran.stdout, re.M) or not refusal(of("differs"), "Control", "refused"):
+            last = [line for line in ran.stdout.splitlines() if "error" in line][:3]
+            return [(None, f"{self.crate.name}: the check came to no end: {' / '.join(last)[:600]}")]
+        untouched = [f"{self.crate.name}: without any edit: {module}: {first_line(text)}" for module, text in of("wrong_0")]
+        untouched += [f"{self.crate.name}: {module}: {first_line(text)}" for module, text in of("differs") if module == "Differs"]
+        return [(None, fault) for fault in untouched] + [self.judged(number, wrong, of(f"wrong_{number}")) for number, wrong in enumerate(self.wrongs, 1)]
+
+    def judged(self, number, wrong, errors):
+        name = f"{self.crate.name}: {wrong.name}"
+        file, _, row = wrong.where.partition(".")
+        last = file if wrong.by == "row" else "Refuted"
+        ill = [f"{module}: {first_line(text)}" for module, text in errors if module != last]
+        if number in self.bad or ill:
+            return False, f"{name}: BAD EDIT: {self.bad.get(number) or ill[0]}"
+        if wrong.term:
+            if errors:
+                return False, f"{name}: NOT REFUTED: {wrong.by} {wrong.where}: {first_line(errors[0][1])}"
+            return True, f"{name}: refused by {wrong.by} {wrong.where}"
+        told = refusal(errors, file, row)
+        if told:
+            return True, f"{name}: refused by row {wrong.where}: {told}"
+        if errors:
+            return False, f"{name}: NOT REFUSED: the text of {wrong.where} no longer fits, which says nothing: {first_line(errors[0][1])}"
+        return False, f"{name}: NOT REFUSED by row {wrong.where}"
+
+
+def refusal(errors, file, row):
+    """What a row computes to where it should compute to something else, if it does."""
+    if any(module != file or not text.startswith(f"`{row}`") for module, text in errors):
+        return None
+    for found in (way.search(text) for way in DIFFER for _, text in errors):
+        pair = found and first_difference(found[1], found[2])
+        if pair:
+            return f"{pair[1]} and not {pair[0]}"
+    return None
+
+
+def first_difference(expected, found):
+    """The first words in which two terms differ, if they are two numbers or constructors, which are never equal."""
+    words = [re.findall(r"[^\s(){};,=]+", text) for text in (expected, found)]
+    # a list that goes on differs from the empty one in what follows its first element
+    heads = [["∷", *text] if text[1:2] == ["∷"] else text for text in words]
+    pair = next(((a, b) for a, b in zip(*heads) if a != b), None)
+    if pair and all(VALUE.fullmatch(word) for word in pair):
+        return tuple(short(text) for text in (expected, found)) if len(expected + found) < 160 else pair
+    return None
+
+
+def short(text):
+    text = re.sub(r"\s+", " ", text)
+    return text if len(text) <= 70 else text[:67] + ".."
+
+
+def first_line(text):
+    return short(text.split("\n")[0])[:70] if len(text) < 70 else re.sub(r"\s+", " ", text)[:200]
+
+
+def libraries():
+    """The libraries of the repository and what each stands on."""
+    return {crate.split()[0]: lower.split() for crate, lower in re.findall(r"^([^#\n:]+):([^#\n]*)", read("crates.txt"), re.M)}
