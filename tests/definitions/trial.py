@@ -15,7 +15,8 @@ KIT = os.path.dirname(os.path.dirname(os.path.realpath(shutil.which("rt") or "rt
 ERROR = re.compile(r"^\./specs/(\w+)/(\w+)\.antt:\d+:\d+: error: (.*(?:\n[ \t].*)*)", re.M)
 # How the two types that don't fit are told apart, the most telling way first.
 TWO = r"two types differ only\s+where one has `(.*?)`\s+\(expected\).*?the other has `(.*?)`\s+\(found\)"
-DIFFER = [re.compile(how, re.S) for how in (rf"computed as far as they go, the {TWO}", rf"as printed, the {TWO}", r"expected type `(.*?)`,?\s+but this has type `(.*?)`(?!\S)")]
+ARE = r"two types are\s+`(.*?)`\s+\(expected\)\s+and\s+`(.*?)`\s+\(found\)"
+DIFFER = [re.compile(how, re.S) for how in (rf"computed as far as they go, the {TWO}", rf"computed as far as they go, the {ARE}", rf"as printed, the {TWO}", r"expected type `(.*?)`,?\s+but this has type `(.*?)`(?!\S)")]
 # The first word of a value: a number, a constructor, or what begins a list, a pair or a record.
 VALUE = re.compile(r"\d+|\[\]|∷|true|false|zero|suc|pos|negsuc|record|tt|(?:\w+\.)*[A-Z]\w*")
 COMMON = "Rattle.std.proofs.Common"
@@ -82,7 +83,7 @@ class Crate:
             aliases.update(names.modules)
         origin.update({name: (module, name) for module, name in self.specs.texts if not is_private((module,))})
         has = Names("\n".join(known))
-        words = set(re.findall(r"[^\W\d][\w'-]*(?:_[\w'-]+)*", text))
+        words = set(re.findall(r"\[\]|[^\W\d][\w'-]*", text))
         operators = {name for name in origin if "◌" in name and all(part in NO_TEXT.sub("", text) for part in name.split("◌"))}
         for word in sorted((words & set(origin) | operators) - set(has.words)):
             module, name = origin[word]
@@ -102,7 +103,7 @@ def common():
 def parts_of_rows(text):
     """The examples of a file by their names, and all else of it."""
     rows, others, given, name = {}, "", set(), None
-    for part in re.split(r"^(?=\S)", text, flags=re.M):
+    for part in re.split(r"^(?=[^\s)\]}])", text, flags=re.M):
         first = re.match(r"(?:(abbrev|record|data|pub|use|unfoldable|module|--)(?: pub)? *)?(\S*)", part)
         if first[1] in ("abbrev", "unfoldable"):
             given.add(first[2])
@@ -116,6 +117,15 @@ def parts_of_rows(text):
     return rows, others
 
 
+def behind(name, rows):
+    """An example, and what else of its file its proof cites."""
+    found, left = set(), {name}
+    while left:
+        found |= left
+        left = {other for row in left for other in rows if re.search(rf"(?<![\w.']){re.escape(other)}(?![\w'])", rows[row])} - found
+    return found
+
+
 class Trial:
     """A library of copies, in a folder of its own."""
 
@@ -123,6 +133,7 @@ class Trial:
         self.crate, self.wrongs, self.folder = crate, wrongs, folder
         self.name = "wrong_" + crate.name
         self.checked, self.bad = [], {}
+        shutil.rmtree(folder, ignore_errors=True)
         self.write("differs", {"Differs": DIFFERS, "Control": CONTROL})
         self.write("wrong_0", {**crate.texts, **{rows: crate.rows[rows] for rows in self.rows_named()}}, crate.modules)
         for number, wrong in enumerate(wrongs, 1):
@@ -158,7 +169,7 @@ class Trial:
         if name not in rows:
             raise BadEdit(f"proofs/{file}.antt has no {name}")
         if not wrong.term:
-            return file, others + rows[name]
+            return file, others + "".join(text for row, text in rows.items() if row in behind(name, rows))
         head = re.match(rf"{re.escape(name)}\s*:\s*(.*?)\n(unfolding [^\n]*\n)?{re.escape(name)} ", rows[name], re.S)
         uses = [f"use Rattle.{self.name}.specs.differs.Differs.{{differ}}", *wrong.uses]
         more = self.crate.uses_for(wrong.term, [*uses, others])
@@ -252,7 +263,7 @@ def refusal(errors, file, row):
     for found in (way.search(text) for way in DIFFER for _, text in errors):
         pair = found and first_difference(found[1], found[2])
         if pair:
-            return f"{pair[1]} and not {pair[0]}"
+            return f"{pair[1]} is not {pair[0]}"
     return None
 
 
@@ -263,7 +274,7 @@ def first_difference(expected, found):
     heads = [["∷", *text] if text[1:2] == ["∷"] else text for text in words]
     pair = next(((a, b) for a, b in zip(*heads) if a != b), None)
     if pair and all(VALUE.fullmatch(word) for word in pair):
-        return tuple(short(text) for text in (expected, found)) if len(expected + found) < 160 else pair
+        return pair if len(expected + found) > 120 or " ≡ " in expected or expected.startswith("Path ") else (expected, found)
     return None
 
 
