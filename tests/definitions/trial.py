@@ -14,7 +14,7 @@ from kept import BadEdit
 KIT = os.path.dirname(os.path.dirname(os.path.realpath(shutil.which("rt") or "rt")))
 ERROR = re.compile(r"^\./specs/(\w+)/(\w+)\.antt:\d+:\d+: error: (.*(?:\n[ \t].*)*)", re.M)
 # How the two types that don't fit are told apart, the most telling way first.
-TWO = r"two types differ only\s+where one has `(.*?)`\s+\(expected\).*?the other has `(.*?)`\s+\(found\)"
+TWO = r"two types (?:differ only|first differ)\s+where one has `(.*?)`\s+\(expected\).*?the other has `(.*?)`\s+\(found\)"
 ARE = r"two types are\s+`(.*?)`\s+\(expected\)\s+and\s+`(.*?)`\s+\(found\)"
 DIFFER = [re.compile(how, re.S) for how in (rf"computed as far as they go, the {TWO}", rf"computed as far as they go, the {ARE}", rf"as printed, the {TWO}", r"expected type `(.*?)`,?\s+but this has type `(.*?)`(?!\S)")]
 # The first word of a value: a number, a constructor, or what begins a list, a pair or a record.
@@ -119,10 +119,11 @@ def parts_of_rows(text):
 
 def behind(name, rows):
     """An example, and what else of its file its proof cites."""
+    proofs = {row: " ".join(re.split(rf"^{re.escape(row)}(?! *:)", text, flags=re.M)[1:]) for row, text in rows.items()}
     found, left = set(), {name}
     while left:
         found |= left
-        left = {other for row in left for other in rows if re.search(rf"(?<![\w.']){re.escape(other)}(?![\w'])", rows[row])} - found
+        left = {other for row in left for other in rows if re.search(rf"(?<![\w.']){re.escape(other)}(?![\w'])", proofs[row])} - found
     return found
 
 

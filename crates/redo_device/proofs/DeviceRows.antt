@@ -56,7 +56,7 @@ untold = (refl, refl, (λ is. cc))
 -- leaves another rest
 no_reads :
     (Pulls (Some three) (Some three) (Ok 0) [] → ⊥) × (Pulls (Some then_fails) (Some failed) (Err (record {})) [] → ⊥)
-    × (Pulls (Some three) (Some last_byte) (Ok 2) (1 ∷ 9 ∷ []) → ⊥) × (Pulls (Some last_byte) (Some failed) (Ok 2) (3 ∷ 9 ∷ []) → ⊥)
+    × (Pulls (Some then_fails) (Some last_byte) (Ok 2) (1 ∷ 9 ∷ []) → ⊥) × (Pulls (Some last_byte) (Some failed) (Ok 2) (3 ∷ 9 ∷ []) → ⊥)
     × (Pulls (Some three) (Some at_end) (Ok 3) (1 ∷ 2 ∷ []) → ⊥) × (Pulls (Some then_fails) (Some failed) (Ok 2) (1 ∷ 2 ∷ []) → ⊥)
 no_reads = ((λ is. omega (arith, is.0.some)), (λ is. is), (λ is. let same = is.0.front in cc), (λ is. omega (arith, is.0.come)), (λ is. omega (arith, is.0.fits)), (λ is. let same = ap bytes_left is.1 in cc))
 
