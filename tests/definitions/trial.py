@@ -92,7 +92,10 @@ class Crate:
             yield f"use {aliases[alias]} as {alias}"
 
     def unfoldable(self):
-        return [(module, name) for module in self.modules for name in re.findall(r"^unfoldable (?:pub )?(\S+) *:", self.texts[module], re.M)]
+        """What has to be opened to compute: what the crate's own definitions and its examples open."""
+        own = [name for module in self.modules for name in re.findall(r"^unfoldable (?:pub )?(\S+) *:", self.texts[module], re.M)]
+        opened = [name for text in self.rows.values() for names in re.findall(r"^unfolding (.*)", text, re.M) for name in names.split()]
+        return list(dict.fromkeys(own + opened))
 
 
 def common():
@@ -185,8 +188,8 @@ class Trial:
         uses = re.findall(r"^ghost (use .*);$", self.crate.laws, re.M)
         uses += [f"use Rattle.{self.name}.specs.differs.Differs.{{differ}}", *wrong.uses]
         unfoldable = self.crate.unfoldable()
-        uses += self.crate.uses_for(" ".join([statement, wrong.term, *(name for _, name in unfoldable)]), uses)
-        unfolding = f"unfolding {' '.join(name for _, name in unfoldable)}\n" if unfoldable else ""
+        uses += self.crate.uses_for(" ".join([statement, wrong.term, *unfoldable]), uses)
+        unfolding = f"unfolding {' '.join(unfoldable)}\n" if unfoldable else ""
         return "\n".join(uses) + f"\n\nrefuted : ({statement}) → ⊥\n{unfolding}{wrong.term}\n"
 
     def write(self, folder, texts, copied=()):
