@@ -1,7 +1,7 @@
-"""Tries the wrong definitions of a crate: one check of a library that has, of each, a copy of what stands on it.
+"""Tries wrong definitions: one check of a library that has, of each, a copy of what stands on it.
 
-The copies are modules of that library, below specs/wrong_K. They stand on the crate itself and on those below it, which
-are given as sources: of these nothing is proved, only what the copies import is read.
+The copies are modules of that library, below specs/wrong_K. They stand on the crates themselves, which are given as
+sources: of these nothing is proved, only what the copies import is read. So no library has to be built.
 """
 import os
 import re
@@ -20,6 +20,7 @@ DIFFER = [re.compile(how, re.S) for how in (rf"computed as far as they go, the {
 # The first word of a value: a number, a constructor, or what begins a list, a pair or a record.
 VALUE = re.compile(r"\d+|\[\]|∷|true|false|zero|suc|pos|negsuc|record|tt|(?:\w+\.)*[A-Z]\w*")
 COMMON = "Rattle.std.proofs.Common"
+DIFFER_IN = "Rattle.wrong.specs.differs.Differs"
 NO_TEXT = re.compile(r'"[^"]*"')
 # What every trial has: two values that a test tells apart are not equal; and that what is wrong is found at all.
 DIFFERS = f"""-- Values that a test tells apart are not equal.
@@ -87,11 +88,11 @@ class Crate:
         operators = {name for name in origin if "◌" in name and all(part in NO_TEXT.sub("", text) for part in name.split("◌"))}
         for word in sorted((words & set(origin) | operators) - set(has.words)):
             module, name = origin[word]
-            yield f"use {module}.{{{name}{'' if name == word else f' as {word}'}}}"
+            yield word, f"use {module}.{{{name}{'' if name == word else f' as {word}'}}}"
         for alias in sorted(word for word in aliases if f"{word}." in text and word not in has.modules):
-            yield f"use {aliases[alias]} as {alias}"
+            yield alias, f"use {aliases[alias]} as {alias}"
 
-    def unfoldable(self):
+    def opened(self):
         """What has to be opened to compute: what the crate's own definitions and its examples open."""
         own = [name for module in self.modules for name in re.findall(r"^unfoldable (?:pub )?(\S+) *:", self.texts[module], re.M)]
         opened = [name for text in self.rows.values() for names in re.findall(r"^unfolding (.*)", text, re.M) for name in names.split()]
@@ -133,73 +134,43 @@ def behind(name, rows):
 class Trial:
     """A library of copies, in a folder of its own."""
 
-    def __init__(self, crate, wrongs, folder):
-        self.crate, self.wrongs, self.folder = crate, wrongs, folder
-        self.name = "wrong_" + crate.name
-        self.checked, self.bad = [], {}
+    def __init__(self, wrongs, folder):
+        self.wrongs, self.folder = wrongs, folder
+        self.crates = {name: Crate(name) for name in dict.fromkeys(wrong.crate for wrong in wrongs)}
+        self.written, self.bad = [], {}
         shutil.rmtree(folder, ignore_errors=True)
         self.write("differs", {"Differs": DIFFERS, "Control": CONTROL})
-        self.write("wrong_0", {**crate.texts, **{rows: crate.rows[rows] for rows in self.rows_named()}}, crate.modules)
-        for number, wrong in enumerate(wrongs, 1):
+        for crate in self.crates.values():
+            rows = {wrong.where.split(".")[0] for wrong in wrongs if wrong.crate == crate.name and wrong.by == "row"} & set(crate.rows)
+            self.write(crate.name, {**crate.texts, **{file: crate.rows[file] for file in rows}}, crate, crate.modules)
+        for number, wrong in enumerate(wrongs):
             try:
                 self.write(f"wrong_{number}", *self.copies(wrong))
             except BadEdit as error:
                 self.bad[number] = str(error)
-        folders = sorted({folder for folder, _ in self.checked})
-        self.put("specs/Lib.antt", "".join(f"pub mod {name}\n" for name in folders))
-        uses = "".join(f"ghost use Rattle.{self.name}.specs.{folder}.{module} as {folder}_{module};\n" for folder, module in self.checked)
+        self.put("specs/Lib.antt", "".join(f"pub mod {name}\n" for name in sorted({name for name, _ in self.written})))
+        uses = "".join(f"ghost use Rattle.wrong.specs.{name}.{module} as {name}_{module};\n" for name, module in self.written)
         self.put("src/lib.rt", f"//! Wrong definitions.\n{uses}\npub fn tried()\n    ensures {{ Unit {{0}} }}\n{{}}\n")
-
-    def rows_named(self):
-        return sorted({wrong.where.split(".")[0] for wrong in self.wrongs if wrong.by == "row"} & set(self.crate.rows))
 
     def copies(self, wrong):
         """The texts of the modules that a wrong definition changes, and of those that stand on them up to what refuses it."""
-        changed = wrong.texts()
+        crate, changed = self.crates[wrong.crate], wrong.texts()
         if wrong.by == "row":
-            name, text = self.rows_with(wrong)
+            name, text = example(crate, wrong)
         else:
-            name, text = "Refuted", self.refuted(wrong)
-        needed = self.crate.below(self.crate.imported(text))
-        copied = {module for module in self.crate.modules if module in changed or (module in needed and self.crate.below({module}) & set(changed))}
-        return {**{module: changed.get(module, self.crate.texts[module]) for module in copied}, name: text}, copied
+            name, text = "Refuted", refuted_law(crate, wrong)
+        needed = crate.below(crate.imported(text))
+        copied = {module for module in crate.modules if module in changed or (module in needed and crate.below({module}) & set(changed))}
+        return {**{module: changed.get(module, crate.texts[module]) for module in copied}, name: text}, crate, copied
 
-    def rows_with(self, wrong):
-        """An example alone, with what its file has beside the examples; or that it fails."""
-        file, _, name = wrong.where.partition(".")
-        if file not in self.crate.rows:
-            raise BadEdit(f"there is no proofs/{file}.antt")
-        rows, others = parts_of_rows(self.crate.rows[file])
-        if name not in rows:
-            raise BadEdit(f"proofs/{file}.antt has no {name}")
-        if not wrong.term:
-            return file, others + "".join(text for row, text in rows.items() if row in behind(name, rows))
-        head = re.match(rf"{re.escape(name)}\s*:\s*(.*?)\n(unfolding [^\n]*\n)?{re.escape(name)} ", rows[name], re.S)
-        uses = [f"use Rattle.{self.name}.specs.differs.Differs.{{differ}}", *wrong.uses]
-        more = self.crate.uses_for(wrong.term, [*uses, others])
-        own = parts_of_rows(others)[1]
-        local = set(re.findall(r"^(?:abbrev|record|data) (?:pub )?(\S+)", own, re.M))
-        uses += [use for use in more if not re.search(r"\{(\S+)\}$", use) or re.search(r"\{(\S+)\}$", use)[1] not in local]
-        return file, "\n".join(uses) + "\n" + others + f"refuted :\n    ({head[1]}) → ⊥\n{head[2] or ''}{wrong.term}\n"
-
-    def refuted(self, wrong):
-        """That a law fails."""
-        statement = self.crate.statement(wrong.where)
-        uses = re.findall(r"^ghost (use .*);$", self.crate.laws, re.M)
-        uses += [f"use Rattle.{self.name}.specs.differs.Differs.{{differ}}", *wrong.uses]
-        unfoldable = self.crate.unfoldable()
-        uses += self.crate.uses_for(" ".join([statement, wrong.term, *unfoldable]), uses)
-        unfolding = f"unfolding {' '.join(unfoldable)}\n" if unfoldable else ""
-        return "\n".join(uses) + f"\n\nrefuted : ({statement}) → ⊥\n{unfolding}{wrong.term}\n"
-
-    def write(self, folder, texts, copied=()):
+    def write(self, name, texts, crate=None, copied=()):
         """Modules in a folder, which import each other where they are copies."""
         for module, text in texts.items():
             for other in copied:
-                text = re.sub(rf"\bRattle\.{self.crate.name}\.specs\.{other}\b", f"Rattle.{self.name}.specs.{folder}.{other}", text)
-            self.put(f"specs/{folder}/{module}.antt", text)
-            self.checked.append((folder, module))
-        self.put(f"specs/{folder}.antt", "".join(f"pub mod {module}\n" for module in sorted(texts)))
+                text = re.sub(rf"\bRattle\.{crate.name}\.specs\.{other}\b", f"Rattle.wrong.specs.{name}.{other}", text)
+            self.put(f"specs/{name}/{module}.antt", text)
+            self.written.append((name, module))
+        self.put(f"specs/{name}.antt", "".join(f"pub mod {module}\n" for module in sorted(texts)))
 
     def put(self, path, text):
         path = os.path.join(self.folder, path)
@@ -217,32 +188,33 @@ class Trial:
             if crate in below and crate not in own:
                 own.append(crate)
 
-        visit(self.crate.name)
+        for crate in self.crates:
+            visit(crate)
         theirs = sorted({"core", "std", *(lower for crate in own for lower in below[crate] if lower not in below)})
-        words = [os.path.join(KIT, "bin/rattle"), "check", "--crate-name", self.name, "src/lib.rt", "-L", f"dependency={KIT}/rlibs"]
+        words = [os.path.join(KIT, "bin/rattle"), "check", "--crate-name", "wrong", "src/lib.rt", "-L", f"dependency={KIT}/rlibs"]
         for library in theirs:
             words += ["--extern", f"{library}={KIT}/rlibs/{library}.rlib"]
         for crate in own:
             words += ["--lib", f"{crate}:{','.join(dict.fromkeys(['core', 'std', *below[crate]]))}={TOP}/crates/{crate}/src/lib.rt"]
         logic = ["--antt-project", f"{KIT}/rattle/logic/antt-project.json", "--logic-built", f"{KIT}/logic_built"]
-        return words + logic + ["--links", f"{self.name}=", "--jobs", "1", "--only", "tried"]
+        return words + logic + ["--links", "wrong=", "--jobs", "1", "--only", "tried"]
 
     def run(self):
-        """What became of each wrong definition: whether it was refused, and how."""
-        ran = subprocess.run(self.command(), cwd=self.folder, stdout=subprocess.PIPE, stderr=subprocess.STDOUT, text=True, errors="replace", timeout=1800)
-        with open(os.path.join(self.folder, "output"), "w", encoding="utf-8") as file:
-            file.write(ran.stdout)
-        errors = [(folder, module, text) for folder, module, text in ERROR.findall(ran.stdout)]
-        of = lambda folder: [(module, text) for folder_of, module, text in errors if folder_of == folder]
-        if not re.search(r"^only=1 ", ran.stdout, re.M) or not refusal(of("differs"), "Control", "refused"):
-            last = [line for line in ran.stdout.splitlines() if "error" in line][:3]
-            return [(None, f"{self.crate.name}: the check came to no end: {' / '.join(last)[:600]}")]
-        untouched = [f"{self.crate.name}: without any edit: {module}: {first_line(text)}" for module, text in of("wrong_0")]
-        untouched += [f"{self.crate.name}: {module}: {first_line(text)}" for module, text in of("differs") if module == "Differs"]
-        return [(None, fault) for fault in untouched] + [self.judged(number, wrong, of(f"wrong_{number}")) for number, wrong in enumerate(self.wrongs, 1)]
+        """What became of the wrong definitions: of each whether it was refused, and how; and what is amiss else."""
+        ran = subprocess.run(self.command(), cwd=self.folder, stdout=subprocess.PIPE, stderr=subprocess.STDOUT, text=True, errors="replace", check=False)
+        self.put("output", ran.stdout)
+        errors = {}
+        for name, module, text in ERROR.findall(ran.stdout):
+            errors.setdefault(name, []).append((module, text))
+        control = errors.pop("differs", [])
+        if not re.search(r"^only=1 ", ran.stdout, re.M) or not refusal(control, "Control", "refused"):
+            last = [line for line in ran.stdout.splitlines() if "error" in line][:3] or ran.stdout.splitlines()[-3:]
+            return [(False, f"the check came to no end: {' / '.join(last)[:600]}")]
+        amiss = [f"{name} without an edit: {module}: {first_line(text)}" for name in self.crates for module, text in errors.get(name, [])]
+        return [(False, fault) for fault in amiss] + [self.judged(number, wrong, errors.get(f"wrong_{number}", [])) for number, wrong in enumerate(self.wrongs)]
 
     def judged(self, number, wrong, errors):
-        name = f"{self.crate.name}: {wrong.name}"
+        name = f"{wrong.crate}: {wrong.name}"
         file, _, row = wrong.where.partition(".")
         last = file if wrong.by == "row" else "Refuted"
         ill = [f"{module}: {first_line(text)}" for module, text in errors if module != last]
@@ -258,6 +230,33 @@ class Trial:
         if errors:
             return False, f"{name}: NOT REFUSED: the text of {wrong.where} no longer fits, which says nothing: {first_line(errors[0][1])}"
         return False, f"{name}: NOT REFUSED by row {wrong.where}"
+
+
+def example(crate, wrong):
+    """An example alone, with what its file has beside the examples; or that it fails."""
+    file, _, name = wrong.where.partition(".")
+    if file not in crate.rows:
+        raise BadEdit(f"there is no proofs/{file}.antt")
+    rows, others = parts_of_rows(crate.rows[file])
+    if name not in rows:
+        raise BadEdit(f"proofs/{file}.antt has no {name}")
+    if not wrong.term:
+        return file, others + "".join(text for row, text in rows.items() if row in behind(name, rows))
+    head = re.match(rf"{re.escape(name)}\s*:\s*(.*?)\n(unfolding [^\n]*\n)?{re.escape(name)} ", rows[name], re.S)
+    uses = [f"use {DIFFER_IN}.{{differ}}", *wrong.uses]
+    own = set(re.findall(r"^(?:abbrev|record|data) (?:pub )?(\S+)", others, re.M))
+    uses += [use for word, use in crate.uses_for(wrong.term, [*uses, others]) if word not in own]
+    return file, "\n".join(uses) + f"\n{others}refuted :\n    ({head[1]}) → ⊥\n{head[2] or ''}{wrong.term}\n"
+
+
+def refuted_law(crate, wrong):
+    """That a law fails."""
+    statement = crate.statement(wrong.where)
+    opened = crate.opened()
+    uses = [*re.findall(r"^ghost (use .*);$", crate.laws, re.M), f"use {DIFFER_IN}.{{differ}}", *wrong.uses]
+    uses += [use for _, use in crate.uses_for(" ".join([statement, wrong.term, *opened]), uses)]
+    unfolding = f"unfolding {' '.join(opened)}\n" if opened else ""
+    return "\n".join(uses) + f"\n\nrefuted : ({statement}) → ⊥\n{unfolding}{wrong.term}\n"
 
 
 def refusal(errors, file, row):
