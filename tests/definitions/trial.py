@@ -17,8 +17,8 @@ ERROR = re.compile(r"^\./specs/(\w+)/(\w+)\.antt:\d+:\d+: error: (.*(?:\n[ \t].*
 TWO = r"two types (?:differ only|first differ)\s+where one has `(.*?)`\s+\(expected\).*?the other has `(.*?)`\s+\(found\)"
 ARE = r"two types are\s+`(.*?)`\s+\(expected\)\s+and\s+`(.*?)`\s+\(found\)"
 DIFFER = [re.compile(how, re.S) for how in (rf"computed as far as they go, the {TWO}", rf"computed as far as they go, the {ARE}", rf"as printed, the {TWO}", r"expected type `(.*?)`,?\s+but this has type `(.*?)`(?!\S)")]
-# The first word of a value: a number, a constructor, or what begins a list, a pair or a record.
-VALUE = re.compile(r"\d+|\[\]|∷|true|false|zero|suc|pos|negsuc|record|tt|(?:\w+\.)*[A-Z]\w*")
+# What begins a value, beside the constructors of the crates' own types: a number, or a constructor of a common type.
+VALUE = re.compile(r"\d+|\[\]|∷|true|false|zero|suc|pos|negsuc|record|tt|Some|None|Ok|Err|inl|inr")
 COMMON = "Rattle.std.proofs.Common"
 DIFFER_IN = "Rattle.wrong.specs.differs.Differs"
 NO_TEXT = re.compile(r'"[^"]*"')
@@ -50,6 +50,11 @@ class Crate:
         laws = os.path.join("crates", name, "src/laws.rt")
         self.laws = read(laws) if os.path.isfile(os.path.join(TOP, laws)) else ""
         self.imports = {module: self.imported(text) for module, text in self.texts.items()}
+        sources = [*self.texts.values(), *self.rows.values()]
+        variants = re.findall(r"\.TheVariants\.\{([^}]*)\}", "\n".join(sources))
+        self.constructors = {name.split(" as ")[-1].strip() for names in variants for name in names.split(",")}
+        for enum in re.findall(r"^pub data [^\n]* where\n((?: +.*\n)+)", "\n".join(sources), re.M):
+            self.constructors |= set(re.findall(r"^ +(\S+) *:", enum, re.M))
 
     def imported(self, text):
         return {module for module in re.findall(rf"Rattle\.{self.name}\.specs\.(\w+)", text) if module in self.modules}
@@ -207,7 +212,7 @@ class Trial:
         for name, module, text in ERROR.findall(ran.stdout):
             errors.setdefault(name, []).append((module, text))
         control = errors.pop("differs", [])
-        if not re.search(r"^only=1 ", ran.stdout, re.M) or not refusal(control, "Control", "refused"):
+        if not re.search(r"^only=1 ", ran.stdout, re.M) or not refusal(control, "Control", "refused", set()):
             last = [line for line in ran.stdout.splitlines() if "error" in line][:3] or ran.stdout.splitlines()[-3:]
             return [(False, f"the check came to no end: {' / '.join(last)[:600]}")]
         amiss = [f"{name} without an edit: {module}: {first_line(text)}" for name in self.crates for module, text in errors.get(name, [])]
@@ -224,7 +229,7 @@ class Trial:
             if errors:
                 return False, f"{name}: NOT REFUTED: {wrong.by} {wrong.where}: {first_line(errors[0][1])}"
             return True, f"{name}: refused by {wrong.by} {wrong.where}"
-        told = refusal(errors, file, row)
+        told = refusal(errors, file, row, self.crates[wrong.crate].constructors)
         if told:
             return True, f"{name}: refused by row {wrong.where}: {told}"
         if errors:
@@ -259,25 +264,25 @@ def refuted_law(crate, wrong):
     return "\n".join(uses) + f"\n\nrefuted : ({statement}) → ⊥\n{unfolding}{wrong.term}\n"
 
 
-def refusal(errors, file, row):
-    """What a row computes to where it should compute to something else, if it does."""
+def refusal(errors, file, row, constructors):
+    """What an example computes to where it should compute to something else, if it does."""
     if any(module != file or not text.startswith(f"`{row}`") for module, text in errors):
         return None
     for found in (way.search(text) for way in DIFFER for _, text in errors):
-        pair = found and first_difference(found[1], found[2])
+        pair = found and first_difference(found[1], found[2], constructors)
         if pair:
             return f"{pair[1]} is not {pair[0]}"
     return None
 
 
-def first_difference(expected, found):
+def first_difference(expected, found, constructors):
     """The first words in which two terms differ, if they are two numbers or constructors, which are never equal."""
     words = [re.findall(r"[^\s(){};,=]+", text) for text in (expected, found)]
     # a list that goes on differs from the empty one in what follows its first element
     heads = [["∷", *text] if text[1:2] == ["∷"] else text for text in words]
     pair = next(((a, b) for a, b in zip(*heads) if a != b), None)
-    if pair and all(VALUE.fullmatch(word) for word in pair):
-        return pair if len(expected + found) > 120 or " ≡ " in expected or expected.startswith("Path ") else (expected, found)
+    if pair and all(VALUE.fullmatch(word) or word.split(".")[-1] in constructors for word in pair):
+        return (expected, found) if len(expected + found) < 80 and "≡" not in expected and not expected.startswith("Path ") else pair
     return None
 
 

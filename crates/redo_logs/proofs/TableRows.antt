@@ -114,5 +114,5 @@ no_lines : (AreLinesAt texts 0 2 [] 1 → ⊥) × (AreLinesAt texts 0 2 (10 ∷ 
 no_lines = (
   (λ is. empty_has_line is.texts is.count_is is.bytes_are),
   (λ is. none_has_none is.texts is.count_is is.bytes_are),
-  (λ is. mention_has_none is.texts is.are is.count_is)
+  (λ is. mention_has_none is.texts is.are is.count_is),
 )
