@@ -73,6 +73,8 @@ def kept(crate):
     for wrong in found:
         if not wrong.edits or not wrong.where or wrong.edits[-1][2] is None or (wrong.by == "law" and not wrong.term):
             raise SystemExit(f"tests/definitions/{crate}.txt: {wrong.name} lacks a part")
+        if "?" in (wrong.term or ""):
+            raise SystemExit(f"tests/definitions/{crate}.txt: {wrong.name} has a hole in its proof")
     names = [wrong.name for wrong in found]
     twice = sorted({name for name in names if names.count(name) > 1})
     if twice:
