@@ -19,6 +19,7 @@ ARE = r"two types are\s+`(.*?)`\s+\(expected\)\s+and\s+`(.*?)`\s+\(found\)"
 DIFFER = [re.compile(how, re.S) for how in (rf"computed as far as they go, the {TWO}", rf"computed as far as they go, the {ARE}", rf"as printed, the {TWO}", r"expected type `(.*?)`,?\s+but this has type `(.*?)`(?!\S)")]
 # What begins a value, beside the constructors of the crates' own types: a number, or a constructor of a common type.
 VALUE = re.compile(r"\d+|\[\]|∷|true|false|zero|suc|pos|negsuc|record|tt|Some|None|Ok|Err|inl|inr")
+CONSTRUCTOR = re.compile(r"Rattle\.(?:\w+\.)+(?:TheVariants|(\w+)\.\1)\.[A-Z]\w*")
 COMMON = "Rattle.std.proofs.Common"
 DIFFER_IN = "Rattle.wrong.specs.differs.Differs"
 NO_TEXT = re.compile(r'"[^"]*"')
@@ -83,7 +84,7 @@ class Crate:
         """`use` lines for the names that a text cites, but for those that stand in other ones."""
         origin = {name: (COMMON, name) for names in re.findall(r"\.\{([^}]*)\}", common()) for name in map(str.strip, names.split(","))}
         aliases = {}
-        for source in [*self.rows.values(), *self.texts.values()]:
+        for source in [*self.texts.values(), *self.rows.values()]:
             names = Names(source)
             origin.update({word: place for word, place in names.words.items() if f"Rattle.{self.name}.proofs." not in place[0]})
             aliases.update(names.modules)
@@ -281,7 +282,8 @@ def first_difference(expected, found, constructors):
     # a list that goes on differs from the empty one in what follows its first element
     heads = [["∷", *text] if text[1:2] == ["∷"] else text for text in words]
     pair = next(((a, b) for a, b in zip(*heads) if a != b), None)
-    if pair and all(VALUE.fullmatch(word) or word.split(".")[-1] in constructors for word in pair):
+    if pair and all(VALUE.fullmatch(word) or CONSTRUCTOR.fullmatch(word) or word.split(".")[-1] in constructors for word in pair):
+        pair = tuple(word.split(".")[-1] for word in pair)
         return (expected, found) if len(expected + found) < 80 and "≡" not in expected and not expected.startswith("Path ") else pair
     return None
 
