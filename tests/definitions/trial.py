@@ -282,7 +282,7 @@ def first_difference(expected, found, constructors):
     # a list that goes on differs from the empty one in what follows its first element
     heads = [["∷", *text] if text[1:2] == ["∷"] else text for text in words]
     pair = next(((a, b) for a, b in zip(*heads) if a != b), None)
-    if pair and all(VALUE.fullmatch(word) or CONSTRUCTOR.fullmatch(word) or word.split(".")[-1] in constructors for word in pair):
+    if pair and all(VALUE.fullmatch(word.split(".")[-1]) or CONSTRUCTOR.fullmatch(word) or word.split(".")[-1] in constructors for word in pair):
         pair = tuple(word.split(".")[-1] for word in pair)
         return (expected, found) if len(expected + found) < 80 and "≡" not in expected and not expected.startswith("Path ") else pair
     return None
