@@ -1,3 +1,4 @@
+mod DeviceRows
 pub mod GaveLemmas
 mod PieceLemmas
 mod SinkLemmas

@@ -2,7 +2,8 @@
 use Rattle.std.proofs.Common.{◌≡◌, ℕ, List, [], ◌∷◌, Option, None, Some, refl}
 use Rattle.std.specs.Prelude.{codes}
 use Rattle.std.specs.List.{AllByRecursion}
-use Rattle.redo_name.specs.Names.{from_back, normal}
+use Rattle.redo_name.specs.Laws.{IsOrdinary, IsRelative}
+use Rattle.redo_name.specs.Names.{dot, dot_dot, from_back, normal, HasNoSlash, IsNormal}
 
 record Row : Type 0 where
   of : Option (List ℕ)
@@ -37,3 +38,15 @@ rows =
 computed : AllByRecursion (λ r. normal r.of r.name ≡ r.value) rows
 unfolding from_back normal
 computed = (refl, (refl, (refl, (refl, (refl, (refl, (refl, (refl, (refl, (refl, (refl, (refl, (refl, (refl, (refl, (refl, (refl, (refl, (refl, tt)))))))))))))))))))
+
+-- a normal form is its own, and no other name is
+normal_forms : IsNormal (codes "../a/b") × IsNormal (codes "/") × IsNormal (codes ".") × (IsNormal (codes "a/") → ⊥) × (IsNormal [] → ⊥)
+unfolding from_back normal
+normal_forms = (refl, refl, refl, (λ is. cc), (λ is. cc))
+
+-- the premises of the laws hold where they should, and nowhere else
+premises : HasNoSlash (codes "a.b") × IsRelative (codes "a/b") × IsOrdinary (codes "..a")
+premises = (((λ same. cc), ((λ same. cc), ((λ same. cc), tt))), ((λ same. cc), refl), ((λ same. cc), (λ same. cc), (λ same. cc)))
+
+no_premises : (HasNoSlash (codes "a/b") → ⊥) × (IsRelative (codes "/a") → ⊥) × (IsRelative [] → ⊥) × (IsOrdinary [] → ⊥) × (IsOrdinary dot → ⊥) × (IsOrdinary dot_dot → ⊥)
+no_premises = ((λ is. is.1.0 refl), (λ is. let same = is.1 in cc), (λ is. is.0 refl), (λ is. is.0 refl), (λ is. is.1 refl), (λ is. is.2 refl))

@@ -1,0 +1,111 @@
+"""The wrong definitions that are kept, as they stand in this folder's files: one for each crate, named for it.
+
+    == what_is_wrong_in_words
+    file: Names                       a file of the crate's specs/
+    old: TEXT                         one line, which stands once in the file
+    new: TEXT                         (more of these may follow, and of other files)
+    by: row NameRows.computed         what refuses it: an example of the crate's proofs/, ..
+    by: law one_cutting.only          .. or a clause of its src/laws.rt; of a law with one clause its name alone
+    refuted is = TERM                 that the statement fails then, which a law needs; it may go on on indented lines
+
+What the term cites is imported by itself where the crate's files tell from where; else a line `use: MODULE.{name}` does.
+"""
+import os
+import re
+from contracts import TOP, Specs, read
+
+FOLDER = os.path.dirname(os.path.abspath(__file__))
+
+
+class BadEdit(Exception):
+    """A wrong definition that can't be tried."""
+
+
+class Wrong:
+    def __init__(self, crate, name):
+        self.crate, self.name = crate, name
+        self.edits, self.by, self.where, self.term, self.uses = [], None, None, None, []
+
+    def texts(self):
+        """The files that it changes, with their text then."""
+        changed = {}
+        for file, old, new in self.edits:
+            text = changed.get(file) or specs_file(self.crate, file)
+            if text.count(old) != 1:
+                raise BadEdit(f"'{old}' stands {text.count(old)} times in {file}.antt")
+            changed[file] = text.replace(old, new)
+        return changed
+
+    def definitions(self):
+        """The definitions that it changes, each as a module and a name."""
+        places = set()
+        for file, text in self.texts().items():
+            were, are = definitions_in(self.crate, file, specs_file(self.crate, file)), definitions_in(self.crate, file, text)
+            places |= {place for place in were if are.get(place) != were[place]}
+        return places
+
+
+def specs_file(crate, file):
+    if not os.path.isfile(os.path.join(TOP, "crates", crate, "specs", file + ".antt")):
+        raise BadEdit(f"there is no specs/{file}.antt")
+    return read("crates", crate, "specs", file + ".antt")
+
+
+def definitions_in(crate, file, text):
+    specs = Specs([])
+    specs.add(f"Rattle.{crate}.specs.{file}", re.sub(r"--[^\n]*", "", text))
+    return {place: re.sub(r"\s+", " ", own).strip() for place, (_, own) in specs.texts.items()}
+
+
+def crates_kept():
+    return sorted(name.removesuffix(".txt") for name in os.listdir(FOLDER) if name.endswith(".txt"))
+
+
+def kept(crate):
+    """The wrong definitions of a crate."""
+    found = []
+    with open(os.path.join(FOLDER, crate + ".txt"), encoding="utf-8") as file:
+        for number, line in enumerate(file.read().splitlines(), 1):
+            try:
+                take(line, crate, found)
+            except (ValueError, IndexError) as error:
+                raise SystemExit(f"tests/definitions/{crate}.txt:{number}: {error}: {line}")
+    for wrong in found:
+        if not wrong.edits or not wrong.where or wrong.edits[-1][2] is None or (wrong.by == "law" and not wrong.term):
+            raise SystemExit(f"tests/definitions/{crate}.txt: {wrong.name} lacks a part")
+        if "?" in (wrong.term or ""):
+            raise SystemExit(f"tests/definitions/{crate}.txt: {wrong.name} has a hole in its proof")
+    names = [wrong.name for wrong in found]
+    twice = sorted({name for name in names if names.count(name) > 1})
+    if twice:
+        raise SystemExit(f"tests/definitions/{crate}.txt: these names stand twice: {', '.join(twice)}")
+    return found
+
+
+def take(line, crate, found):
+    """Adds what a line says to the wrong definitions that were found above it."""
+    if line.startswith("== "):
+        found.append(Wrong(crate, line[3:].strip()))
+        return
+    if not line.strip() or line.startswith("#"):
+        return
+    wrong = found[-1]
+    word, _, text = line.partition(":")
+    if line[0].isspace() and wrong.term:
+        wrong.term += "\n" + line
+    elif line.startswith("refuted "):
+        wrong.term = line
+    elif word == "file":
+        wrong.file = text.strip()
+    elif word == "old":
+        wrong.edits.append((wrong.file, text[1:], None))
+    elif word == "new":
+        wrong.edits[-1] = (*wrong.edits[-1][:2], text[1:])
+    elif word == "use":
+        wrong.uses.append("use " + text.strip())
+    elif word == "by":
+        wrong.by, wrong.where = text.split()
+        if wrong.by not in ("row", "law"):
+            raise ValueError("neither a row nor a law")
+    else:
+        raise ValueError("no line of a wrong definition")

@@ -1,0 +1,168 @@
+"""What stands in the repository's crates: its definitions, with what each cites, and its public contracts."""
+import os
+import re
+
+TOP = os.path.dirname(os.path.dirname(os.path.dirname(os.path.abspath(__file__))))
+WORD = re.compile(r"[^\W\d]\w*")
+DOTTED = re.compile(r"[^\W\d][\w'-]*(?:\.[^\W\d][\w'-]*)*")
+IMPORT = re.compile(r"^\s*(?:ghost )?use (Rattle\.[\w.+]+?)(?:\.\{([^}]*)\})?(?: as (\w+))?;?\s*$", re.M)
+CLAUSE = re.compile(r"(?:\brequires|\bensures)\*?(?:\s+\w+)?\s*$")
+GHOST = re.compile(r"\bghost\s+(?!use\b)(\w+)\s*[=:]\s*$")
+ITEM = re.compile(r"\s*(?:#\[[^\]]*\]\s*)*(pub(?:\([^)]*\))? )?(?:unsafe |const )*(impl|trait|mod|struct|enum|fn)\b\s*(.*)", re.S)
+# A comment, a text, or a letter, whose braces are none.
+NO_CODE = re.compile(r'//[^\n]*|/\*.*?\*/|b?"(?:\\.|[^"\\])*"|b?\'(?:\\[^\n\']+|[^\\\'\n])\'', re.S)
+# Where a definition begins, also within a module with parameters.
+HEAD = r"(?:(?:pub (?!mod )|abbrev |unfoldable |record |data )+| +(?:(?:abbrev|unfoldable) (?:pub )?|pub (?:record|data) ))(?=[\w◌])"
+
+
+def read(*path):
+    with open(os.path.join(TOP, *path), encoding="utf-8") as file:
+        return file.read()
+
+
+def files(folder, ending):
+    """The files below a folder of the repository, by their paths in it."""
+    top = os.path.join(TOP, folder)
+    return sorted(os.path.relpath(os.path.join(here, name), top) for here, _, names in os.walk(top) for name in names if name.endswith(ending))
+
+
+def libraries_of(program):
+    """The libraries below a program, each behind those that it stands on."""
+    below = {crate.split()[0]: lower.split() for crate, lower in re.findall(r"^([^#\n:]+):([^#\n]*)", read("crates.txt"), re.M)}
+    order = []
+
+    def visit(crate):
+        for lower in below.get(crate, []):
+            visit(lower)
+        if crate in below and crate not in order + [program]:
+            order.append(crate)
+
+    visit(program)
+    return order
+
+
+class Names:
+    """What the words of a file stand for, by its imports; its own definitions stand in the module `own`."""
+
+    def __init__(self, text, own=None):
+        self.words, self.modules, self.own = {}, {}, own
+        for module, names, alias in IMPORT.findall(text):
+            for name in filter(None, map(str.strip, names.split(","))):
+                word, _, other = name.partition(" as ")
+                self.words[other or word] = (module, word)
+            if not names:
+                self.modules[alias or module.rsplit(".", 1)[-1]] = module
+
+    def cited(self, text):
+        """What a text cites, each as a module and a name."""
+        for dotted in DOTTED.findall(text):
+            first, *others = dotted.split(".")
+            if first in self.words:
+                yield self.words[first]
+            elif first in self.modules and others:
+                yield self.modules[first], others[0]
+            elif first == "Rattle":
+                yield dotted.rpartition(".")[0], others[-1]
+            elif self.own:
+                yield self.own, first
+        for word, place in self.words.items():
+            if "◌" in word and all(part in text for part in word.split("◌")):
+                yield place
+
+
+class Specs:
+    """The definitions in specs/ of some crates, with what each cites."""
+
+    def __init__(self, crates):
+        self.texts, self.parts, self.files = {}, {}, {}
+        for crate in crates:
+            for path in files(f"crates/{crate}/specs", ".antt"):
+                text = read("crates", crate, "specs", path)
+                if re.search(r"^(?!--|(pub )?mod |\s*$)", text, re.M):  # one of these lines alone only names others
+                    module = f"Rattle.{crate}.specs." + path.removesuffix(".antt").replace(os.sep, ".")
+                    self.files[module] = (crate, path, text.count("\n"), text.split("\n")[0].removeprefix("-- ").rstrip("."))
+                    self.add(module, re.sub(r"--[^\n]*", "", text))
+        self.cites = {place: {self.known(other) for other in names.cited(text)} - {None, place} for place, (names, text) in self.texts.items()}
+
+    def add(self, module, text):
+        names = Names(text, module)
+        for part in re.split(rf"^(?={HEAD}|module )", IMPORT.sub("", text), flags=re.M):
+            head = re.match(rf"({HEAD})(\S+)", part)
+            if head:
+                place = (module, head[2])
+                self.texts[place] = (names, self.texts.get(place, (names, ""))[1] + part)
+                if re.search(r"\b(record|data)\b", head[1]):
+                    for field in re.findall(r"^ +(?:pub )?(\S+) *:", part, re.M):
+                        self.parts[module, field] = self.parts[".".join(place), field] = place
+
+    def known(self, place):
+        """The definition at a place: itself, or that of which it is a part."""
+        return place if place in self.texts else self.parts.get(place)
+
+    def reached(self, places):
+        """These definitions, and those that they cite."""
+        found, left = set(), {self.known(place) for place in places} - {None}
+        while left:
+            found |= left
+            left = {place for one in left for place in self.cites[one]} - found
+        return found
+
+
+def contracts(crate):
+    """The public contracts of a crate: where each stands, whether a model is by it, and what it cites."""
+    root = NO_CODE.sub("", read("crates", crate, "src/lib.rt"))
+    handed_out = {name for used in re.findall(r"\bpub use ([^;]+);", root) for name in WORD.findall(re.sub(r"\b\w+ as ", "", used))}
+    modules = set(re.findall(r"\bpub mod (\w+)", root)) | {"lib"}
+    for path in files(f"crates/{crate}/src", ".rt"):
+        text = NO_CODE.sub(lambda found: re.sub(r"[^\n]", " ", found[0]), read("crates", crate, "src", path))
+        public = path.split(os.sep)[0].removesuffix(".rt") in modules
+        yield from of_items(text, f"{crate}/src/{path}", Names(text), lambda name: public or name in handed_out, None, True)
+
+
+def of_items(text, where, names, is_public, block, is_out):
+    """The contracts among items, which stand in an impl of a trait, in `trait`, in `own`, or in no block."""
+    head = at = 0
+    while at < len(text):
+        if text[at] == ";":
+            head = at + 1
+        elif text[at] == "{":
+            before, end = text[head:at], closing(text, at)
+            item, ghost, inside = ITEM.match(before), GHOST.search(before), text[at + 1 : end]
+            if CLAUSE.search(before):
+                free = block is None and is_public(WORD.match(item[3])[0])
+                if is_out and ((item[1] or "").strip() == "pub" and (free or block == "own") or block not in (None, "own")):
+                    yield where, False, set(names.cited(inside))
+            elif ghost:
+                if is_out and block:
+                    yield where, block == "Model" and ghost[1] in ("view", "invariant", "inverse"), set(names.cited(inside))
+            elif item:
+                if item[2] in ("impl", "trait", "mod"):
+                    trait, subject = parts_of(item)
+                    out = item[2] == "mod" or is_public(subject)
+                    yield from of_items(inside, where, names, is_public, trait, out)
+                head = end + 1
+            elif not re.search(r"\buse\b", before):
+                head = end + 1
+            at = end
+        at += 1
+
+
+def closing(text, at):
+    """The place of the brace that closes the one at `at`."""
+    depth = 0
+    for place in range(at, len(text)):
+        depth += (text[place] == "{") - (text[place] == "}")
+        if depth == 0:
+            return place
+
+
+def parts_of(item):
+    """The trait of an impl, or what else the block is, and the type or the trait that it is of."""
+    if item[2] != "impl":
+        return ("trait" if item[2] == "trait" else None), WORD.match(item[3])[0]
+    trait, _, subject = re.sub(r"^<.*?>(?= )", "", item[3]).rpartition(" for ")
+    return (WORD.findall(trait.split("<")[0])[-1] if trait else "own"), WORD.search(subject)[0]
+
+
+is_private = lambda place: ".specs.Private." in place[0]
+told = lambda place: ".".join(place).removeprefix("Rattle.")
