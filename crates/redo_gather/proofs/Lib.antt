@@ -5,11 +5,14 @@ mod GatheredLemmas
 mod GrowthLemmas
 mod InterleavingLemmas
 mod MarkLemmas
+mod OwedLaws
 mod OwedLemmas
 mod PostedLemmas
 mod ReadingLemmas
 mod ReadyLemmas
 mod RunningLemmas
+mod SendingLaws
+mod SendingRows
 mod SettledLemmas
 mod SharesLemmas
 mod StreamLemmas

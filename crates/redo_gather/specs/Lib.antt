@@ -1,4 +1,5 @@
 pub mod GatherFault
+pub mod Laws
 pub mod Owed
 pub mod Plan
 pub mod Private

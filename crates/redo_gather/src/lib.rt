@@ -21,7 +21,9 @@ mod storing;
 pub use gate::{Free, Gate};
 pub use gather_fault::GatherFault;
 pub use gathering::gather;
-pub use laws::{logs_unless_fault, streams_told};
+pub use laws::{
+    items_of_a_share, logs_unless_fault, owed_for_a_share, owed_for_a_stream, streams_told,
+};
 pub use plain::gather_plain;
 pub use plan::{Plan, PlanFault};
 pub use sending::{Share, send};

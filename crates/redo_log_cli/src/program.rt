@@ -1,14 +1,15 @@
-ghost use Rattle.std.specs.Prelude.{◌≡◌, ◌≢◌, ◌<◌, ◌⊎◌, Err, IfOk, IfErr, length};
+ghost use Rattle.std.specs.Prelude.{◌≡◌, ◌≢◌, ◌<◌, ◌⊎◌, ◌↔◌, Ok, Err, IfOk, IfErr, length};
+ghost use Rattle.std.specs.String.{string_bytes};
 ghost use Rattle.std.specs.IoError.{error_kind};
 ghost use Rattle.redo_line.specs.declared.stream_fault.StreamFault.TheVariants as stream;
 ghost use Rattle.redo_device.specs.Feed.{SomeStream};
 ghost use Rattle.redo_gather.specs.Streams.{told_of};
 ghost use Rattle.redo_index.specs.Index.{marks_of};
 ghost use Rattle.redo_run.specs.RunFault.{IfStreamFault, IfUnknown};
-ghost use Rattle.redo_log_cli.specs.declared.failure.Failure.TheVariants.{Memory};
+ghost use Rattle.redo_log_cli.specs.declared.failure.Failure.TheVariants.{Memory, Run};
 ghost use Rattle.redo_log_cli.specs.Failure.{IfOfStream, IfOfWord, IsOfNoRun, IsStatus, status_of};
 ghost use Rattle.redo_log_cli.specs.NamesFile.{most_bytes};
-ghost use Rattle.redo_log_cli.specs.Private.Opening.{failure_after};
+ghost use Rattle.redo_log_cli.specs.Private.Opening.{failure_after, path_of_names};
 ghost use Rattle.redo_log_cli.specs.Private.Program.{IsAnswer, IsFlushedAfter, TellsIndex, asked_by};
 
 use crate::capture::{Capture, open_capture};
@@ -113,9 +114,26 @@ fn show_logs<R: Files<File: Send> + Threads + Wait + Sync + AllocGlobal, W: Writ
     let Ok(readers) = open_captures(rt, job.dir(), index) else {
         return refuse(rt.alloc(), &Failure::Memory, err);
     };
-    match show(rt, job, index, readers, out) {
+    let answer = show(rt, job, index, readers, out);
+    end(rt.alloc(), answer, index, job.targets(), err)
+}
+
+// Answers 0 where a run wrote the whole text; else writes the line of its fault, and answers that status.
+fn end<E: Write>(
+    alloc: Global,
+    answer: Result<(), RunFault>,
+    index: &Index,
+    asked: &[Vec<u8>],
+    err: &mut E,
+) -> u8
+    requires place { IfUnknown answer (λ place. place < length asked.now) }
+    requires number { IfStreamFault answer (λ number _. number < length index.now) }
+    ensures whole { (result ≡ 0) ↔ (answer ≡ Ok tt) }
+    ensures fault { IfErr answer (λ fault. (result ≡ status_of (Run fault)) ⊎ (result ≡ status_of Memory)) }
+{
+    match answer {
         Ok(()) => 0,
-        Err(fault) => tell(rt.alloc(), &Failure::Run(fault), index, job.targets(), err),
+        Err(fault) => tell(alloc, &Failure::Run(fault), index, asked, err),
     }
 }
 
@@ -163,8 +181,15 @@ fn find_index<R: Files + AllocGlobal>(rt: &R, dir: &str) -> Result<Index, Failur
     ensures { IfErr result IsOfNoRun }
 {
     let alloc = rt.alloc();
-    let path = format!(in alloc; "{dir}/names")?;
+    let path = names_path(alloc, dir)?;
     index_of(alloc, fs::open(rt, path).map(Reading))
+}
+
+// The path of the list of targets.
+fn names_path(alloc: Global, dir: &str) -> Result<String, AllocError>
+    ensures { IfOk result (λ path. string_bytes path ≡ path_of_names dir.now) }
+{
+    format!(in alloc; "{dir}/names")
 }
 
 // The index of a file that was to be opened: that of all its bytes, and no more than there may be.

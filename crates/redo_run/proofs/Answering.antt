@@ -1,5 +1,5 @@
 -- What a run answers.
-use Rattle.std.proofs.Common.{IsSome, is_some, ◌↔◌, ◌≡◌, ◌⊎◌, inl, inr, subst, ℕ, ◌+◌, cond, Bool, true, false, not, List, [], ◌∷◌, Option, None, Some, Err, refl, sym, ap, ◌∙◌}
+use Rattle.std.proofs.Common.{IsSome, is_some, ◌↔◌, ◌≡◌, ◌⊎◌, inl, inr, subst, ℕ, ◌+◌, cond, Bool, true, false, not, List, [], ◌∷◌, Option, None, Some, Result, Ok, Err, option_and_then, refl, sym, ap, ◌∙◌}
 use Rattle.std.specs.Prelude.{option_map}
 use Rattle.std.specs.List.{cons_option, position_from}
 use Rattle.std.proofs.lemmas.Iterator.Adapters.{position_from-zero}
@@ -16,9 +16,17 @@ use Rattle.redo_view.specs.Expansion.{is_among, expansion}
 use Rattle.redo_view.specs.View.{unknown_among}
 use Rattle.redo_run.specs.declared.run_fault.RunFault.{RunFault}
 use Rattle.redo_run.specs.declared.run_fault.RunFault.TheVariants as fault
-use Rattle.redo_run.specs.Run.{Question, Answer, if_among, targets_named, unknown_word, fault_of_word, fault_of_stream, unless, text_of, answer}
+use Rattle.redo_run.specs.Run.{Question, targets_named, unknown_word, fault_of_stream, unless, answer}
 use Rattle.redo_run.specs.RunFault.{IfTold, fault_of_gathering}
 use Rattle.redo_run.specs.Shown.{SomeText}
+
+-- a text, or the fault that is told in its place
+abbrev Answer : Type 0
+Answer = Result (List ℕ) RunFault
+
+-- the text of logs at the targets that are asked for
+abbrev text_of : Question → List Log → Answer
+text_of question logs = Ok (expansion logs question.options (targets_named question.targets question.words))
 
 -- readers give some streams
 some_stream : (told : Option Stream) → (stream : Stream) × IsGiven told stream
@@ -37,12 +45,12 @@ module _ (question : Question) (streams : List (Marked Stream)) where
   abbrev behind_words : Option (ℕ × StreamFault) → Option Answer
   behind_words told = unless (option_map fault_of_stream told) (option_map (text_of question) (logs_of question.max_bytes question.targets streams))
 
-  pub answer_word : (fault : RunFault) → option_map fault_of_word (unknown_word question.targets question.words) ≡ Some fault → answer question streams ≡ Some (Err fault)
-  answer_word fault is = ap (λ first. unless first (behind_words (fault_among question.max_bytes question.targets streams))) is
+  pub answer_word : (refusal : RunFault) → option_map fault.Unknown (unknown_word question.targets question.words) ≡ Some refusal → answer question streams ≡ Some (Err refusal)
+  answer_word refusal is = ap (λ first. unless first (behind_words (fault_among question.max_bytes question.targets streams))) is
 
   module _ (known : unknown_word question.targets question.words ≡ None) where
     answer_known : (told : Option (ℕ × StreamFault)) → fault_among question.max_bytes question.targets streams ≡ told → answer question streams ≡ behind_words told
-    answer_known told is = ap (λ place. unless (option_map fault_of_word place) (behind_words (fault_among question.max_bytes question.targets streams))) known ∙ ap behind_words is
+    answer_known told is = ap (λ place. unless (option_map fault.Unknown place) (behind_words (fault_among question.max_bytes question.targets streams))) known ∙ ap behind_words is
 
     pub answer_stream : (number : ℕ) (told : StreamFault) → fault_among question.max_bytes question.targets streams ≡ Some (number, told) → answer question streams ≡ Some (Err (fault.Stream number told))
     answer_stream number told is = answer_known (Some (number, told)) is
@@ -58,7 +66,7 @@ if_told fault.OutOfMemory P p = tt
 if_told fault.Write P p = tt
 
 -- the answer where words are refused
-pub told_word : (question : Question) (told : List Told) (refusal : RunFault) → (refusal ≡ fault.OutOfMemory) ⊎ (option_map fault_of_word (unknown_word question.targets question.words) ≡ Some refusal)
+pub told_word : (question : Question) (told : List Told) (refusal : RunFault) → (refusal ≡ fault.OutOfMemory) ⊎ (option_map fault.Unknown (unknown_word question.targets question.words) ≡ Some refusal)
     → IfTold (Err refusal) (λ f. SomeStreams told (λ streams. answer question streams ≡ Some (Err f)))
 told_word question told refusal (inl is) = subst (λ f. IfTold (Err f) (λ g. SomeStreams told (λ streams. answer question streams ≡ Some (Err g)))) (sym is) tt
 told_word question told refusal (inr is) =
@@ -73,11 +81,14 @@ module _ (logs : List Log) where
   abbrev is_unknown : List ℕ → Bool
   is_unknown name = not (is_among name targets)
 
-  named_from : (name : Option (List ℕ)) (named : List (List ℕ)) → ((i : ℕ) → position_from is_unknown i named ≡ None) → (i : ℕ) → position_from is_unknown i (cons_option (if_among targets name) named) ≡ None
+  abbrev listed : List ℕ → Option (List ℕ)
+  listed name = cond (is_among name targets) (Some name) None
+
+  named_from : (name : Option (List ℕ)) (named : List (List ℕ)) → ((i : ℕ) → position_from is_unknown i named ≡ None) → (i : ℕ) → position_from is_unknown i (cons_option (option_and_then listed name) named) ≡ None
   named_from None named others i = others i
   named_from (Some name) named others i = by (is_among name targets) refl
     where
-      by : (listed : Bool) → is_among name targets ≡ listed → position_from is_unknown i (cons_option (cond listed (Some name) None) named) ≡ None
+      by : (is_listed : Bool) → is_among name targets ≡ is_listed → position_from is_unknown i (cons_option (cond is_listed (Some name) None) named) ≡ None
       by true is = ap (λ b. cond (not b) (Some i) (position_from is_unknown (i + 1) named)) is ∙ others (i + 1)
       by false is = others i
 
@@ -128,7 +139,7 @@ module _ (law : LogsUnlessFault) (question : Question) (streams : List (Marked S
   some_logs None None some = absurd (let none : false ≡ true = some refl in cc)
   some_logs None (Some logs) some = refl
 
-  some_unless : (place : Option ℕ) (behind : Option Answer) → IsSome behind → IsSome (unless (option_map fault_of_word place) behind)
+  some_unless : (place : Option ℕ) (behind : Option Answer) → IsSome behind → IsSome (unless (option_map fault.Unknown place) behind)
   some_unless None behind some = some
   some_unless (Some place) behind some = refl
 

@@ -1,5 +1,5 @@
 -- The targets that words name.
-use Rattle.std.proofs.Common.{◌≡◌, ℕ, ◌+◌, ◌<◌, cond, get_or, drop, Bool, true, false, is_some, is_none, List, [], ◌∷◌, ◌++◌, None, Some, length, take, nat_eq, refl, sym, ap, ◌∙◌, arith}
+use Rattle.std.proofs.Common.{◌≡◌, ℕ, ◌+◌, ◌<◌, cond, get_or, drop, Bool, true, false, is_some, is_none, List, [], ◌∷◌, ◌++◌, Option, None, Some, option_and_then, length, take, nat_eq, refl, sym, ap, ◌∙◌, arith}
 use Rattle.std.specs.Bool.{then_some}
 use Rattle.std.specs.Global.{Vec}
 use Rattle.std.specs.Cmp.Lexicographic.{pointwise}
@@ -9,12 +9,15 @@ use Rattle.std.proofs.lemmas.List.Elements.{filter_map-append}
 use Rattle.redo_name.specs.Names.{normal}
 use Rattle.redo_line.proofs.PlaceLemmas.{some_place, first_passes, none_passes}
 use Rattle.redo_view.specs.Expansion.{is_among}
-use Rattle.redo_run.specs.Run.{if_among, target_of, unknown_word, targets_named, bytes_of_words}
+use Rattle.redo_run.specs.Run.{target_of, unknown_word, targets_named, bytes_of_words}
 
 module _ (targets : List (List ℕ)) where
+  abbrev listed : List ℕ → Option (List ℕ)
+  listed name = cond (is_among name targets) (Some name) None
+
   -- a name that is looked up
   pub looked_up : (word name : List ℕ) → normal None word ≡ Some name → then_some (is_some (position (pointwise nat_eq name) targets)) name ≡ target_of targets word
-  looked_up word name is = ap (λ b. then_some b name) (some_place (pointwise nat_eq name) targets) ∙ kept (is_among name targets) ∙ ap (if_among targets) (sym is)
+  looked_up word name is = ap (λ b. then_some b name) (some_place (pointwise nat_eq name) targets) ∙ kept (is_among name targets) ∙ ap (option_and_then listed) (sym is)
     where
       kept : (b : Bool) → then_some b name ≡ cond b (Some name) None
       kept true = refl

@@ -1,5 +1,5 @@
 -- Examples of runs, computed: the targets with their streams, the words that ask, and the answer.
-use Rattle.std.proofs.Common.{◌≡◌, ℕ, Bool, true, false, List, [], ◌∷◌, ◌++◌, Some, Ok, Err, map, refl}
+use Rattle.std.proofs.Common.{◌≡◌, ℕ, Bool, true, false, List, [], ◌∷◌, ◌++◌, Some, Result, Ok, Err, map, refl}
 use Rattle.std.specs.Prelude.{codes}
 use Rattle.std.specs.Fmt.{digits}
 use Rattle.std.specs.List.{AllByRecursion}
@@ -14,8 +14,9 @@ use Rattle.redo_name.specs.Names.{from_back, normal}
 use Rattle.redo_line.specs.Parts.{parted, behind}
 use Rattle.redo_line.specs.Record.{fields_of, status_of}
 use Rattle.redo_view.specs.Expansion.{opened_within, opened_log}
+use Rattle.redo_run.specs.declared.run_fault.RunFault.{RunFault}
 use Rattle.redo_run.specs.declared.run_fault.RunFault.TheVariants.{Unknown, Stream as OfStream}
-use Rattle.redo_run.specs.Run.{Question, Answer, answer}
+use Rattle.redo_run.specs.Run.{Question, answer}
 
 abbrev line : List ℕ → List ℕ
 line text = text ++ line_feed ∷ []
@@ -25,6 +26,9 @@ bad = line (codes "@@REDO:do:7")
 
 abbrev closing : List ℕ
 closing = line (codes "@@REDO:done:7:1.0000@@ 0 a")
+
+abbrev Answer : Type 0
+Answer = Result (List ℕ) RunFault
 
 record Row : Type 0 where
   question : Question

@@ -1,5 +1,5 @@
 -- The answer of a run.
-use Rattle.std.specs.Prelude.{ℕ, List, Option, None, Some, Result, Ok, Err, is_none, map, position, filter_map, if◌then◌else◌}
+use Rattle.std.specs.Prelude.{ℕ, List, Option, None, Some, Result, Ok, Err, is_none, map, option_and_then, position, filter_map, if◌then◌else◌}
 use Rattle.std.specs.Option.{option_map}
 use Rattle.std.specs.Global.{Vec}
 use Rattle.redo_line.specs.declared.stream_fault.StreamFault.{StreamFault}
@@ -30,13 +30,9 @@ bytes_of_words words = map (λ word. word.items) words
 abbrev pub question : List Listed → Numbers → Options → List (Vec ℕ) → Question
 question index plan options words = record { targets = names_of index; max_bytes = plan.max_bytes; options = options; words = bytes_of_words words }
 
-abbrev pub if_among : List (List ℕ) → Option (List ℕ) → Option (List ℕ)
-if_among targets None = None
-if_among targets (Some name) = if is_among name targets then Some name else None
-
 -- the target that a word names, if it is one of these; the empty word names none
 abbrev pub target_of : List (List ℕ) → List ℕ → Option (List ℕ)
-target_of targets word = if_among targets (normal None word)
+target_of targets word = option_and_then (λ (name : List ℕ). if is_among name targets then Some name else None) (normal None word)
 
 -- the least place of a word that names none of these targets
 abbrev pub unknown_word : List (List ℕ) → List (List ℕ) → Option ℕ
@@ -46,29 +42,19 @@ unknown_word targets words = position (λ word. is_none (target_of targets word)
 abbrev pub targets_named : List (List ℕ) → List (List ℕ) → List (List ℕ)
 targets_named targets words = filter_map (target_of targets) words
 
--- a text, or the fault that is told in its place
-abbrev pub Answer : Type 0
-Answer = Result (List ℕ) RunFault
-
-abbrev pub fault_of_word : ℕ → RunFault
-fault_of_word place = fault.Unknown place
-
 abbrev pub fault_of_stream : ℕ × StreamFault → RunFault
 fault_of_stream told = fault.Stream told.0 told.1
 
 -- a fault is told in place of all that comes behind it
-abbrev pub unless : Option RunFault → Option Answer → Option Answer
-unless None answer = answer
-unless (Some fault) answer = Some (Err fault)
-
--- the text of logs at the targets that are asked for
-abbrev pub text_of : Question → List Log → Answer
-text_of question logs = Ok (expansion logs question.options (targets_named question.targets question.words))
+abbrev pub unless : Option RunFault → Option (Result (List ℕ) RunFault) → Option (Result (List ℕ) RunFault)
+unless None other = other
+unless (Some fault) other = Some (Err fault)
 
 -- What a run comes to, with the streams of its targets: the least place of a word that is unknown, or else the least
 -- number of a stream that has a fault, or else the text of the logs of the streams at the targets asked for.
-abbrev pub answer : Question → List (Marked Stream) → Option Answer
+abbrev pub answer : Question → List (Marked Stream) → Option (Result (List ℕ) RunFault)
 answer question streams =
-    unless (option_map fault_of_word (unknown_word question.targets question.words))
+    unless (option_map fault.Unknown (unknown_word question.targets question.words))
     (unless (option_map fault_of_stream (fault_among question.max_bytes question.targets streams))
-    (option_map (text_of question) (logs_of question.max_bytes question.targets streams)))
+    (option_map (λ (logs : List Log). Ok (expansion logs question.options (targets_named question.targets question.words)))
+    (logs_of question.max_bytes question.targets streams)))

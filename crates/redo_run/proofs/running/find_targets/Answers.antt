@@ -2,7 +2,8 @@ use Rattle.std.proofs.Common.{◌+◌, sym, ap, ◌∙◌, subst, refl, inr}
 use Rattle.std.specs.Prelude.{option_map}
 use Rattle.std.proofs.lemmas.List.{take_all}
 use Rattle.redo_index.specs.Index.{names_of}
-use Rattle.redo_run.specs.Run.{bytes_of_words, fault_of_word, targets_named, target_of, unknown_word}
+use Rattle.redo_run.specs.declared.run_fault.RunFault.TheVariants as fault
+use Rattle.redo_run.specs.Run.{bytes_of_words, targets_named, target_of, unknown_word}
 use Rattle.redo_run.proofs.Finding.{Found, found_more, found_none}
 use Rattle.redo_run.proofs.running.find_targets.Goals as goal
 
@@ -13,7 +14,7 @@ pub returns-in_default-clause-refused : goal.returns-in_default-clause-refused
 returns-in_default-clause-refused c =
     let names = names_of c.args.index.now in
     let none = ap (target_of names) (sym c.deref.ensures.value) ∙ sym c.in_ok-target.ensures ∙ c.in_default.is in
-    inr (ap (option_map fault_of_word) (found_none names c.args.words.now c.loop-place.place c.loop-place.targets.items c.index-words-place.result c.index-words-place.result c.loop-place-test.true (sym c.index-words-place.is) c.loop-place.invariant none))
+    inr (ap (option_map fault.Unknown) (found_none names c.args.words.now c.loop-place.place c.loop-place.targets.items c.index-words-place.result c.index-words-place.result c.loop-place-test.true (sym c.index-words-place.is) c.loop-place.invariant none))
 
 pub loop-place-preserved : goal.loop-place-preserved
 loop-place-preserved c =

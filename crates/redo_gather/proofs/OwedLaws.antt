@@ -1,0 +1,126 @@
+-- What is owed for a stream, and for a share.
+use Rattle.std.proofs.Common.{◌≡◌, ◌≢◌, ◌↔◌, inl, inr, ℕ, List, [], ◌∷◌, ◌++◌, Option, None, Some, filter_map, refl, sym, ap, ◌∙◌, subst}
+use Rattle.std.proofs.lemmas.List.{append_assoc, append-nil}
+use Rattle.std.proofs.lemmas.Option.{none-some}
+use Rattle.redo_line.specs.declared.entry.Entry.{Entry}
+use Rattle.redo_line.specs.declared.stream_fault.StreamFault.{StreamFault}
+use Rattle.redo_line.specs.declared.stream_fault.StreamFault.TheVariants.{OutOfMemory}
+use Rattle.redo_device.specs.Feed.{Stream}
+use Rattle.redo_line.specs.Log.{entries_of, unless_fault}
+use Rattle.redo_line.specs.Source.{Source, fault_from, part_from}
+use Rattle.redo_wire.specs.declared.item.Item.{Item}
+use Rattle.redo_wire.specs.declared.item.What.{What}
+use Rattle.redo_wire.specs.declared.item.What.TheVariants.{End, Fail, Line}
+use Rattle.redo_gather.specs.Laws.{AreInTurn, MayOweAll, MayOweFront, OwesFault, OwesInOrder, OwesInTurn, OwesLog, OwesNothing, OwesOne}
+use Rattle.redo_gather.specs.Owed.{Given, IsOwedFor, log_or_part, told_entries}
+use Rattle.redo_gather.specs.Sending.{AreOwed, Numbered, told_of}
+use Rattle.redo_gather.proofs.OwedLemmas.{log_told}
+
+module _ (max_bytes : ℕ) (source : Source Stream) where
+  -- a stream with a fault is told as the entries before it
+  part_told : (fault : StreamFault) → fault_from max_bytes source ≡ Some fault → told_entries max_bytes source ≡ part_from max_bytes source
+  part_told fault some =
+      let all = filter_map (λ entry. entry) (entries_of source.target source.stream.bytes) in
+      ap (λ found. log_or_part (unless_fault found all) (part_from max_bytes source)) some
+
+  pub owes_in_order : OwesInOrder max_bytes source
+  owes_in_order entries fault owed = elim owed [
+    | inl whole ↦ ([], sym whole.0 ∙ sym (append-nil entries))
+    | inr short ↦ short.0
+  ]
+
+  pub owes_log : OwesLog max_bytes source
+  owes_log entries owed = elim owed [
+    | inl whole ↦ log_told max_bytes source (sym whole.1) ∙ ap Some (sym whole.0)
+    | inr short ↦ absurd (none-some OutOfMemory short.1)
+  ]
+
+  pub owes_fault : OwesFault max_bytes source
+  owes_fault entries fault other owed = elim owed [
+    | inl whole ↦ (sym whole.1, whole.0 ∙ part_told fault (sym whole.1))
+    | inr short ↦ absurd (other (same short.1))
+  ]
+    where
+      same : Some fault ≡ Some OutOfMemory → fault ≡ OutOfMemory
+      same is = cc
+
+  pub may_owe_all : MayOweAll max_bytes source
+  may_owe_all = inl (refl, refl)
+
+  pub may_owe_front : MayOweFront max_bytes source
+  may_owe_front front is = inr (is, refl)
+
+abbrev first_what : List Item → What
+first_what [] = End
+first_what (item ∷ items) = item.what
+
+abbrev behind_first : List Item → List Item
+behind_first [] = []
+behind_first (item ∷ items) = items
+
+module _ (max_bytes sender : ℕ) where
+  pub owes_nothing : OwesNothing max_bytes sender
+  owes_nothing items = (λ is. is, λ is. is)
+
+  abbrev all_of : List Entry → Option StreamFault → ℕ → List Item
+  all_of entries fault stream = told_of sender stream entries fault
+
+  last_same : (stream : ℕ) (fault other : Option StreamFault) → all_of [] fault stream ≡ all_of [] other stream → fault ≡ other
+  last_same stream None None is = refl
+  last_same stream None (Some other) is = absurd (let whats : End ≡ Fail other = ap first_what is in cc)
+  last_same stream (Some fault) None is = absurd (let whats : Fail fault ≡ End = ap first_what is in cc)
+  last_same stream (Some fault) (Some other) is = let whats : Fail fault ≡ Fail other = ap first_what is in cc
+
+  no_more : (stream : ℕ) (fault other : Option StreamFault) (entry : Entry) (entries : List Entry) → all_of [] fault stream ≡ all_of (entry ∷ entries) other stream → ⊥
+  no_more stream None other entry entries is = absurd (let whats : End ≡ Line entry = ap first_what is in cc)
+  no_more stream (Some fault) other entry entries is = absurd (let whats : Fail fault ≡ Line entry = ap first_what is in cc)
+
+  told_same : (stream : ℕ) (entries others : List Entry) (fault other : Option StreamFault) → all_of entries fault stream ≡ all_of others other stream → (entries ≡ others) × (fault ≡ other)
+  told_same stream [] [] fault other is = (refl, last_same stream fault other is)
+  told_same stream [] (entry ∷ others) fault other is = absurd (no_more stream fault other entry others is)
+  told_same stream (entry ∷ entries) [] fault other is = absurd (no_more stream other fault entry entries (sym is))
+  told_same stream (entry ∷ entries) (one ∷ others) fault other is =
+      let behind : all_of entries fault stream ≡ all_of others other stream = ap behind_first is in
+      let whats : Line entry ≡ Line one = ap first_what is in
+      let first : entry ≡ one = cc in
+      let same = told_same stream entries others fault other behind in
+      (λ i. first i ∷ same.0 i, same.1)
+
+  pub owes_one : OwesOne max_bytes sender
+  owes_one stream given entries fault = (
+    λ owed. by owed.0 owed.1 owed.2 owed.3 owed.4 owed.5,
+    λ owed. (entries, fault, [], sym (append-nil (all_of entries fault stream)), owed, refl),
+  )
+    where
+      by : (others : List Entry) (other : Option StreamFault) (behind : List Item) → all_of entries fault stream ≡ all_of others other stream ++ behind → IsOwedFor max_bytes given others other
+          → behind ≡ [] → IsOwedFor max_bytes given entries fault
+      by others other behind is owed none =
+          let same = told_same stream entries others fault other (is ∙ ap (λ b. all_of others other stream ++ b) none ∙ append-nil (all_of others other stream)) in
+          subst (λ f. IsOwedFor max_bytes given entries f) (sym same.1) (subst (λ es. IsOwedFor max_bytes given es other) (sym same.0) owed)
+
+  in_turn : (first others : List Numbered) (items : List Item) → AreOwed max_bytes sender (first ++ others) items → AreInTurn max_bytes sender first others items
+  in_turn [] others items owed = ([], items, refl, refl, owed)
+  in_turn (stream ∷ first) others items (entries, fault, behind, is, owed, more) =
+      let turn = in_turn first others behind more in
+      let told = all_of entries fault stream.0 in (
+        told ++ turn.0,
+        turn.1,
+        is ∙ ap (λ b. told ++ b) turn.2 ∙ sym (append_assoc told turn.0 turn.1),
+        (entries, fault, turn.0, refl, owed, turn.3),
+        turn.4,
+      )
+
+  from_turn : (first others : List Numbered) (items : List Item) → AreInTurn max_bytes sender first others items → AreOwed max_bytes sender (first ++ others) items
+  from_turn [] others items (front, behind, is, none, owed) = subst (AreOwed max_bytes sender others) (sym (is ∙ ap (λ f. f ++ behind) none)) owed
+  from_turn (stream ∷ first) others items (front, behind, is, (entries, fault, left, told_is, owed, more), last) =
+      let told = all_of entries fault stream.0 in (
+        entries,
+        fault,
+        left ++ behind,
+        is ∙ ap (λ f. f ++ behind) told_is ∙ append_assoc told left behind,
+        owed,
+        from_turn first others (left ++ behind) (left, behind, refl, more, last),
+      )
+
+  pub owes_in_turn : OwesInTurn max_bytes sender
+  owes_in_turn first others items = (in_turn first others items, from_turn first others items)

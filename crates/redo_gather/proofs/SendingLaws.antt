@@ -1,0 +1,104 @@
+-- How entries, ends and faults are put into items.
+use Rattle.std.proofs.Common.{◌≡◌, inl, inr, ℕ, ◌+◌, ◌*◌, ◌≤◌, List, [], ◌∷◌, ◌++◌, Option, None, Some, length, map, refl, sym, ap, ◌∙◌, subst, arith}
+use Rattle.std.specs.List.{AllByRecursion}
+use Rattle.std.proofs.lemmas.List.{append-nil, length-append, length-map}
+use Rattle.redo_line.specs.declared.entry.Entry.{Entry}
+use Rattle.redo_line.specs.declared.stream_fault.StreamFault.{StreamFault}
+use Rattle.redo_wire.specs.declared.item.Item.{Item}
+use Rattle.redo_wire.specs.declared.item.What.{What}
+use Rattle.redo_wire.specs.declared.item.What.TheVariants.{End, Fail, Line, Lines}
+use Rattle.redo_wire.specs.Mailbox.{Poster}
+use Rattle.redo_gather.specs.Laws.{AreSingles, IsNeverAlone, PostsFew, PostsItsOwn, StandsForEach}
+use Rattle.redo_gather.specs.Sending.{AreOwed, HasPosted, IsFilled, Numbered, item_of, last_of, line_of, singles, singles_in, told_of}
+
+pub are_singles : (sender stream : ℕ) (entries : List Entry) (fault : Option StreamFault) → AreSingles sender stream entries fault
+are_singles sender stream [] None = refl
+are_singles sender stream [] (Some fault) = refl
+are_singles sender stream (entry ∷ entries) fault = ap (λ items. line_of sender stream entry ∷ items) (are_singles sender stream entries fault)
+
+pub stands_for_each : (sender stream : ℕ) (entries : List Entry) → StandsForEach sender stream entries
+stands_for_each sender stream entries = append-nil (map (line_of sender stream) entries)
+
+pub never_alone : (item one : Item) → IsNeverAlone item one
+never_alone item one = by item.sender item.stream item.what one
+  where
+    by : (sender stream : ℕ) (what : What) (one : Item) → IsNeverAlone (item_of sender stream what) one
+    by sender stream (Line entry) one filled is = cc
+    by sender stream (Lines []) one filled is = absurd (omega (arith, filled.0))
+    by sender stream (Lines (entry ∷ [])) one filled is = absurd (omega (arith, filled.0))
+    by sender stream (Lines (entry ∷ next ∷ entries)) one filled is = absurd (cc)
+    by sender stream End one filled is = cc
+    by sender stream (Fail fault) one filled is = cc
+
+-- ---- senders
+
+abbrev AreOf : ℕ → List Item → Type 0
+AreOf sender items = AllByRecursion (λ (item : Item). item.sender ≡ sender) items
+
+front_of : (sender : ℕ) (front behind : List Item) → AreOf sender (front ++ behind) → AreOf sender front
+front_of sender [] behind all = tt
+front_of sender (item ∷ front) behind all = (all.0, front_of sender front behind all.1)
+
+behind_of : (sender : ℕ) (front behind : List Item) → AreOf sender (front ++ behind) → AreOf sender behind
+behind_of sender [] behind all = all
+behind_of sender (item ∷ front) behind all = behind_of sender front behind all.1
+
+both_of : (sender : ℕ) (front behind : List Item) → AreOf sender front → AreOf sender behind → AreOf sender (front ++ behind)
+both_of sender [] behind first second = second
+both_of sender (item ∷ front) behind first second = (first.0, both_of sender front behind first.1 second)
+
+told_own : (sender stream : ℕ) (entries : List Entry) (fault : Option StreamFault) → AreOf sender (told_of sender stream entries fault)
+told_own sender stream [] fault = (refl, tt)
+told_own sender stream (entry ∷ entries) fault = (refl, told_own sender stream entries fault)
+
+owed_own : (max_bytes sender : ℕ) (share : List Numbered) (items : List Item) → AreOwed max_bytes sender share items → AreOf sender items
+owed_own max_bytes sender [] items none = subst (AreOf sender) (sym none) tt
+owed_own max_bytes sender (stream ∷ share) items (entries, fault, behind, is, owed, more) =
+    subst (AreOf sender) (sym is) (both_of sender (told_of sender stream.0 entries fault) behind (told_own sender stream.0 entries fault) (owed_own max_bytes sender share behind more))
+
+own_item : (own sender stream : ℕ) (what : What) → IsFilled what → AreOf own (singles_in sender stream what) → sender ≡ own
+own_item own sender stream (Line entry) filled all = all.0
+own_item own sender stream (Lines []) filled all = absurd (omega (arith, filled.0))
+own_item own sender stream (Lines (entry ∷ entries)) filled all = all.0
+own_item own sender stream End filled all = all.0
+own_item own sender stream (Fail fault) filled all = all.0
+
+own_items : (own : ℕ) (items : List Item) → AllByRecursion (λ (item : Item). IsFilled item.what) items → AreOf own (singles items) → AreOf own items
+own_items own [] filled all = tt
+own_items own (item ∷ items) filled all =
+    let first = singles_in item.sender item.stream item.what in (
+      own_item own item.sender item.stream item.what filled.0 (front_of own first (singles items) all),
+      own_items own items filled.1 (behind_of own first (singles items) all),
+    )
+
+pub posts_its_own : (max_bytes : ℕ) (share : List Numbered) (before after : Poster) → PostsItsOwn max_bytes share before after
+posts_its_own max_bytes share before after (lines, posted, owed) = (
+  posted.items,
+  posted.posted,
+  own_items before.number posted.items posted.filled (subst (AreOf before.number) (sym posted.lines_are) (owed_own max_bytes before.number share lines owed)),
+)
+
+-- ---- counts
+
+count_in : (sender stream : ℕ) (what : What) → IsFilled what → (1 ≤ length (singles_in sender stream what)) × (length (singles_in sender stream what) ≤ 1024)
+count_in sender stream (Line entry) filled = (omega arith, omega arith)
+count_in sender stream (Lines entries) filled =
+    let count = length-map entries (line_of sender stream) in
+    (omega (arith, count, filled.0), omega (arith, count, filled.1))
+count_in sender stream End filled = (omega arith, omega arith)
+count_in sender stream (Fail fault) filled = (omega arith, omega arith)
+
+counts : (items : List Item) → AllByRecursion (λ (item : Item). IsFilled item.what) items → (length items ≤ length (singles items)) × (length (singles items) ≤ 1024 * length items)
+counts [] filled = (omega arith, omega arith)
+counts (item ∷ items) filled =
+    let one = count_in item.sender item.stream item.what filled.0 in
+    let others = counts items filled.1 in
+    let all = length-append (singles_in item.sender item.stream item.what) (singles items) in
+    (omega (arith, one.0, others.0, all), omega (arith, one.1, others.1, all))
+
+pub posts_few : (before after : Poster) (lines : List Item) → PostsFew before after lines
+posts_few before after lines posted =
+    let count = counts posted.items posted.filled in
+    let lines_are = ap length posted.lines_are in
+    let grown : length after.posted ≡ length before.posted + length posted.items = ap length posted.posted ∙ length-append before.posted posted.items in
+    (omega (arith, count.0, lines_are, grown), omega (arith, count.1, lines_are, grown))

@@ -1,0 +1,76 @@
+"""docs/theorem.md: each definition that the clause of a run rests on is quoted there once, as it stands, behind those that it
+cites. A mark, which isn't shown, says what is quoted: `<!-- CRATE FILE: NAMES -->`; the block behind it is written by --quote."""
+import os
+import re
+
+from contracts import TOP, Names, closing, read
+
+PAGE = "docs/theorem.md"
+CLAUSE_OF = "redo_run/src/running.rt"
+MOST_LINES = 400
+MARK = re.compile(r"^<!-- (\w+) (\w+): ([^>]*?) -->\n(?:```\n.*?\n```\n)?", re.M | re.S)
+
+
+def clause():
+    """The clause of a run, as it stands, and what it cites."""
+    text = read("crates", CLAUSE_OF)
+    begin = text.index("    ensures ok {", text.index("pub fn run<"))
+    end = closing(text, text.index("{", begin)) + 1
+    whole = "\n".join(line[4:] for line in text[begin:end].split("\n"))
+    return whole, set(Names(text).cited(text[begin:end]))
+
+
+def reached(specs, places):
+    """The definitions that a reader of these needs, without those that only have a part with the name of a variable."""
+    found, left = set(), {place for place in places if place in specs.texts}
+    while left:
+        found |= left
+        left = {place for one in left for place in specs.texts[one][0].cited(specs.texts[one][1]) if place in specs.texts} - found
+    return found
+
+
+def quoted(specs, crate, file, name):
+    module = f"Rattle.{crate}.specs.{file}"
+    text = specs.texts.get((module, name), (None, ""))[1]
+    return "\n".join(line.rstrip() for line in text.split("\n") if line.strip())
+
+
+def blocks(specs, page):
+    """What each mark quotes: the places, and the text."""
+    for crate, file, names in MARK.findall(page):
+        if file == "run":
+            yield [], clause()[0]
+        else:
+            words = names.split()
+            yield [(f"Rattle.{crate}.specs.{file}", name) for name in words], "\n\n".join(quoted(specs, crate, file, name) for name in words)
+
+
+def with_quotes(specs, page):
+    texts = iter([text for _, text in blocks(specs, page)])
+    return MARK.sub(lambda mark: f"<!-- {mark[1]} {mark[2]}: {mark[3]} -->\n```\n{next(texts)}\n```\n", page)
+
+
+def faults(specs):
+    page = read(PAGE)
+    needed = reached(specs, clause()[1])
+    places = [place for quotes, _ in blocks(specs, page) for place in quotes]
+    lines = sum(len(text.replace("\n\n", "\n").split("\n")) for quotes, text in blocks(specs, page) if quotes)
+    told = lambda place: ".".join(place[0].split(".")[1::2] + [place[1]])
+    found = [f"{told(place)} is needed, and isn't quoted" for place in sorted(needed - set(places))]
+    found += [f"{told(place)} is quoted, and isn't needed" for place in places if place not in needed]
+    found += [f"{told(place)} is quoted twice" for place in set(places) if places.count(place) > 1]
+    for at, place in enumerate(places):
+        names, text = specs.texts.get(place, (None, ""))
+        later = {other for other in (names.cited(text) if names else ()) if other in places[at + 1 :]}
+        found += [f"{told(place)} stands before {told(other)}, which it cites" for other in later]
+    if page != with_quotes(specs, page):
+        found.append("a quote isn't as it stands: tests/specs/run --quote writes them")
+    if lines > MOST_LINES:
+        found.append(f"{lines} lines are quoted, more than {MOST_LINES}")
+    return found
+
+
+def write_quotes(specs):
+    page = with_quotes(specs, read(PAGE))
+    with open(os.path.join(TOP, PAGE), "w", encoding="utf-8") as file:
+        file.write(page)
