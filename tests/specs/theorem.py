@@ -7,7 +7,6 @@ from contracts import TOP, Names, closing, read
 
 PAGE = "docs/theorem.md"
 CLAUSE_OF = "redo_run/src/running.rt"
-MOST_LINES = 400
 MARK = re.compile(r"^<!-- (\w+) (\w+): ([^>]*?) -->\n(?:```\n.*?\n```\n)?", re.M | re.S)
 
 
@@ -54,7 +53,6 @@ def faults(specs):
     page = read(PAGE)
     needed = reached(specs, clause()[1])
     places = [place for quotes, _ in blocks(specs, page) for place in quotes]
-    lines = sum(len(text.replace("\n\n", "\n").split("\n")) for quotes, text in blocks(specs, page) if quotes)
     told = lambda place: ".".join(place[0].split(".")[1::2] + [place[1]])
     found = [f"{told(place)} is needed, and isn't quoted" for place in sorted(needed - set(places))]
     found += [f"{told(place)} is quoted, and isn't needed" for place in places if place not in needed]
@@ -65,8 +63,6 @@ def faults(specs):
         found += [f"{told(place)} stands before {told(other)}, which it cites" for other in later]
     if page != with_quotes(specs, page):
         found.append("a quote isn't as it stands: tests/specs/run --quote writes them")
-    if lines > MOST_LINES:
-        found.append(f"{lines} lines are quoted, more than {MOST_LINES}")
     return found
 
 
