@@ -1,19 +1,12 @@
--- Examples of what a cutter and a scan answer, computed: of which answers a fact is told.
+-- Examples of what a cutter answers, computed: of which answers a fact is told.
 use Rattle.std.proofs.Common.{◌≡◌, true, false, refl}
 use Rattle.std.specs.Prelude.{codes}
 use Rattle.redo_line.specs.declared.cutter.Cut.{Cut}
 use Rattle.redo_line.specs.declared.cutter.Cut.TheVariants.{Line, More}
-use Rattle.redo_line.specs.declared.entry.Entry.TheVariants.{Text}
-use Rattle.redo_line.specs.declared.scan.Step.{Step}
-use Rattle.redo_line.specs.declared.scan.Step.TheVariants as step
 use Rattle.redo_line.specs.Cut.{IfLine, IfMore, is_line}
-use Rattle.redo_line.specs.Scan as scan
 
 abbrev cut : Cut
 cut = Line (codes "x") 2
-
-abbrev found : Step
-found = step.Found (Text (codes "x")) 2
 
 lines : (is_line cut ≡ true) × (is_line More ≡ false)
 lines = (refl, refl)
@@ -29,15 +22,3 @@ of_no_line = (refl, tt)
 
 not_of_no_line : IfMore More ⊥ → ⊥
 not_of_no_line is = is
-
-of_an_entry : scan.IfFound found (λ entry upto. (entry ≡ Text (codes "x")) × (upto ≡ 2)) × scan.IfFound step.More (λ entry upto. ⊥)
-of_an_entry = ((refl, refl), tt)
-
-not_of_an_entry : scan.IfFound found (λ entry upto. ⊥) → ⊥
-not_of_an_entry is = is
-
-of_no_entry : scan.IfMore step.More (true ≡ true) × scan.IfMore found ⊥
-of_no_entry = (refl, tt)
-
-not_of_no_entry : scan.IfMore step.More ⊥ → ⊥
-not_of_no_entry is = is

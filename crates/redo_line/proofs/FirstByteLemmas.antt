@@ -1,5 +1,5 @@
 -- A byte that is at fault by where it stands is known from how far the scan came.
-use Rattle.std.proofs.Common.{◌≡◌, inl, ℕ, zero, suc, ◌+◌, ◌-◌, Bool, true, false, List, [], ◌∷◌, ◌++◌, Option, None, Some, take, eqb, refl, sym, ◌∙◌, ap, subst}
+use Rattle.std.proofs.Common.{◌≡◌, inl, inr, ℕ, zero, suc, ◌+◌, ◌-◌, Bool, true, false, List, [], ◌∷◌, ◌++◌, Option, None, Some, take, eqb, refl, sym, ◌∙◌, ap, subst}
 use Rattle.std.proofs.lemmas.Bool.{eqb-true, eqb-false}
 use Rattle.std.proofs.lemmas.List.{append-nil}
 use Rattle.std.proofs.lemmas.Option.{same_Some}
@@ -9,19 +9,23 @@ use Rattle.redo_line.specs.declared.stream_fault.StreamFault.{StreamFault}
 use Rattle.redo_line.specs.declared.stream_fault.StreamFault.TheVariants.{BadRecord}
 use Rattle.redo_line.specs.Entry.{entry_of}
 use Rattle.redo_line.specs.Lines.{line_feed}
-use Rattle.redo_line.specs.Scan.{Scanned, fault_so_far, IsOfPlace, RefusesFirst}
+use Rattle.redo_line.specs.Scan.{Scanned, fault_so_far, IsLateOrTooLong, RefusesFirst}
 use Rattle.redo_line.specs.Private.Progress.{Progress, IsAfter, byte_fault, first_byte_fault}
 use Rattle.redo_line.specs.Private.CutLine.{Cuts}
 use Rattle.redo_line.proofs.CutLemmas.{cuts_line, cuts_none}
 use Rattle.redo_line.proofs.ScanLemmas.{bad_refuses, ends_line, ends_none}
 use Rattle.redo_line.proofs.ScanSteps.{refuses_first}
 
+no_bad_record : {line : ℕ} → IsLateOrTooLong (BadRecord line) → ⊥
+no_bad_record (inl late) = let same = late.1 in cc
+no_bad_record (inr too_long) = cc
+
 module _ (p : Progress) (u : List ℕ) (after : IsAfter p u) (byte : ℕ) where
   abbrev one : List ℕ
   one = byte ∷ []
 
   -- a line feed or another byte where there is room for it, behind a line that doesn't close the log, has no such fault
-  module _ (room : ℕ) (room_is : p.max_bytes - p.taken ≡ suc room) (closed : p.closed ≡ false) (fault : StreamFault) (of_place : IsOfPlace fault)
+  module _ (room : ℕ) (room_is : p.max_bytes - p.taken ≡ suc room) (closed : p.closed ≡ false) (fault : StreamFault) (late_or_too_long : IsLateOrTooLong fault)
       (is : fault_so_far p.target p.max_bytes (u ++ one) ≡ Some fault) where
     one_is : one ≡ take (p.max_bytes - p.taken) one
     one_is = sym (ap (λ n. take n one) room_is ∙ ap (λ b. byte ∷ b) (take-nil room))
@@ -41,7 +45,7 @@ module _ (p : Progress) (u : List ℕ) (after : IsAfter p u) (byte : ℕ) where
         by : (entry : Option Entry) → entry_of p.target (p.kept ++ []) true ≡ entry → ⊥
         by None none =
             let told = (bad_refuses p u after one one one_is one [] (p.kept ++ []) cut refl closed none).fault_is in
-            subst IsOfPlace (same_Some fault (BadRecord (p.lines + 1)) (sym is ∙ told)) of_place
+            no_bad_record (subst IsLateOrTooLong (same_Some fault (BadRecord (p.lines + 1)) (sym is ∙ told)) late_or_too_long)
         by (Some entry) some =
             let fine = (ends_line p u after one one one_is one [] (p.kept ++ []) cut refl closed entry some).fine in
             let none : None ≡ Some fault = sym fine ∙ is in
@@ -58,24 +62,24 @@ module _ (p : Progress) (u : List ℕ) (after : IsAfter p u) (byte : ℕ) where
   known_is : (known fault : StreamFault) → first_byte_fault p one ≡ Some known → fault_so_far p.target p.max_bytes (u ++ one) ≡ Some fault → first_byte_fault p one ≡ Some fault
   known_is known fault told is = told ∙ sym (refuses_first p p refl u after one one (take (p.max_bytes - p.taken) one) 0 refl refl known told).fault_is ∙ is
 
-  one_fault : (fault : StreamFault) → IsOfPlace fault → fault_so_far p.target p.max_bytes (u ++ one) ≡ Some fault → first_byte_fault p one ≡ Some fault
-  one_fault fault of_place is = by (p.max_bytes - p.taken) p.closed refl refl
+  one_fault : (fault : StreamFault) → IsLateOrTooLong fault → fault_so_far p.target p.max_bytes (u ++ one) ≡ Some fault → first_byte_fault p one ≡ Some fault
+  one_fault fault late_or_too_long is = by (p.max_bytes - p.taken) p.closed refl refl
     where
       by : (room : ℕ) (closed : Bool) → p.max_bytes - p.taken ≡ room → p.closed ≡ closed → first_byte_fault p one ≡ Some fault
       by zero closed room_is closed_is = known_is _ fault (ap (λ n. byte_fault n p.lines p.closed) room_is) is
       by (suc room) true room_is closed_is = known_is _ fault (ap (λ n. byte_fault n p.lines p.closed) room_is ∙ ap (byte_fault (suc room) p.lines) closed_is) is
-      by (suc room) false room_is closed_is = absurd (none_here room room_is closed_is fault of_place is)
+      by (suc room) false room_is closed_is = absurd (none_here room room_is closed_is fault late_or_too_long is)
 
-pub first_fault_known : (p : Progress) (u left : List ℕ) (fault : StreamFault) → IsAfter p u → IsOfPlace fault → fault_so_far p.target p.max_bytes (u ++ take 1 left) ≡ Some fault
+pub first_fault_known : (p : Progress) (u left : List ℕ) (fault : StreamFault) → IsAfter p u → IsLateOrTooLong fault → fault_so_far p.target p.max_bytes (u ++ take 1 left) ≡ Some fault
     → first_byte_fault p left ≡ Some fault
-first_fault_known p u [] fault after of_place is =
+first_fault_known p u [] fault after late_or_too_long is =
     let none : None ≡ Some fault = sym after.fine ∙ ap (fault_so_far p.target p.max_bytes) (sym (append-nil u)) ∙ is in
     absurd (cc)
-first_fault_known p u (byte ∷ left) fault after of_place is = one_fault p u after byte fault of_place is
+first_fault_known p u (byte ∷ left) fault after late_or_too_long is = one_fault p u after byte fault late_or_too_long is
 
 -- the same of a scan as it is seen, which came so far
 pub known_of : (p : Progress) (u left : List ℕ) (must_close : Bool) (refused : Option StreamFault) (seen : Scanned) (fault : StreamFault)
     → record { target = p.target; max_bytes = p.max_bytes; must_close = must_close; bytes = u; refused = refused } ≡ seen → IsAfter p u → RefusesFirst seen left fault → first_byte_fault p left ≡ Some fault
 known_of p u left must_close refused seen fault seen_is after first =
     let here : RefusesFirst (record { target = p.target; max_bytes = p.max_bytes; must_close = must_close; bytes = u; refused = refused }) left fault = subst (λ (s : Scanned). RefusesFirst s left fault) (sym seen_is) first in
-    first_fault_known p u left fault after here.of_place here.fault_is
+    first_fault_known p u left fault after here.late_or_too_long here.fault_is

@@ -1,6 +1,6 @@
 -- Examples of streams, computed: the target, how many bytes are allowed, the bytes, whether a failed read ends them,
 -- and the log, or the fault and the entries before it.
-use Rattle.std.proofs.Common.{◌≡◌, ℕ, Bool, true, false, List, [], ◌∷◌, ◌++◌, None, Some, pos, refl}
+use Rattle.std.proofs.Common.{◌≡◌, inl, inr, ℕ, Bool, true, false, List, [], ◌∷◌, ◌++◌, None, Some, pos, refl}
 use Rattle.std.specs.Prelude.{codes}
 use Rattle.std.specs.List.{AllByRecursion}
 use Rattle.redo_line.specs.declared.entry.Entry.{Entry}
@@ -112,11 +112,11 @@ at_the_limit = record { target = codes "a"; max_bytes = 27; must_close = false; 
 
 a_late_byte_is_refused_first : RefusesFirst behind_closing (codes "zz") (AfterClose 2)
 unfolding cutting ended rest first_fault entry_of record_entry fields_of status_of parted behind number normal from_back
-a_late_byte_is_refused_first = record { refused_none = refl; of_place = tt; fault_is = refl }
+a_late_byte_is_refused_first = record { refused_none = refl; late_or_too_long = inl (2, refl); fault_is = refl }
 
 a_byte_too_many_is_refused_first : RefusesFirst at_the_limit (codes "zz") TooLong
 unfolding cutting ended rest first_fault entry_of record_entry fields_of status_of parted behind number normal from_back
-a_byte_too_many_is_refused_first = record { refused_none = refl; of_place = tt; fault_is = refl }
+a_byte_too_many_is_refused_first = record { refused_none = refl; late_or_too_long = inr refl; fault_is = refl }
 
 -- only the record that closes the log does
 what_closes : (closes (Some (Closing 7 (pos 1))) ≡ true) × (closes (Some (Done 7 (pos 0) (codes "a"))) ≡ false) × (closes (Some (Note 7 (codes "done") (codes "a"))) ≡ false) × (closes (Some (Text closing)) ≡ false) × (closes None ≡ false)

@@ -3,7 +3,7 @@ use Rattle.std.proofs.Common.{◌≡◌, ◌≢◌, ◌⊎◌, inl, inr, ℕ, Li
 use Rattle.std.specs.List.{filter_map, cons_option}
 use Rattle.std.proofs.lemmas.List.Elements.{filter_map-append}
 use Rattle.redo_line.specs.declared.stream_fault.StreamFault.{StreamFault}
-use Rattle.redo_line.specs.declared.stream_fault.StreamFault.TheVariants.{TooLong, Read, OutOfMemory}
+use Rattle.redo_line.specs.declared.stream_fault.StreamFault.TheVariants.{TooLong, Read, OutOfMemory, NotClosed}
 use Rattle.redo_line.specs.Entry.{entry_of}
 use Rattle.redo_line.specs.Fault.{ending_fault}
 use Rattle.redo_line.specs.Lines.{cutting, ended, rest, unended}
@@ -14,28 +14,32 @@ use Rattle.redo_line.proofs.EntryListLemmas.{IsFaultAt}
 use Rattle.redo_line.proofs.FaultLemmas.{rest_entries, fault_line}
 use Rattle.redo_line.proofs.ScanLemmas.{found, fine_is, part_u}
 
-line_not_read : (line place : ℕ) (fault : StreamFault) → IsFaultAt line place fault → fault ≢ Read
-line_not_read line place fault (inl late) read = absurd (cc)
-line_not_read line place fault (inr bad) read = absurd (cc)
+-- neither is met at the end alone
+abbrev IsEarly : StreamFault → Type 0
+IsEarly fault = (fault ≢ Read) × (fault ≢ NotClosed)
 
-long_not_read : (over : Bool) (fault : StreamFault) → cond over (Some TooLong) None ≡ Some fault → fault ≢ Read
-long_not_read true fault is read = absurd (cc)
-long_not_read false fault is read = absurd (cc)
+line_early : (line place : ℕ) (fault : StreamFault) → IsFaultAt line place fault → IsEarly fault
+line_early line place fault (inl late) = ((λ read. absurd (cc)), (λ not_closed. absurd (cc)))
+line_early line place fault (inr bad) = ((λ read. absurd (cc)), (λ not_closed. absurd (cc)))
 
--- bytes behind which no read failed so far have another fault
-so_far_not_read : (target : List ℕ) (max_bytes : ℕ) (bytes : List ℕ) (fault : StreamFault) → fault_of target max_bytes (so_far bytes) ≡ Some fault → fault ≢ Read
-so_far_not_read target max_bytes bytes fault is = by (line_fault target (take max_bytes bytes)) refl
+long_early : (over : Bool) (fault : StreamFault) → cond over (Some TooLong) None ≡ Some fault → IsEarly fault
+long_early true fault is = ((λ read. absurd (cc)), (λ not_closed. absurd (cc)))
+long_early false fault is = absurd (cc)
+
+-- bytes behind which no read failed so far have an early fault
+so_far_early : (target : List ℕ) (max_bytes : ℕ) (bytes : List ℕ) (fault : StreamFault) → fault_of target max_bytes (so_far bytes) ≡ Some fault → IsEarly fault
+so_far_early target max_bytes bytes fault is = by (line_fault target (take max_bytes bytes)) refl
   where
-    by : (among : Option StreamFault) → line_fault target (take max_bytes bytes) ≡ among → fault ≢ Read
+    by : (among : Option StreamFault) → line_fault target (take max_bytes bytes) ≡ among → IsEarly fault
     by (Some first) among =
         let same : Some first ≡ Some fault = sym (ap (λ o. or_else o (ending_fault max_bytes (so_far bytes))) among) ∙ is in
         let at = fault_line target (take max_bytes bytes) fault (among ∙ same) in
-        line_not_read 1 at.0 fault at.2
-    by None among = long_not_read (ltb max_bytes (length bytes)) fault (sym (ap (λ o. or_else o (ending_fault max_bytes (so_far bytes))) among) ∙ is)
+        line_early 1 at.0 fault at.2
+    by None among = long_early (ltb max_bytes (length bytes)) fault (sym (ap (λ o. or_else o (ending_fault max_bytes (so_far bytes))) among) ∙ is)
 
-pub not_read : (p : Progress) (u left : List ℕ) (fault : StreamFault) → (fault ≡ OutOfMemory) ⊎ Refuses p u left fault → fault ≢ Read
-not_read p u left fault (inl memory) read = absurd (cc)
-not_read p u left fault (inr refuses) read = so_far_not_read p.target p.max_bytes (u ++ left) fault refuses.fault_is read
+pub refused_early : (p : Progress) (u left : List ℕ) (fault : StreamFault) → (fault ≡ OutOfMemory) ⊎ Refuses p u left fault → IsEarly fault
+refused_early p u left fault (inl memory) = ((λ read. absurd (cc)), (λ not_closed. absurd (cc)))
+refused_early p u left fault (inr refuses) = so_far_early p.target p.max_bytes (u ++ left) fault refuses.fault_is
 
 -- the entries that lines have
 pub each_found : (target : List ℕ) (lines : List (List ℕ)) → filter_map (λ entry. entry) (line_entries target lines) ≡ found target lines

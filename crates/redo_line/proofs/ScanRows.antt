@@ -1,14 +1,15 @@
 -- Examples of what a scan took and answers, computed: in the log of the target `a`, which may have nine bytes.
-use Rattle.std.proofs.Common.{◌≡◌, ℕ, true, false, inl, inr, List, [], ◌∷◌, ◌++◌, Option, None, Some, refl, ap}
+use Rattle.std.proofs.Common.{◌≡◌, ◌≢◌, ℕ, true, false, inl, inr, List, [], ◌∷◌, ◌++◌, Option, None, Some, Ok, Err, refl, ap, arith}
 use Rattle.std.specs.Prelude.{codes}
 use Rattle.redo_line.specs.declared.entry.Entry.TheVariants.{Text}
+use Rattle.redo_line.specs.declared.scan.Step.TheVariants.{Found, More}
 use Rattle.redo_line.specs.declared.stream_fault.StreamFault.{StreamFault}
 use Rattle.redo_line.specs.declared.stream_fault.StreamFault.TheVariants.{BadRecord, AfterClose, TooLong, Read, OutOfMemory, NotClosed}
 use Rattle.redo_line.specs.Entry.{record_entry, entry_of}
 use Rattle.redo_line.specs.Lines.{line_feed, cutting, ended, rest}
 use Rattle.redo_line.specs.Log.{first_fault}
 use Rattle.redo_line.specs.Parts.{parted, behind}
-use Rattle.redo_line.specs.Scan.{Scanned, so_far, fault_so_far, entries_so_far, EndsLine, EndsNone, AreAtFault, IsFine, took, refused_with, Finds, FindsMore, TakesAll, MayRefuse, IsOfPlace, RefusesFirst, entries_in, source_in, text_of}
+use Rattle.redo_line.specs.Scan.{Scanned, so_far, fault_so_far, entries_so_far, EndsLine, EndsNone, AreAtFault, IsFine, took, refused_with, Finds, FindsMore, TakesAll, MayRefuse, Refuses, Steps, IsLateOrTooLong, RefusesFirst, entries_in, source_in, text_of}
 
 abbrev a : List ℕ
 a = codes "a"
@@ -102,16 +103,68 @@ takes_no_less : TakesAll (scanned [] None) (scanned [] None) (codes "x") → ⊥
 unfolding cutting ended rest first_fault entry_of record_entry parted behind
 takes_no_less is = let bytes : [] ≡ codes "x" = ap (λ (scan : Scanned). scan.bytes) is.0 in absurd (cc)
 
+no_long_line : MayRefuse (scanned [] None) (codes "x") TooLong → ⊥
+unfolding cutting ended rest first_fault entry_of record_entry parted behind
+no_long_line (inl memory) = cc
+no_long_line (inr at_fault) = let same : None ≡ Some TooLong = at_fault.fault_is in absurd (cc)
+
 may_refuse : MayRefuse (scanned [] None) (codes "x") OutOfMemory × MayRefuse (scanned [] None) (codes "0123456789") TooLong
 unfolding cutting ended rest first_fault entry_of record_entry parted behind
 may_refuse = (inl refl, inr (record { fault_is = refl; entries = refl }))
 
--- the two faults by where a byte stands
-of_place : IsOfPlace (AfterClose 2) × IsOfPlace TooLong
-of_place = (tt, tt)
+refuses : Refuses (scanned [] None) (scanned [] (Some TooLong)) (codes "0123456789") TooLong × Refuses (scanned [] (Some TooLong)) (scanned [] (Some TooLong)) [] TooLong
+unfolding cutting ended rest first_fault entry_of record_entry parted behind
+refuses = (
+  record { kept = refl; told = λ none. inr (record { fault_is = refl; entries = refl }); early = ((λ is. absurd (cc)), (λ is. absurd (cc))) },
+  record { kept = refl; told = λ none. absurd (cc); early = ((λ is. absurd (cc)), (λ is. absurd (cc))) },
+)
 
-not_of_place : (IsOfPlace (BadRecord 1) → ⊥) × (IsOfPlace Read → ⊥) × (IsOfPlace OutOfMemory → ⊥) × (IsOfPlace NotClosed → ⊥)
-not_of_place = ((λ is. is), (λ is. is), (λ is. is), (λ is. is))
+-- nothing is taken with a refusal, no other fault is told, and none that the end alone can tell
+refuses_no_other :
+    (Refuses (scanned [] None) (scanned (codes "x") (Some OutOfMemory)) (codes "x") OutOfMemory → ⊥)
+    × (Refuses (scanned [] None) (scanned [] (Some TooLong)) (codes "x") TooLong → ⊥)
+    × (Refuses (scanned [] (Some Read)) (scanned [] (Some Read)) [] Read → ⊥)
+    × (Refuses (scanned [] (Some NotClosed)) (scanned [] (Some NotClosed)) [] NotClosed → ⊥)
+unfolding cutting ended rest first_fault entry_of record_entry parted behind
+refuses_no_other = (
+  (λ is. let bytes : codes "x" ≡ [] = ap (λ (scan : Scanned). scan.bytes) is.kept in absurd (cc)),
+  (λ is. no_long_line (is.told refl)),
+  (λ is. is.early.0 refl),
+  (λ is. is.early.1 refl),
+)
+
+steps :
+    Steps (scanned (codes "x") None) (scanned (line (codes "xy")) None) (line (codes "zy")) 1 (Ok (Found (Text (codes "xy")) 3))
+    × Steps (scanned (codes "x") None) (scanned (codes "xy") None) (codes "zy") 1 (Ok More)
+    × Steps (scanned [] None) (scanned [] (Some TooLong)) (codes "z0123456789") 1 (Err TooLong)
+unfolding cutting ended rest first_fault entry_of record_entry parted behind
+steps = (
+  (omega arith, omega arith, (refl, record { fine = refl; line = codes "xy"; lines_are = refl; nothing_behind = refl; entry_is = refl; entries = refl })),
+  (refl, record { fine = refl; lines = refl; entries = refl }),
+  record { kept = refl; told = λ none. inr (record { fault_is = refl; entries = refl }); early = ((λ is. absurd (cc)), (λ is. absurd (cc))) },
+)
+
+-- not up to the place where it began, or past the piece, and with no entry where all was taken
+steps_no_less :
+    (Steps (scanned (line []) None) (scanned (line []) None) [] 0 (Ok (Found (Text []) 0)) → ⊥)
+    × (Steps (scanned [] None) (scanned (line []) None) (line []) 0 (Ok (Found (Text []) 2)) → ⊥)
+    × (Steps (scanned [] None) (scanned [] None) (codes "x") 0 (Ok More) → ⊥)
+    × (Steps (scanned [] None) (scanned [] None) [] 0 (Err TooLong) → ⊥)
+unfolding cutting ended rest first_fault entry_of record_entry parted behind
+steps_no_less = (
+  (λ is. omega (arith, is.0)),
+  (λ is. omega (arith, is.1)),
+  (λ is. let bytes : [] ≡ codes "x" = ap (λ (scan : Scanned). scan.bytes) is.0 in absurd (cc)),
+  (λ is. let refused : None ≡ Some TooLong = ap (λ (scan : Scanned). scan.refused) is.kept in absurd (cc)),
+)
+
+-- the two faults by where a byte stands
+late_or_too_long : IsLateOrTooLong (AfterClose 2) × IsLateOrTooLong TooLong
+late_or_too_long = (inl (2, refl), inr refl)
+
+not_late : (fault : StreamFault) → IsLateOrTooLong fault → (fault ≢ BadRecord 1) × (fault ≢ Read) × (fault ≢ OutOfMemory) × (fault ≢ NotClosed)
+not_late fault (inl late) = let same = late.1 in ((λ is. absurd (cc)), (λ is. absurd (cc)), (λ is. absurd (cc)), (λ is. absurd (cc)))
+not_late fault (inr too_long) = ((λ is. absurd (cc)), (λ is. absurd (cc)), (λ is. absurd (cc)), (λ is. absurd (cc)))
 
 -- nothing was refused, and one byte is enough
 refuses_nothing_first : (RefusesFirst (scanned (codes "012345678") (Some TooLong)) (codes "x") TooLong → ⊥) × (RefusesFirst (scanned (codes "01234567") None) (codes "xy") TooLong → ⊥)

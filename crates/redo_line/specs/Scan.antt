@@ -1,11 +1,11 @@
 -- What a scan took, and what it answers.
-use Rattle.std.specs.Prelude.{◌≡◌, ℕ, Bool, true, false, ◌⊎◌, List, [], ◌∷◌, ◌++◌, Option, None, Some, take}
+use Rattle.std.specs.Prelude.{◌≡◌, ◌≢◌, ◌<◌, ◌≤◌, ℕ, Bool, true, false, ◌⊎◌, List, [], ◌∷◌, ◌++◌, Option, None, Some, Result, Ok, Err, length, take, drop, slice_range}
 use Rattle.redo_line.specs.declared.entry.Entry.{Entry}
 use Rattle.redo_line.specs.declared.entry.Entry.TheVariants.{Text}
 use Rattle.redo_line.specs.declared.scan.Step.{Step}
 use Rattle.redo_line.specs.declared.scan.Step.TheVariants.{Found, More}
 use Rattle.redo_line.specs.declared.stream_fault.StreamFault.{StreamFault}
-use Rattle.redo_line.specs.declared.stream_fault.StreamFault.TheVariants.{BadRecord, AfterClose, TooLong, Read, OutOfMemory, NotClosed}
+use Rattle.redo_line.specs.declared.stream_fault.StreamFault.TheVariants.{AfterClose, TooLong, Read, OutOfMemory, NotClosed}
 use Rattle.redo_device.specs.Feed.{Stream}
 use Rattle.redo_line.specs.Lines.{ended, rest}
 use Rattle.redo_line.specs.Entry.{entry_of}
@@ -89,19 +89,26 @@ TakesAll old new bytes = (new ≡ took bytes old) × EndsNone old.target old.max
 abbrev pub MayRefuse : Scanned → List ℕ → StreamFault → Type 0
 MayRefuse scan bytes fault = (fault ≡ OutOfMemory) ⊎ AreAtFault scan.target scan.max_bytes scan.bytes bytes fault
 
--- a byte that is at fault by where it stands: behind the closing record, or past the limit
-abbrev pub IsOfPlace : StreamFault → Type 0
-IsOfPlace (BadRecord line) = ⊥
-IsOfPlace (AfterClose line) = Unit {0}
-IsOfPlace TooLong = Unit {0}
-IsOfPlace Read = ⊥
-IsOfPlace OutOfMemory = ⊥
-IsOfPlace NotClosed = ⊥
+-- bytes are refused: none of them was taken. What only the end of the input can tell, a step doesn't.
+pub record Refuses (old new : Scanned) (bytes : List ℕ) (fault : StreamFault) : Type 0 where
+  pub kept : new ≡ refused_with fault old
+  pub told : old.refused ≡ None → MayRefuse old bytes fault
+  pub early : (fault ≢ Read) × (fault ≢ NotClosed)
 
--- a scan that refused nothing yet has to refuse the very first of these bytes by where it stands
+-- what a step does with a piece from a place on: it finds the entry of the next line, or takes all, or refuses
+abbrev pub Steps : Scanned → Scanned → List ℕ → ℕ → Result Step StreamFault → Type 0
+Steps old new piece from (Ok (Found entry upto)) = (from < upto) × (upto ≤ length piece) × Finds old new (slice_range piece from upto) entry
+Steps old new piece from (Ok More) = TakesAll old new (drop from piece)
+Steps old new piece from (Err fault) = Refuses old new (drop from piece) fault
+
+-- a byte stands behind the closing record, or past the limit
+abbrev pub IsLateOrTooLong : StreamFault → Type 0
+IsLateOrTooLong fault = ((line : ℕ) × (fault ≡ AfterClose line)) ⊎ (fault ≡ TooLong)
+
+-- nothing was refused yet, and this is the fault of the bytes taken and one more
 pub record RefusesFirst (scan : Scanned) (bytes : List ℕ) (fault : StreamFault) : Type 0 where
   pub refused_none : scan.refused ≡ None
-  pub of_place : IsOfPlace fault
+  pub late_or_too_long : IsLateOrTooLong fault
   pub fault_is : fault_so_far scan.target scan.max_bytes (scan.bytes ++ take 1 bytes) ≡ Some fault
 
 -- the entries of the lines that ended in the bytes taken
@@ -111,16 +118,6 @@ entries_in scan = entries_so_far scan.target scan.max_bytes scan.bytes
 -- the log that is scanned is made from this, if an end of input stands behind the bytes taken
 abbrev pub source_in : Scanned → Source Stream
 source_in scan = source scan.target scan.must_close (so_far scan.bytes)
-
--- a fact of an entry and of the place after its line
-abbrev pub IfFound : Step → (Entry → ℕ → Type 0) → Type 0
-IfFound (Found entry upto) P = P entry upto
-IfFound More P = Unit {0}
-
--- a fact where there is no entry yet
-abbrev pub IfMore : Step → Type 0 → Type 0
-IfMore (Found entry upto) P = Unit {0}
-IfMore More P = P
 
 -- the unended line's entry
 abbrev pub text_of : Option (List ℕ) → Option Entry

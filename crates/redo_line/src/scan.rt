@@ -1,7 +1,7 @@
 ghost use Rattle.std.specs.Prelude.{◌≡◌, ◌≢◌, ◌<◌, ◌≤◌, ◌^◌, ◌++◌, [], None, Some, Ok, Err, IfOk, IfErr, IfSome, IfNone, length, drop, slice_range, option_to_list};
 ghost use Rattle.redo_line.specs.Lines.{rest, unended};
 ghost use Rattle.redo_line.specs.Source.{fault_from, log_from};
-ghost use Rattle.redo_line.specs.Scan.{Finds, FindsMore, TakesAll, IfFound, IfMore, IsFine, MayRefuse, RefusesFirst, entries_in, refused_with, source_in, text_of};
+ghost use Rattle.redo_line.specs.Scan.{FindsMore, TakesAll, Steps, IsFine, MayRefuse, RefusesFirst, entries_in, refused_with, source_in, text_of};
 ghost use Rattle.redo_line.specs.declared.stream_fault.StreamFault.{StreamFault};
 ghost use Rattle.redo_line.specs.declared.stream_fault.StreamFault.TheVariants.{NotClosed, Read};
 
@@ -81,23 +81,14 @@ impl Scan {
     pub fn step(&mut self, piece: &[u8], from: usize) -> Result<Step, StreamFault>
         requires { from ≤ length piece.now }
 
-        // The bytes up to the place end one line more, which has this entry, and have no fault.
-        ensures place { IfOk result (λ step. IfFound step (λ entry upto. (from < upto) × (upto ≤ length piece.now))) }
-        ensures found { IfOk result (λ step. IfFound step (λ entry upto. Finds self.old self.new (slice_range piece.now from upto) entry)) }
-
-        // Or all that is left of the piece was taken. It ends no line more, and has no fault.
-        ensures more { IfOk result (λ step. IfMore step (TakesAll self.old self.new (drop from piece.now))) }
-
-        // The bytes have this fault, and no entry more before it.
-        ensures refuses { self.old.refused ≡ None → IfErr result (MayRefuse self.old (drop from piece.now)) }
+        // A line ends, and its entry is found; or all that is left of the piece was taken; or its fault is told.
+        ensures step { Steps self.old self.new piece.now from result }
 
         // Where the very first byte is late, or one too many, that is answered, without a request for memory.
         ensures at_once { (fault : StreamFault) → RefusesFirst self.old (drop from piece.now) fault → result ≡ Err fault }
 
-        // A refusal is kept, and answered to every call.
-        ensures kept { IfErr result (λ fault. self.new ≡ refused_with fault self.old) }
+        // What was refused is answered to every call.
         ensures again { (fault : StreamFault) → self.old.refused ≡ Some fault → result ≡ Err fault }
-        ensures reads_nothing { IfErr result (λ fault. fault ≢ Read) }
     {
         let before = History::then(&self.history, &[]);
         let mut read = Entries::new(self.alloc);
@@ -144,6 +135,7 @@ impl Scan {
         ensures kept { IfErr result (λ fault. self.new ≡ refused_with fault self.old) }
         ensures again { (fault : StreamFault) → self.old.refused ≡ Some fault → result ≡ Err fault }
         ensures reads_nothing { IfErr result (λ fault. fault ≢ Read) }
+        ensures early { IfErr result (λ fault. fault ≢ NotClosed) }
     {
         if let Some(fault) = self.refused {
             return Err(fault);

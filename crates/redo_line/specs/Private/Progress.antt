@@ -2,7 +2,7 @@
 use Rattle.std.specs.Prelude.{◌≡◌, ◌≢◌, ℕ, zero, suc, ◌+◌, ◌-◌, ◌≤◌, ◌^◌, Bool, true, false, List, [], ◌∷◌, ◌++◌, Option, None, Some, length}
 use Rattle.redo_line.specs.declared.entry.Entry.{Entry}
 use Rattle.redo_line.specs.declared.stream_fault.StreamFault.{StreamFault}
-use Rattle.redo_line.specs.declared.stream_fault.StreamFault.TheVariants.{AfterClose, TooLong, Read}
+use Rattle.redo_line.specs.declared.stream_fault.StreamFault.TheVariants.{AfterClose, TooLong, Read, NotClosed}
 use Rattle.redo_line.specs.Lines.{ended, rest}
 use Rattle.redo_line.specs.Log.{closes, line_entries}
 use Rattle.redo_line.specs.Scan.{fault_so_far, EndsLine, EndsNone, AreAtFault}
@@ -71,3 +71,4 @@ pub record IsScan (progress : Progress) (bytes : List ℕ) (refused : Option Str
   pub limit : progress.max_bytes ≤ 2 ^ 40
   pub after : refused ≡ None → IsAfter progress bytes
   pub reads_nothing : refused ≢ Some Read
+  pub early : refused ≢ Some NotClosed

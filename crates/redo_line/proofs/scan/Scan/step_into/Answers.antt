@@ -1,25 +1,30 @@
 use Rattle.std.proofs.Common.{ℕ, ◌≤◌, ◌^◌, sym, ap, subst, ◌∙◌}
 use Rattle.std.proofs.lemmas.Option.{none-some, same_Some}
-use Rattle.redo_line.specs.declared.stream_fault.StreamFault.TheVariants.{Read}
+use Rattle.redo_line.specs.declared.stream_fault.StreamFault.TheVariants.{Read, NotClosed}
 use Rattle.redo_line.specs.Scan.{Scanned}
 use Rattle.redo_line.proofs.FirstByteLemmas.{known_of}
-use Rattle.redo_line.proofs.ScanEnds.{not_read}
+use Rattle.redo_line.proofs.ScanEnds.{refused_early}
 use Rattle.redo_line.proofs.scan.Scan.step_into.Goals as goal
 
 pub returns-in-Err-clause-reads_nothing : goal.returns-in-Err-clause-reads_nothing
 returns-in-Err-clause-reads_nothing c =
     let after = c.self.invariant.after c.in_default.is in
-    not_read c.self.inside.progress c.self.inside.history.bytes _ c.in-Err.fault (c.in-Err.ensures.refuses c.self.inside.history.bytes after)
+    (refused_early c.self.inside.progress c.self.inside.history.bytes _ c.in-Err.fault (c.in-Err.ensures.refuses c.self.inside.history.bytes after)).0
+
+pub returns-in-Err-clause-early : goal.returns-in-Err-clause-early
+returns-in-Err-clause-early c =
+    let after = c.self.invariant.after c.in_default.is in
+    (refused_early c.self.inside.progress c.self.inside.history.bytes _ c.in-Err.fault (c.in-Err.ensures.refuses c.self.inside.history.bytes after)).1
 
 pub invariant_of-self-in-Err : goal.invariant_of-self-in-Err
 invariant_of-self-in-Err c =
     let after = c.self.invariant.after c.in_default.is in
+    let early = refused_early c.self.inside.progress c.self.inside.history.bytes _ c.in-Err.fault (c.in-Err.ensures.refuses c.self.inside.history.bytes after) in
     record {
       limit = subst (λ (n : ℕ). n ≤ 2 ^ 40) (sym c.in-Err.ensures.max_bytes) c.self.invariant.limit;
       after = λ none. absurd (cc);
-      reads_nothing =
-          λ is. not_read c.self.inside.progress c.self.inside.history.bytes _ c.in-Err.fault (c.in-Err.ensures.refuses c.self.inside.history.bytes after)
-          (same_Some c.in-Err.fault Read is);
+      reads_nothing = λ is. early.0 (same_Some c.in-Err.fault Read is);
+      early = λ is. early.1 (same_Some c.in-Err.fault NotClosed is);
     }
 
 pub returns-in-Err-clause-at_once : goal.returns-in-Err-clause-at_once
