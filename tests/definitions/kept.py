@@ -3,7 +3,7 @@
     == what_is_wrong_in_words
     file: Names                       a file of the crate's specs/
     old: TEXT                         one line, which stands once in the file
-    new: TEXT                         (more of these may follow, and of other files)
+    new: TEXT                         where ⏎ ends a line (more of these may follow, and of other files)
     by: row NameRows.computed         what refuses it: an example of the crate's proofs/, ..
     by: law one_cutting.only          .. or a clause of its src/laws.rt; of a law with one clause its name alone
     refuted is = TERM                 that the statement fails then, which a law needs; it may go on on indented lines
@@ -100,7 +100,7 @@ def take(line, crate, found):
     elif word == "old":
         wrong.edits.append((wrong.file, text[1:], None))
     elif word == "new":
-        wrong.edits[-1] = (*wrong.edits[-1][:2], text[1:])
+        wrong.edits[-1] = (*wrong.edits[-1][:2], text[1:].replace("⏎", "\n"))
     elif word == "use":
         wrong.uses.append("use " + text.strip())
     elif word == "by":

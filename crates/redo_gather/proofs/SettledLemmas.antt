@@ -9,8 +9,8 @@ use Rattle.redo_line.specs.declared.stream_fault.StreamFault.{StreamFault}
 use Rattle.redo_device.specs.Feed.{Stream, SomeStream}
 use Rattle.redo_line.specs.Log.{unless_fault}
 use Rattle.redo_line.specs.Source.{Marked, Source, fault_from, source, sources, with_stream}
-use Rattle.redo_logs.specs.Logs.{Log, behind_one, fault_in, first_failed, first_fault, has_ended, states_of, targets_of}
-use Rattle.redo_logs.proofs.LeastFault.{found_there}
+use Rattle.redo_logs.specs.Logs.{Log, fault_in, first_failed, first_fault, has_ended, states_of, targets_of}
+use Rattle.redo_logs.proofs.LeastFault.{behind_one, found_there}
 use Rattle.redo_gather.specs.Owed.{Given, log_or_part, told_entries}
 use Rattle.redo_gather.specs.Private.Storing.{state_after}
 use Rattle.redo_gather.specs.Streams.{AreLogs, AreTold, IsFault, Told, in_front, logs_of, whole_log}

@@ -7,7 +7,8 @@ use Rattle.redo_line.specs.declared.stream_fault.StreamFault.{StreamFault}
 use Rattle.redo_device.specs.Feed.{Stream, SomeStream}
 use Rattle.redo_line.specs.Log.{unless_fault}
 use Rattle.redo_line.specs.Source.{Marked, fault_from, source, sources}
-use Rattle.redo_logs.specs.Logs.{Log, first_fault, behind_one, targets_of, has_ended}
+use Rattle.redo_logs.specs.Logs.{Log, first_fault, targets_of, has_ended}
+use Rattle.redo_logs.proofs.LeastFault.{behind_one}
 use Rattle.redo_gather.specs.Streams.{AreTold, IsGiven, IsTold, Told, as_told, fault_among, in_front, log_with, logs_of, whole_log}
 
 -- one stream more, in front of the others

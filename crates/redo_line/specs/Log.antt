@@ -1,9 +1,9 @@
 -- The log of a stream, or its fault. Lines are counted from 1.
 use Rattle.std.specs.Prelude.{◌≡◌, ℕ, ◌+◌, ◌-◌, ◌<◌, Bool, true, false, ◌⊎◌, List, [], ◌∷◌, ◌++◌, Option, None, Some, length, take, map, filter_map, option_to_list, slice_get}
 use Rattle.redo_line.specs.declared.entry.Entry.{Entry}
-use Rattle.redo_line.specs.declared.entry.Entry.TheVariants.{Text, Mention, Done, Closing, Note}
+use Rattle.redo_line.specs.declared.entry.Entry.TheVariants.{Closing}
 use Rattle.redo_line.specs.declared.stream_fault.StreamFault.{StreamFault}
-use Rattle.redo_line.specs.declared.stream_fault.StreamFault.TheVariants.{BadRecord, AfterClose, TooLong, Read, OutOfMemory, NotClosed}
+use Rattle.redo_line.specs.declared.stream_fault.StreamFault.TheVariants.{BadRecord, AfterClose}
 use Rattle.redo_device.specs.Feed.{Stream}
 use Rattle.redo_line.specs.Fault.{ending_fault}
 use Rattle.redo_line.specs.Lines.{ended, rest, unended, all_lines}
@@ -16,11 +16,7 @@ stream_of bytes fails = record { bytes = bytes; fails = fails }
 -- an entry behind which nothing may stand
 abbrev pub closes : Option Entry → Bool
 closes (Some (Closing pid status)) = true
-closes (Some (Text line)) = false
-closes (Some (Mention pid how name)) = false
-closes (Some (Done pid status name)) = false
-closes (Some (Note pid kind text)) = false
-closes None = false
+closes entry = false
 
 -- a line right behind one that closes the log
 pub record IsLate (target bytes : List ℕ) (line : ℕ) : Type 0 where
@@ -85,11 +81,7 @@ fault_of target max_bytes stream = or_else (line_fault target (take max_bytes st
 abbrev pub lines_before : Option StreamFault → List (List ℕ) → List (List ℕ)
 lines_before (Some (BadRecord line)) lines = take (line - 1) lines
 lines_before (Some (AfterClose line)) lines = take (line - 1) lines
-lines_before (Some TooLong) lines = lines
-lines_before (Some Read) lines = lines
-lines_before (Some OutOfMemory) lines = lines
-lines_before (Some NotClosed) lines = lines
-lines_before None lines = lines
+lines_before fault lines = lines
 
 -- the entries of the ended lines before a fault
 abbrev pub part_of : List ℕ → ℕ → Stream → List Entry

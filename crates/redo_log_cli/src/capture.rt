@@ -1,6 +1,8 @@
-ghost use Rattle.std.specs.Prelude.{IfOk, IfErr};
-ghost use Rattle.redo_log_cli.specs.Private.Opening.{IsCaptureOf, IsWantOfMemory};
+ghost use Rattle.std.specs.Prelude.{◌≡◌, IfOk, IfErr};
+ghost use Rattle.std.specs.String.{string_bytes};
+ghost use Rattle.redo_log_cli.specs.Private.Opening.{IsCaptureOf, IsWantOfMemory, path_of_log};
 
+use itoa::Buffer;
 use redo_line::{Broken, Feed, Reading};
 use std::alloc::{AllocError, Global};
 use std::io::{ErrorKind, Read};
@@ -38,8 +40,16 @@ pub fn open_capture<R: Files + AllocGlobal>(
     dir: &str,
     fid: u32,
 ) -> Result<Capture<R::File>, AllocError> {
-    let path = format!(in rt.alloc(); "{dir}/log.{fid}")?;
+    let path = log_path(rt.alloc(), dir, fid)?;
     capture_of(fs::open(rt, path))
+}
+
+// The path of the capture of this number.
+fn log_path(alloc: Global, dir: &str, fid: u32) -> Result<String, AllocError>
+    ensures { IfOk result (λ path. string_bytes path ≡ path_of_log dir.now fid) }
+{
+    let mut number = Buffer::new();
+    [dir, "/log.", number.format(fid)].concat(alloc)
 }
 
 // The capture of a file that was to be opened.

@@ -7,7 +7,8 @@ use Rattle.redo_line.specs.declared.stream_fault.StreamFault.{StreamFault}
 use Rattle.redo_logs.specs.declared.log_state.LogState.{LogState}
 use Rattle.redo_logs.specs.declared.log_state.LogState.TheVariants.{Running, Ended, Failed}
 use Rattle.redo_logs.specs.declared.log_table.Log.{Log as Stored}
-use Rattle.redo_logs.specs.Logs.{Log, IsTable, most, fault_in, behind_one, first_fault, first_failed}
+use Rattle.redo_logs.specs.Logs.{Log, IsTable, most, fault_in, first_fault, first_failed}
+use Rattle.redo_logs.proofs.LeastFault.{behind_one}
 use Rattle.redo_logs.specs.Private.Kept.{Parts}
 use Rattle.redo_logs.specs.Private.Stored.{log_of, logs_of}
 

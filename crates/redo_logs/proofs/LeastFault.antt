@@ -1,8 +1,12 @@
 -- The first fault of a list is at the least place that has one.
-use Rattle.std.proofs.Common.{◌≡◌, ℕ, zero, suc, ◌+◌, ◌<◌, List, [], ◌∷◌, Option, None, Some, slice_get, refl, sym, ap, ◌∙◌, arith}
+use Rattle.std.proofs.Common.{◌≡◌, ℕ, zero, suc, ◌+◌, ◌<◌, List, [], ◌∷◌, Option, None, Some, option_map, slice_get, refl, sym, ap, ◌∙◌, arith}
 use Rattle.std.proofs.lemmas.Option.{same_Some}
 use Rattle.redo_line.specs.declared.stream_fault.StreamFault.{StreamFault}
-use Rattle.redo_logs.specs.Logs.{first_fault, behind_one}
+use Rattle.redo_logs.specs.Logs.{first_fault}
+
+-- one place further
+abbrev pub behind_one : Option (ℕ × StreamFault) → Option (ℕ × StreamFault)
+behind_one first = option_map (λ (found : ℕ × StreamFault). (found.0 + 1, found.1)) first
 
 -- a first fault that is found one place further on
 record Behind (first : Option (ℕ × StreamFault)) (place : ℕ) (fault : StreamFault) : Type 0 where

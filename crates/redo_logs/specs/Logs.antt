@@ -69,15 +69,11 @@ fault_in Running = None
 fault_in Ended = None
 fault_in (Failed fault) = Some fault
 
--- one place further
-abbrev pub behind_one : Option (ℕ × StreamFault) → Option (ℕ × StreamFault)
-behind_one first = option_map (λ (found : ℕ × StreamFault). (found.0 + 1, found.1)) first
-
 -- the least place that has a fault, and which
 abbrev pub first_fault : List (Option StreamFault) → Option (ℕ × StreamFault)
 first_fault [] = None
 first_fault (Some fault ∷ faults) = Some (0, fault)
-first_fault (None ∷ faults) = behind_one (first_fault faults)
+first_fault (None ∷ faults) = option_map (λ (found : ℕ × StreamFault). (found.0 + 1, found.1)) (first_fault faults)
 
 -- the least number of a log that failed, and its fault
 abbrev pub first_failed : List Log → Option (ℕ × StreamFault)

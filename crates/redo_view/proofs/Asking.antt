@@ -16,7 +16,8 @@ use Rattle.redo_view.specs.declared.step.Seen.{Seen}
 use Rattle.redo_view.specs.declared.stop.Stop.{Stop}
 use Rattle.redo_view.specs.declared.stop.Stop.TheVariants.{Write, OutOfMemory}
 use Rattle.redo_view.specs.Text.{redo_line}
-use Rattle.redo_view.specs.Expansion.{Shown, is_among, with_text, unless_opened, after_asked, expansion}
+use Rattle.redo_view.specs.Expansion.{Shown, is_among, with_text, after_asked, expansion}
+use Rattle.redo_view.specs.Private.Choices.{unless_opened}
 use Rattle.redo_view.specs.Private.Shown.{HasShown, Shows, marks_of}
 use Rattle.redo_view.specs.Private.Step.{Fits}
 use Rattle.redo_view.specs.Private.Stopped.{Written}

@@ -11,7 +11,8 @@ use Rattle.redo_line.specs.declared.entry.How.{How}
 use Rattle.redo_logs.specs.Logs.{Log}
 use Rattle.redo_view.specs.declared.options.Options.{Options}
 use Rattle.redo_view.specs.Text.{redo_line, remark}
-use Rattle.redo_view.specs.Expansion.{Opening, Shown, is_among, with_name, with_text, log_of, mentions, mention, begun, opens, opened_if, mentioned_if, after_entry, after_entries, opened_within, opened_log, unless_opened, after_asked}
+use Rattle.redo_view.specs.Expansion.{Opening, Shown, is_among, with_name, with_text, log_of, mentions, mention, begun, opens, after_entry, after_entries, opened_within, opened_log, after_asked}
+use Rattle.redo_view.specs.Private.Choices.{opened_if, mentioned_if, unless_opened}
 use Rattle.redo_view.specs.Reached.{mentions_target, mentioned_in}
 use Rattle.redo_view.specs.Laws.{NamedFirst, NamedAgain, IsNamedIn, IsNamedBetween, AreNamed, NamedByEntries, NamedByLog, NamedInTheEnd}
 use Rattle.redo_view.proofs.Growing.{Names, Keeps, more-keeps, more-has, more-only}

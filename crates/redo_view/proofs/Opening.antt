@@ -8,7 +8,8 @@ use Rattle.redo_line.specs.declared.entry.Entry.{Entry}
 use Rattle.redo_line.specs.declared.entry.Entry.TheVariants.{Text, Mention, Done, Closing, Note}
 use Rattle.redo_logs.specs.Logs.{Log, targets_of}
 use Rattle.redo_view.specs.declared.options.Options.{Options}
-use Rattle.redo_view.specs.Expansion.{Opening, Shown, is_among, log_of, mentions, mention, begun, opens, opened_if, mentioned_if, after_entry, after_entries, opened_within, opened_log}
+use Rattle.redo_view.specs.Expansion.{Opening, Shown, is_among, log_of, mentions, mention, begun, opens, after_entry, after_entries, opened_within, opened_log}
+use Rattle.redo_view.specs.Private.Choices.{opened_if, mentioned_if}
 use Rattle.redo_view.specs.Laws.{GoesOver}
 use Rattle.redo_view.specs.Reached.{mentions_target, mentioned_in}
 use Rattle.redo_view.proofs.Growing.{Names, Keeps, more-keeps, left-le, left-lt, left-all, Growth, Grown, grown-none, grown-both, Kept, kept}

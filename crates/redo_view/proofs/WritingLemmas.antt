@@ -11,7 +11,8 @@ use Rattle.redo_view.specs.declared.options.Options.{Options}
 use Rattle.redo_view.specs.declared.stop.Stop.{Stop}
 use Rattle.redo_view.specs.declared.stop.Stop.TheVariants.{OutOfMemory}
 use Rattle.redo_view.specs.Private.Stopped.{Written}
-use Rattle.redo_view.specs.Text.{spaces, in_six_places, redo_line, exit_remark, exit_text}
+use Rattle.redo_view.specs.Text.{spaces, in_six_places, redo_line, exit_text}
+use Rattle.redo_view.specs.Private.Remarks.{exit_remark}
 
 module _ (before : Option Taken) (text : List ℕ) where
   -- the first part of a text failed

@@ -1,13 +1,13 @@
 -- The expansion of logs at the targets asked for: these targets are gone over in order, each log of theirs is opened, and its
 -- entries are gone over in order. Where an entry mentions a target, the log of that target is opened in its midst, one level
 -- deeper, unless it was opened before. Each step takes what was shown before it and gives what is shown after it.
-use Rattle.std.specs.Prelude.{ℕ, zero, suc, ◌+◌, Bool, true, false, not, ◌&&◌, List, [], ◌∷◌, ◌++◌, None, Some, length, nat_eq, if◌then◌else◌}
+use Rattle.std.specs.Prelude.{ℕ, zero, suc, ◌+◌, Bool, true, not, ◌&&◌, List, [], ◌∷◌, ◌++◌, None, Some, length, nat_eq, if◌then◌else◌}
 use Rattle.std.specs.List.{list_any}
 use Rattle.std.specs.Cmp.Lexicographic.{pointwise}
 use Rattle.redo_line.specs.declared.entry.Entry.{Entry}
-use Rattle.redo_line.specs.declared.entry.Entry.TheVariants.{Text, Mention, Done, Closing, Note}
+use Rattle.redo_line.specs.declared.entry.Entry.TheVariants.{Mention}
 use Rattle.redo_line.specs.declared.entry.How.{How}
-use Rattle.redo_line.specs.declared.entry.How.TheVariants.{Made, Waiting, Locked, Unlocked, Unchanged}
+use Rattle.redo_line.specs.declared.entry.How.TheVariants.{Unchanged}
 use Rattle.redo_logs.specs.Logs.{Log, targets_of}
 use Rattle.redo_view.specs.declared.options.Options.{Options}
 use Rattle.redo_view.specs.Text.{redo_line, remark, entry_text}
@@ -33,11 +33,8 @@ with_text text shown = record { named = shown.named; opened = shown.opened; text
 
 -- a record that mentions a target
 abbrev pub mentions : Options → How → Bool
-mentions options Made = true
-mentions options Waiting = true
-mentions options Locked = true
-mentions options Unlocked = true
 mentions options Unchanged = options.unchanged
+mentions options how = true
 
 -- the line of a mention: its own, or that of the target, once
 abbrev pub mention_text : Options → ℕ → ℕ → How → List ℕ → List (List ℕ) → List ℕ
@@ -75,29 +72,17 @@ module _ (logs : List Log) (options : Options) where
 
   -- What follows says what entries do, once it is known how the logs are opened that they mention: by `open_mentioned`.
 
-  -- the log of a mentioned target is opened, or isn't
-  abbrev pub opened_if : Bool → Opening → List ℕ → ℕ → Shown → Shown
-  opened_if true open_mentioned name depth shown = open_mentioned name depth shown
-  opened_if false open_mentioned name depth shown = shown
-
   -- behind a mention: its line is shown and its target named, and then the target's log is opened, one level deeper
   abbrev pub after_mention : Opening → ℕ → ℕ → How → List ℕ → Shown → Shown
   after_mention open_mentioned depth pid how name shown =
       let mentioned = mention options depth pid how name shown in
-      opened_if (opens name mentioned) open_mentioned name (depth + 1) mentioned
-
-  -- a record is a mention, or isn't one and shows nothing
-  abbrev pub mentioned_if : Bool → Opening → ℕ → ℕ → How → List ℕ → Shown → Shown
-  mentioned_if true open_mentioned depth pid how name shown = after_mention open_mentioned depth pid how name shown
-  mentioned_if false open_mentioned depth pid how name shown = shown
+      if opens name mentioned then open_mentioned name (depth + 1) mentioned else mentioned
 
   -- behind one entry
   abbrev pub after_entry : Opening → ℕ → Entry → Shown → Shown
-  after_entry open_mentioned depth (Text line) shown = with_text (entry_text options depth (Text line)) shown
-  after_entry open_mentioned depth (Mention pid how name) shown = mentioned_if (mentions options how) open_mentioned depth pid how name shown
-  after_entry open_mentioned depth (Done pid status name) shown = with_text (entry_text options depth (Done pid status name)) shown
-  after_entry open_mentioned depth (Closing pid status) shown = with_text (entry_text options depth (Closing pid status)) shown
-  after_entry open_mentioned depth (Note pid kind text) shown = with_text (entry_text options depth (Note pid kind text)) shown
+  after_entry open_mentioned depth (Mention pid how name) shown =
+      if mentions options how then after_mention open_mentioned depth pid how name shown else shown
+  after_entry open_mentioned depth entry shown = with_text (entry_text options depth entry) shown
 
   -- behind entries, in order
   abbrev pub after_entries : Opening → ℕ → List Entry → Shown → Shown
@@ -118,15 +103,15 @@ module _ (logs : List Log) (options : Options) where
 
   -- ---- the targets asked for
 
-  -- a target that is asked for: nothing is shown if its log was opened before, and else its line, at depth 0, and its log
-  abbrev pub unless_opened : Bool → List ℕ → Shown → Shown
-  unless_opened true target shown = shown
-  unless_opened false target shown = opened_log target 1 (with_text (redo_line options 0 None target) shown)
+  -- behind a target that is asked for: nothing is shown if its log was opened before, and else its line, at depth 0, and its log
+  abbrev pub after_one : List ℕ → Shown → Shown
+  after_one target shown =
+      if is_among target shown.opened then shown else opened_log target 1 (with_text (redo_line options 0 None target) shown)
 
   -- behind targets that are asked for, in order
   abbrev pub after_asked : List (List ℕ) → Shown → Shown
   after_asked [] shown = shown
-  after_asked (target ∷ targets) shown = after_asked targets (unless_opened (is_among target shown.opened) target shown)
+  after_asked (target ∷ targets) shown = after_asked targets (after_one target shown)
 
   -- all that is shown of the targets asked for
   abbrev pub expanded : List (List ℕ) → Shown

@@ -1,9 +1,9 @@
 -- The text of an entry.
-use Rattle.std.specs.Prelude.{ℕ, ◌+◌, ◌-◌, ◌*◌, ℤ, pos, negsuc, zero, suc, List, [], ◌++◌, Option, None, Some, length, replicate, codes, decimal, if◌then◌else◌}
+use Rattle.std.specs.Prelude.{ℕ, ◌+◌, ◌-◌, ◌*◌, ℤ, pos, zero, List, [], ◌++◌, Option, None, Some, length, replicate, codes, decimal, if◌then◌else◌}
 use Rattle.std.specs.Fmt.{signed_decimal}
 use Rattle.std.specs.Str.{bytes_eq}
 use Rattle.redo_line.specs.declared.entry.Entry.{Entry}
-use Rattle.redo_line.specs.declared.entry.Entry.TheVariants.{Text, Mention, Done, Closing, Note}
+use Rattle.redo_line.specs.declared.entry.Entry.TheVariants.{Text, Done, Note}
 use Rattle.redo_line.specs.declared.entry.How.{How}
 use Rattle.redo_line.specs.declared.entry.How.TheVariants.{Made, Waiting, Locked, Unlocked, Unchanged}
 use Rattle.redo_line.specs.Lines.{with_line_feed}
@@ -40,28 +40,20 @@ remark Locked = codes " (locked...)"
 remark Unlocked = codes " (...unlocked!)"
 remark Unchanged = codes " (unchanged)"
 
--- and behind that of a target that failed
-abbrev pub exit_remark : ℤ → List ℕ
-exit_remark status = codes " (exit " ++ signed_decimal status ++ codes ")"
-
 -- a target that is done is shown where it failed
 abbrev pub exit_text : Options → ℕ → ℕ → ℤ → List ℕ → List ℕ
 exit_text options depth pid (pos zero) name = []
-exit_text options depth pid (pos (suc status)) name = redo_line options depth (Some pid) (name ++ exit_remark (pos (suc status)))
-exit_text options depth pid (negsuc status) name = redo_line options depth (Some pid) (name ++ exit_remark (negsuc status))
-
-abbrev pub check_text : Options → ℕ → ℕ → List ℕ → List ℕ
-check_text options depth pid text = redo_line options depth (Some pid) (codes "(" ++ text ++ codes ")")
+exit_text options depth pid status name = redo_line options depth (Some pid) (name ++ (codes " (exit " ++ signed_decimal status ++ codes ")"))
 
 -- a check is a redo line, and any other note a line without indent
 abbrev pub note_text : Options → ℕ → ℕ → List ℕ → List ℕ → List ℕ
 note_text options depth pid kind text =
-    if bytes_eq kind (codes "check") then check_text options depth pid text else codes "redo: " ++ with_line_feed text
+    if bytes_eq kind (codes "check") then redo_line options depth (Some pid) (codes "(" ++ text ++ codes ")")
+    else codes "redo: " ++ with_line_feed text
 
 -- the text of an entry that mentions nothing
 abbrev pub entry_text : Options → ℕ → Entry → List ℕ
 entry_text options depth (Text line) = if options.details then with_line_feed line else []
-entry_text options depth (Mention pid how name) = []
 entry_text options depth (Done pid status name) = exit_text options depth pid status name
-entry_text options depth (Closing pid status) = []
 entry_text options depth (Note pid kind text) = note_text options depth pid kind text
+entry_text options depth entry = []

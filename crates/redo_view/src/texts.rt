@@ -4,7 +4,8 @@ ghost use Rattle.redo_line.specs.Lines.{with_line_feed};
 ghost use Rattle.redo_device.specs.Sink.{Writes};
 ghost use Rattle.redo_logs.specs.EntryRef.{entry_seen};
 ghost use Rattle.redo_view.specs.Private.Step.{StandsAlone};
-ghost use Rattle.redo_view.specs.Text.{spaces, in_six_places, pid_column, indent, redo_line, remark, exit_remark, exit_text, check_text, note_text, entry_text};
+ghost use Rattle.redo_view.specs.Text.{spaces, in_six_places, pid_column, indent, redo_line, remark, exit_text, note_text, entry_text};
+ghost use Rattle.redo_view.specs.Private.Remarks.{exit_remark, check_text};
 
 use crate::options::Options;
 use itoa::Buffer;

@@ -1,5 +1,5 @@
 -- Which files of a directory are opened, and what the answer to it comes to.
-use Rattle.std.specs.Prelude.{◌≡◌, ℕ, List, ◌++◌, Result, Ok, Err, IsErrAnd, codes}
+use Rattle.std.specs.Prelude.{◌≡◌, ℕ, List, ◌++◌, Result, Ok, Err, IsErrAnd, codes, decimal}
 use Rattle.std.specs.IoError.{error_kind}
 use Rattle.std.specs.declared.io.Error.{Error}
 use Rattle.std.specs.declared.io.ErrorKind.{ErrorKind}
@@ -12,6 +12,10 @@ use Rattle.redo_log_cli.specs.declared.failure.Failure.TheVariants.{NamesRead, M
 -- the file that lists the targets
 abbrev pub path_of_names : List ℕ → List ℕ
 path_of_names dir = dir ++ codes "/names"
+
+-- the capture of this number
+abbrev pub path_of_log : List ℕ → ℕ → List ℕ
+path_of_log dir number = dir ++ codes "/log." ++ decimal number
 
 -- an error of this kind came where there was no memory
 abbrev pub IsWantOfMemory : {F : Type 0} → Result F Error → Type 0

@@ -7,7 +7,8 @@ use Rattle.redo_view.specs.declared.options.Options.{Options}
 use Rattle.redo_view.specs.declared.step.Seen.{Seen}
 use Rattle.redo_view.specs.declared.stop.Stop.{Stop}
 use Rattle.redo_view.specs.declared.stop.Stop.TheVariants.{Write, OutOfMemory}
-use Rattle.redo_view.specs.Expansion.{Shown, is_among, begun, opened_log, unless_opened}
+use Rattle.redo_view.specs.Expansion.{Shown, is_among, begun, opened_log}
+use Rattle.redo_view.specs.Private.Choices.{unless_opened}
 use Rattle.redo_view.specs.Written.{WroteFront, WroteUntilFailed}
 
 -- name by name, whether it is among others

@@ -1,5 +1,6 @@
 use Rattle.std.proofs.Common.{None, true≢false, is_some, sym, ap, ◌∙◌, subst}
-use Rattle.redo_view.specs.Expansion.{unless_opened, with_text}
+use Rattle.redo_view.specs.Expansion.{with_text}
+use Rattle.redo_view.specs.Private.Choices.{unless_opened}
 use Rattle.redo_view.specs.Text.{redo_line}
 use Rattle.redo_view.specs.Private.Shown.{Shows}
 use Rattle.redo_view.proofs.Asking.{asked_again, line_stopped, line_written}
