@@ -7,6 +7,8 @@ from contracts import TOP, Names, closing, read
 
 PAGE = "docs/theorem.md"
 CLAUSE_OF = "redo_run/src/running.rt"
+# So many lines of definitions are to be read at most.
+MOST_LINES = 400
 MARK = re.compile(r"^<!-- (\w+) (\w+): ([^>]*?) -->\n(?:```\n.*?\n```\n)?", re.M | re.S)
 
 
@@ -61,6 +63,8 @@ def faults(specs):
         names, text = specs.texts.get(place, (None, ""))
         later = {other for other in (names.cited(text) if names else ()) if other in places[at + 1 :]}
         found += [f"{told(place)} stands before {told(other)}, which it cites" for other in later]
+    lines = sum(bool(line) for _, text in blocks(specs, page) for line in text.split("\n"))
+    found += [f"{lines} lines are quoted, and {MOST_LINES} are enough"] * (lines > MOST_LINES)
     if page != with_quotes(specs, page):
         found.append("a quote isn't as it stands: tests/specs/run --quote writes them")
     return found
