@@ -1,5 +1,6 @@
 """docs/theorem.md: each definition that the clause of a run rests on is quoted there once, as it stands, behind those that it
-cites. A mark, which isn't shown, says what is quoted: `<!-- CRATE FILE: NAMES -->`; the block behind it is written by --quote."""
+cites, and no two of them have one name. A mark, which isn't shown, says what is quoted: `<!-- CRATE FILE: NAMES -->`; the
+block behind it is written by --quote."""
 import os
 import re
 
@@ -58,10 +59,11 @@ def faults(specs):
     told = lambda place: ".".join(place[0].split(".")[1::2] + [place[1]])
     found = [f"{told(place)} is needed, and isn't quoted" for place in sorted(needed - set(places))]
     found += [f"{told(place)} is quoted, and isn't needed" for place in places if place not in needed]
-    found += [f"{told(place)} is quoted twice" for place in set(places) if places.count(place) > 1]
+    names = [name for _, name in places]
+    found += [f"{name} is quoted twice" for name in sorted(set(names)) if names.count(name) > 1]
     for at, place in enumerate(places):
-        names, text = specs.texts.get(place, (None, ""))
-        later = {other for other in (names.cited(text) if names else ()) if other in places[at + 1 :]}
+        scope, text = specs.texts.get(place, (None, ""))
+        later = {other for other in (scope.cited(text) if scope else ()) if other in places[at + 1 :]}
         found += [f"{told(place)} stands before {told(other)}, which it cites" for other in later]
     lines = sum(bool(line) for _, text in blocks(specs, page) for line in text.split("\n"))
     found += [f"{lines} lines are quoted, and {MOST_LINES} are enough"] * (lines > MOST_LINES)

@@ -9,7 +9,7 @@ use Rattle.redo_line.specs.declared.stream_fault.StreamFault.{StreamFault}
 use Rattle.redo_device.specs.Feed.{Stream, SomeStream}
 use Rattle.redo_line.specs.Log.{unless_fault}
 use Rattle.redo_line.specs.Source.{Marked, Source, fault_from, source, sources, with_stream}
-use Rattle.redo_logs.specs.Logs.{Log, fault_in, first_failed, first_fault, has_ended, states_of, targets_of}
+use Rattle.redo_logs.specs.Logs.{Log, fault_in, first_failed, least_fault, has_ended, states_of, targets_of}
 use Rattle.redo_logs.proofs.LeastFault.{behind_one, found_there}
 use Rattle.redo_gather.specs.Owed.{Given, log_or_part, told_entries}
 use Rattle.redo_gather.specs.Private.Storing.{state_after}
@@ -61,11 +61,11 @@ module _ (max_bytes : ℕ) where
 
   -- one log more, in front
   in_front_of : (fault : Option StreamFault) (target : List ℕ) (all part : List Entry) (faults : List (Option StreamFault)) (logs : Option (List Log)) (table : List Log)
-      → (first_fault faults ≡ None → logs ≡ Some table) → first_fault (fault ∷ faults) ≡ None
+      → (least_fault faults ≡ None → logs ≡ Some table) → least_fault (fault ∷ faults) ≡ None
       → in_front (option_map (whole_log target) (unless_fault fault all)) logs ≡ Some (record { target = target; entries = log_or_part (unless_fault fault all) part; state = state_after fault } ∷ table)
   in_front_of (Some fault) target all part faults logs table others none = absurd (cc)
   in_front_of None target all part faults logs table others none =
-      ap (in_front (Some (whole_log target all))) (others (none_behind (first_fault faults) none))
+      ap (in_front (Some (whole_log target all))) (others (none_behind (least_fault faults) none))
     where
       none_behind : (first : Option (ℕ × StreamFault)) → behind_one first ≡ None → first ≡ None
       none_behind None none = refl
@@ -87,7 +87,7 @@ module _ (max_bytes : ℕ) where
         faults_are = λ i. fault_is i ∷ others.faults_are i;
         logs_are = λ none.
             in_front_of (fault_from max_bytes (source target one.must_close given.0)) target _ _ (map fault_in (states_of table)) (logs_of max_bytes names others.streams) table others.logs_are
-            (ap (λ f. first_fault (f ∷ map fault_in (states_of table))) (sym fault_is) ∙ none)
+            (ap (λ f. least_fault (f ∷ map fault_in (states_of table))) (sym fault_is) ∙ none)
             ∙ ap (λ (l : Log). Some (l ∷ table)) (sym given.2);
       }
 
@@ -110,7 +110,7 @@ module _ (max_bytes : ℕ) where
             λ i. first i ∷ by names told table (omega (arith, same)) are.1 i
 
     pub settled-fault : (number : ℕ) (fault : StreamFault) → first_failed table ≡ Some (number, fault) → IsFault max_bytes names told number fault
-    settled-fault number fault found = (all.streams, all.told_are, ap first_fault (sym all.faults_are) ∙ found)
+    settled-fault number fault found = (all.streams, all.told_are, ap least_fault (sym all.faults_are) ∙ found)
 
     module _ (none : first_failed table ≡ None) where
       pub settled-logs : AreLogs max_bytes names told table

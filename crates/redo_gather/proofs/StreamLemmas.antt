@@ -7,15 +7,15 @@ use Rattle.redo_line.specs.declared.stream_fault.StreamFault.{StreamFault}
 use Rattle.redo_device.specs.Feed.{Stream, SomeStream}
 use Rattle.redo_line.specs.Log.{unless_fault}
 use Rattle.redo_line.specs.Source.{Marked, fault_from, source, sources}
-use Rattle.redo_logs.specs.Logs.{Log, first_fault, targets_of, has_ended}
+use Rattle.redo_logs.specs.Logs.{Log, least_fault, targets_of, has_ended}
 use Rattle.redo_logs.proofs.LeastFault.{behind_one}
 use Rattle.redo_gather.specs.Streams.{AreTold, IsGiven, IsTold, Told, as_told, fault_among, in_front, log_with, logs_of, whole_log}
 
 -- one stream more, in front of the others
-either : (fault : Option StreamFault) (target : List ℕ) (entries : List Entry) (logs : Option (List Log)) (faults : List (Option StreamFault)) → IsSome logs ↔ (first_fault faults ≡ None)
-    → IsSome (in_front (option_map (whole_log target) (unless_fault fault entries)) logs) ↔ (first_fault (fault ∷ faults) ≡ None)
+either : (fault : Option StreamFault) (target : List ℕ) (entries : List Entry) (logs : Option (List Log)) (faults : List (Option StreamFault)) → IsSome logs ↔ (least_fault faults ≡ None)
+    → IsSome (in_front (option_map (whole_log target) (unless_fault fault entries)) logs) ↔ (least_fault (fault ∷ faults) ≡ None)
 either (Some fault) target entries logs faults both = ((λ some. absurd (cc)), (λ none. absurd (cc)))
-either None target entries None faults both = ((λ some. absurd (cc)), (λ none. absurd (let some = both.1 (none_behind (first_fault faults) none) in cc)))
+either None target entries None faults both = ((λ some. absurd (cc)), (λ none. absurd (let some = both.1 (none_behind (least_fault faults) none) in cc)))
   where
     none_behind : (first : Option (ℕ × StreamFault)) → behind_one first ≡ None → first ≡ None
     none_behind None none = refl
@@ -84,7 +84,7 @@ module _ (max_bytes : ℕ) where
     fault_behind (first ∷ targets) (other ∷ streams) logs left unread fault same is has =
         let front = of_front _ _ logs is in
         let fine = no_fault (fault_from max_bytes (source first other.must_close other.stream)) first _ front.0 front.2 in
-        ap (λ f. first_fault (f ∷ map (fault_from max_bytes) (sources (targets ++ target ∷ left) (streams ++ stream ∷ unread)))) fine.0
+        ap (λ f. least_fault (f ∷ map (fault_from max_bytes) (sources (targets ++ target ∷ left) (streams ++ stream ∷ unread)))) fine.0
         ∙ ap behind_one (fault_behind targets streams front.1 left unread fault (omega (arith, same)) front.3 has)
         ∙ ap (λ (n : ℕ). Some (n, fault)) (omega arith)
 

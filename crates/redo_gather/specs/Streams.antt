@@ -7,7 +7,7 @@ use Rattle.redo_line.specs.declared.stream_fault.StreamFault.{StreamFault}
 use Rattle.redo_device.specs.Feed.{Stream}
 use Rattle.redo_line.specs.Source.{Marked, Source, fault_from, log_from, sources}
 use Rattle.redo_logs.specs.declared.log_state.LogState.TheVariants.{Ended}
-use Rattle.redo_logs.specs.Logs.{Log, first_fault}
+use Rattle.redo_logs.specs.Logs.{Log, least_fault}
 
 -- what a reader tells, and whether the log has to be closed that its stream makes
 abbrev pub Told : Type 0
@@ -67,7 +67,7 @@ logs_of max_bytes targets streams = all_of (map (log_with max_bytes) (sources ta
 
 -- the least number of a stream that has a fault, and its fault
 abbrev pub fault_among : ℕ → List (List ℕ) → List (Marked Stream) → Option (ℕ × StreamFault)
-fault_among max_bytes targets streams = first_fault (map (fault_from max_bytes) (sources targets streams))
+fault_among max_bytes targets streams = least_fault (map (fault_from max_bytes) (sources targets streams))
 
 -- these are the logs of the streams that readers give
 abbrev pub AreLogs : ℕ → List (List ℕ) → List Told → List Log → Type 0

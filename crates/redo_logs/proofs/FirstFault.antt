@@ -7,7 +7,7 @@ use Rattle.redo_line.specs.declared.stream_fault.StreamFault.{StreamFault}
 use Rattle.redo_logs.specs.declared.log_state.LogState.{LogState}
 use Rattle.redo_logs.specs.declared.log_state.LogState.TheVariants.{Running, Ended, Failed}
 use Rattle.redo_logs.specs.declared.log_table.Log.{Log as Stored}
-use Rattle.redo_logs.specs.Logs.{Log, IsTable, most, fault_in, first_fault, first_failed}
+use Rattle.redo_logs.specs.Logs.{Log, IsTable, most, fault_in, least_fault, first_failed}
 use Rattle.redo_logs.proofs.LeastFault.{behind_one}
 use Rattle.redo_logs.specs.Private.Kept.{Parts}
 use Rattle.redo_logs.specs.Private.Stored.{log_of, logs_of}
@@ -23,7 +23,7 @@ behind number first = option_map (λ (found : ℕ × StreamFault). (number + fou
 -- the first logs, as many as this number, have not failed, and these are left
 pub record Searched (logs : List Log) (number : ℕ) (left : List Stored) : Type 0 where
   pub size : number + length left ≤ most
-  pub answer : first_failed logs ≡ behind number (first_fault (faults_of left))
+  pub answer : first_failed logs ≡ behind number (least_fault (faults_of left))
 
 -- one place further and so many are one more
 behind-behind_one : (number : ℕ) (first : Option (ℕ × StreamFault)) → behind number (behind_one first) ≡ behind (number + 1) first
@@ -36,8 +36,8 @@ behind_none None = refl
 behind_none (Some found) = ap (λ n. Some (n, found.1)) (omega arith)
 
 -- the first log that failed is the first value that says so
-faults_stored : (parts : Parts) (stored : List Stored) → first_failed (logs_of parts stored) ≡ first_fault (faults_of stored)
-faults_stored parts stored = ap first_fault (same stored)
+faults_stored : (parts : Parts) (stored : List Stored) → first_failed (logs_of parts stored) ≡ least_fault (faults_of stored)
+faults_stored parts stored = ap least_fault (same stored)
   where
     same : (logs : List Stored) → map fault_in (map (λ (log : Log). log.state) (logs_of parts logs)) ≡ faults_of logs
     same [] = refl
@@ -54,14 +54,14 @@ pub searched_none : (parts : Parts) (stored : List Stored) (logs : List Log) →
 searched_none parts stored logs is table =
     record {
       size = let size = table.size in omega (arith, length-map stored (log_of parts));
-      answer = ap first_failed (sym is) ∙ faults_stored parts stored ∙ sym (behind_none (first_fault (faults_of stored)));
+      answer = ap first_failed (sym is) ∙ faults_stored parts stored ∙ sym (behind_none (least_fault (faults_of stored)));
     }
 
 module _ (logs : List Log) (number : ℕ) (left : List Stored) (so_far : Searched logs number left) where
   module _ (stored : Stored) (others : List Stored) (is : left ≡ stored ∷ others) where
     -- the answer looks at the next log first
-    here : first_failed logs ≡ behind number (first_fault (fault_in stored.state ∷ faults_of others))
-    here = so_far.answer ∙ ap (λ values. behind number (first_fault (faults_of values))) is
+    here : first_failed logs ≡ behind number (least_fault (fault_in stored.state ∷ faults_of others))
+    here = so_far.answer ∙ ap (λ values. behind number (least_fault (faults_of values))) is
 
     -- there is room for one number more
     pub more : number + 1 ≤ most
@@ -70,7 +70,7 @@ module _ (logs : List Log) (number : ℕ) (left : List Stored) (so_far : Searche
     -- if the next log has failed, it is the answer
     pub found : (fault : StreamFault) → stored.state ≡ Failed fault → Some (number, fault) ≡ first_failed logs
     found fault failed =
-        ap (λ n. Some (n, fault)) (omega arith) ∙ sym (here ∙ ap (λ state. behind number (first_fault (fault_in state ∷ faults_of others))) failed)
+        ap (λ n. Some (n, fault)) (omega arith) ∙ sym (here ∙ ap (λ state. behind number (least_fault (fault_in state ∷ faults_of others))) failed)
 
     -- if it hasn't, the search goes on
     pub searched_one : ((fault : StreamFault) → stored.state ≡ Failed fault → ⊥) → Searched logs (number + 1) others
@@ -78,13 +78,13 @@ module _ (logs : List Log) (number : ℕ) (left : List Stored) (so_far : Searche
         record {
           size = let size = so_far.size in omega (arith, ap length is);
           answer =
-              here ∙ ap (λ first. behind number (first_fault (first ∷ faults_of others))) (no_fault stored.state not_failed)
-              ∙ behind-behind_one number (first_fault (faults_of others));
+              here ∙ ap (λ first. behind number (least_fault (first ∷ faults_of others))) (no_fault stored.state not_failed)
+              ∙ behind-behind_one number (least_fault (faults_of others));
         }
 
   -- if no log is left, there is no answer
   pub none_found : left ≡ [] → None ≡ first_failed logs
-  none_found is = sym (so_far.answer ∙ ap (λ values. behind number (first_fault (faults_of values))) is)
+  none_found is = sym (so_far.answer ∙ ap (λ values. behind number (least_fault (faults_of values))) is)
 
 -- the log at a place is the first of those from there on
 pub left_at : (logs : List Stored) (place : ℕ) (log : Stored) → place < length logs → log ≡ get_or logs place log → drop place logs ≡ log ∷ drop (place + 1) logs

@@ -11,7 +11,7 @@ use Rattle.redo_logs.specs.declared.entry_ref.EntryRef.TheVariants as shown
 use Rattle.redo_logs.specs.declared.log_state.LogState.TheVariants.{Running, Ended, Failed}
 use Rattle.redo_logs.specs.declared.numbered.NumberedEntry.TheVariants as numbered
 use Rattle.redo_logs.specs.EntryRef.{entry_seen}
-use Rattle.redo_logs.specs.Logs.{Log, IsTable, new_log, with_entry, with_entries, with_state, changed, place_of, entry_at, has_ended, first_fault, first_failed, most}
+use Rattle.redo_logs.specs.Logs.{Log, IsTable, new_log, with_entry, with_entries, with_state, changed, place_of, entry_at, has_ended, least_fault, first_failed, most}
 use Rattle.redo_logs.specs.Numbering.{AreLinesAt, AreTexts, HasText, IsNumbered, numbered_seen}
 
 abbrev two : List Log
@@ -45,7 +45,7 @@ states = (refl, refl, refl)
 ended :
     (list_all has_ended (with_state Ended (new_log (codes "a")) ∷ []) ≡ true) × (list_all has_ended two ≡ false)
     × (list_all has_ended (with_state (Failed Read) (new_log (codes "a")) ∷ []) ≡ false)
-    × (first_fault (None ∷ None ∷ Some Read ∷ Some TooLong ∷ []) ≡ Some (2, Read))
+    × (least_fault (None ∷ None ∷ Some Read ∷ Some TooLong ∷ []) ≡ Some (2, Read))
 ended = (refl, refl, refl, refl)
 
 how_many : most ≡ 1048575

@@ -70,11 +70,11 @@ fault_in Ended = None
 fault_in (Failed fault) = Some fault
 
 -- the least place that has a fault, and which
-abbrev pub first_fault : List (Option StreamFault) → Option (ℕ × StreamFault)
-first_fault [] = None
-first_fault (Some fault ∷ faults) = Some (0, fault)
-first_fault (None ∷ faults) = option_map (λ (found : ℕ × StreamFault). (found.0 + 1, found.1)) (first_fault faults)
+abbrev pub least_fault : List (Option StreamFault) → Option (ℕ × StreamFault)
+least_fault [] = None
+least_fault (Some fault ∷ faults) = Some (0, fault)
+least_fault (None ∷ faults) = option_map (λ (found : ℕ × StreamFault). (found.0 + 1, found.1)) (least_fault faults)
 
 -- the least number of a log that failed, and its fault
 abbrev pub first_failed : List Log → Option (ℕ × StreamFault)
-first_failed logs = first_fault (map fault_in (states_of logs))
+first_failed logs = least_fault (map fault_in (states_of logs))

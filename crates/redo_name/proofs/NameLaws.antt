@@ -3,7 +3,7 @@ use Rattle.std.proofs.Common.{◌≡◌, ℕ, zero, suc, Bool, true, false, cond
 use Rattle.std.specs.List.{AllByRecursion}
 use Rattle.std.proofs.lemmas.Bool.{eqb-true}
 use Rattle.redo_name.specs.Laws.{Goes, GoesWithUpward, IsOrdinary, IsRelative, StandsIn, Stay}
-use Rattle.redo_name.specs.Names.{slash, dot, dot_dot, segments, is_absolute, without_last, kind_of, Skipped, Upward, Ordinary, in_front, from_back, left_of, written, directory_of, normal, HasNoSlash}
+use Rattle.redo_name.specs.Names.{slash, dot, dot_dot, segments, is_absolute, without_last, segment_kind, Skipped, Upward, Ordinary, with_segment, from_back, left_of, written, directory_of, normal, HasNoSlash}
 use Rattle.redo_name.proofs.DirectoryLemmas.{cut-slash, cut-last, without_last-push}
 use Rattle.redo_name.proofs.NameLemmas.{AllOrdinary, cut-free, from_back-cons, from_back-behind, from_back-ordinary}
 
@@ -13,16 +13,16 @@ empty_goes front behind = from_back-behind front ([] ∷ behind) behind (from_ba
 pub dot_goes : Goes dot
 dot_goes front behind = from_back-behind front (dot ∷ behind) behind (from_back-cons dot behind Skipped refl)
 
-ordinary_is : (segment : List ℕ) → IsOrdinary segment → kind_of segment ≡ Ordinary
+ordinary_is : (segment : List ℕ) → IsOrdinary segment → segment_kind segment ≡ Ordinary
 ordinary_is [] is = absurd (is.0 refl)
 ordinary_is (a ∷ []) is = by (eqb a 46) refl
   where
-    by : (same : Bool) → eqb a 46 ≡ same → kind_of (a ∷ []) ≡ Ordinary
+    by : (same : Bool) → eqb a 46 ≡ same → segment_kind (a ∷ []) ≡ Ordinary
     by true same = absurd (is.1 (ap (λ (b : ℕ). b ∷ []) (eqb-true a 46 same)))
     by false other = ap (λ b. cond b Skipped Ordinary) other
 ordinary_is (a ∷ b ∷ []) is = by (eqb a 46) (eqb b 46) refl refl
   where
-    by : (first second : Bool) → eqb a 46 ≡ first → eqb b 46 ≡ second → kind_of (a ∷ b ∷ []) ≡ Ordinary
+    by : (first second : Bool) → eqb a 46 ≡ first → eqb b 46 ≡ second → segment_kind (a ∷ b ∷ []) ≡ Ordinary
     by true true first second = absurd (is.2 (ap (λ (c : ℕ). c ∷ b ∷ []) (eqb-true a 46 first) ∙ ap (λ (c : ℕ). 46 ∷ c ∷ []) (eqb-true b 46 second)))
     by true false first second = ap (λ c. cond c (cond (eqb b 46) Upward Ordinary) Ordinary) first ∙ ap (λ c. cond c Upward Ordinary) second
     by false second first is_second = ap (λ c. cond c (cond (eqb b 46) Upward Ordinary) Ordinary) first
@@ -32,8 +32,8 @@ pub goes_with_upward : (segment : List ℕ) → IsOrdinary segment → GoesWithU
 goes_with_upward segment is front behind =
     from_back-behind front (segment ∷ dot_dot ∷ behind) behind
     (from_back-cons segment (dot_dot ∷ behind) Ordinary (ordinary_is segment is)
-    ∙ ap (in_front Ordinary segment) (from_back-cons dot_dot behind Upward refl)
-    ∙ ap (λ (n : ℕ). in_front Ordinary segment (record { kept = (from_back behind).kept; count = n })) (add-one (from_back behind).count))
+    ∙ ap (with_segment Ordinary segment) (from_back-cons dot_dot behind Upward refl)
+    ∙ ap (λ (n : ℕ). with_segment Ordinary segment (record { kept = (from_back behind).kept; count = n })) (add-one (from_back behind).count))
 
 all_ordinary : (kept : List (List ℕ)) → AllByRecursion IsOrdinary kept → AllOrdinary kept
 all_ordinary [] are = tt
@@ -42,7 +42,7 @@ all_ordinary (segment ∷ kept) are = (ordinary_is segment are.0, all_ordinary k
 pub stay : (ups : ℕ) (kept : List (List ℕ)) → AllByRecursion IsOrdinary kept → Stay ups kept
 stay zero kept are = from_back-ordinary kept (all_ordinary kept are)
 stay (suc ups) kept are =
-    from_back-cons dot_dot (replicate ups dot_dot ++ kept) Upward refl ∙ ap (in_front Upward dot_dot) (stay ups kept are)
+    from_back-cons dot_dot (replicate ups dot_dot ++ kept) Upward refl ∙ ap (with_segment Upward dot_dot) (stay ups kept are)
     ∙ ap (λ (n : ℕ). record { kept = kept; count = n }) (add-one ups)
 
 -- a name is the one that its directory and its segments make

@@ -4,13 +4,13 @@ use Rattle.std.specs.List.{AllByRecursion, slice_split, onto_first, join_with_by
 use Rattle.std.proofs.lemmas.Bool.{ne_eqb, eqb-false, false≢true}
 use Rattle.std.proofs.lemmas.List.{append-nil}
 use Rattle.redo_name.specs.Private.Path.{IsLeft}
-use Rattle.redo_name.specs.Names.{slash, dot_dot, segments, is_absolute, without_last, Kind, Skipped, Upward, Ordinary, kind_of, Behind, taken_off, in_front, from_back, left_of, written, directory_of, normal, IsNormal, HasNoSlash}
+use Rattle.redo_name.specs.Names.{slash, dot_dot, segments, is_absolute, without_last, Kind, Skipped, Upward, Ordinary, segment_kind, Behind, taken_off, with_segment, from_back, left_of, written, directory_of, normal, IsNormal, HasNoSlash}
 
 abbrev pub Each : List (List ℕ) → Type 0
 Each parts = AllByRecursion HasNoSlash parts
 
 abbrev pub AllOrdinary : List (List ℕ) → Type 0
-AllOrdinary parts = AllByRecursion (λ part. kind_of part ≡ Ordinary) parts
+AllOrdinary parts = AllByRecursion (λ part. segment_kind part ≡ Ordinary) parts
 
 abbrev pub cut : List ℕ → List (List ℕ)
 cut bytes = slice_split (λ byte. eqb byte slash) bytes
@@ -46,26 +46,26 @@ cut-joined part [] each = cut-free part each.0
 cut-joined part (next ∷ parts) each = cut-at part (join_with_byte slash (next ∷ parts)) each.0 ∙ ap (λ ps. part ∷ ps) (cut-joined next parts each.1)
 
 -- one segment, by its kind
-pub from_back-cons : (part : List ℕ) (parts : List (List ℕ)) (kind : Kind) → kind_of part ≡ kind → from_back (part ∷ parts) ≡ in_front kind part (from_back parts)
+pub from_back-cons : (part : List ℕ) (parts : List (List ℕ)) (kind : Kind) → segment_kind part ≡ kind → from_back (part ∷ parts) ≡ with_segment kind part (from_back parts)
 unfolding from_back
-from_back-cons part parts kind is = ap (λ k. in_front k part (from_back parts)) is
+from_back-cons part parts kind is = ap (λ k. with_segment k part (from_back parts)) is
 
 -- what stands in front goes by what is left behind it
 pub from_back-behind : (front a b : List (List ℕ)) → from_back a ≡ from_back b → from_back (front ++ a) ≡ from_back (front ++ b)
 unfolding from_back
 from_back-behind [] a b same = same
-from_back-behind (part ∷ front) a b same = ap (in_front (kind_of part) part) (from_back-behind front a b same)
+from_back-behind (part ∷ front) a b same = ap (with_segment (segment_kind part) part) (from_back-behind front a b same)
 
 -- ordinary segments stay
 pub from_back-ordinary : (kept : List (List ℕ)) → AllOrdinary kept → from_back kept ≡ record { kept = kept; count = 0 }
 unfolding from_back
 from_back-ordinary [] all = refl
-from_back-ordinary (part ∷ kept) all = ap (λ k. in_front k part (from_back kept)) all.0 ∙ ap (in_front Ordinary part) (from_back-ordinary kept all.1)
+from_back-ordinary (part ∷ kept) all = ap (λ k. with_segment k part (from_back kept)) all.0 ∙ ap (with_segment Ordinary part) (from_back-ordinary kept all.1)
 
 from_back-upward : (ups : ℕ) (kept : List (List ℕ)) → AllOrdinary kept → from_back (replicate ups dot_dot ++ kept) ≡ record { kept = kept; count = ups }
 unfolding from_back
 from_back-upward zero kept all = from_back-ordinary kept all
-from_back-upward (suc ups) kept all = ap (in_front Upward dot_dot) (from_back-upward ups kept all) ∙ ap (λ (n : ℕ). record { kept = kept; count = n }) (let e : ups + 1 ≡ suc ups = omega arith in e)
+from_back-upward (suc ups) kept all = ap (with_segment Upward dot_dot) (from_back-upward ups kept all) ∙ ap (λ (n : ℕ). record { kept = kept; count = n }) (let e : ups + 1 ≡ suc ups = omega arith in e)
 
 -- going over it from the back leaves it as it is
 pub left_again : (absolute : Bool) (parts : List (List ℕ)) (ups : ℕ) (kept : List (List ℕ)) → IsLeft absolute parts ups kept → left_of absolute (from_back parts) ≡ parts
@@ -79,15 +79,15 @@ left_again absolute parts ups kept left = ap (λ ps. left_of absolute (from_back
 behind-ordinary : (parts : List (List ℕ)) → Each parts → AllOrdinary (from_back parts).kept × Each (from_back parts).kept
 unfolding from_back
 behind-ordinary [] each = (tt, tt)
-behind-ordinary (part ∷ parts) each = by_kind (kind_of part) refl (behind-ordinary parts each.1)
+behind-ordinary (part ∷ parts) each = by_kind (segment_kind part) refl (behind-ordinary parts each.1)
   where
-    one : (count : ℕ) → kind_of part ≡ Ordinary → AllOrdinary (from_back parts).kept × Each (from_back parts).kept
+    one : (count : ℕ) → segment_kind part ≡ Ordinary → AllOrdinary (from_back parts).kept × Each (from_back parts).kept
         → AllOrdinary (taken_off part (from_back parts).kept count).kept × Each (taken_off part (from_back parts).kept count).kept
     one zero is behind = ((is, behind.0), (each.0, behind.1))
     one (suc count) is behind = behind
 
-    by_kind : (kind : Kind) → kind_of part ≡ kind → AllOrdinary (from_back parts).kept × Each (from_back parts).kept
-        → AllOrdinary (in_front kind part (from_back parts)).kept × Each (in_front kind part (from_back parts)).kept
+    by_kind : (kind : Kind) → segment_kind part ≡ kind → AllOrdinary (from_back parts).kept × Each (from_back parts).kept
+        → AllOrdinary (with_segment kind part (from_back parts)).kept × Each (with_segment kind part (from_back parts)).kept
     by_kind Skipped is behind = behind
     by_kind Upward is behind = behind
     by_kind Ordinary is behind = one (from_back parts).count is behind
@@ -119,7 +119,7 @@ left_is false parts each =
 abbrev NoneEmpty : List (List ℕ) → Type 0
 NoneEmpty parts = AllByRecursion (λ part. 0 < length part) parts
 
-ordinary-some : (part : List ℕ) → kind_of part ≡ Ordinary → 0 < length part
+ordinary-some : (part : List ℕ) → segment_kind part ≡ Ordinary → 0 < length part
 ordinary-some [] is = cc
 ordinary-some (byte ∷ part) is = omega arith
 

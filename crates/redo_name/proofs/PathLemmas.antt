@@ -6,7 +6,7 @@ use Rattle.std.proofs.lemmas.List.{append_assoc, append-nil, length-append, get_
 use Rattle.std.proofs.lemmas.List.Concat.{flat_map-append}
 use Rattle.std.proofs.lemmas.List.Elements.{All-from_recursion}
 use Rattle.memchr.specs.Find.{Passes, Nowhere, NoneAfter, is_byte}
-use Rattle.redo_name.specs.Names.{slash, dot_dot, Kind, Skipped, Upward, Ordinary, kind_of, from_back, left_of, in_front, taken_off, HasNoSlash}
+use Rattle.redo_name.specs.Names.{slash, dot_dot, Kind, Skipped, Upward, Ordinary, segment_kind, from_back, left_of, with_segment, taken_off, HasNoSlash}
 use Rattle.redo_name.specs.Private.Path.{built, StandsFor, StandsForMore, Adds, EndsSo, with_separator}
 use Rattle.redo_name.proofs.NameLemmas.{Each, AllOrdinary, from_back-cons, from_back-behind, each-append, each-upward, left_some}
 
@@ -133,7 +133,7 @@ each_upward ups = subst Each (append-nil (replicate ups dot_dot)) (each-upward u
 
 -- a path of `..` alone ends in one
 only_upward : (absolute : Bool) (ups : ℕ) {path : List ℕ} → (absolute ≡ true → ups ≡ 0) → path ≡ built absolute (replicate ups dot_dot) → 0 < length path
-    → (above : ℕ) (found : List ℕ) → AfterSlash path above found → WithoutSlash path above found → (kind_of found ≡ Upward → ⊥) → ⊥
+    → (above : ℕ) (found : List ℕ) → AfterSlash path above found → WithoutSlash path above found → (segment_kind found ≡ Upward → ⊥) → ⊥
 only_upward true zero root is some above found after without ordinary = omega (arith, ap length is)
 only_upward false zero root is some above found after without ordinary = omega (arith, ap length is)
 only_upward true (suc ups) root is some above found after without ordinary = let none = root refl in omega (arith, none)
@@ -141,7 +141,7 @@ only_upward false (suc ups) {path} root is some above found after without ordina
     let split = upward-snoc ups in
     let each = subst Each split (each_upward (suc ups)) in
     let last = path_last false path (replicate ups dot_dot) dot_dot above found each (is ∙ ap (built false) split) after without in
-    ordinary (ap kind_of last.0)
+    ordinary (ap segment_kind last.0)
 
 module _ (absolute : Bool) (path : List ℕ) (parts : List (List ℕ)) (stands : StandsFor absolute path parts) where
   -- the segments before the last one that is kept
@@ -159,8 +159,8 @@ module _ (absolute : Bool) (path : List ℕ) (parts : List (List ℕ)) (stands :
   ends kept last is above found after without =
       path_last absolute path (fronts kept) last above found (subst Each (parts_are kept last is) stands.left.each) (path_is kept last is) after without
 
-  last_ordinary : (kept : List (List ℕ)) (last : List ℕ) → stands.kept ≡ kept ++ last ∷ [] → kind_of last ≡ Ordinary
-  last_ordinary kept last is = last_of_each (λ part. kind_of part ≡ Ordinary) kept last (subst AllOrdinary is stands.left.ordinary)
+  last_ordinary : (kept : List (List ℕ)) (last : List ℕ) → stands.kept ≡ kept ++ last ∷ [] → segment_kind last ≡ Ordinary
+  last_ordinary kept last is = last_of_each (λ part. segment_kind part ≡ Ordinary) kept last (subst AllOrdinary is stands.left.ordinary)
 
   -- an empty path has no segment, and a path that ends in `..` none but such
   pub empty_path : path ≡ [] → stands.kept ≡ []
@@ -171,16 +171,16 @@ module _ (absolute : Bool) (path : List ℕ) (parts : List (List ℕ)) (stands :
         absurd (omega (arith, ap length (path_is some.0 some.1 some.2), ap length none))
   ]
 
-  pub upward_path : (above : ℕ) (found : List ℕ) → AfterSlash path above found → WithoutSlash path above found → kind_of found ≡ Upward → stands.kept ≡ []
+  pub upward_path : (above : ℕ) (found : List ℕ) → AfterSlash path above found → WithoutSlash path above found → segment_kind found ≡ Upward → stands.kept ≡ []
   upward_path above found after without upward = elim (snoc stands.kept) [
     | inl is ↦ is
     | inr some ↦
         let same = (ends some.0 some.1 some.2 above found after without).0 in
         let ordinary = last_ordinary some.0 some.1 some.2 in
-        let both : Ordinary ≡ Upward = sym ordinary ∙ ap kind_of (sym same) ∙ upward in absurd (cc)
+        let both : Ordinary ≡ Upward = sym ordinary ∙ ap segment_kind (sym same) ∙ upward in absurd (cc)
   ]
 
-  pub ordinary_path : 0 < length path → (above : ℕ) (found : List ℕ) → AfterSlash path above found → WithoutSlash path above found → (kind_of found ≡ Upward → ⊥)
+  pub ordinary_path : 0 < length path → (above : ℕ) (found : List ℕ) → AfterSlash path above found → WithoutSlash path above found → (segment_kind found ≡ Upward → ⊥)
       → (kept : List (List ℕ)) × (last : List ℕ) × (stands.kept ≡ kept ++ last ∷ []) × (take above path ≡ built absolute (fronts kept))
   ordinary_path some above found after without ordinary = elim (snoc stands.kept) [
     | inl none ↦ absurd (only_upward absolute stands.ups (λ is. stands.left.root is) (stands.bytes ∙ ap (built absolute) (stands.left.is ∙ ap (λ ks. replicate stands.ups dot_dot ++ ks) none ∙ append-nil (replicate stands.ups dot_dot))) some above found after without ordinary)
@@ -193,7 +193,7 @@ stands_same : (absolute : Bool) (path : List ℕ) (parts more : List (List ℕ))
 stands_same absolute path parts more stands leaves = record { parts = parts; stands = stands; leaves = leaves }
 
 -- one that changes nothing
-pub adds_skipped : (absolute : Bool) (path segment : List ℕ) → kind_of segment ≡ Skipped → Adds absolute path (segment ∷ []) path
+pub adds_skipped : (absolute : Bool) (path segment : List ℕ) → segment_kind segment ≡ Skipped → Adds absolute path (segment ∷ []) path
 adds_skipped absolute path segment skipped each parts stands =
     stands_same absolute path parts (segment ∷ []) stands
     (λ behind. ap (left_of absolute) (from_back-behind parts behind (segment ∷ behind) (sym (from_back-cons segment behind Skipped skipped))))
@@ -212,11 +212,11 @@ module _ (absolute : Bool) (path segment : List ℕ) (parts : List (List ℕ)) (
     leaves = λ behind. ap (λ (ps : List (List ℕ)). left_of absolute (from_back ps)) (append_assoc parts (segment ∷ []) behind);
   }
 
-pub adds_ordinary : (absolute : Bool) (path segment : List ℕ) → kind_of segment ≡ Ordinary → Adds absolute path (segment ∷ []) (with_separator absolute path ++ segment)
+pub adds_ordinary : (absolute : Bool) (path segment : List ℕ) → segment_kind segment ≡ Ordinary → Adds absolute path (segment ∷ []) (with_separator absolute path ++ segment)
 adds_ordinary absolute path segment ordinary each parts stands =
     stays absolute path segment parts stands each.0 stands.ups (stands.kept ++ segment ∷ [])
     (ap (λ ps. ps ++ segment ∷ []) stands.left.is ∙ append_assoc (replicate stands.ups dot_dot) stands.kept (segment ∷ [])) (λ is. stands.left.root is)
-    (both_of_each (λ part. kind_of part ≡ Ordinary) stands.kept (segment ∷ []) stands.left.ordinary (ordinary, tt))
+    (both_of_each (λ part. segment_kind part ≡ Ordinary) stands.kept (segment ∷ []) stands.left.ordinary (ordinary, tt))
 
 -- what goes up is `..`
 one_byte : (is : Bool) → cond is Skipped Ordinary ≡ Upward → ⊥
@@ -228,19 +228,19 @@ two_bytes a b true true first second h = ap (λ n. n ∷ b ∷ []) (eqb-true a 4
 two_bytes a b true false first second h = cc
 two_bytes a b false y first second h = cc
 
-upward-is : (segment : List ℕ) → kind_of segment ≡ Upward → segment ≡ dot_dot
+upward-is : (segment : List ℕ) → segment_kind segment ≡ Upward → segment ≡ dot_dot
 upward-is [] is = cc
 upward-is (a ∷ []) is = absurd (one_byte (eqb a 46) is)
 upward-is (a ∷ b ∷ []) is = two_bytes a b (eqb a 46) (eqb b 46) refl refl is
 upward-is (a ∷ b ∷ c ∷ others) is = cc
 
 -- it takes off the segment before it
-taken : (last segment : List ℕ) (behind : List (List ℕ)) → kind_of last ≡ Ordinary → kind_of segment ≡ Upward → from_back (last ∷ segment ∷ behind) ≡ from_back behind
+taken : (last segment : List ℕ) (behind : List (List ℕ)) → segment_kind last ≡ Ordinary → segment_kind segment ≡ Upward → from_back (last ∷ segment ∷ behind) ≡ from_back behind
 taken last segment behind ordinary upward =
-    from_back-cons last (segment ∷ behind) Ordinary ordinary ∙ ap (in_front Ordinary last) (from_back-cons segment behind Upward upward)
+    from_back-cons last (segment ∷ behind) Ordinary ordinary ∙ ap (with_segment Ordinary last) (from_back-cons segment behind Upward upward)
     ∙ ap (λ (n : ℕ). taken_off last (from_back behind).kept n) (add-one (from_back behind).count)
 
-pub adds_removed : (absolute : Bool) (path segment : List ℕ) (above : ℕ) → EndsSo path (Some above) → kind_of segment ≡ Upward → Adds absolute path (segment ∷ []) (take above path)
+pub adds_removed : (absolute : Bool) (path segment : List ℕ) (above : ℕ) → EndsSo path (Some above) → segment_kind segment ≡ Upward → Adds absolute path (segment ∷ []) (take above path)
 adds_removed absolute path segment above ends_so upward each parts stands =
     let found = ends_so absolute parts stands in
     let kept = found.0 in let last = found.1 in
@@ -254,7 +254,7 @@ adds_removed absolute path segment above ends_so upward each parts stands =
         left = record {
           is = refl;
           root = λ is. stands.left.root is;
-          ordinary = front_of_each (λ part. kind_of part ≡ Ordinary) kept last (subst AllOrdinary found.2 stands.left.ordinary);
+          ordinary = front_of_each (λ part. segment_kind part ≡ Ordinary) kept last (subst AllOrdinary found.2 stands.left.ordinary);
           each = front_of_each HasNoSlash front last (subst Each split stands.left.each);
         };
         bytes = found.3;
@@ -265,17 +265,17 @@ adds_removed absolute path segment above ends_so upward each parts stands =
     }
 
 -- above the root there is nothing
-at_root : (segment : List ℕ) (behind : List (List ℕ)) → kind_of segment ≡ Upward → left_of true (from_back behind) ≡ left_of true (from_back (segment ∷ behind))
+at_root : (segment : List ℕ) (behind : List (List ℕ)) → segment_kind segment ≡ Upward → left_of true (from_back behind) ≡ left_of true (from_back (segment ∷ behind))
 at_root segment behind upward = ap (λ b. b.kept) (sym (from_back-cons segment behind Upward upward))
 
-pub adds_at_root : (path segment : List ℕ) → EndsSo path None → kind_of segment ≡ Upward → Adds true path (segment ∷ []) path
+pub adds_at_root : (path segment : List ℕ) → EndsSo path None → segment_kind segment ≡ Upward → Adds true path (segment ∷ []) path
 adds_at_root path segment ends_so upward each parts stands =
     let none : parts ≡ [] = stands.left.is ∙ ap (λ (n : ℕ). replicate n dot_dot ++ stands.kept) (stands.left.root refl) ∙ ends_so true parts stands in
     stands_same true path parts (segment ∷ []) stands
     (λ behind. ap (λ ps. left_of true (from_back (ps ++ behind))) none ∙ at_root segment behind upward ∙ ap (λ ps. left_of true (from_back (ps ++ (segment ∷ behind)))) (sym none))
 
 -- a relative name keeps it where nothing can be taken off
-pub adds_upward : (path segment : List ℕ) → EndsSo path None → kind_of segment ≡ Upward → Adds false path (segment ∷ []) (with_separator false path ++ segment)
+pub adds_upward : (path segment : List ℕ) → EndsSo path None → segment_kind segment ≡ Upward → Adds false path (segment ∷ []) (with_separator false path ++ segment)
 adds_upward path segment ends_so upward each parts stands =
     let none = ends_so false parts stands in
     let only : parts ≡ replicate stands.ups dot_dot = stands.left.is ∙ ap (λ ks. replicate stands.ups dot_dot ++ ks) none ∙ append-nil (replicate stands.ups dot_dot) in
@@ -284,10 +284,10 @@ adds_upward path segment ends_so upward each parts stands =
     (λ is. absurd (false≢true is)) tt
 
 -- whatever is no other kind stays
-pub ordinary_else : (segment : List ℕ) → (kind_of segment ≡ Skipped → ⊥) → (kind_of segment ≡ Upward → ⊥) → kind_of segment ≡ Ordinary
-ordinary_else segment not_skipped not_upward = else (kind_of segment) refl not_skipped not_upward
+pub ordinary_else : (segment : List ℕ) → (segment_kind segment ≡ Skipped → ⊥) → (segment_kind segment ≡ Upward → ⊥) → segment_kind segment ≡ Ordinary
+ordinary_else segment not_skipped not_upward = else (segment_kind segment) refl not_skipped not_upward
   where
-    else : (kind : Kind) → kind_of segment ≡ kind → (kind_of segment ≡ Skipped → ⊥) → (kind_of segment ≡ Upward → ⊥) → kind_of segment ≡ Ordinary
+    else : (kind : Kind) → segment_kind segment ≡ kind → (segment_kind segment ≡ Skipped → ⊥) → (segment_kind segment ≡ Upward → ⊥) → segment_kind segment ≡ Ordinary
     else Skipped is a b = absurd (a is)
     else Upward is a b = absurd (b is)
     else Ordinary is a b = is

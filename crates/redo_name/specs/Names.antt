@@ -39,11 +39,11 @@ pub data Kind : Type 0 where
   Upward : Kind
   Ordinary : Kind
 
-abbrev pub kind_of : List ℕ → Kind
-kind_of [] = Skipped
-kind_of (a ∷ []) = if a == 46 then Skipped else Ordinary
-kind_of (a ∷ b ∷ []) = if a == 46 then (if b == 46 then Upward else Ordinary) else Ordinary
-kind_of (a ∷ b ∷ c ∷ others) = Ordinary
+abbrev pub segment_kind : List ℕ → Kind
+segment_kind [] = Skipped
+segment_kind (a ∷ []) = if a == 46 then Skipped else Ordinary
+segment_kind (a ∷ b ∷ []) = if a == 46 then (if b == 46 then Upward else Ordinary) else Ordinary
+segment_kind (a ∷ b ∷ c ∷ others) = Ordinary
 
 -- Segments that were gone over from the back: those that stay, and for how many of `..` none was found to take off.
 pub record Behind : Type 0 where
@@ -55,14 +55,14 @@ abbrev pub taken_off : List ℕ → List (List ℕ) → ℕ → Behind
 taken_off segment kept zero = record { kept = segment ∷ kept; count = 0 }
 taken_off segment kept (suc count) = record { kept = kept; count = count }
 
-abbrev pub in_front : Kind → List ℕ → Behind → Behind
-in_front Skipped segment behind = behind
-in_front Upward segment behind = record { kept = behind.kept; count = behind.count + 1 }
-in_front Ordinary segment behind = taken_off segment behind.kept behind.count
+abbrev pub with_segment : Kind → List ℕ → Behind → Behind
+with_segment Skipped segment behind = behind
+with_segment Upward segment behind = record { kept = behind.kept; count = behind.count + 1 }
+with_segment Ordinary segment behind = taken_off segment behind.kept behind.count
 
 unfoldable pub from_back : List (List ℕ) → Behind
 from_back [] = record { kept = []; count = 0 }
-from_back (segment ∷ others) = in_front (kind_of segment) segment (from_back others)
+from_back (segment ∷ others) = with_segment (segment_kind segment) segment (from_back others)
 
 -- At the root nothing lies above. A relative name keeps as many `..` at its front as are left.
 abbrev pub left_of : Bool → Behind → List (List ℕ)

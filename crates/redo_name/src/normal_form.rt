@@ -1,7 +1,7 @@
 //! The way of a normal form from the front: the segments that stay so far are kept as the bytes of
 //! the name that they make, without the first slash of a relative one.
 ghost use Rattle.std.specs.Prelude.{◌≡◌, ℕ, ◌↔◌, ◌≤◌, List, [], ◌∷◌, ◌++◌, IsTrue, OnOk, length, take};
-ghost use Rattle.redo_name.specs.Names.{slash, kind_of, Skipped, Upward, segments, HasNoSlash};
+ghost use Rattle.redo_name.specs.Names.{slash, segment_kind, Skipped, Upward, segments, HasNoSlash};
 ghost use Rattle.redo_name.specs.Private.Path.{Adds, EndsSo, with_separator};
 
 use bstr::ByteSlice;
@@ -32,7 +32,7 @@ fn add_segment(path: &mut Vec<u8>, absolute: bool, segment: &[u8]) -> Result<(),
 
 // Goes up: the last segment goes, if it can be taken off. Above the root there is nothing.
 fn add_upward(path: &mut Vec<u8>, absolute: bool, segment: &[u8]) -> Result<(), AllocError>
-    ensures { OnOk result (kind_of segment.now ≡ Upward → Adds absolute path.old.items (segment.now ∷ []) path.new.items) }
+    ensures { OnOk result (segment_kind segment.now ≡ Upward → Adds absolute path.old.items (segment.now ∷ []) path.new.items) }
 {
     match above_last(path) {
         Some(above) => {
@@ -65,13 +65,13 @@ fn push_segment(path: &mut Vec<u8>, absolute: bool, segment: &[u8]) -> Result<()
 }
 
 fn is_skipped(segment: &[u8]) -> bool
-    ensures { IsTrue result ↔ (kind_of segment.now ≡ Skipped) }
+    ensures { IsTrue result ↔ (segment_kind segment.now ≡ Skipped) }
 {
     segment.is_empty() || segment == b".".as_slice()
 }
 
 fn is_upward(segment: &[u8]) -> bool
-    ensures { IsTrue result ↔ (kind_of segment.now ≡ Upward) }
+    ensures { IsTrue result ↔ (segment_kind segment.now ≡ Upward) }
 {
     segment == b"..".as_slice()
 }

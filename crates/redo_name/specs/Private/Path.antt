@@ -1,13 +1,13 @@
 -- A path that is made from the front, and the list of segments that it stands for.
 use Rattle.std.specs.Prelude.{◌≡◌, ℕ, Bool, true, false, List, [], ◌∷◌, ◌++◌, replicate, Option, MatchOption, take}
 use Rattle.std.specs.List.{AllByRecursion, flat_map, join_with_byte}
-use Rattle.redo_name.specs.Names.{slash, dot_dot, kind_of, Ordinary, HasNoSlash, from_back, left_of}
+use Rattle.redo_name.specs.Names.{slash, dot_dot, segment_kind, Ordinary, HasNoSlash, from_back, left_of}
 
 -- A list of segments as it is left: `..` at the front alone, none at the root, and no slash in any.
 pub record IsLeft (absolute : Bool) (parts : List (List ℕ)) (ups : ℕ) (kept : List (List ℕ)) : Type 0 where
   pub is : parts ≡ replicate ups dot_dot ++ kept
   pub root : absolute ≡ true → ups ≡ 0
-  pub ordinary : AllByRecursion (λ part. kind_of part ≡ Ordinary) kept
+  pub ordinary : AllByRecursion (λ part. segment_kind part ≡ Ordinary) kept
   pub each : AllByRecursion HasNoSlash parts
 
 -- the bytes that are kept for it: without the first slash of a relative one
