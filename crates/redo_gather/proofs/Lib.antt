@@ -1,5 +1,6 @@
 mod CollectedLemmas
 mod DealingLemmas
+mod EnteredLemmas
 mod EnteringLemmas
 mod GatheredLemmas
 mod GrowthLemmas

@@ -1,10 +1,7 @@
-use Rattle.std.proofs.Common.{◌≡◌, ℕ, ◌≤◌, length, map, zip, sym, ap, ◌∙◌, subst, arith}
-use Rattle.std.proofs.lemmas.List.{length-map}
+use Rattle.std.proofs.Common.{◌≡◌, length, zip, sym, ◌∙◌, arith}
 use Rattle.std.proofs.lemmas.Result.{err_from_is_err_and}
-use Rattle.redo_logs.specs.Logs.{most, new_log, targets_of}
-use Rattle.redo_gather.specs.Private.Collecting.{IsGathered}
-use Rattle.redo_gather.specs.Streams.{told_by, told_of}
-use Rattle.redo_gather.proofs.EnteringLemmas.{targets-entered}
+use Rattle.redo_gather.specs.Streams.{told_by}
+use Rattle.redo_gather.proofs.EnteredLemmas.{begins_empty, gathered_of, has_room, one_for_each}
 use Rattle.redo_gather.proofs.GatheredLemmas.{none_asked}
 use Rattle.redo_gather.proofs.MarkLemmas.{count_zip}
 use Rattle.redo_gather.proofs.gathering.gather.Goals as goal
@@ -39,16 +36,14 @@ returns-in_err-readers g c =
     rw (given.1, given.2) (record { logs = tt; targets = tt; ended = tt; fault = tt; number = tt; no_memory = tt })
 
 pub gather_by-requires-clause-begins : goal.gather_by-requires-clause-begins
-gather_by-requires-clause-begins g c κs within =
-    c.in_ok-table.ensures ∙ ap (map new_log) (sym (ap targets_of c.in_ok-table.ensures ∙ targets-entered c.args.names.items))
+gather_by-requires-clause-begins g c κs within = begins_empty c.args.names.items c.in_ok-table.table c.in_ok-table.ensures
 
 pub gather_by-requires-clause-readers : goal.gather_by-requires-clause-readers
 gather_by-requires-clause-readers g c κs within =
-    ap length c.in_ok-readers.ensures ∙ count_zip c.args.marks.items c.args.readers.items (c.requires.readers ∙ sym c.requires.marks) ∙ c.requires.readers ∙ sym (ap length c.in_ok-table.ensures ∙ length-map c.args.names.items new_log)
+    one_for_each c.args.names.items c.in_ok-table.table c.in_ok-table.ensures _ c.args.marks.items c.args.readers.items _ c.in_ok-readers.ensures c.requires.marks c.requires.readers
 
 pub gather_by-requires-clause-size : goal.gather_by-requires-clause-size
-gather_by-requires-clause-size g c κs within =
-    subst (λ (n : ℕ). n ≤ most) (sym (ap length c.in_ok-table.ensures ∙ length-map c.args.names.items new_log)) c.requires.size
+gather_by-requires-clause-size g c κs within = has_room c.args.names.items c.in_ok-table.table c.in_ok-table.ensures c.requires.size
 
 pub gather_by-requires-clause-senders : goal.gather_by-requires-clause-senders
 gather_by-requires-clause-senders g c κs within =
@@ -59,11 +54,8 @@ gather_by-requires-clause-senders g c κs within =
 
 pub returns : goal.returns
 returns g c =
-    let targets = ap targets_of c.in_ok-table.ensures ∙ targets-entered c.args.names.items in
-    let marked = c.in_ok-readers.ensures in
-    let of_marks =
-    subst (λ given. IsGathered c.args.plan.now.max_bytes (targets_of c.in_ok-table.table) (map (told_by g.R.Feed.tells) given) c.gather_by.result) marked c.gather_by.ensures.gathered in
-    let gathered = subst (λ names. IsGathered c.args.plan.now.max_bytes names (told_of g.R.Feed.tells c.args.marks.items c.args.readers.items) c.gather_by.result) targets of_marks in record {
+    let gathered = gathered_of c.args.names.items c.in_ok-table.table c.in_ok-table.ensures _ c.args.marks.items c.args.readers.items _ c.in_ok-readers.ensures
+    g.R.Feed.tells c.args.plan.now.max_bytes c.gather_by.result c.gather_by.ensures.gathered in record {
       logs = gathered.logs;
       targets = gathered.targets;
       ended = gathered.ended;

@@ -1,14 +1,10 @@
-use Rattle.std.proofs.Common.{◌≢◌, ℕ, ◌≤◌, List, Ok, length, map, sym, ap, ◌∙◌, subst}
+use Rattle.std.proofs.Common.{◌≢◌, List, Ok, sym, ◌∙◌}
 use Rattle.std.specs.Result.{result_and}
-use Rattle.std.proofs.lemmas.List.{length-map}
 use Rattle.std.proofs.lemmas.Result.{err_from_is_err_and}
 use Rattle.redo_line.specs.declared.stream_fault.StreamFault.TheVariants.{OutOfMemory}
-use Rattle.redo_logs.specs.Logs.{Log, most, new_log, targets_of}
-use Rattle.redo_gather.specs.Private.Collecting.{IsGathered}
-use Rattle.redo_gather.proofs.EnteringLemmas.{targets-entered}
-use Rattle.redo_gather.specs.Streams.{told_by, told_of}
+use Rattle.redo_logs.specs.Logs.{Log}
+use Rattle.redo_gather.proofs.EnteredLemmas.{begins_empty, gathered_of, has_room, one_for_each}
 use Rattle.redo_gather.proofs.GatheredLemmas.{fault_of_and}
-use Rattle.redo_gather.proofs.MarkLemmas.{count_zip}
 use Rattle.redo_gather.proofs.plain.gather_plain.Goals as goal
 
 pub returns-in_err-room : goal.returns-in_err-room
@@ -25,13 +21,11 @@ returns-in_err-table g c =
     rw (given.1, given.2) (record { logs = tt; targets = tt; ended = tt; fault = tt; number = tt; no_memory = tt })
 
 pub gather_into-requires-clause-begins : goal.gather_into-requires-clause-begins
-gather_into-requires-clause-begins g c =
-    c.in_ok-table.ensures ∙ ap (map new_log) (sym (ap targets_of c.in_ok-table.ensures ∙ targets-entered c.args.names.items))
+gather_into-requires-clause-begins g c = begins_empty c.args.names.items c.in_ok-table.table c.in_ok-table.ensures
 
 pub gather_into-requires-clause-readers : goal.gather_into-requires-clause-readers
 gather_into-requires-clause-readers g c =
-    ap length c.in_ok-readers.ensures ∙ count_zip c.args.marks.items c.args.readers.items (c.requires.readers ∙ sym c.requires.marks) ∙ c.requires.readers
-    ∙ sym (ap length c.in_ok-table.ensures ∙ length-map c.args.names.items new_log)
+    one_for_each c.args.names.items c.in_ok-table.table c.in_ok-table.ensures _ c.args.marks.items c.args.readers.items _ c.in_ok-readers.ensures c.requires.marks c.requires.readers
 
 pub with_marks-requires : goal.with_marks-requires
 with_marks-requires g c = c.requires.readers ∙ sym c.requires.marks
@@ -42,21 +36,19 @@ returns-in_err-readers g c =
     rw (given.1, given.2) (record { logs = tt; targets = tt; ended = tt; fault = tt; number = tt; no_memory = tt })
 
 pub gather_into-requires-clause-size : goal.gather_into-requires-clause-size
-gather_into-requires-clause-size g c = subst (λ (n : ℕ). n ≤ most) (sym (ap length c.in_ok-table.ensures ∙ length-map c.args.names.items new_log)) c.requires.size
+gather_into-requires-clause-size g c = has_room c.args.names.items c.in_ok-table.table c.in_ok-table.ensures c.requires.size
 
 pub returns : goal.returns
 returns g c =
-    let targets = ap targets_of c.in_ok-table.ensures ∙ targets-entered c.args.names.items in
     let result = result_and c.gather_into.result (Ok c.gather_into.new.table) in
-    let marked = c.in_ok-readers.ensures in
-    let of_marks = subst (λ given. IsGathered c.args.max_bytes (targets_of c.in_ok-table.table) (map (told_by g.R.Feed.tells) given) result) marked c.gather_into.ensures.gathered in
-    let of_names = subst (λ names. IsGathered c.args.max_bytes names (told_of g.R.Feed.tells c.args.marks.items c.args.readers.items) result) targets of_marks in
+    let gathered = gathered_of c.args.names.items c.in_ok-table.table c.in_ok-table.ensures _ c.args.marks.items c.args.readers.items _ c.in_ok-readers.ensures
+    g.R.Feed.tells c.args.max_bytes result c.gather_into.ensures.gathered in
     rw c.and.ensures
     (record {
-      logs = of_names.logs;
-      targets = of_names.targets;
-      ended = of_names.ended;
-      fault = of_names.fault;
-      number = of_names.number;
+      logs = gathered.logs;
+      targets = gathered.targets;
+      ended = gathered.ended;
+      fault = gathered.fault;
+      number = gathered.number;
       no_memory = fault_of_and (Unit {0}) (List Log) (λ number fault. fault ≢ OutOfMemory) c.gather_into.result c.gather_into.new.table c.gather_into.ensures.no_memory;
     })
