@@ -7,7 +7,7 @@ use std::io::Write;
 use std::process::ExitCode;
 
 /// What `--version` writes.
-const VERSION: &str = "redo-log 0.1.0\n";
+const VERSION: &str = "redo-log 0.2.0\n";
 
 fn main(rt: HostRuntime) -> ExitCode {
     let mut out = rt.stdout();
