@@ -7,6 +7,7 @@ mod InterleavingLemmas
 mod MarkLemmas
 mod OwedLaws
 mod OwedLemmas
+mod PlanRows
 mod PostedLemmas
 mod ReadingLemmas
 mod ReadyLemmas
