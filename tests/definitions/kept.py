@@ -8,7 +8,9 @@
     by: law one_cutting.only          .. or a clause of its src/laws.rt; of a law with one clause its name alone
     refuted is = TERM                 that the statement fails then, which a law needs; it may go on on indented lines
 
-What the term cites is imported by itself where the crate's files tell from where; else a line `use: MODULE.{name}` does.
+What the term cites is imported by itself where the crate's files tell from where; else a line `use: MODULE.{name}` does. It may
+cite the names of the example's file too; and where a law is refuted those of the file that a line `given: NameRows` names, at
+the head of the text.
 """
 import os
 import re
@@ -24,7 +26,7 @@ class BadEdit(Exception):
 class Wrong:
     def __init__(self, crate, name):
         self.crate, self.name = crate, name
-        self.edits, self.by, self.where, self.term, self.uses = [], None, None, None, []
+        self.edits, self.by, self.where, self.term, self.uses, self.given = [], None, None, None, [], None
 
     def texts(self):
         """The files that it changes, with their text then."""
@@ -63,14 +65,15 @@ def crates_kept():
 
 def kept(crate):
     """The wrong definitions of a crate."""
-    found = []
+    found, given = [], []
     with open(os.path.join(FOLDER, crate + ".txt"), encoding="utf-8") as file:
         for number, line in enumerate(file.read().splitlines(), 1):
             try:
-                take(line, crate, found)
+                take(line, crate, found, given)
             except (ValueError, IndexError) as error:
                 raise SystemExit(f"tests/definitions/{crate}.txt:{number}: {error}: {line}")
     for wrong in found:
+        wrong.given = given[0] if given else None
         if not wrong.edits or not wrong.where or wrong.edits[-1][2] is None or (wrong.by == "law" and not wrong.term):
             raise SystemExit(f"tests/definitions/{crate}.txt: {wrong.name} lacks a part")
         if "?" in (wrong.term or ""):
@@ -82,15 +85,18 @@ def kept(crate):
     return found
 
 
-def take(line, crate, found):
-    """Adds what a line says to the wrong definitions that were found above it."""
+def take(line, crate, found, given):
+    """Adds what a line says to the wrong definitions that were found above it, or to what stands before them."""
     if line.startswith("== "):
         found.append(Wrong(crate, line[3:].strip()))
         return
     if not line.strip() or line.startswith("#"):
         return
-    wrong = found[-1]
     word, _, text = line.partition(":")
+    if word == "given" and not found:
+        given.append(text.strip())
+        return
+    wrong = found[-1]
     if line[0].isspace() and wrong.term:
         wrong.term += "\n" + line
     elif line.startswith("refuted "):

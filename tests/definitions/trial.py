@@ -3,6 +3,7 @@
 The copies are modules of that library, below specs/wrong_K. They stand on the crates themselves, which are given as
 sources: of these nothing is proved, only what the copies import is read. So no library has to be built.
 """
+import functools
 import os
 import re
 import shutil
@@ -47,14 +48,15 @@ class Crate:
         self.modules = [place.split(".")[-1] for place in self.specs.files if not is_private((place,))]
         self.texts = {module: read("crates", name, "specs", module + ".antt") for module in self.modules}
         proofs = os.path.join(TOP, "crates", name, "proofs")
-        self.rows = {file.removesuffix(".antt"): read("crates", name, "proofs", file) for file in sorted(os.listdir(proofs)) if file.endswith("Rows.antt")}
+        rows = {file.removesuffix(".antt"): read("crates", name, "proofs", file) for file in sorted(os.listdir(proofs)) if file.endswith("Rows.antt")}
+        self.examples = {file: Examples(name, file, rows) for file in rows}
         laws = os.path.join("crates", name, "src/laws.rt")
         self.laws = read(laws) if os.path.isfile(os.path.join(TOP, laws)) else ""
         self.imports = {module: self.imported(text) for module, text in self.texts.items()}
-        sources = [*self.texts.values(), *self.rows.values()]
-        variants = re.findall(r"\.TheVariants\.\{([^}]*)\}", "\n".join(sources))
+        self.sources = [*self.texts.values(), *rows.values()]
+        variants = re.findall(r"\.TheVariants\.\{([^}]*)\}", "\n".join(self.sources))
         self.constructors = {name.split(" as ")[-1].strip() for names in variants for name in names.split(",")}
-        for enum in re.findall(r"^pub data [^\n]* where\n((?: +.*\n)+)", "\n".join(sources), re.M):
+        for enum in re.findall(r"^pub data [^\n]* where\n((?: +.*\n)+)", "\n".join(self.sources), re.M):
             self.constructors |= set(re.findall(r"^ +(\S+) *:", enum, re.M))
 
     def imported(self, text):
@@ -80,15 +82,21 @@ class Crate:
             raise BadEdit(f"src/laws.rt has no clause {where}")
         return clauses[clause]
 
-    def uses_for(self, text, known):
-        """`use` lines for the names that a text cites, but for those that stand in other ones."""
+    @functools.cached_property
+    def origins(self):
+        """Where the names stand that the crate's files cite, and what modules they call by another name."""
         origin = {name: (COMMON, name) for names in re.findall(r"\.\{([^}]*)\}", common()) for name in map(str.strip, names.split(","))}
         aliases = {}
-        for source in [*self.texts.values(), *self.rows.values()]:
+        for source in self.sources:
             names = Names(source)
             origin.update({word: place for word, place in names.words.items() if f"Rattle.{self.name}.proofs." not in place[0]})
             aliases.update(names.modules)
         origin.update({name: (module, name) for module, name in self.specs.texts if not is_private((module,))})
+        return origin, aliases
+
+    def uses_for(self, text, known):
+        """`use` lines for the names that a text cites, but for those that stand in other ones."""
+        origin, aliases = self.origins
         has = Names("\n".join(known))
         words = set(re.findall(r"\[\]|[^\W\d][\w'-]*", text))
         operators = {name for name in origin if "◌" in name and all(part in NO_TEXT.sub("", text) for part in name.split("◌"))}
@@ -101,7 +109,7 @@ class Crate:
     def opened(self):
         """What has to be opened to compute: what the crate's own definitions and its examples open."""
         own = [name for module in self.modules for name in re.findall(r"^unfoldable (?:pub )?(\S+) *:", self.texts[module], re.M)]
-        opened = [name for text in self.rows.values() for names in re.findall(r"^unfolding (.*)", text, re.M) for name in names.split()]
+        opened = [name for text in self.sources for names in re.findall(r"^unfolding (.*)", text, re.M) for name in names.split()]
         return list(dict.fromkeys(own + opened))
 
 
@@ -110,11 +118,41 @@ def common():
         return file.read()
 
 
+class Examples:
+    """The examples of a file by their names, and all else of it, behind those of such files that it imports. What it imports
+    of other proofs is left out, and so are the examples that cite it: with a wrong definition it may not fit."""
+
+    def __init__(self, crate, file, texts):
+        own = re.compile(rf"^use Rattle\.{crate}\.proofs\.(\w+)\.\{{([^}}]*)\}}\n", re.M)
+        files = [file]
+        for other in files:
+            files += [module for module, _ in own.findall(texts[other]) if module in texts and module not in files]
+        lines = "".join(own.sub("", texts[other]) for other in reversed(files)).splitlines(keepends=True)
+        self.rows, self.others = parts_of_rows("".join(sorted(lines, key=lambda line: not line.startswith("use "))))
+        self.cites = {row: cited(self.rows, proof_of(row, text)) for row, text in self.rows.items()}
+        self.own = set(re.findall(r"^(?:pub )?(?:abbrev |record |data )+(?:pub )?(\S+)", self.others, re.M))
+        lacks = {name for other in files for module, names in own.findall(texts[other]) if module not in texts for name in names.split(", ")}
+        self.alone = {row for row in self.rows if not cited(lacks, "".join(self.rows[other] for other in self.behind({row})))}
+
+    def behind(self, names):
+        """These examples, and those that their proofs cite."""
+        found, left = set(), set(names)
+        while left:
+            found |= left
+            left = {other for row in left for other in self.cites[row]} - found
+        return found
+
+    def text(self, names):
+        """The file with these examples alone."""
+        behind = self.behind(names)
+        return self.others + "".join(text for row, text in self.rows.items() if row in behind)
+
+
 def parts_of_rows(text):
     """The examples of a file by their names, and all else of it."""
     rows, others, given, name = {}, "", set(), None
     for part in re.split(r"^(?=[^\s)\]}])", text, flags=re.M):
-        first = re.match(r"(?:(abbrev|record|data|pub|use|unfoldable|module|--)(?: pub)? *)?(\S*)", part)
+        first = re.match(r"(?:pub )?(?:(abbrev|record|data|use|unfoldable|module|--)(?: pub)? *)?(\S*)", part)
         if first[1] in ("abbrev", "unfoldable"):
             given.add(first[2])
         if first[1] or first[2] in given:
@@ -127,14 +165,14 @@ def parts_of_rows(text):
     return rows, others
 
 
-def behind(name, rows):
-    """An example, and what else of its file its proof cites."""
-    proofs = {row: " ".join(re.split(rf"^{re.escape(row)}(?! *:)", text, flags=re.M)[1:]) for row, text in rows.items()}
-    found, left = set(), {name}
-    while left:
-        found |= left
-        left = {other for row in left for other in rows if re.search(rf"(?<![\w.']){re.escape(other)}(?![\w'])", proofs[row])} - found
-    return found
+def proof_of(row, text):
+    """The clauses of an example."""
+    return " ".join(re.split(rf"^{re.escape(row)}(?! *:)", text, flags=re.M)[1:])
+
+
+def cited(names, text):
+    """Those of these names that stand in a text."""
+    return set(names) & set(re.findall(r"(?<![\w.'-])[^\W\d][\w'-]*", text))
 
 
 class Trial:
@@ -147,8 +185,9 @@ class Trial:
         shutil.rmtree(folder, ignore_errors=True)
         self.write("differs", {"Differs": DIFFERS, "Control": CONTROL})
         for crate in self.crates.values():
-            rows = {wrong.where.split(".")[0] for wrong in wrongs if wrong.crate == crate.name and wrong.by == "row"} & set(crate.rows)
-            self.write(crate.name, {**crate.texts, **{file: crate.rows[file] for file in rows}}, crate, crate.modules)
+            files = {wrong.where.split(".")[0] for wrong in wrongs if wrong.crate == crate.name and wrong.by == "row"} & set(crate.examples)
+            rows = {file: crate.examples[file].text(crate.examples[file].alone) for file in files}
+            self.write(crate.name, {**crate.texts, **rows}, crate, crate.modules)
         for number, wrong in enumerate(wrongs):
             try:
                 self.write(f"wrong_{number}", *self.copies(wrong))
@@ -241,28 +280,34 @@ class Trial:
 def example(crate, wrong):
     """An example alone, with what its file has beside the examples; or that it fails."""
     file, _, name = wrong.where.partition(".")
-    if file not in crate.rows:
+    if file not in crate.examples:
         raise BadEdit(f"there is no proofs/{file}.antt")
-    rows, others = parts_of_rows(crate.rows[file])
-    if name not in rows:
+    examples = crate.examples[file]
+    if name not in examples.rows:
         raise BadEdit(f"proofs/{file}.antt has no {name}")
     if not wrong.term:
-        return file, others + "".join(text for row, text in rows.items() if row in behind(name, rows))
-    head = re.match(rf"{re.escape(name)}\s*:\s*(.*?)\n(unfolding [^\n]*\n)?{re.escape(name)} ", rows[name], re.S)
-    uses = [f"use {DIFFER_IN}.{{differ}}", *wrong.uses]
-    own = set(re.findall(r"^(?:abbrev|record|data) (?:pub )?(\S+)", others, re.M))
-    uses += [use for word, use in crate.uses_for(wrong.term, [*uses, others]) if word not in own]
-    return file, "\n".join(uses) + f"\n{others}refuted :\n    ({head[1]}) → ⊥\n{head[2] or ''}{wrong.term}\n"
+        if name not in examples.alone:
+            raise BadEdit(f"{wrong.where} cites other proofs")
+        return file, examples.text({name})
+    head = re.match(rf"(?:pub )?{re.escape(name)}\s*:\s*(.*?)\n(unfolding [^\n]*\n)?{re.escape(name)} ", examples.rows[name], re.S)
+    return file, refuted(crate, wrong, examples, head[1], head[2] or "", [])
 
 
 def refuted_law(crate, wrong):
     """That a law fails."""
-    statement = crate.statement(wrong.where)
-    opened = crate.opened()
-    uses = [*re.findall(r"^ghost (use .*);$", crate.laws, re.M), f"use {DIFFER_IN}.{{differ}}", *wrong.uses]
-    uses += [use for _, use in crate.uses_for(" ".join([statement, wrong.term, *opened]), uses)]
+    statement, opened = crate.statement(wrong.where), crate.opened()
     unfolding = f"unfolding {' '.join(opened)}\n" if opened else ""
-    return "\n".join(uses) + f"\n\nrefuted : ({statement}) → ⊥\n{unfolding}{wrong.term}\n"
+    uses = re.findall(r"^ghost (use .*);$", crate.laws, re.M)
+    return refuted(crate, wrong, crate.examples.get(wrong.given), statement, unfolding, uses)
+
+
+def refuted(crate, wrong, examples, statement, unfolding, uses):
+    """A module that proves that a statement fails. It has what else a file of examples has, and of these those that the proof cites."""
+    given = examples.text(cited(examples.rows, wrong.term)) if examples else ""
+    uses = [*uses, f"use {DIFFER_IN}.{{differ}}", *wrong.uses]
+    text = " ".join([statement, wrong.term, unfolding])
+    uses += [use for word, use in crate.uses_for(text, [*uses, given]) if not examples or word not in examples.own | set(examples.rows)]
+    return "\n".join(uses) + f"\n{given}\nrefuted : ({statement}) → ⊥\n{unfolding}{wrong.term}\n"
 
 
 def refusal(errors, file, row, constructors):

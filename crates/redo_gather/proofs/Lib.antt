@@ -8,6 +8,7 @@ mod InterleavingLemmas
 mod MarkLemmas
 mod OwedLaws
 mod OwedLemmas
+mod PlanRows
 mod PostedLemmas
 mod ReadingLemmas
 mod ReadyLemmas

@@ -1,5 +1,5 @@
 -- Examples of sets of streams, computed: the targets, their streams, and the logs or the least-numbered fault.
-use Rattle.std.proofs.Common.{◌≡◌, ℕ, true, false, List, [], ◌∷◌, ◌++◌, None, Some, refl}
+use Rattle.std.proofs.Common.{◌≡◌, ℕ, true, false, List, [], ◌∷◌, ◌++◌, Option, None, Some, refl}
 use Rattle.std.specs.Prelude.{codes, filter_map}
 use Rattle.std.specs.List.{AllByRecursion, flat_map}
 use Rattle.redo_line.specs.declared.stream_fault.StreamFault.{StreamFault}
@@ -13,8 +13,9 @@ use Rattle.redo_line.specs.Source.{Marked}
 use Rattle.redo_name.specs.Names.{from_back, normal}
 use Rattle.redo_line.specs.Parts.{parted, behind}
 use Rattle.redo_line.specs.Record.{fields_of, status_of}
+use Rattle.redo_logs.specs.declared.log_state.LogState.TheVariants.{Ended}
 use Rattle.redo_logs.specs.Logs.{Log}
-use Rattle.redo_gather.specs.Streams.{whole_log, logs_of, fault_among}
+use Rattle.redo_gather.specs.Streams.{AreTold, told_of, logs_of, fault_among}
 
 abbrev line : List ℕ → List ℕ
 line text = text ++ line_feed ∷ []
@@ -29,7 +30,7 @@ all =
 
 -- the log of a target whose stream has these lines
 abbrev lines_log : List ℕ → List (List ℕ) → Log
-lines_log target lines = whole_log target (filter_map (λ line. entry_of target line true) lines)
+lines_log target lines = record { target = target; entries = filter_map (λ line. entry_of target line true) lines; state = Ended }
 
 abbrev logs : List Log
 logs = lines_log (codes "all") all ∷ lines_log (codes "d/a.o") (codes "cc a" ∷ codes "@@REDO:do:7:1.0000@@ b" ∷ []) ∷ lines_log (codes "b.o") (codes "cc b" ∷ []) ∷ []
@@ -90,3 +91,12 @@ targets = codes "a" ∷ codes "b" ∷ []
 these_faults : AllByRecursion (λ row. (fault_among 1000 targets row.streams ≡ Some (row.place, row.fault)) × (logs_of 1000 targets row.streams ≡ None)) faults
 unfolding cutting ended rest first_fault entry_of record_entry fields_of status_of parted behind number normal from_back
 these_faults = ((refl, refl), ((refl, refl), ((refl, refl), ((refl, refl), ((refl, refl), ((refl, refl), ((refl, refl), ((refl, refl), tt))))))))
+
+-- what two readers tell, of which the second tells nothing
+these_told : told_of (λ (told : Option Stream). told) (true ∷ false ∷ []) (Some (stream_of x false) ∷ None ∷ [])
+    ≡ record { must_close = true; stream = Some (stream_of x false) } ∷ record { must_close = false; stream = None } ∷ []
+these_told = refl
+
+-- no readers give no streams
+no_told : AreTold [] []
+no_told = tt

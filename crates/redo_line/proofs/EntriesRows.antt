@@ -3,9 +3,10 @@ use Rattle.std.proofs.Common.{◌≡◌, ℕ, List, [], ◌∷◌, ◌++◌, Som
 use Rattle.std.specs.Prelude.{codes}
 use Rattle.redo_line.specs.declared.entries.EntryAt.{EntryAt}
 use Rattle.redo_line.specs.declared.entries.EntryAt.TheVariants as at
+use Rattle.redo_line.specs.declared.entries.Layout.{Layout}
 use Rattle.redo_line.specs.declared.entry.Entry.TheVariants.{Text, Mention, Done, Closing, Note}
 use Rattle.redo_line.specs.declared.entry.How.TheVariants.{Made}
-use Rattle.redo_line.specs.Entries.{entries_at, IsNameAt, IsWithin, AreWithin, AreAt}
+use Rattle.redo_line.specs.Entries.{entries_at, IsNameAt, IsWithin, AreWithin, AreAt, IsLayout}
 use Rattle.redo_line.specs.Lines.{line_feed}
 use Rattle.redo_name.specs.Names.{from_back, normal}
 
@@ -53,3 +54,15 @@ not_at = (
   (λ is. let same : Some 98 ≡ Some 10 = is.within.0.1 in absurd (cc)),
   (λ is. let same : Text (codes "ab") ∷ [] ≡ Text (codes "a") ∷ [] = is.are in absurd (cc)),
 )
+
+-- the pieces of memory themselves
+abbrev layout : List EntryAt → Layout
+layout places =
+    record { bytes = record { ref_ptr = (0, 0); now = bytes }; names = record { ref_ptr = (0, 0); now = names }; places = record { ref_ptr = (0, 0); now = places } }
+
+laid_out : IsLayout (layout (at.Text 0 2 ∷ at.Mention 7 Made 0 1 ∷ [])) (Text (codes "ab") ∷ Mention 7 Made (codes "c") ∷ [])
+unfolding from_back normal
+laid_out = record { are = refl; within = ((omega arith, refl), ((omega arith, omega arith, refl), tt)) }
+
+not_laid_out : IsLayout (layout (at.Text 0 2 ∷ [])) [] → ⊥
+not_laid_out is = let same : Text (codes "ab") ∷ [] ≡ [] = is.are in absurd (cc)

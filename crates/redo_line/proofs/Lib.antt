@@ -10,6 +10,7 @@ pub mod FaultLemmas
 mod FieldLemmas
 mod FirstByteLemmas
 mod FirstPlace
+mod FrontRows
 mod LeastFaultLemmas
 pub mod LineLemmas
 mod LineRows

@@ -33,6 +33,7 @@ plain = options false false true false false
 abbrev jobs : List Row
 jobs =
     asks (codes "all" ∷ []) plain (codes ".") 4 64 (codes "all" ∷ []) ∷
+    asks (codes "-r" ∷ codes "all" ∷ []) (options true false true false false) (codes ".") 4 64 (codes "all" ∷ []) ∷
     asks (codes "-r" ∷ codes "-u" ∷ codes "--no-details" ∷ codes "--debug-locks" ∷ codes "--dir" ∷ codes "d" ∷ codes "--senders" ∷ codes "2" ∷ codes "--capacity" ∷ codes "1" ∷ codes "--" ∷ codes "-x" ∷ [])
     (options true true false true false) (codes "d") 2 1 (codes "-x" ∷ []) ∷
     asks (codes "--debug-pids" ∷ codes "all" ∷ []) (options false false true false true) (codes ".") 4 64 (codes "all" ∷ []) ∷
@@ -41,7 +42,7 @@ jobs =
 
 these_jobs : AllByRecursion (λ row. (fault_of_words row.words ≡ None) × (parts_asked row.words ≡ row.parts_are)) jobs
 unfolding redo_log clap_on_literals
-these_jobs = ((refl, refl), ((refl, refl), ((refl, refl), ((refl, refl), tt))))
+these_jobs = ((refl, refl), ((refl, refl), ((refl, refl), ((refl, refl), ((refl, refl), tt)))))
 
 abbrev refused : List (List (List ℕ))
 refused =

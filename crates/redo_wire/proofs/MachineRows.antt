@@ -41,32 +41,43 @@ posted first second zero = first
 posted first second (suc zero) = second
 posted first second (suc (suc number)) = []
 
+-- an item for the first alone, and for none
+abbrev by_first : List Item → ℕ → List Item
+by_first items zero = items
+by_first items (suc number) = []
+
+abbrev none : ℕ → List Item
+none number = []
+
+abbrev pub state : List Item → List Item → (ℕ → List Item) → ℕ → List ℕ → State
+state taken queued posted made met = record { taken = taken; queued = queued; posted = posted; made = made; met = met }
+
 abbrev pub opened : State
-opened = record { taken = []; queued = []; posted = posted [] []; made = 0; met = [] }
+opened = state [] [] (posted [] []) 0 []
 
 abbrev one_end : State
-one_end = record { taken = []; queued = []; posted = posted [] []; made = 1; met = [] }
+one_end = state [] [] (posted [] []) 1 []
 
 abbrev pub two_ends : State
-two_ends = record { taken = []; queued = []; posted = posted [] []; made = 2; met = [] }
+two_ends = state [] [] (posted [] []) 2 []
 
 abbrev pub one_posted : State
-one_posted = record { taken = []; queued = a ∷ []; posted = posted (a ∷ []) []; made = 2; met = [] }
+one_posted = state [] (a ∷ []) (posted (a ∷ []) []) 2 []
 
 abbrev one_taken : State
-one_taken = record { taken = a ∷ []; queued = []; posted = posted (a ∷ []) []; made = 2; met = [] }
+one_taken = state (a ∷ []) [] (posted (a ∷ []) []) 2 []
 
 abbrev two_posted : State
-two_posted = record { taken = a ∷ []; queued = b ∷ []; posted = posted (a ∷ []) (b ∷ []); made = 2; met = [] }
+two_posted = state (a ∷ []) (b ∷ []) (posted (a ∷ []) (b ∷ [])) 2 []
 
 abbrev two_taken : State
-two_taken = record { taken = a ∷ b ∷ []; queued = []; posted = posted (a ∷ []) (b ∷ []); made = 2; met = [] }
+two_taken = state (a ∷ b ∷ []) [] (posted (a ∷ []) (b ∷ [])) 2 []
 
 abbrev one_met : State
-one_met = record { taken = a ∷ b ∷ []; queued = []; posted = posted (a ∷ []) (b ∷ []); made = 2; met = 1 ∷ [] }
+one_met = state (a ∷ b ∷ []) [] (posted (a ∷ []) (b ∷ [])) 2 (1 ∷ [])
 
 abbrev pub two_met : State
-two_met = record { taken = a ∷ b ∷ []; queued = []; posted = posted (a ∷ []) (b ∷ []); made = 2; met = 0 ∷ 1 ∷ [] }
+two_met = state (a ∷ b ∷ []) [] (posted (a ∷ []) (b ∷ [])) 2 (0 ∷ 1 ∷ [])
 
 pub none_else : (first second more : List Item) (other : ℕ) → (other ≡ 0 → ⊥) → posted more second other ≡ posted first second other
 none_else first second more zero differ = absurd (differ refl)
@@ -77,6 +88,10 @@ nor_else : (first second more : List Item) (other : ℕ) → (other ≡ 1 → �
 nor_else first second more zero differ = refl
 nor_else first second more (suc zero) differ = absurd (differ refl)
 nor_else first second more (suc (suc other)) differ = refl
+
+pub by_others : (first more : List Item) (other : ℕ) → (other ≡ 0 → ⊥) → by_first more other ≡ by_first first other
+by_others first more zero differ = absurd (differ refl)
+by_others first more (suc other) differ = refl
 
 none_posted : (number : ℕ) → posted [] [] number ≡ []
 none_posted zero = refl
@@ -133,6 +148,9 @@ states = one_end ∷ two_ends ∷ one_posted ∷ one_taken ∷ two_posted ∷ tw
 schedule : IsSchedule 1 2 opened states
 schedule = (first_split, (second_split, (first_post, (first_take, (second_post, (second_take, (second_look, (first_meeting, (second_meeting, tt)))))))))
 
+pub reached_opened : IsReached 1 2 opened
+reached_opened = record { first = opened; states = []; opens = opens; schedule = tt; last = refl }
+
 -- the ends are split off
 pub reached_ends : IsReached 1 2 two_ends
 reached_ends = record { first = opened; states = one_end ∷ two_ends ∷ []; opens = opens; schedule = (first_split, (second_split, tt)); last = refl }
@@ -140,23 +158,54 @@ reached_ends = record { first = opened; states = one_end ∷ two_ends ∷ []; op
 pub reached : IsReached 1 2 two_met
 reached = record { first = opened; states = states; opens = opens; schedule = schedule; last = refl }
 
+-- other schedules: the second end posts first, and the first end another item, which is taken
+second_first : IsStep 1 2 two_ends (state [] (b ∷ []) (posted [] (b ∷ [])) 2 [])
+second_first = inr (inl (
+  1,
+  b,
+  omega arith,
+  (omega arith, tt),
+  record { own = refl; room = omega arith; taken = refl; queued = refl; posted = refl; others = nor_else [] [] (b ∷ []); ends = (refl, refl) },
+))
+
+reached_second_first : IsReached 1 2 (state [] (b ∷ []) (posted [] (b ∷ [])) 2 [])
+reached_second_first = record { first = opened; states = one_end ∷ two_ends ∷ state [] (b ∷ []) (posted [] (b ∷ [])) 2 [] ∷ []; opens = opens; schedule = (first_split, (second_split, (second_first, tt))); last = refl }
+
+other_post : IsStep 1 2 two_ends (state [] (c ∷ []) (posted (c ∷ []) []) 2 [])
+other_post = inr (inl (
+  0,
+  c,
+  omega arith,
+  (omega arith, tt),
+  record { own = refl; room = omega arith; taken = refl; queued = refl; posted = refl; others = none_else [] [] (c ∷ []); ends = (refl, refl) },
+))
+
+other_take : IsStep 1 2 (state [] (c ∷ []) (posted (c ∷ []) []) 2 []) (state (c ∷ []) [] (posted (c ∷ []) []) 2 [])
+other_take = inr (inr (inl (c, record { queued = refl; taken = refl; posted = λ number. refl; ends = (refl, refl) })))
+
+reached_other : IsReached 1 2 (state (c ∷ []) [] (posted (c ∷ []) []) 2 [])
+reached_other = record { first = opened; states = one_end ∷ two_ends ∷ state [] (c ∷ []) (posted (c ∷ []) []) 2 [] ∷ state (c ∷ []) [] (posted (c ∷ []) []) 2 [] ∷ []; opens = opens; schedule = (first_split, (second_split, (other_post, (other_take, tt)))); last = refl }
+
+reached_two : IsReached 1 2 two_posted
+reached_two = record { first = opened; states = one_end ∷ two_ends ∷ one_posted ∷ one_taken ∷ two_posted ∷ []; opens = opens; schedule = (first_split, (second_split, (first_post, (first_take, (second_post, tt))))); last = refl }
+
 -- ---- what is not lawful, and not reached
 
 -- an item that nobody posted; items in another order; an item of a third sender; more than fits
-not_posted : IsLawful 2 2 (record { taken = []; queued = a ∷ []; posted = posted [] []; made = 2; met = [] }) → ⊥
+not_posted : IsLawful 2 2 (state [] (a ∷ []) (posted [] []) 2 []) → ⊥
 not_posted lawful = let is = ap length (lawful.all_of_each 0) in omega (arith, is)
 
-not_in_order : IsLawful 2 2 (record { taken = c ∷ []; queued = a ∷ []; posted = posted (a ∷ c ∷ []) []; made = 2; met = [] }) → ⊥
+not_in_order : IsLawful 2 2 (state (c ∷ []) (a ∷ []) (λ sender. of sender (a ∷ c ∷ [])) 2 []) → ⊥
 not_in_order lawful = let is = lawful.all_of_each 0 in differ (cc)
   where
     differ : a ≡ c → ⊥
     differ same = omega (arith, ap (λ (item : Item). item.stream) same)
 
-not_of_a_sender : IsLawful 2 1 (record { taken = []; queued = b ∷ []; posted = posted [] (b ∷ []); made = 1; met = [] }) → ⊥
+not_of_a_sender : IsLawful 2 1 (state [] (b ∷ []) (λ sender. of sender (b ∷ [])) 1 []) → ⊥
 not_of_a_sender lawful = let one = lawful.of_senders.0 in omega (arith, one)
 
 abbrev too_many : State
-too_many = record { taken = []; queued = a ∷ c ∷ []; posted = posted (a ∷ c ∷ []) []; made = 2; met = [] }
+too_many = state [] (a ∷ c ∷ []) (λ sender. of sender (a ∷ c ∷ [])) 2 []
 
 not_fitting : IsLawful 1 2 too_many → ⊥
 not_fitting lawful = let fits = lawful.fits in omega (arith, fits)
@@ -167,7 +216,7 @@ not_reached reached = not_fitting (lawful_reached 1 2 too_many reached)
 not_opened : Opens one_end → ⊥
 not_opened opens = let made = opens.3 in omega (arith, made)
 
-not_opened_so : Opens (record { taken = []; queued = []; posted = posted [] []; made = 0; met = 0 ∷ [] }) → ⊥
+not_opened_so : Opens (state [] [] (posted [] []) 0 (0 ∷ [])) → ⊥
 not_opened_so opens = let is = ap length opens.4 in omega (arith, is)
 
 -- ---- what is no step
@@ -207,25 +256,25 @@ the_last : (x y : Item) → x ∷ [] ≡ y ∷ [] → x ≡ y
 the_last x y is = cc
 
 -- the second end posts before it is made, and after it was met
-no_post_before : IsStep 1 2 one_end (record { taken = []; queued = b ∷ []; posted = posted [] (b ∷ []); made = 1; met = [] }) → ⊥
+no_post_before : IsStep 1 2 one_end (state [] (b ∷ []) (posted [] (b ∷ [])) 1 []) → ⊥
 no_post_before step =
     let posts = grows 1 2 one_end _ step refl in
     let below = posts.3.0 in let own = posts.4.own in
     omega (arith, below, own, ap (λ (item : Item). item.sender) (the_last b posts.1 posts.4.queued))
 
-no_post_after : IsStep 1 2 one_met (record { taken = a ∷ b ∷ []; queued = b ∷ []; posted = posted (a ∷ []) (b ∷ b ∷ []); made = 2; met = 1 ∷ [] }) → ⊥
+no_post_after : IsStep 1 2 one_met (state (a ∷ b ∷ []) (b ∷ []) (posted (a ∷ []) (b ∷ b ∷ [])) 2 (1 ∷ [])) → ⊥
 no_post_after step =
     let posts = grows 1 2 one_met _ step refl in
     posts.3.1.0 (ap (λ (item : Item). item.sender) (the_last b posts.1 posts.4.queued) ∙ posts.4.own)
 
 -- an end posts that is none of this mailbox
-no_stranger : IsStep 1 1 two_ends (record { taken = []; queued = b ∷ []; posted = posted [] (b ∷ []); made = 2; met = [] }) → ⊥
+no_stranger : IsStep 1 1 two_ends (state [] (b ∷ []) (posted [] (b ∷ [])) 2 []) → ⊥
 no_stranger step =
     let posts = grows 1 1 two_ends _ step refl in let below = posts.2 in let own = posts.4.own in
     omega (arith, below, own, ap (λ (item : Item). item.sender) (the_last b posts.1 posts.4.queued))
 
 -- an end posts an item of the other one, or where there is no room
-no_post_for_another : IsStep 1 2 two_ends (record { taken = []; queued = b ∷ []; posted = posted (b ∷ []) []; made = 2; met = [] }) → ⊥
+no_post_for_another : IsStep 1 2 two_ends (state [] (b ∷ []) (posted (b ∷ []) []) 2 []) → ⊥
 no_post_for_another step =
     let posts = grows 1 2 two_ends _ step refl in
     by posts.0 posts.1 (ap (λ (item : Item). item.sender) (the_last b posts.1 posts.4.queued) ∙ posts.4.own) posts.4.posted
@@ -235,12 +284,12 @@ no_post_for_another step =
     by (suc zero) item same is = omega (arith, ap length is)
     by (suc (suc number)) item same is = omega (arith, same)
 
-no_post_where_full : IsStep 1 2 one_posted (record { taken = []; queued = a ∷ c ∷ []; posted = posted (a ∷ c ∷ []) []; made = 2; met = [] }) → ⊥
+no_post_where_full : IsStep 1 2 one_posted (state [] (a ∷ c ∷ []) (posted (a ∷ c ∷ []) []) 2 []) → ⊥
 no_post_where_full step = let posts = grows 1 2 one_posted _ step refl in let room = posts.4.room in omega (arith, room)
 
 -- the newest is taken, or the front is and is lost
-no_newest : IsStep 2 2 (record { taken = []; queued = a ∷ b ∷ []; posted = posted (a ∷ []) (b ∷ []); made = 2; met = [] })
-    (record { taken = b ∷ []; queued = a ∷ []; posted = posted (a ∷ []) (b ∷ []); made = 2; met = [] }) → ⊥
+no_newest : IsStep 2 2 (state [] (a ∷ b ∷ []) (posted (a ∷ []) (b ∷ [])) 2 [])
+    (state (b ∷ []) (a ∷ []) (posted (a ∷ []) (b ∷ [])) 2 []) → ⊥
 no_newest step =
     let takes = shrinks 2 2 _ _ step refl in
     let is = takes.1.queued in differ (cc)
@@ -248,7 +297,7 @@ no_newest step =
     differ : b ≡ a → ⊥
     differ same = omega (arith, ap (λ (item : Item). item.sender) same)
 
-no_loss : IsStep 1 2 one_posted (record { taken = []; queued = []; posted = posted (a ∷ []) []; made = 2; met = [] }) → ⊥
+no_loss : IsStep 1 2 one_posted (state [] [] (posted (a ∷ []) []) 2 []) → ⊥
 no_loss step = let takes = shrinks 1 2 one_posted _ step refl in let is = ap length takes.1.taken in omega (arith, is)
 
 -- nothing is found where an item is queued
@@ -256,12 +305,12 @@ no_empty_look : IsStep 1 2 one_posted one_posted → ⊥
 no_empty_look step = let is = ap length (nothing_queued 1 2 one_posted step) in omega (arith, is)
 
 -- a third end, and an end that posted before it was made
-no_third_end : IsStep 1 2 two_ends (record { taken = []; queued = []; posted = posted [] []; made = 3; met = [] }) → ⊥
+no_third_end : IsStep 1 2 two_ends (state [] [] (posted [] []) 3 []) → ⊥
 no_third_end step =
     let splits = splits_off 1 2 two_ends _ step (λ same. omega (arith, same)) in let unmade = splits.unmade in omega (arith, unmade)
 
-no_used_end : IsStep 1 2 (record { taken = b ∷ []; queued = []; posted = posted [] (b ∷ []); made = 1; met = [] })
-    (record { taken = b ∷ []; queued = []; posted = posted [] (b ∷ []); made = 2; met = [] }) → ⊥
+no_used_end : IsStep 1 2 (state (b ∷ []) [] (posted [] (b ∷ [])) 1 [])
+    (state (b ∷ []) [] (posted [] (b ∷ [])) 2 []) → ⊥
 no_used_end step =
     let splits = splits_off 1 2 _ _ step (λ same. omega (arith, same)) in let is = ap length splits.none_posted in omega (arith, is)
 
@@ -269,14 +318,14 @@ no_used_end step =
 the_number : (m n : ℕ) (ms : List ℕ) → m ∷ ms ≡ n ∷ ms → m ≡ n
 the_number m n ms is = cc
 
-not_met_before : IsStep 1 2 one_end (record { taken = []; queued = []; posted = posted [] []; made = 1; met = 1 ∷ [] }) → ⊥
+not_met_before : IsStep 1 2 one_end (state [] [] (posted [] []) 1 (1 ∷ [])) → ⊥
 not_met_before step =
     let meets = is_met 1 2 one_end _ step refl in let below = meets.1.there.0 in omega (arith, below, the_number 1 meets.0 [] meets.1.met)
 
-not_met_twice : IsStep 1 2 one_met (record { taken = a ∷ b ∷ []; queued = []; posted = posted (a ∷ []) (b ∷ []); made = 2; met = 1 ∷ 1 ∷ [] }) → ⊥
+not_met_twice : IsStep 1 2 one_met (state (a ∷ b ∷ []) [] (posted (a ∷ []) (b ∷ [])) 2 (1 ∷ 1 ∷ [])) → ⊥
 not_met_twice step = let meets = is_met 1 2 one_met _ step refl in meets.1.there.1.0 (the_number 1 meets.0 (1 ∷ []) meets.1.met)
 
-not_met_with_less : IsStep 1 2 two_taken (record { taken = a ∷ b ∷ []; queued = []; posted = posted (a ∷ []) []; made = 2; met = 1 ∷ [] }) → ⊥
+not_met_with_less : IsStep 1 2 two_taken (state (a ∷ b ∷ []) [] (posted (a ∷ []) []) 2 (1 ∷ [])) → ⊥
 not_met_with_less step = let meets = is_met 1 2 two_taken _ step refl in let is = ap length (meets.1.items.2 1) in omega (arith, is)
 
 -- what comes about in no step is in no schedule
