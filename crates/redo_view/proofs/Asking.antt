@@ -15,15 +15,18 @@ use Rattle.redo_view.specs.declared.options.Options.{Options}
 use Rattle.redo_view.specs.declared.step.Seen.{Seen}
 use Rattle.redo_view.specs.declared.stop.Stop.{Stop}
 use Rattle.redo_view.specs.declared.stop.Stop.TheVariants.{Write, OutOfMemory}
+use Rattle.redo_view.specs.declared.viewer.Viewer.{Viewer}
 use Rattle.redo_view.specs.Text.{redo_line}
 use Rattle.redo_view.specs.Expansion.{Shown, is_among, with_text, after_asked, expansion}
 use Rattle.redo_view.specs.Private.Choices.{unless_opened}
-use Rattle.redo_view.specs.Private.Shown.{HasShown, Shows, marks_of}
+use Rattle.redo_view.specs.Private.Shown.{HasShown, IsSeen, Shows, ShowsAsked, marks_of, nothing}
 use Rattle.redo_view.specs.Private.Step.{Fits}
 use Rattle.redo_view.specs.Private.Stopped.{Written}
+use Rattle.redo_view.specs.Private.Viewing.{Keeps}
+use Rattle.redo_view.specs.Private.Viewing as viewing
 use Rattle.redo_view.specs.View.{unknown_among}
 use Rattle.redo_view.proofs.Shifting.{log_text-grows}
-use Rattle.redo_view.proofs.Walking.{adds-nothing, stopped}
+use Rattle.redo_view.proofs.Walking.{adds-nothing, kept_then, stopped}
 
 module _ (numbering : Numbering) (options : Options) (target : List ℕ) (first told : Option Taken) (before : Seen) (shown : Shown) (has : HasShown numbering first told before shown) where
   abbrev line : List ℕ
@@ -60,8 +63,12 @@ no_marks : (names : List (List ℕ)) → replicate (length names) false ≡ mark
 no_marks [] = refl
 no_marks (name ∷ names) = ap (λ marks. false ∷ marks) (no_marks names)
 
-abbrev nothing : Shown
-nothing = record { named = []; opened = []; text = [] }
+pub none_seen : (numbering : Numbering) (seen : Seen) → seen.named.items ≡ replicate (length numbering.names) false → seen.opened.items ≡ replicate (length numbering.logs) false → IsSeen numbering seen nothing
+none_seen numbering seen named opened = record {
+  named = named ∙ no_marks numbering.names;
+  opened =
+      opened ∙ ap (λ (n : ℕ). replicate n false) (sym (length-map numbering.logs (λ (log : Log). log.target))) ∙ no_marks (targets_of numbering.logs);
+}
 
 module _ (logs : List Log) (options : Options) where
   pub asked-append : (first others : List (List ℕ)) (shown : Shown) → after_asked logs options (first ++ others) shown ≡ after_asked logs options others (after_asked logs options first shown)
@@ -86,17 +93,6 @@ module _ (numbering : Numbering) (options : Options) (asked : List (List ℕ)) (
   -- what was shown once the first of the targets asked for were gone over
   abbrev pub asked_so_far : ℕ → Shown
   asked_so_far k = after_asked numbering.logs options (take k asked) nothing
-
-  pub none_asked : (seen : Seen) → seen.named.items ≡ replicate (length numbering.names) false → seen.opened.items ≡ replicate (length numbering.logs) false
-      → HasShown numbering first first seen (asked_so_far 0)
-  none_asked seen named opened = record {
-    seen_is = record {
-      named = named ∙ no_marks numbering.names;
-      opened =
-          opened ∙ ap (λ (n : ℕ). replicate n false) (sym (length-map numbering.logs (λ (log : Log). log.target))) ∙ no_marks (targets_of numbering.logs);
-    };
-    taken = adds-nothing first;
-  }
 
   -- how far a viewer came
   pub record Asks (k : ℕ) (now : Option Taken) (seen : Seen) : Type 0 where
@@ -175,3 +171,49 @@ is_known logs asked k default name none below is =
 pub flipped : (a b : Bool) → a ≡ not b → b ≡ not a
 flipped a true is = sym (ap not is)
 flipped a false is = sym (ap not is)
+
+-- ---- a viewer
+
+module _ {W : Type 0} {tells : W → Option Taken} where
+  -- a target was shown
+  pub shows_asked : {target : List ℕ} {before after : Viewer W} {done : Result (Unit {0}) Stop} → Keeps before after
+      → ShowsAsked before.logs.now before.options.now target before.seen.now after.seen.now (tells before.out.now) (tells after.out.now) done → viewing.ShowsAsked tells target before after done
+  shows_asked kept shows = record { kept = kept; shows = shows }
+
+-- since it was made a viewer kept its logs, options and writer, and it came so far
+pub record HasAsked {W : Type 0} (tells : W → Option Taken) (asked : List (List ℕ)) (k : ℕ) (first now : Viewer W) : Type 0 where
+  pub kept : Keeps first now
+  pub asks : Asks now.logs.now now.options.now asked (tells first.out.now) k (tells now.out.now) now.seen.now
+
+module _ {W : Type 0} {tells : W → Option Taken} {asked : List (List ℕ)} {k : ℕ} {first now : Viewer W} (so_far : HasAsked tells asked k first now) where
+  pub fits_still : Fits now.logs.now now.seen.now
+  fits_still = asks_fit now.logs.now now.options.now asked (tells first.out.now) k (tells now.out.now) now.seen.now so_far.asks
+
+  same : expansion now.logs.now.logs now.options.now asked ≡ expansion first.logs.now.logs first.options.now asked
+  same = λ i. expansion (so_far.kept.logs i).logs (so_far.kept.options i) asked
+
+  -- all targets were shown
+  pub all_shown : length asked ≤ k → viewing.Wrote tells {A = Unit {0}} first now (expansion first.logs.now.logs first.options.now asked) (Ok tt)
+  all_shown end =
+      all_asked now.logs.now now.options.now asked (tells first.out.now) k (tells now.out.now) now.seen.now now.logs.now.logs refl end so_far.asks
+      ∙ ap (λ text. adds (tells first.out.now) text 0) same
+
+  module _ (default : List ℕ) {name : List ℕ} (below : k < length asked) (name_is : get_or asked k default ≡ name) where
+    -- the next one has a log
+    pub known_still : unknown_among first.logs.now.logs asked ≡ None → is_among name (targets_of now.logs.now.logs) ≡ true
+    known_still none = rw so_far.kept.logs (is_known first.logs.now.logs asked k default name none below name_is)
+
+    -- it was shown
+    pub one_more_shown : {after : Viewer W} {done : Unit {0}} → viewing.ShowsAsked tells name now after (Ok done) → HasAsked tells asked (k + 1) first after
+    one_more_shown {after = after} shows = record {
+      kept = kept_then so_far.kept shows.kept;
+      asks = rw (shows.kept.logs, shows.kept.options) (one_more_asked now.logs.now now.options.now asked (tells first.out.now) k default name below name_is
+          (tells now.out.now) (tells after.out.now) now.seen.now after.seen.now so_far.asks (shows.shows (tells first.out.now) (asked_so_far now.logs.now now.options.now asked (tells first.out.now) k) so_far.asks.has));
+    }
+
+    -- it wasn't, or not whole
+    pub one_stopped : {after : Viewer W} {stop : Stop} → viewing.ShowsAsked tells {A = Unit {0}} name now after (Err stop)
+        → viewing.Wrote tells {A = Unit {0}} first after (expansion first.logs.now.logs first.options.now asked) (Err stop)
+    one_stopped {after = after} {stop = stop} shows =
+        subst (λ text. Written {A = Unit {0}} (tells first.out.now) (tells after.out.now) text (Err stop)) same (asked_stopped now.logs.now now.options.now asked (tells first.out.now) k default name below name_is
+        (Unit {0}) (tells after.out.now) after.seen.now stop now.logs.now.logs refl (shows.shows (tells first.out.now) (asked_so_far now.logs.now now.options.now asked (tells first.out.now) k) so_far.asks.has))

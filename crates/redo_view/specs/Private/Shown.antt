@@ -1,5 +1,5 @@
 -- What a viewer has shown, by its marks and by what its writer tells.
-use Rattle.std.specs.Prelude.{◌≡◌, ℕ, Bool, List, Option, Some, Result, Ok, Err, map}
+use Rattle.std.specs.Prelude.{◌≡◌, ℕ, Bool, List, [], Option, Some, Result, Ok, Err, map}
 use Rattle.redo_device.specs.Sink.{Taken, adds}
 use Rattle.redo_logs.specs.Logs.{place_of, targets_of}
 use Rattle.redo_logs.specs.Numbering.{Numbering}
@@ -14,6 +14,9 @@ use Rattle.redo_view.specs.Written.{WroteFront, WroteUntilFailed}
 -- name by name, whether it is among others
 abbrev pub marks_of : List (List ℕ) → List (List ℕ) → List Bool
 marks_of names others = map (λ name. is_among name others) names
+
+abbrev pub nothing : Shown
+nothing = record { named = []; opened = []; text = [] }
 
 module _ (numbering : Numbering) where
   -- the marks say what was named and what was opened
