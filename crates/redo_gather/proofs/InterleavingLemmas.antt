@@ -16,7 +16,7 @@ use Rattle.redo_wire.specs.declared.item.What.{What}
 use Rattle.redo_wire.specs.declared.item.What.TheVariants.{Line}
 use Rattle.redo_gather.specs.Private.Collecting.{IsNoWant, NoneWants, step, stored}
 use Rattle.redo_gather.specs.Private.Storing.{state_after}
-use Rattle.redo_gather.specs.Sending.{item_of, last_of, line_of, told_of}
+use Rattle.redo_gather.specs.Sending.{item_of, last_of, line_of, stream_items}
 
 -- what items of a stream tell, in order
 abbrev pub on : ℕ → List Item → List What
@@ -118,12 +118,12 @@ lines_else sender stream other [] differ = refl
 lines_else sender stream other (entry ∷ entries) differ =
     on-other other (line_of sender stream entry) (map (line_of sender stream) entries) differ ∙ lines_else sender stream other entries differ
 
-pub told_here : (sender stream : ℕ) (entries : List Entry) (fault : Option StreamFault) → on stream (told_of sender stream entries fault) ≡ map Line entries ++ last_of fault ∷ []
+pub told_here : (sender stream : ℕ) (entries : List Entry) (fault : Option StreamFault) → on stream (stream_items sender stream entries fault) ≡ map Line entries ++ last_of fault ∷ []
 told_here sender stream entries fault =
     on-append stream (map (line_of sender stream) entries) (item_of sender stream (last_of fault) ∷ [])
     ∙ (λ i. lines_here sender stream entries i ++ on-own stream (item_of sender stream (last_of fault)) [] refl i)
 
-pub told_else : (sender stream other : ℕ) (entries : List Entry) (fault : Option StreamFault) → stream ≢ other → on other (told_of sender stream entries fault) ≡ []
+pub told_else : (sender stream other : ℕ) (entries : List Entry) (fault : Option StreamFault) → stream ≢ other → on other (stream_items sender stream entries fault) ≡ []
 told_else sender stream other entries fault differ =
     on-append other (map (line_of sender stream) entries) (item_of sender stream (last_of fault) ∷ [])
     ∙ (λ i. lines_else sender stream other entries differ i ++ on-other other (item_of sender stream (last_of fault)) [] differ i)

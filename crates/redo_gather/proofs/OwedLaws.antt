@@ -13,7 +13,7 @@ use Rattle.redo_wire.specs.declared.item.What.{What}
 use Rattle.redo_wire.specs.declared.item.What.TheVariants.{End, Fail, Line}
 use Rattle.redo_gather.specs.Laws.{AreInTurn, MayOweAll, MayOweFront, OwesFault, OwesInOrder, OwesInTurn, OwesLog, OwesNothing, OwesOne}
 use Rattle.redo_gather.specs.Owed.{Given, IsOwedFor, log_or_part, told_entries}
-use Rattle.redo_gather.specs.Sending.{AreOwed, Numbered, told_of}
+use Rattle.redo_gather.specs.Sending.{AreOwed, Numbered, stream_items}
 use Rattle.redo_gather.proofs.OwedLemmas.{log_told}
 
 module _ (max_bytes : ℕ) (source : Source Stream) where
@@ -63,7 +63,7 @@ module _ (max_bytes sender : ℕ) where
   owes_nothing items = (λ is. is, λ is. is)
 
   abbrev all_of : List Entry → Option StreamFault → ℕ → List Item
-  all_of entries fault stream = told_of sender stream entries fault
+  all_of entries fault stream = stream_items sender stream entries fault
 
   last_same : (stream : ℕ) (fault other : Option StreamFault) → all_of [] fault stream ≡ all_of [] other stream → fault ≡ other
   last_same stream None None is = refl

@@ -8,7 +8,7 @@ use Rattle.redo_wire.specs.declared.item.Item.{Item}
 use Rattle.redo_wire.specs.Mailbox.{Poster, posts}
 use Rattle.redo_gather.specs.Owed.{Given, IsOwedFor}
 use Rattle.redo_gather.specs.Private.Posting.{IsStreamPosted}
-use Rattle.redo_gather.specs.Sending.{AreOwed, HasPosted, HasSent, IsFilled, Numbered, item_of, last_of, line_of, singles, singles_in, told_of}
+use Rattle.redo_gather.specs.Sending.{AreOwed, HasPosted, HasSent, IsFilled, Numbered, item_of, last_of, line_of, singles, singles_in, stream_items}
 
 pub singles-append : (front behind : List Item) → singles (front ++ behind) ≡ singles front ++ singles behind
 singles-append [] behind = refl
@@ -62,7 +62,7 @@ last_single sender stream (Some fault) = refl
 
 -- the end of a stream, or its fault
 pub last_posted : (stream : ℕ) (before between after : Poster) (entries : List Entry) (fault : Option StreamFault) → HasPosted before between (map (line_of before.number stream) entries)
-    → HasPosted between after (singles_in between.number stream (last_of fault)) → HasPosted before after (told_of before.number stream entries fault)
+    → HasPosted between after (singles_in between.number stream (last_of fault)) → HasPosted before after (stream_items before.number stream entries fault)
 last_posted stream before between after entries fault one two =
     subst (HasPosted before after)
     (ap (λ n. map (line_of before.number stream) entries ++ singles_in n stream (last_of fault)) one.number
@@ -73,14 +73,14 @@ last_posted stream before between after entries fault one two =
 
 module _ (max_bytes sender : ℕ) where
   owed-more : (share : List Numbered) (items : List Item) (stream : Numbered) (entries : List Entry) (fault : Option StreamFault) → AreOwed max_bytes sender share items
-      → IsOwedFor max_bytes stream.1 entries fault → AreOwed max_bytes sender (share ++ stream ∷ []) (items ++ told_of sender stream.0 entries fault)
+      → IsOwedFor max_bytes stream.1 entries fault → AreOwed max_bytes sender (share ++ stream ∷ []) (items ++ stream_items sender stream.0 entries fault)
   owed-more [] items stream entries fault are is =
-      (entries, fault, [], ap (λ list. list ++ told_of sender stream.0 entries fault) are ∙ sym (append-nil (told_of sender stream.0 entries fault)), is, refl)
+      (entries, fault, [], ap (λ list. list ++ stream_items sender stream.0 entries fault) are ∙ sym (append-nil (stream_items sender stream.0 entries fault)), is, refl)
   owed-more (first ∷ share) items stream entries fault (own, how, behind, items_are, owed, rest) is = (
     own,
     how,
-    behind ++ told_of sender stream.0 entries fault,
-    ap (λ list. list ++ told_of sender stream.0 entries fault) items_are ∙ append_assoc (told_of sender first.0 own how) behind (told_of sender stream.0 entries fault),
+    behind ++ stream_items sender stream.0 entries fault,
+    ap (λ list. list ++ stream_items sender stream.0 entries fault) items_are ∙ append_assoc (stream_items sender first.0 own how) behind (stream_items sender stream.0 entries fault),
     owed,
     owed-more share behind stream entries fault rest is,
   )
@@ -91,8 +91,8 @@ none_sent max_bytes end = ([], nothing_posted end, refl)
 pub one_sent : (max_bytes : ℕ) (share : List Numbered) (stream : ℕ) (given : Given) (before between after : Poster) → HasSent max_bytes share before between
     → IsStreamPosted max_bytes stream given between after → HasSent max_bytes (share ++ (stream, given) ∷ []) before after
 one_sent max_bytes share stream given before between after (lines, posted, owed) one = (
-  lines ++ told_of before.number stream one.entries one.fault,
-  then_posted before between after lines (told_of before.number stream one.entries one.fault) posted
-      (subst (λ n. HasPosted between after (told_of n stream one.entries one.fault)) posted.number one.posted),
+  lines ++ stream_items before.number stream one.entries one.fault,
+  then_posted before between after lines (stream_items before.number stream one.entries one.fault) posted
+      (subst (λ n. HasPosted between after (stream_items n stream one.entries one.fault)) posted.number one.posted),
   owed-more max_bytes before.number share lines (stream, given) one.entries one.fault owed one.owed,
 )

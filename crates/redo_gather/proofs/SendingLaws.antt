@@ -9,7 +9,7 @@ use Rattle.redo_wire.specs.declared.item.What.{What}
 use Rattle.redo_wire.specs.declared.item.What.TheVariants.{End, Fail, Line, Lines}
 use Rattle.redo_wire.specs.Mailbox.{Poster}
 use Rattle.redo_gather.specs.Laws.{AreSingles, IsNeverAlone, PostsFew, PostsItsOwn, StandsForEach}
-use Rattle.redo_gather.specs.Sending.{AreOwed, HasPosted, IsFilled, Numbered, item_of, last_of, line_of, singles, singles_in, told_of}
+use Rattle.redo_gather.specs.Sending.{AreOwed, HasPosted, IsFilled, Numbered, item_of, last_of, line_of, singles, singles_in, stream_items}
 
 pub are_singles : (sender stream : ℕ) (entries : List Entry) (fault : Option StreamFault) → AreSingles sender stream entries fault
 are_singles sender stream [] None = refl
@@ -47,14 +47,14 @@ both_of : (sender : ℕ) (front behind : List Item) → AreOf sender front → A
 both_of sender [] behind first second = second
 both_of sender (item ∷ front) behind first second = (first.0, both_of sender front behind first.1 second)
 
-told_own : (sender stream : ℕ) (entries : List Entry) (fault : Option StreamFault) → AreOf sender (told_of sender stream entries fault)
+told_own : (sender stream : ℕ) (entries : List Entry) (fault : Option StreamFault) → AreOf sender (stream_items sender stream entries fault)
 told_own sender stream [] fault = (refl, tt)
 told_own sender stream (entry ∷ entries) fault = (refl, told_own sender stream entries fault)
 
 owed_own : (max_bytes sender : ℕ) (share : List Numbered) (items : List Item) → AreOwed max_bytes sender share items → AreOf sender items
 owed_own max_bytes sender [] items none = subst (AreOf sender) (sym none) tt
 owed_own max_bytes sender (stream ∷ share) items (entries, fault, behind, is, owed, more) =
-    subst (AreOf sender) (sym is) (both_of sender (told_of sender stream.0 entries fault) behind (told_own sender stream.0 entries fault) (owed_own max_bytes sender share behind more))
+    subst (AreOf sender) (sym is) (both_of sender (stream_items sender stream.0 entries fault) behind (told_own sender stream.0 entries fault) (owed_own max_bytes sender share behind more))
 
 own_item : (own sender stream : ℕ) (what : What) → IsFilled what → AreOf own (singles_in sender stream what) → sender ≡ own
 own_item own sender stream (Line entry) filled all = all.0

@@ -18,7 +18,7 @@ use Rattle.redo_wire.specs.declared.item.What.{What}
 use Rattle.redo_wire.specs.declared.item.What.TheVariants.{End, Fail, Line, Lines}
 use Rattle.redo_wire.specs.Mailbox.{Mailbox, Poster}
 use Rattle.redo_gather.specs.Owed.{IsOwedFor, told_entries}
-use Rattle.redo_gather.specs.Sending.{HasPosted, IsFilled, numbered, singles, told_of}
+use Rattle.redo_gather.specs.Sending.{HasPosted, IsFilled, numbered, singles, stream_items}
 
 abbrev a : Entry
 a = Text (codes "a")
@@ -30,13 +30,13 @@ b = Closing 7 (pos 0)
 abbrev item : What → Item
 item what = record { sender = 3; stream = 5; what = what }
 
-told_whole : told_of 3 5 (a ∷ b ∷ []) None ≡ item (Line a) ∷ item (Line b) ∷ item End ∷ []
+told_whole : stream_items 3 5 (a ∷ b ∷ []) None ≡ item (Line a) ∷ item (Line b) ∷ item End ∷ []
 told_whole = refl
 
-told_at_fault : told_of 3 5 (a ∷ []) (Some TooLong) ≡ item (Line a) ∷ item (Fail TooLong) ∷ []
+told_at_fault : stream_items 3 5 (a ∷ []) (Some TooLong) ≡ item (Line a) ∷ item (Fail TooLong) ∷ []
 told_at_fault = refl
 
-told_empty : told_of 3 5 [] None ≡ item End ∷ []
+told_empty : stream_items 3 5 [] None ≡ item End ∷ []
 told_empty = refl
 
 in_singles : singles (item (Lines (a ∷ b ∷ [])) ∷ item (Line a) ∷ item (Fail TooLong) ∷ item End ∷ [])

@@ -13,7 +13,7 @@ use Rattle.redo_wire.specs.declared.item.What.TheVariants.{Line}
 use Rattle.redo_wire.specs.Machine.{of}
 use Rattle.redo_gather.specs.Owed.{Given, IsOwedFor}
 use Rattle.redo_gather.specs.Private.Dealing.{share_from}
-use Rattle.redo_gather.specs.Sending.{AreOwed, item_of, last_of, line_of, told_of}
+use Rattle.redo_gather.specs.Sending.{AreOwed, item_of, last_of, line_of, stream_items}
 use Rattle.redo_gather.proofs.InterleavingLemmas.{on, on-append, on-other, told_else, told_here}
 
 -- these are the entries and the end or fault that are owed for a stream
@@ -34,7 +34,7 @@ module _ (max_bytes senders : ℕ) where
       by : ((items : List Item) → AreOwed max_bytes sender (share_from senders sender (suc from) given) items → on stream items ≡ [])
           → (own : Bool) → AreOwed max_bytes sender (cond own ((from, one) ∷ share_from senders sender (suc from) given) (share_from senders sender (suc from) given)) items → on stream items ≡ []
       by others true (entries, fault, behind, is, owed, rest) =
-          ap (on stream) is ∙ on-append stream (told_of sender from entries fault) behind
+          ap (on stream) is ∙ on-append stream (stream_items sender from entries fault) behind
           ∙ (λ i. told_else sender from stream entries fault (λ same. omega (arith, same, before)) i ++ others behind rest i)
       by others false are = others items are
 
@@ -58,7 +58,7 @@ module _ (max_bytes senders : ℕ) where
       by true is (entries, fault, behind, items_are, owed, rest) = (
         entries,
         fault,
-        ap (λ n. on n items) here ∙ ap (on from) items_are ∙ on-append from (told_of sender from entries fault) behind
+        ap (λ n. on n items) here ∙ ap (on from) items_are ∙ on-append from (stream_items sender from entries fault) behind
             ∙ (λ i. told_here sender from entries fault i ++ none_before sender (suc from) from given behind (omega arith) rest i) ∙ append-nil (map Line entries ++ last_of fault ∷ []),
         subst (λ g. IsOwedFor max_bytes g entries fault) (same there) owed,
       )
@@ -74,7 +74,7 @@ module _ (max_bytes senders : ℕ) where
           → IsTold max_bytes one (on (from + suc place) items)
       by others true (entries, fault, behind, items_are, owed, rest) =
           subst (IsTold max_bytes one)
-          (sym (ap (λ n. on n items) further ∙ ap (on (suc from + place)) items_are ∙ on-append (suc from + place) (told_of sender from entries fault) behind
+          (sym (ap (λ n. on n items) further ∙ ap (on (suc from + place)) items_are ∙ on-append (suc from + place) (stream_items sender from entries fault) behind
           ∙ (λ i. told_else sender from (suc from + place) entries fault (λ same. omega (arith, same)) i ++ on (suc from + place) behind)))
           (others behind rest)
       by others false are = subst (λ n. IsTold max_bytes one (on n items)) (sym further) (others items are)
@@ -103,7 +103,7 @@ module _ (max_bytes senders : ℕ) where
           → AreOwed max_bytes sender (cond test ((from, one) ∷ share_from senders sender (suc from) given) (share_from senders sender (suc from) given)) items → AllByRecursion (IsOwn sender) items
       by others true is (entries, fault, behind, items_are, owed, rest) =
           subst (AllByRecursion (IsOwn sender)) (sym items_are)
-          (all-append (IsOwn sender) (told_of sender from entries fault) behind
+          (all-append (IsOwn sender) (stream_items sender from entries fault) behind
           (all-append (IsOwn sender) (map (line_of sender from) entries) (item_of sender from (last_of fault) ∷ []) (lines_own sender from entries (own_if is)) (own_if is, tt)) (others behind rest))
       by others false is are = others items are
 

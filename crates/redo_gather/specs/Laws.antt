@@ -12,7 +12,7 @@ use Rattle.redo_wire.specs.declared.item.What.{What}
 use Rattle.redo_wire.specs.declared.item.What.TheVariants.{Lines}
 use Rattle.redo_wire.specs.Mailbox.{Poster}
 use Rattle.redo_gather.specs.Owed.{Given, IsOwed, IsOwedFor, told_entries}
-use Rattle.redo_gather.specs.Sending.{AreOwed, HasPosted, HasSent, IsFilled, Numbered, line_of, singles, told_of}
+use Rattle.redo_gather.specs.Sending.{AreOwed, HasPosted, HasSent, IsFilled, Numbered, line_of, singles, stream_items}
 
 -- ---- what is owed for a stream
 
@@ -50,7 +50,7 @@ module _ (max_bytes sender : ℕ) where
   abbrev pub OwesOne : Type 0
   OwesOne =
       (stream : ℕ) (given : Given) (entries : List Entry) (fault : Option StreamFault)
-      → AreOwed max_bytes sender ((stream, given) ∷ []) (told_of sender stream entries fault) ↔ IsOwedFor max_bytes given entries fault
+      → AreOwed max_bytes sender ((stream, given) ∷ []) (stream_items sender stream entries fault) ↔ IsOwedFor max_bytes given entries fault
 
   -- items of which the first are owed for some streams, and those behind them for others
   abbrev pub AreInTurn : List Numbered → List Numbered → List Item → Type 0
@@ -65,7 +65,7 @@ module _ (max_bytes sender : ℕ) where
 
 -- what is told of a stream is of single entries, with an end or a fault
 abbrev pub AreSingles : ℕ → ℕ → List Entry → Option StreamFault → Type 0
-AreSingles sender stream entries fault = singles (told_of sender stream entries fault) ≡ told_of sender stream entries fault
+AreSingles sender stream entries fault = singles (stream_items sender stream entries fault) ≡ stream_items sender stream entries fault
 
 -- an item of several entries stands for an item of each, in order
 abbrev pub StandsForEach : ℕ → ℕ → List Entry → Type 0

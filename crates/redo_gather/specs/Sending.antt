@@ -37,8 +37,8 @@ last_of None = End
 last_of (Some fault) = Fail fault
 
 -- a line for each entry, and then the end or the fault
-abbrev pub told_of : ℕ → ℕ → List Entry → Option StreamFault → List Item
-told_of sender stream entries fault = map (line_of sender stream) entries ++ item_of sender stream (last_of fault) ∷ []
+abbrev pub stream_items : ℕ → ℕ → List Entry → Option StreamFault → List Item
+stream_items sender stream entries fault = map (line_of sender stream) entries ++ item_of sender stream (last_of fault) ∷ []
 
 -- a stream's number, and what is given of it
 abbrev pub Numbered : Type 0
@@ -53,7 +53,7 @@ abbrev pub AreOwed : ℕ → ℕ → List Numbered → List Item → Type 0
 AreOwed max_bytes sender [] items = items ≡ []
 AreOwed max_bytes sender (stream ∷ share) items =
     (entries : List Entry) × (fault : Option StreamFault) × (behind : List Item)
-    × (items ≡ told_of sender stream.0 entries fault ++ behind) × IsOwedFor max_bytes stream.1 entries fault × AreOwed max_bytes sender share behind
+    × (items ≡ stream_items sender stream.0 entries fault ++ behind) × IsOwedFor max_bytes stream.1 entries fault × AreOwed max_bytes sender share behind
 
 -- ---- how the list of an end grows
 

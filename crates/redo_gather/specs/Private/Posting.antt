@@ -8,7 +8,7 @@ use Rattle.redo_line.specs.Source.{source}
 use Rattle.redo_wire.specs.Mailbox.{Poster}
 use Rattle.redo_gather.specs.Owed.{Given, IsOwedFor}
 use Rattle.redo_gather.specs.Private.Reading.{IsRead, IsReadToEnd, IsRefused, fault_in}
-use Rattle.redo_gather.specs.Sending.{HasPosted, line_of, told_of}
+use Rattle.redo_gather.specs.Sending.{HasPosted, line_of, stream_items}
 
 -- the lines of a piece were posted, up to its end or to a refusal
 pub record IsPosted {A : Type 0} (stream : ℕ) (piece : List ℕ) (old new : Scanned) (before after : Poster) (result : Result A StreamFault) : Type 0 where
@@ -34,5 +34,5 @@ pub record AreLinesPosted {A : Type 0} (max_bytes stream : ℕ) (given : Given) 
 pub record IsStreamPosted (max_bytes stream : ℕ) (given : Given) (before after : Poster) : Type 0 where
   pub entries : List Entry
   pub fault : Option StreamFault
-  pub posted : HasPosted before after (told_of before.number stream entries fault)
+  pub posted : HasPosted before after (stream_items before.number stream entries fault)
   pub owed : IsOwedFor max_bytes given entries fault
