@@ -1,9 +1,8 @@
 -- Examples of tables, computed: two logs are entered, one gets an entry and ends, the other fails.
-use Rattle.std.proofs.Common.{◌≡◌, ℕ, true, false, nat_eq, List, [], ◌∷◌, ◌++◌, None, Some, length, Bor, pos, arith, refl}
+use Rattle.std.proofs.Common.{◌≡◌, ℕ, true, false, List, [], ◌∷◌, ◌++◌, None, Some, length, Bor, pos, arith, refl}
 use Rattle.std.specs.Prelude.{codes}
 use Rattle.std.specs.List.{IsDistinct, flat_map, list_all}
 use Rattle.redo_line.specs.Lines.{with_line_feed}
-use Rattle.redo_line.specs.declared.entry.Entry.{Entry}
 use Rattle.redo_line.specs.declared.entry.Entry.TheVariants.{Text, Mention, Done, Closing, Note}
 use Rattle.redo_line.specs.declared.entry.How.TheVariants.{Made}
 use Rattle.redo_line.specs.declared.stream_fault.StreamFault.TheVariants.{Read, TooLong}
