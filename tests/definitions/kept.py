@@ -2,7 +2,7 @@
 
     == what_is_wrong_in_words
     file: Names                       a file of the crate's specs/
-    old: TEXT                         one line, which stands once in the file
+    old: TEXT                         one line, which stands once in the file (or, behind a line `in: NAME`, in this definition of it)
     new: TEXT                         where ⏎ ends a line (more of these may follow, and of other files)
     by: row NameRows.computed         what refuses it: an example of the crate's proofs/, ..
     by: law one_cutting.only          .. or a clause of its src/laws.rt; of a law with one clause its name alone
@@ -14,7 +14,7 @@ the head of the text.
 """
 import os
 import re
-from contracts import TOP, Specs, read
+from contracts import HEAD, TOP, Specs, read
 
 FOLDER = os.path.dirname(os.path.abspath(__file__))
 
@@ -31,11 +31,12 @@ class Wrong:
     def texts(self):
         """The files that it changes, with their text then."""
         changed = {}
-        for file, old, new in self.edits:
-            text = changed.get(file) or specs_file(self.crate, file)
-            if text.count(old) != 1:
-                raise BadEdit(f"'{old}' stands {text.count(old)} times in {file}.antt")
-            changed[file] = text.replace(old, new)
+        for file, within, old, new in self.edits:
+            parts = parts_of(changed.get(file) or specs_file(self.crate, file))
+            places = [place for place, (name, part) in enumerate(parts) if within in (None, name) for _ in range(part.count(old))]
+            if len(places) != 1:
+                raise BadEdit(f"'{old}' stands {len(places)} times in {within or file + '.antt'}")
+            changed[file] = "".join(part.replace(old, new) if place == places[0] else part for place, (_, part) in enumerate(parts))
         return changed
 
     def definitions(self):
@@ -51,6 +52,13 @@ def specs_file(crate, file):
     if not os.path.isfile(os.path.join(TOP, "crates", crate, "specs", file + ".antt")):
         raise BadEdit(f"there is no specs/{file}.antt")
     return read("crates", crate, "specs", file + ".antt")
+
+
+def parts_of(text):
+    """The definitions of a file with their names, and what stands before and between them."""
+    parts = re.split(rf"^(?={HEAD}|module |use |--)", text, flags=re.M)
+    heads = [re.match(rf"{HEAD}(\S+)", part) for part in parts]
+    return [(head and head[1], part) for head, part in zip(heads, parts)]
 
 
 def definitions_in(crate, file, text):
@@ -74,7 +82,7 @@ def kept(crate):
                 raise SystemExit(f"tests/definitions/{crate}.txt:{number}: {error}: {line}")
     for wrong in found:
         wrong.given = given[0] if given else None
-        if not wrong.edits or not wrong.where or wrong.edits[-1][2] is None or (wrong.by == "law" and not wrong.term):
+        if not wrong.edits or not wrong.where or wrong.edits[-1][3] is None or (wrong.by == "law" and not wrong.term):
             raise SystemExit(f"tests/definitions/{crate}.txt: {wrong.name} lacks a part")
         if "?" in (wrong.term or ""):
             raise SystemExit(f"tests/definitions/{crate}.txt: {wrong.name} has a hole in its proof")
@@ -102,11 +110,14 @@ def take(line, crate, found, given):
     elif line.startswith("refuted "):
         wrong.term = line
     elif word == "file":
-        wrong.file = text.strip()
+        wrong.file, wrong.within = text.strip(), None
+    elif word == "in":
+        wrong.within = text.strip()
     elif word == "old":
-        wrong.edits.append((wrong.file, text[1:], None))
+        wrong.edits.append((wrong.file, wrong.within, text[1:], None))
+        wrong.within = None
     elif word == "new":
-        wrong.edits[-1] = (*wrong.edits[-1][:2], text[1:].replace("⏎", "\n"))
+        wrong.edits[-1] = (*wrong.edits[-1][:3], text[1:].replace("⏎", "\n"))
     elif word == "use":
         wrong.uses.append("use " + text.strip())
     elif word == "by":

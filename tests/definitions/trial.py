@@ -47,8 +47,8 @@ class Crate:
         self.specs = Specs([name])
         self.modules = [place.split(".")[-1] for place in self.specs.files if not is_private((place,))]
         self.texts = {module: read("crates", name, "specs", module + ".antt") for module in self.modules}
-        proofs = os.path.join(TOP, "crates", name, "proofs")
-        rows = {file.removesuffix(".antt"): read("crates", name, "proofs", file) for file in sorted(os.listdir(proofs)) if file.endswith("Rows.antt")}
+        files = re.findall(r"^(?:pub )?mod (\w+Rows)$", read("crates", name, "proofs", "Lib.antt"), re.M)
+        rows = {file: read("crates", name, "proofs", file + ".antt") for file in files}
         self.examples = {file: Examples(name, file, rows) for file in rows}
         laws = os.path.join("crates", name, "src/laws.rt")
         self.laws = read(laws) if os.path.isfile(os.path.join(TOP, laws)) else ""

@@ -15,7 +15,7 @@ use Rattle.redo_line.specs.Parts.{parted, behind}
 use Rattle.redo_line.specs.Record.{fields_of, status_of}
 use Rattle.redo_logs.specs.declared.log_state.LogState.TheVariants.{Ended}
 use Rattle.redo_logs.specs.Logs.{Log}
-use Rattle.redo_gather.specs.Streams.{AreTold, told_of, logs_of, fault_among}
+use Rattle.redo_gather.specs.Streams.{AreTold, IsGiven, told_of, logs_of, fault_among}
 
 abbrev line : List ℕ → List ℕ
 line text = text ++ line_feed ∷ []
@@ -97,6 +97,9 @@ these_told : told_of (λ (told : Option Stream). told) (true ∷ false ∷ []) (
     ≡ record { must_close = true; stream = Some (stream_of x false) } ∷ record { must_close = false; stream = None } ∷ []
 these_told = refl
 
--- no readers give no streams
+-- a reader that tells none may give any stream, and no readers give none
+any_given : IsGiven None (stream_of x true)
+any_given = tt
+
 no_told : AreTold [] []
 no_told = tt

@@ -34,12 +34,16 @@ not_within :
     × (IsWithin bytes names (at.Note 6 4 3 9) → ⊥)
     × (IsWithin bytes names (at.Note 6 3 9 8) → ⊥)
     × (IsWithin bytes names (at.Note 6 3 8 10) → ⊥)
+    × (IsWithin bytes names (at.Mention 7 Made 1 0) → ⊥)
+    × (IsWithin bytes names (at.Done 8 (pos 1) 1 0) → ⊥)
 not_within = (
   (λ is. let same : Some 98 ≡ Some 10 = is.1 in absurd (cc)),
   (λ is. omega (arith, is.0)),
   (λ is. omega (arith, is.0)),
   (λ is. omega (arith, is.1)),
   (λ is. omega (arith, is.2)),
+  (λ is. omega (arith, is.0)),
+  (λ is. omega (arith, is.0)),
 )
 
 no_name : (IsNameAt bytes names 1 0 → ⊥) × (IsNameAt bytes names 0 5 → ⊥) × (IsNameAt bytes (codes "./a") 0 3 → ⊥)

@@ -9,6 +9,7 @@ use Rattle.redo_line.specs.Entry.{record_entry, entry_of}
 use Rattle.redo_line.specs.Lines.{line_feed, cutting, ended, rest}
 use Rattle.redo_line.specs.Log.{first_fault}
 use Rattle.redo_line.specs.Parts.{parted, behind}
+use Rattle.redo_line.specs.Record.{fields_of}
 use Rattle.redo_line.specs.Scan.{Scanned, so_far, fault_so_far, entries_so_far, EndsLine, EndsNone, AreAtFault, IsFine, took, refused_with, Finds, FindsMore, TakesAll, MayRefuse, Refuses, Steps, IsLateOrTooLong, RefusesFirst, entries_in, source_in, text_of}
 
 abbrev a : List ℕ
@@ -94,6 +95,11 @@ finds_more : FindsMore (scanned [] None) (scanned (line (codes "y")) None) (line
 unfolding cutting ended rest first_fault entry_of record_entry parted behind
 finds_more = record { entry = Text (codes "y"); finds = (refl, record { fine = refl; line = codes "y"; lines_are = refl; nothing_behind = refl; entry_is = refl; entries = refl }); put = refl }
 
+-- the entry that was put behind others is the one that was found
+finds_no_other : FindsMore (scanned [] None) (scanned (line (codes "y")) None) (line (codes "y")) [] (Text [] ∷ []) → ⊥
+unfolding cutting ended rest first_fault entry_of record_entry parted behind
+finds_no_other is = let found : Text (codes "y") ∷ [] ≡ is.entry ∷ [] = is.finds.1.entries in let put : Text [] ∷ [] ≡ is.entry ∷ [] = is.put in absurd (cc)
+
 takes_all : TakesAll (scanned (codes "x") None) (scanned (codes "xy") None) (codes "y")
 unfolding cutting ended rest first_fault entry_of record_entry parted behind
 takes_all = (refl, record { fine = refl; lines = refl; entries = refl })
@@ -166,10 +172,17 @@ not_late : (fault : StreamFault) → IsLateOrTooLong fault → (fault ≢ BadRec
 not_late fault (inl late) = let same = late.1 in ((λ is. absurd (cc)), (λ is. absurd (cc)), (λ is. absurd (cc)), (λ is. absurd (cc)))
 not_late fault (inr too_long) = ((λ is. absurd (cc)), (λ is. absurd (cc)), (λ is. absurd (cc)), (λ is. absurd (cc)))
 
--- nothing was refused, and one byte is enough
-refuses_nothing_first : (RefusesFirst (scanned (codes "012345678") (Some TooLong)) (codes "x") TooLong → ⊥) × (RefusesFirst (scanned (codes "01234567") None) (codes "xy") TooLong → ⊥)
-unfolding cutting ended rest first_fault entry_of record_entry parted behind
-refuses_nothing_first = ((λ is. let same : Some TooLong ≡ None = is.refused_none in absurd (cc)), (λ is. let same : None ≡ Some TooLong = is.fault_is in absurd (cc)))
+-- nothing was refused, one byte is enough, and it is at fault by where it stands
+refuses_nothing_first :
+    (RefusesFirst (scanned (codes "012345678") (Some TooLong)) (codes "x") TooLong → ⊥)
+    × (RefusesFirst (scanned (codes "01234567") None) (codes "xy") TooLong → ⊥)
+    × (RefusesFirst (scanned (codes "@@REDO:") None) (line_feed ∷ []) (BadRecord 1) → ⊥)
+unfolding cutting ended rest first_fault entry_of record_entry fields_of parted behind
+refuses_nothing_first = (
+  (λ is. let same : Some TooLong ≡ None = is.refused_none in absurd (cc)),
+  (λ is. let same : None ≡ Some TooLong = is.fault_is in absurd (cc)),
+  (λ is. (not_late (BadRecord 1) is.late_or_too_long).0 refl),
+)
 
 source_told : ((source_in (scanned (codes "x") None)).target ≡ a) × ((source_in (scanned (codes "x") None)).must_close ≡ true) × ((source_in (scanned (codes "x") None)).stream ≡ so_far (codes "x"))
 source_told = (refl, refl, refl)
