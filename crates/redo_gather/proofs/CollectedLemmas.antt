@@ -1,5 +1,5 @@
 -- What a table comes to, into which all was stored that senders owe.
-use Rattle.std.proofs.Common.{◌≡◌, ◌≢◌, inl, inr, ℕ, zero, suc, ◌<◌, nat_eq, Bool, true, false, cond, List, [], ◌∷◌, ◌++◌, Option, Some, length, map, slice_get, refl, sym, ap, ◌∙◌, subst, arith}
+use Rattle.std.proofs.Common.{◌≡◌, ◌≢◌, inl, inr, ℕ, zero, suc, ◌<◌, nat_eq, Bool, true, false, cond, List, [], ◌∷◌, ◌++◌, Some, length, map, slice_get, refl, sym, ap, ◌∙◌, subst, arith}
 use Rattle.std.specs.Option.{option_map}
 use Rattle.std.specs.List.{AllByRecursion}
 use Rattle.std.proofs.lemmas.List.{append_assoc, append-nil, length-map}
@@ -7,7 +7,6 @@ use Rattle.std.proofs.lemmas.Option.{none-some, slice_get-map}
 use Rattle.redo_line.specs.declared.entry.Entry.{Entry}
 use Rattle.redo_line.specs.declared.stream_fault.StreamFault.TheVariants.{OutOfMemory}
 use Rattle.redo_line.specs.Source.{source, sources, with_stream}
-use Rattle.redo_device.specs.Feed.{Stream}
 use Rattle.redo_device.proofs.GaveLemmas.{weaker}
 use Rattle.redo_logs.specs.declared.log_state.LogState.{LogState}
 use Rattle.redo_logs.specs.declared.log_state.LogState.TheVariants.{Ended, Failed, Running}

@@ -1,5 +1,5 @@
 -- What a loop over streams has gathered.
-use Rattle.std.proofs.Common.{◌≡◌, ℕ, true, List, [], ◌∷◌, ◌++◌, Option, None, Some, length, map, slice_get, refl, sym, ap, ◌∙◌, arith, Result, Ok, Err, ◌≢◌, subst}
+use Rattle.std.proofs.Common.{◌≡◌, ℕ, true, List, [], ◌∷◌, ◌++◌, None, Some, length, map, slice_get, refl, sym, ap, ◌∙◌, arith, Result, Ok, Err, ◌≢◌, subst}
 use Rattle.std.specs.List.{list_all}
 use Rattle.std.specs.Result.{result_and}
 use Rattle.std.proofs.lemmas.List.{append_assoc, append-nil, length-append, length-map}

@@ -1,5 +1,5 @@
 -- Readers, each with the mark at its place.
-use Rattle.std.proofs.Common.{◌≡◌, ℕ, suc, List, [], ◌∷◌, ◌++◌, Some, length, zip, slice_get, refl, ap, arith}
+use Rattle.std.proofs.Common.{◌≡◌, suc, List, [], ◌∷◌, ◌++◌, Some, length, zip, slice_get, refl, ap, arith}
 
 pub zip-none : {A B : Type 0} (keys : List A) (none : List B) → none ≡ [] → zip keys none ≡ []
 zip-none [] none is = refl

@@ -1,5 +1,5 @@
 -- What is owed for a stream, and for a share.
-use Rattle.std.proofs.Common.{◌≡◌, ◌≢◌, ◌↔◌, inl, inr, ℕ, List, [], ◌∷◌, ◌++◌, Option, None, Some, filter_map, refl, sym, ap, ◌∙◌, subst}
+use Rattle.std.proofs.Common.{◌≡◌, inl, inr, ℕ, List, [], ◌∷◌, ◌++◌, Option, None, Some, filter_map, refl, sym, ap, ◌∙◌, subst}
 use Rattle.std.proofs.lemmas.List.{append_assoc, append-nil}
 use Rattle.std.proofs.lemmas.Option.{none-some}
 use Rattle.redo_line.specs.declared.entry.Entry.{Entry}
@@ -12,7 +12,7 @@ use Rattle.redo_wire.specs.declared.item.Item.{Item}
 use Rattle.redo_wire.specs.declared.item.What.{What}
 use Rattle.redo_wire.specs.declared.item.What.TheVariants.{End, Fail, Line}
 use Rattle.redo_gather.specs.Laws.{AreInTurn, MayOweAll, MayOweFront, OwesFault, OwesInOrder, OwesInTurn, OwesLog, OwesNothing, OwesOne}
-use Rattle.redo_gather.specs.Owed.{Given, IsOwedFor, log_or_part, told_entries}
+use Rattle.redo_gather.specs.Owed.{IsOwedFor, log_or_part, told_entries}
 use Rattle.redo_gather.specs.Sending.{AreOwed, Numbered, stream_items}
 use Rattle.redo_gather.proofs.OwedLemmas.{log_told}
 

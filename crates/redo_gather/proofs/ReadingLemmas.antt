@@ -9,7 +9,7 @@ use Rattle.redo_line.specs.declared.stream_fault.StreamFault.{StreamFault}
 use Rattle.redo_line.specs.declared.stream_fault.StreamFault.TheVariants.{Read, OutOfMemory}
 use Rattle.redo_device.specs.Feed.{Stream, Pulls, SomeStream}
 use Rattle.redo_line.specs.Laws.{IsFront}
-use Rattle.redo_line.specs.Log.{stream_of, entries_of, fault_of, log_of, part_of, unless_fault}
+use Rattle.redo_line.specs.Log.{stream_of, entries_of, part_of, unless_fault}
 use Rattle.redo_line.specs.Source.{Source, fault_from, log_from, source}
 use Rattle.redo_line.specs.Scan.{Scanned, Finds, IsFine, MayRefuse, TakesAll, entries_in, entries_so_far, fault_so_far, so_far, source_in, took}
 use Rattle.redo_line.proofs.FaultLemmas.{early_fault, early_part, failed_read, failed_part, no_fault}

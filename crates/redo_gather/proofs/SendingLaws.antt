@@ -1,5 +1,5 @@
 -- How entries, ends and faults are put into items.
-use Rattle.std.proofs.Common.{◌≡◌, inl, inr, ℕ, ◌+◌, ◌*◌, ◌≤◌, List, [], ◌∷◌, ◌++◌, Option, None, Some, length, map, refl, sym, ap, ◌∙◌, subst, arith}
+use Rattle.std.proofs.Common.{◌≡◌, ℕ, ◌+◌, ◌*◌, ◌≤◌, List, [], ◌∷◌, ◌++◌, Option, None, Some, length, map, refl, sym, ap, ◌∙◌, subst, arith}
 use Rattle.std.specs.List.{AllByRecursion}
 use Rattle.std.proofs.lemmas.List.{append-nil, length-append, length-map}
 use Rattle.redo_line.specs.declared.entry.Entry.{Entry}
@@ -9,7 +9,7 @@ use Rattle.redo_wire.specs.declared.item.What.{What}
 use Rattle.redo_wire.specs.declared.item.What.TheVariants.{End, Fail, Line, Lines}
 use Rattle.redo_wire.specs.Mailbox.{Poster}
 use Rattle.redo_gather.specs.Laws.{AreSingles, IsNeverAlone, PostsFew, PostsItsOwn, StandsForEach}
-use Rattle.redo_gather.specs.Sending.{AreOwed, HasPosted, IsFilled, Numbered, item_of, last_of, line_of, singles, singles_in, stream_items}
+use Rattle.redo_gather.specs.Sending.{AreOwed, IsFilled, Numbered, item_of, line_of, singles, singles_in, stream_items}
 
 pub are_singles : (sender stream : ℕ) (entries : List Entry) (fault : Option StreamFault) → AreSingles sender stream entries fault
 are_singles sender stream [] None = refl

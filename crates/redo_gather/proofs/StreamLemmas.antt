@@ -9,7 +9,7 @@ use Rattle.redo_line.specs.Log.{unless_fault}
 use Rattle.redo_line.specs.Source.{Marked, fault_from, source, sources}
 use Rattle.redo_logs.specs.Logs.{Log, least_fault, targets_of, has_ended}
 use Rattle.redo_logs.proofs.LeastFault.{behind_one}
-use Rattle.redo_gather.specs.Streams.{AreTold, IsGiven, IsTold, Told, as_told, fault_among, in_front, log_with, logs_of, whole_log}
+use Rattle.redo_gather.specs.Streams.{AreTold, IsGiven, Told, as_told, fault_among, in_front, log_with, logs_of, whole_log}
 
 -- one stream more, in front of the others
 either : (fault : Option StreamFault) (target : List ℕ) (entries : List Entry) (logs : Option (List Log)) (faults : List (Option StreamFault)) → IsSome logs ↔ (least_fault faults ≡ None)

@@ -8,7 +8,6 @@ use Rattle.redo_device.specs.Feed.{Stream}
 use Rattle.redo_line.specs.Laws.{IsFront}
 use Rattle.redo_line.specs.Source.{Source, fault_from, log_from, part_from}
 use Rattle.redo_wire.specs.declared.item.Item.{Item}
-use Rattle.redo_wire.specs.declared.item.What.{What}
 use Rattle.redo_wire.specs.declared.item.What.TheVariants.{Lines}
 use Rattle.redo_wire.specs.Mailbox.{Poster}
 use Rattle.redo_gather.specs.Owed.{Given, IsOwed, IsOwedFor, told_entries}
