@@ -1,5 +1,5 @@
 -- How far a viewer came that shows logs one inside the other.
-use Rattle.std.proofs.Common.{◌≡◌, ℕ, zero, suc, ◌+◌, ◌≤◌, ◌<◌, Bool, true, false, if◌then◌else◌, inl, inr, List, [], ◌∷◌, ◌++◌, Option, None, Some, Ok, Err, length, take, drop, slice_get, refl, sym, ap, ◌∙◌, subst, arith}
+use Rattle.std.proofs.Common.{◌≡◌, ℕ, zero, suc, ◌+◌, ◌≤◌, ◌<◌, Bool, true, false, if◌then◌else◌, inl, inr, List, [], ◌∷◌, ◌++◌, Option, None, Some, Result, Ok, Err, length, take, drop, slice_get, refl, sym, ap, ◌∙◌, subst, arith}
 use Rattle.std.specs.Prelude.{option_and_then}
 use Rattle.std.specs.List.{flat_map}
 use Rattle.std.proofs.lemmas.List.Concat.{flat_map-cons}
@@ -18,12 +18,15 @@ use Rattle.redo_logs.specs.Numbering.{AreLinesAt, AreTexts, IsNumbered, Numberin
 use Rattle.redo_view.specs.declared.log.Frame.{Frame}
 use Rattle.redo_view.specs.declared.options.Options.{Options}
 use Rattle.redo_view.specs.declared.step.Seen.{Seen}
-use Rattle.redo_view.specs.declared.stop.Stop.{Stop}
-use Rattle.redo_view.specs.declared.stop.Stop.TheVariants.{Write, OutOfMemory}
+use Rattle.redo_view.specs.declared.viewer.ViewFault.{ViewFault}
+use Rattle.redo_view.specs.declared.viewer.ViewFault.TheVariants.{Unknown, Write, OutOfMemory}
+use Rattle.redo_view.specs.declared.viewer.Viewer.{Viewer}
 use Rattle.redo_view.specs.Expansion.{Opening, Shown, after_entries, after_entry, begun, log_of, mentions, opened_log, with_text}
 use Rattle.redo_view.specs.Private.Shown.{Begins, HasShown, IsSeen, Shows, ShowsLog}
 use Rattle.redo_view.specs.Private.Step.{Fits, is_marked, marked, named_after, opened_after, own_text}
 use Rattle.redo_view.specs.Private.Stopped.{Written}
+use Rattle.redo_view.specs.Private.Viewing.{Keeps}
+use Rattle.redo_view.specs.Private.Viewing as viewing
 use Rattle.redo_view.specs.Written.{WroteFront}
 use Rattle.redo_view.proofs.Marking.{named_is, opens_is, opens_new, text_is}
 use Rattle.redo_view.proofs.OneEntry.{mid}
@@ -42,7 +45,8 @@ adds-nothing (Some taken) = λ i. Some (record { bytes = sym (append-nil taken.b
     none_more = omega arith
 
 -- a text that stopped in the midst of a longer one
-pub stopped : (A B : Type 0) (told middle after : Option Taken) (front part behind text : List ℕ) (stop : Stop) → middle ≡ adds told front 0 → Written {A = A} middle after part (Err stop) → (front ++ part) ++ behind ≡ text → Written {A = B} told after text (Err stop)
+pub stopped : (A B : Type 0) (told middle after : Option Taken) (front part behind text : List ℕ) (stop : ViewFault) → middle ≡ adds told front 0 → Written {A = A} middle after part (Err stop) → (front ++ part) ++ behind ≡ text → Written {A = B} told after text (Err stop)
+stopped A B told middle after front part behind text (Unknown place) written wrote is = absurd wrote
 stopped A B told middle after front part behind text Write written wrote is = in_midst told text middle after front part behind (record {}) (Err (record {})) refl written wrote is
 stopped A B told middle after front part behind text OutOfMemory written wrote is =
     let so_far = front ++ take wrote.0 part in
@@ -53,8 +57,9 @@ stopped A B told middle after front part behind text OutOfMemory written wrote i
     )
 
 -- which is what an answer says that is an error
-pub shows_stopped : (A B : Type 0) (numbering : Numbering) (first now : Option Taken) (seen : Seen) (whole : Shown) (stop : Stop)
+pub shows_stopped : (A B : Type 0) (numbering : Numbering) (first now : Option Taken) (seen : Seen) (whole : Shown) (stop : ViewFault)
     → Written {A = A} first now whole.text (Err stop) → Shows numbering {A = B} first now seen whole (Err stop)
+shows_stopped A B numbering first now seen whole (Unknown place) wrote = absurd wrote
 shows_stopped A B numbering first now seen whole Write wrote = wrote
 shows_stopped A B numbering first now seen whole OutOfMemory wrote = wrote
 
@@ -267,7 +272,7 @@ module _ (numbering : Numbering) (options : Options) (first : Option Taken) (who
                 ∙ sym all.1 ∙ ap (λ (s : Shown). s.text) went,
           )
 
-      pub stops : (A B : Type 0) (after : Option Taken) (stop : Stop) → Written {A = A} now after own (Err stop) → Written {A = B} first after whole.text (Err stop)
+      pub stops : (A B : Type 0) (after : Option Taken) (stop : ViewFault) → Written {A = A} now after own (Err stop) → Written {A = B} first after whole.text (Err stop)
       stops A B after stop wrote = stopped A B first now after walks.shown.text own rest.0 whole.text stop walks.has.taken wrote rest.1
 
       pub lacks_memory : (after : Option Taken) → after ≡ adds now own 0 → WroteFront first after whole.text
@@ -359,7 +364,7 @@ module _ (numbering : Numbering) (options : Options) (first : Option Taken) (who
       )
 
   -- texts weren't written whole
-  over_stopped : (A B : Type 0) (now after : Option Taken) (seen : Seen) (k : ℕ) (texts : List (List ℕ)) (stop : Stop) → Walks numbering options first whole now seen outer (at_entry k) → AreTexts numbering.logs number k texts
+  over_stopped : (A B : Type 0) (now after : Option Taken) (seen : Seen) (k : ℕ) (texts : List (List ℕ)) (stop : ViewFault) → Walks numbering options first whole now seen outer (at_entry k) → AreTexts numbering.logs number k texts
       → Written {A = A} now after (shown_lines options texts) (Err stop) → Written {A = B} first after whole.text (Err stop)
   over_stopped A B now after seen k texts stop walks are wrote =
       let over = over_all now seen k texts walks are in
@@ -465,141 +470,174 @@ module _ (numbering : Numbering) (options : Options) (number : ℕ) (before : Se
     };
   }
 
-  module _ (now : Option Taken) (seen : Seen) (outer : List Frame) (frame : Frame) (goes : Goes now seen outer frame) where
-    -- a log is at its end
-    pub goes_out : (before' : List Frame) (back : Frame) → outer ≡ before' ++ back ∷ [] → entry_at frame.number frame.next numbering.logs ≡ None → Goes now seen before' back
-    goes_out before' back last none = record {
+module _ {numbering : Numbering} {options : Options} {number : ℕ} {before : Seen} {told now : Option Taken} {seen : Seen} {outer : List Frame} {frame : Frame} (goes : Goes numbering options number before told now seen outer frame) where
+  abbrev GoesThen : Option Taken → Seen → List Frame → Frame → Type 0
+  GoesThen = Goes numbering options number before told
+
+  -- a log is at its end
+  pub goes_out : (before' : List Frame) (back : Frame) → outer ≡ before' ++ back ∷ [] → entry_at frame.number frame.next numbering.logs ≡ None → GoesThen now seen before' back
+  goes_out before' back last none = record {
+    fits = goes.fits;
+    room = let room = goes.room in omega (arith, room, ap length last, length-append before' (back ∷ []));
+    walks = λ target first shown placed has.
+        goes_back numbering options first (opened_log numbering.logs options target 1 shown) now seen outer frame (goes.walks target first shown placed has) before' back last none;
+  }
+
+  no_frames : (frames : List Frame) → length frames ≡ 0 → frames ≡ []
+  no_frames [] none = refl
+  no_frames (one ∷ frames) none = absurd (omega (arith, none))
+
+  -- all are
+  pub gone_through : (done : Unit {0}) → length outer ≡ 0 → entry_at frame.number frame.next numbering.logs ≡ None → ShowsLog numbering {A = Unit {0}} options number before seen told now (Ok done)
+  gone_through done no_outer none target first shown placed has =
+      comes_to_end numbering options first (opened_log numbering.logs options target 1 shown) now seen outer frame (goes.walks target first shown placed has) (no_frames outer no_outer) none
+
+  -- texts
+  module _ (bytes : List ℕ) (count : ℕ) (lines : AreLinesAt numbering.logs frame.number frame.next bytes count) where
+    abbrev shown_bytes : List ℕ
+    shown_bytes = if options.details then bytes else []
+
+    abbrev beyond : Frame
+    beyond = record { number = frame.number; next = frame.next + count }
+
+    bytes_shown : shown_bytes ≡ shown_lines options lines.texts
+    bytes_shown = ap (λ bytes. if options.details then bytes else []) lines.bytes_are
+
+    pub goes_over : (later : Option Taken) → later ≡ adds now shown_bytes 0 → GoesThen later seen outer beyond
+    goes_over later wrote = record {
       fits = goes.fits;
-      room = let room = goes.room in omega (arith, room, ap length last, length-append before' (back ∷ []));
+      room = goes.room;
       walks = λ target first shown placed has.
-          goes_back numbering options first (opened_log numbering.logs options target 1 shown) now seen outer frame (goes.walks target first shown placed has) before' back last none;
+          let whole = opened_log numbering.logs options target 1 shown in
+          let over = over_all numbering options first whole outer frame.number now seen frame.next lines.texts (goes.walks target first shown placed has) lines.are in
+          put numbering options first whole outer frame.number (adds now (shown_lines options lines.texts) 0) later seen (frame.next + length lines.texts) (frame.next + count)
+          (wrote ∙ ap (λ bytes. adds now bytes 0) bytes_shown) (ap (λ (n : ℕ). frame.next + n) (sym lines.count_is)) over.walks;
     }
 
-    no_frames : (frames : List Frame) → length frames ≡ 0 → frames ≡ []
-    no_frames [] none = refl
-    no_frames (one ∷ frames) none = absurd (omega (arith, none))
+    pub lines_stopped : (A : Type 0) (later : Option Taken) (after : Seen) (stop : ViewFault) → Written {A = A} now later shown_bytes (Err stop) → ShowsLog numbering {A = Unit {0}} options number before after told later (Err stop)
+    lines_stopped A later after stop wrote target first shown placed has =
+        shows_stopped (Unit {0}) (Unit {0}) numbering first later after (opened_log numbering.logs options target 1 shown) stop
+        (over_stopped numbering options first (opened_log numbering.logs options target 1 shown) outer frame.number A (Unit {0}) now later seen frame.next lines.texts stop (goes.walks target first shown placed has) lines.are
+        (subst (λ bytes. Written {A = A} now later bytes (Err stop)) bytes_shown wrote))
 
-    -- all are
-    pub gone_through : (done : Unit {0}) → length outer ≡ 0 → entry_at frame.number frame.next numbering.logs ≡ None → ShowsLog numbering {A = Unit {0}} options number before seen told now (Ok done)
-    gone_through done no_outer none target first shown placed has =
-        comes_to_end numbering options first (opened_log numbering.logs options target 1 shown) now seen outer frame (goes.walks target first shown placed has) (no_frames outer no_outer) none
+    there : (texts : List (List ℕ)) → AreTexts numbering.logs frame.number frame.next texts → length texts ≡ count → 0 < count → frame.next < length (entries_at frame.number numbering.logs)
+    there [] are is some = absurd (omega (arith, is, some))
+    there (text ∷ texts) are is some = slice_get_within (entries_at frame.number numbering.logs) frame.next (entry.Text text) (sym (entry_in frame.number frame.next numbering.logs) ∙ are.0)
 
-    -- texts
-    module _ (bytes : List ℕ) (count : ℕ) (lines : AreLinesAt numbering.logs frame.number frame.next bytes count) where
-      abbrev shown_bytes : List ℕ
-      shown_bytes = if options.details then bytes else []
+    pub less_over : 0 < count → work numbering.logs seen.opened.items outer beyond < work numbering.logs seen.opened.items outer frame
+    less_over some =
+        let entries = entries_at frame.number numbering.logs in
+        let below = there lines.texts lines.are lines.count_is some in
+        omega (arith, below, some, length-drop frame.next entries, length-drop (frame.next + count) entries)
 
-      abbrev beyond : Frame
-      beyond = record { number = frame.number; next = frame.next + count }
+  module _ (entry : NumberedEntry) (at : entry_at frame.number frame.next numbering.logs ≡ Some (numbered_seen numbering.names entry)) (numbered : IsNumbered numbering.names entry) where
+    -- its text, where this many frames stand around it
+    abbrev text : ℕ → List ℕ
+    text count = own_text numbering options (count + 1) seen entry
 
-      bytes_shown : shown_bytes ≡ shown_lines options lines.texts
-      bytes_shown = ap (λ bytes. if options.details then bytes else []) lines.bytes_are
+    abbrev further : Frame
+    further = record { number = frame.number; next = frame.next + 1 }
 
-      pub goes_over : (later : Option Taken) → later ≡ adds now shown_bytes 0 → Goes later seen outer beyond
-      goes_over later wrote = record {
-        fits = goes.fits;
-        room = goes.room;
-        walks = λ target first shown placed has.
-            let whole = opened_log numbering.logs options target 1 shown in
-            let over = over_all numbering options first whole outer frame.number now seen frame.next lines.texts (goes.walks target first shown placed has) lines.are in
-            put numbering options first whole outer frame.number (adds now (shown_lines options lines.texts) 0) later seen (frame.next + length lines.texts) (frame.next + count)
-            (wrote ∙ ap (λ bytes. adds now bytes 0) bytes_shown) (ap (λ (n : ℕ). frame.next + n) (sym lines.count_is)) over.walks;
-      }
+    length_after : (entry : NumberedEntry) → length (named_after numbering options seen.named.items entry) ≡ length seen.named.items
+    length_after (Mention pid how name) = by (mentions options how)
+      where
+        by : (counts : Bool) → length (if counts then marked seen.named.items name else seen.named.items) ≡ length seen.named.items
+        by true = length-set seen.named.items name true
+        by false = refl
+    length_after (Other other) = refl
 
-      pub lines_stopped : (A : Type 0) (later : Option Taken) (after : Seen) (stop : Stop) → Written {A = A} now later shown_bytes (Err stop) → ShowsLog numbering {A = Unit {0}} options number before after told later (Err stop)
-      lines_stopped A later after stop wrote target first shown placed has =
-          shows_stopped (Unit {0}) (Unit {0}) numbering first later after (opened_log numbering.logs options target 1 shown) stop
-          (over_stopped numbering options first (opened_log numbering.logs options target 1 shown) outer frame.number A (Unit {0}) now later seen frame.next lines.texts stop (goes.walks target first shown placed has) lines.are
-          (subst (λ bytes. Written {A = A} now later bytes (Err stop)) bytes_shown wrote))
+    pub fits_then : (after : Seen) → after.named.items ≡ named_after numbering options seen.named.items entry → after.opened.items ≡ seen.opened.items → Fits numbering after
+    fits_then after named opened = record {
+      names_differ = goes.fits.names_differ;
+      table = goes.fits.table;
+      names = ap length named ∙ length_after entry ∙ goes.fits.names;
+      logs = ap length opened ∙ goes.fits.logs;
+    }
 
-      there : (texts : List (List ℕ)) → AreTexts numbering.logs frame.number frame.next texts → length texts ≡ count → 0 < count → frame.next < length (entries_at frame.number numbering.logs)
-      there [] are is some = absurd (omega (arith, is, some))
-      there (text ∷ texts) are is some = slice_get_within (entries_at frame.number numbering.logs) frame.next (entry.Text text) (sym (entry_in frame.number frame.next numbering.logs) ∙ are.0)
+    -- an entry opened no log
+    pub goes_further : (count : ℕ) (later : Option Taken) (after : Seen) → count ≡ length outer → opened_after numbering options seen.opened.items entry ≡ None → later ≡ adds now (text count) 0
+        → after.named.items ≡ named_after numbering options seen.named.items entry → after.opened.items ≡ seen.opened.items → GoesThen later after outer further
+    goes_further count later after around none wrote named opened = record {
+      fits = fits_then after named opened;
+      room = let room = goes.room in omega (arith, room, ap count_new opened);
+      walks = λ target first shown placed has.
+          goes_on numbering options first (opened_log numbering.logs options target 1 shown) now seen outer frame (goes.walks target first shown placed has) entry at numbered goes.fits later after none
+          (wrote ∙ ap (λ (n : ℕ). adds now (text n) 0) around) named opened;
+    }
 
-      pub less_over : 0 < count → work numbering.logs seen.opened.items outer beyond < work numbering.logs seen.opened.items outer frame
-      less_over some =
-          let entries = entries_at frame.number numbering.logs in
-          let below = there lines.texts lines.are lines.count_is some in
-          omega (arith, below, some, length-drop frame.next entries, length-drop (frame.next + count) entries)
+    -- an entry opened one
+    pub goes_deeper : (inner count : ℕ) (later : Option Taken) (middle after : Seen) (frames : List Frame) → count ≡ length outer → opened_after numbering options seen.opened.items entry ≡ Some inner → later ≡ adds now (text count) 0
+        → middle.named.items ≡ named_after numbering options seen.named.items entry → middle.opened.items ≡ seen.opened.items
+        → after.opened.items ≡ marked middle.opened.items inner → Fits numbering after → Begins numbering inner middle after → frames ≡ outer ++ further ∷ []
+        → GoesThen later after frames (record { number = inner; next = 0 })
+    goes_deeper inner count later middle after frames around opens wrote named same opened fits begins frames_are =
+        let new = opens_new numbering options seen.opened.items inner entry opens in
+        record {
+          fits = fits;
+          room =
+              let room = goes.room in
+              let one = count_marked seen.opened.items inner (omega (arith, new.0, goes.fits.logs)) new.1 in
+              omega (arith, room, one, ap count_new (opened ∙ ap (λ marks. marked marks inner) same), ap length frames_are, length-append outer (further ∷ []));
+          walks = λ target first shown placed has.
+              goes_in numbering options first (opened_log numbering.logs options target 1 shown) now seen outer frame (goes.walks target first shown placed has) entry at numbered goes.fits inner opens
+              later middle after frames (record { number = inner; next = 0 }) (wrote ∙ ap (λ (n : ℕ). adds now (text n) 0) around) named same begins frames_are refl;
+        }
 
-    module _ (entry : NumberedEntry) (at : entry_at frame.number frame.next numbering.logs ≡ Some (numbered_seen numbering.names entry)) (numbered : IsNumbered numbering.names entry) where
-      -- its text, where this many frames stand around it
-      abbrev text : ℕ → List ℕ
-      text count = own_text numbering options (count + 1) seen entry
+    -- less is left to do
+    pub less_further : (after : Seen) → after.opened.items ≡ seen.opened.items → work numbering.logs after.opened.items outer further < work numbering.logs seen.opened.items outer frame
+    less_further after opened =
+        subst (λ marks. work numbering.logs marks outer further < work numbering.logs seen.opened.items outer frame) (sym opened)
+        (less_on numbering.logs frame (numbered_seen numbering.names entry) at seen.opened.items outer)
 
-      abbrev further : Frame
-      further = record { number = frame.number; next = frame.next + 1 }
+    pub less_deeper : (inner : ℕ) (middle after : Seen) (frames : List Frame) → opened_after numbering options seen.opened.items entry ≡ Some inner → middle.opened.items ≡ seen.opened.items
+        → after.opened.items ≡ marked middle.opened.items inner → frames ≡ outer ++ further ∷ []
+        → work numbering.logs after.opened.items frames (record { number = inner; next = 0 }) < work numbering.logs seen.opened.items outer frame
+    less_deeper inner middle after frames opens same opened frames_are =
+        let new = opens_new numbering options seen.opened.items inner entry opens in
+        subst (λ marks. work numbering.logs marks frames (record { number = inner; next = 0 }) < work numbering.logs seen.opened.items outer frame)
+        (sym (opened ∙ ap (λ marks. marked marks inner) same))
+        (less_in numbering.logs frame (numbered_seen numbering.names entry) at seen.opened.items outer frames inner (omega (arith, new.0, goes.fits.logs)) goes.fits.logs new.1 frames_are)
 
-      length_after : (entry : NumberedEntry) → length (named_after numbering options seen.named.items entry) ≡ length seen.named.items
-      length_after (Mention pid how name) = by (mentions options how)
-        where
-          by : (counts : Bool) → length (if counts then marked seen.named.items name else seen.named.items) ≡ length seen.named.items
-          by true = length-set seen.named.items name true
-          by false = refl
-      length_after (Other other) = refl
+    -- its text wasn't written whole
+    pub text_stopped : (A : Type 0) (count : ℕ) (later : Option Taken) (after : Seen) (stop : ViewFault) → count ≡ length outer → Written {A = A} now later (text count) (Err stop)
+        → ShowsLog numbering {A = Unit {0}} options number before after told later (Err stop)
+    text_stopped A count later after stop around wrote target first shown placed has =
+        shows_stopped (Unit {0}) (Unit {0}) numbering first later after (opened_log numbering.logs options target 1 shown) stop
+        (stops numbering options first (opened_log numbering.logs options target 1 shown) now seen outer frame (goes.walks target first shown placed has) entry at numbered goes.fits A (Unit {0}) later stop
+        (subst (λ (n : ℕ). Written {A = A} now later (text n) (Err stop)) around wrote))
 
-      pub fits_then : (after : Seen) → after.named.items ≡ named_after numbering options seen.named.items entry → after.opened.items ≡ seen.opened.items → Fits numbering after
-      fits_then after named opened = record {
-        names_differ = goes.fits.names_differ;
-        table = goes.fits.table;
-        names = ap length named ∙ length_after entry ∙ goes.fits.names;
-        logs = ap length opened ∙ goes.fits.logs;
-      }
+    -- it was, but there is no memory for another frame
+    pub memory_lacked : (count : ℕ) (later : Option Taken) (after : Seen) → count ≡ length outer → later ≡ adds now (text count) 0 → ShowsLog numbering {A = Unit {0}} options number before after told later (Err OutOfMemory)
+    memory_lacked count later after around wrote target first shown placed has =
+        lacks_memory numbering options first (opened_log numbering.logs options target 1 shown) now seen outer frame (goes.walks target first shown placed has) entry at numbered goes.fits later
+        (wrote ∙ ap (λ (n : ℕ). adds now (text n) 0) around)
 
-      -- an entry opened no log
-      pub goes_further : (count : ℕ) (later : Option Taken) (after : Seen) → count ≡ length outer → opened_after numbering options seen.opened.items entry ≡ None → later ≡ adds now (text count) 0
-          → after.named.items ≡ named_after numbering options seen.named.items entry → after.opened.items ≡ seen.opened.items → Goes later after outer further
-      goes_further count later after around none wrote named opened = record {
-        fits = fits_then after named opened;
-        room = let room = goes.room in omega (arith, room, ap count_new opened);
-        walks = λ target first shown placed has.
-            goes_on numbering options first (opened_log numbering.logs options target 1 shown) now seen outer frame (goes.walks target first shown placed has) entry at numbered goes.fits later after none
-            (wrote ∙ ap (λ (n : ℕ). adds now (text n) 0) around) named opened;
-      }
+-- ---- a viewer
 
-      -- an entry opened one
-      pub goes_deeper : (inner count : ℕ) (later : Option Taken) (middle after : Seen) (frames : List Frame) → count ≡ length outer → opened_after numbering options seen.opened.items entry ≡ Some inner → later ≡ adds now (text count) 0
-          → middle.named.items ≡ named_after numbering options seen.named.items entry → middle.opened.items ≡ seen.opened.items
-          → after.opened.items ≡ marked middle.opened.items inner → Fits numbering after → Begins numbering inner middle after → frames ≡ outer ++ further ∷ []
-          → Goes later after frames (record { number = inner; next = 0 })
-      goes_deeper inner count later middle after frames around opens wrote named same opened fits begins frames_are =
-          let new = opens_new numbering options seen.opened.items inner entry opens in
-          record {
-            fits = fits;
-            room =
-                let room = goes.room in
-                let one = count_marked seen.opened.items inner (omega (arith, new.0, goes.fits.logs)) new.1 in
-                omega (arith, room, one, ap count_new (opened ∙ ap (λ marks. marked marks inner) same), ap length frames_are, length-append outer (further ∷ []));
-            walks = λ target first shown placed has.
-                goes_in numbering options first (opened_log numbering.logs options target 1 shown) now seen outer frame (goes.walks target first shown placed has) entry at numbered goes.fits inner opens
-                later middle after frames (record { number = inner; next = 0 }) (wrote ∙ ap (λ (n : ℕ). adds now (text n) 0) around) named same begins frames_are refl;
-          }
+pub kept_all : {W : Type 0} {before after : Viewer W} → after.logs.now ≡ before.logs.now → after.options ≡ before.options → after.out.ghost_name ≡ before.out.ghost_name → Keeps before after
+kept_all logs options out = record { logs = logs; options = options; out = out }
 
-      -- less is left to do
-      pub less_further : (after : Seen) → after.opened.items ≡ seen.opened.items → work numbering.logs after.opened.items outer further < work numbering.logs seen.opened.items outer frame
-      less_further after opened =
-          subst (λ marks. work numbering.logs marks outer further < work numbering.logs seen.opened.items outer frame) (sym opened)
-          (less_on numbering.logs frame (numbered_seen numbering.names entry) at seen.opened.items outer)
+pub kept_then : {W : Type 0} {before now after : Viewer W} → Keeps before now → Keeps now after → Keeps before after
+kept_then first later = kept_all (later.logs ∙ first.logs) (later.options ∙ first.options) (later.out ∙ first.out)
 
-      pub less_deeper : (inner : ℕ) (middle after : Seen) (frames : List Frame) → opened_after numbering options seen.opened.items entry ≡ Some inner → middle.opened.items ≡ seen.opened.items
-          → after.opened.items ≡ marked middle.opened.items inner → frames ≡ outer ++ further ∷ []
-          → work numbering.logs after.opened.items frames (record { number = inner; next = 0 }) < work numbering.logs seen.opened.items outer frame
-      less_deeper inner middle after frames opens same opened frames_are =
-          let new = opens_new numbering options seen.opened.items inner entry opens in
-          subst (λ marks. work numbering.logs marks frames (record { number = inner; next = 0 }) < work numbering.logs seen.opened.items outer frame)
-          (sym (opened ∙ ap (λ marks. marked marks inner) same))
-          (less_in numbering.logs frame (numbered_seen numbering.names entry) at seen.opened.items outer frames inner (omega (arith, new.0, goes.fits.logs)) goes.fits.logs new.1 frames_are)
+-- Since it began to show this log, a viewer kept its logs, options and writer, and it stands here.
+pub record Stands {W : Type 0} (tells : W → Option Taken) (number : ℕ) (before now : Viewer W) (outer : List Frame) (frame : Frame) : Type 0 where
+  pub kept : Keeps before now
+  pub goes : Goes now.logs.now now.options number before.seen.now (tells before.out.now) (tells now.out.now) now.seen.now outer frame
 
-      -- its text wasn't written whole
-      pub text_stopped : (A : Type 0) (count : ℕ) (later : Option Taken) (after : Seen) (stop : Stop) → count ≡ length outer → Written {A = A} now later (text count) (Err stop)
-          → ShowsLog numbering {A = Unit {0}} options number before after told later (Err stop)
-      text_stopped A count later after stop around wrote target first shown placed has =
-          shows_stopped (Unit {0}) (Unit {0}) numbering first later after (opened_log numbering.logs options target 1 shown) stop
-          (stops numbering options first (opened_log numbering.logs options target 1 shown) now seen outer frame (goes.walks target first shown placed has) entry at numbered goes.fits A (Unit {0}) later stop
-          (subst (λ (n : ℕ). Written {A = A} now later (text n) (Err stop)) around wrote))
+module _ {W : Type 0} {tells : W → Option Taken} {number : ℕ} {before now : Viewer W} {outer : List Frame} {frame : Frame} (stands : Stands tells number before now outer frame) {after : Viewer W} (kept : Keeps now after) where
+  -- it came further
+  pub stands_then : {around : List Frame} {next : Frame}
+      → Goes now.logs.now now.options number before.seen.now (tells before.out.now) (tells after.out.now) after.seen.now around next → Stands tells number before after around next
+  stands_then goes = record {
+    kept = kept_then stands.kept kept;
+    goes = rw (kept.logs, kept.options) goes;
+  }
 
-      -- it was, but there is no memory for another frame
-      pub memory_lacked : (count : ℕ) (later : Option Taken) (after : Seen) → count ≡ length outer → later ≡ adds now (text count) 0 → ShowsLog numbering {A = Unit {0}} options number before after told later (Err OutOfMemory)
-      memory_lacked count later after around wrote target first shown placed has =
-          lacks_memory numbering options first (opened_log numbering.logs options target 1 shown) now seen outer frame (goes.walks target first shown placed has) entry at numbered goes.fits later
-          (wrote ∙ ap (λ (n : ℕ). adds now (text n) 0) around)
+  -- it stopped
+  pub stopped_there : {done : Result (Unit {0}) ViewFault}
+      → ShowsLog now.logs.now now.options number before.seen.now after.seen.now (tells before.out.now) (tells after.out.now) done → viewing.ShowsLog tells number before after done
+  stopped_there shows = record {
+    kept = kept_then stands.kept kept;
+    shows = rw (sym stands.kept.logs, sym stands.kept.options) shows;
+  }

@@ -1,9 +1,0 @@
-use Rattle.std.proofs.Common.{◌≡◌, sym, subst}
-use Rattle.std.specs.Prelude.{IfOk}
-use Rattle.redo_view.specs.Private.Step.{opened_after}
-use Rattle.redo_view.proofs.step.show_entry.Goals as goal
-
-pub returns-in-Mention-clause-opens : goal.returns-in-Mention-clause-opens
-returns-in-Mention-clause-opens g c =
-    subst (λ entry. IfOk c.show_mention.result (λ inner. inner ≡ opened_after c.args.logs.now c.args.options.now c.args.seen.now.opened.items entry)) (sym c.in-Mention.is)
-    c.show_mention.ensures.opens
