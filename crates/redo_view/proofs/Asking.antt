@@ -13,13 +13,13 @@ use Rattle.redo_logs.specs.Logs.{IsTable, Log, targets_of}
 use Rattle.redo_logs.specs.Numbering.{Numbering}
 use Rattle.redo_view.specs.declared.options.Options.{Options}
 use Rattle.redo_view.specs.declared.step.Seen.{Seen}
-use Rattle.redo_view.specs.declared.stop.Stop.{Stop}
-use Rattle.redo_view.specs.declared.stop.Stop.TheVariants.{Write, OutOfMemory}
+use Rattle.redo_view.specs.declared.viewer.ViewFault.{ViewFault}
+use Rattle.redo_view.specs.declared.viewer.ViewFault.TheVariants.{Unknown, Write, OutOfMemory}
 use Rattle.redo_view.specs.declared.viewer.Viewer.{Viewer}
 use Rattle.redo_view.specs.Text.{redo_line}
 use Rattle.redo_view.specs.Expansion.{Shown, is_among, with_text, after_asked, expansion}
 use Rattle.redo_view.specs.Private.Choices.{unless_opened}
-use Rattle.redo_view.specs.Private.Shown.{HasShown, IsSeen, Shows, ShowsAsked, marks_of, nothing}
+use Rattle.redo_view.specs.Private.Shown.{HasShown, IsSeen, Shows, marks_of, nothing}
 use Rattle.redo_view.specs.Private.Step.{Fits}
 use Rattle.redo_view.specs.Private.Stopped.{Written}
 use Rattle.redo_view.specs.Private.Viewing.{Keeps}
@@ -38,13 +38,13 @@ module _ (numbering : Numbering) (options : Options) (target : List ℕ) (first 
 
   module _ (new : is_among target shown.opened ≡ false) where
     -- its line wasn't written whole
-    pub line_stopped : (now : Option Taken) (after : Seen) (broken : Broken) (done : Result (Unit {0}) Stop) → IsErrAnd done (λ stop. stop ≡ Write) → Writes told now line (Err broken)
+    pub line_stopped : (now : Option Taken) (after : Seen) (broken : Broken) (done : Result (Unit {0}) ViewFault) → IsErrAnd done (λ stop. stop ≡ Write) → Writes told now line (Err broken)
         → Shows numbering first now after (unless_opened numbering.logs options (is_among target shown.opened) target shown) done
     line_stopped now after broken (Ok x) is wrote = absurd is
     line_stopped now after broken (Err stop) is wrote =
         let more = log_text-grows numbering.logs options target 1 (with_text line shown) in
         subst (λ b. Shows numbering {A = Unit {0}} first now after (unless_opened numbering.logs options b target shown) (Err stop)) (sym new)
-        (subst (λ (s : Stop). Shows numbering {A = Unit {0}} first now after (unless_opened numbering.logs options false target shown) (Err s)) (sym is)
+        (subst (λ (s : ViewFault). Shows numbering {A = Unit {0}} first now after (unless_opened numbering.logs options false target shown) (Err s)) (sym is)
         (stopped (Unit {0}) (Unit {0}) first told now shown.text line more.0 (unless_opened numbering.logs options false target shown).text Write has.taken wrote (sym more.1)))
 
     -- it was written
@@ -55,7 +55,8 @@ module _ (numbering : Numbering) (options : Options) (target : List ℕ) (first 
     }
 
 -- an error is told of what was written, and of nothing else
-wrote_stopped : (A : Type 0) (numbering : Numbering) (first now : Option Taken) (seen : Seen) (whole : Shown) (stop : Stop) → Shows numbering {A = A} first now seen whole (Err stop) → Written {A = A} first now whole.text (Err stop)
+wrote_stopped : (A : Type 0) (numbering : Numbering) (first now : Option Taken) (seen : Seen) (whole : Shown) (stop : ViewFault) → Shows numbering {A = A} first now seen whole (Err stop) → Written {A = A} first now whole.text (Err stop)
+wrote_stopped A numbering first now seen whole (Unknown place) shows = absurd shows
 wrote_stopped A numbering first now seen whole Write shows = shows
 wrote_stopped A numbering first now seen whole OutOfMemory shows = shows
 
@@ -89,63 +90,6 @@ module _ (logs : List Log) (options : Options) where
       let more = asked_grows asked (unless_opened logs options (is_among name shown.opened) name shown) in
       (one.0 ++ more.0, more.1 ∙ ap (λ t. t ++ more.0) one.1 ∙ append_assoc shown.text one.0 more.0)
 
-module _ (numbering : Numbering) (options : Options) (asked : List (List ℕ)) (first : Option Taken) where
-  -- what was shown once the first of the targets asked for were gone over
-  abbrev pub asked_so_far : ℕ → Shown
-  asked_so_far k = after_asked numbering.logs options (take k asked) nothing
-
-  -- how far a viewer came
-  pub record Asks (k : ℕ) (now : Option Taken) (seen : Seen) : Type 0 where
-    pub names_differ : IsDistinct (pointwise nat_eq) numbering.names
-    pub table : IsTable numbering.logs
-    pub has : HasShown numbering first now seen (asked_so_far k)
-
-  -- there is a mark for each name and each log
-  pub asks_fit : (k : ℕ) (now : Option Taken) (seen : Seen) → Asks k now seen → Fits numbering seen
-  asks_fit k now seen asks = record {
-    names_differ = asks.names_differ;
-    table = asks.table;
-    names = ap length asks.has.seen_is.named ∙ length-map numbering.names (λ name. is_among name (asked_so_far k).named);
-    logs =
-        ap length asks.has.seen_is.opened ∙ length-map (targets_of numbering.logs) (λ name. is_among name (asked_so_far k).opened)
-        ∙ length-map numbering.logs (λ (log : Log). log.target);
-  }
-
-  module _ (k : ℕ) (default name : List ℕ) (below : k < length asked) (name_is : get_or asked k default ≡ name) where
-    -- what is shown behind one target more
-    abbrev pub next : Shown
-    next = unless_opened numbering.logs options (is_among name (asked_so_far k).opened) name (asked_so_far k)
-
-    next_is : next ≡ asked_so_far (k + 1)
-    next_is =
-        sym (ap (λ names. after_asked numbering.logs options names nothing) (take_more asked k default below ∙ ap (λ n. take k asked ++ n ∷ []) name_is)
-        ∙ asked-append numbering.logs options (take k asked) (name ∷ []) nothing)
-
-    -- it was shown
-    pub one_more_asked : (now after : Option Taken) (seen later : Seen) → Asks k now seen → HasShown numbering first after later next → Asks (k + 1) after later
-    one_more_asked now after seen later asks has = record {
-      names_differ = asks.names_differ;
-      table = asks.table;
-      has = subst (HasShown numbering first after later) next_is has;
-    }
-
-    -- it wasn't, or not whole
-    pub asked_stopped : (A : Type 0) (now : Option Taken) (seen : Seen) (stop : Stop) (logs : List Log) → numbering.logs ≡ logs → Shows numbering {A = A} first now seen next (Err stop)
-        → Written {A = A} first now (expansion logs options asked) (Err stop)
-    asked_stopped A now seen stop logs same shows =
-        let more = asked_grows numbering.logs options (drop (k + 1) asked) (asked_so_far (k + 1)) in
-        stopped A A first first now [] next.text more.0 (expansion logs options asked) stop (adds-nothing first) (wrote_stopped A numbering first now seen next stop shows)
-        (ap (λ (s : Shown). s.text ++ more.0) next_is ∙ sym more.1 ∙ ap (λ (s : Shown). s.text)
-        (sym (asked-append numbering.logs options (take (k + 1) asked) (drop (k + 1) asked) nothing)
-        ∙ ap (λ names. after_asked numbering.logs options names nothing) (take-append-drop (k + 1) asked))
-        ∙ ap (λ logs. expansion logs options asked) same)
-
-  -- all were
-  pub all_asked : (k : ℕ) (now : Option Taken) (seen : Seen) (logs : List Log) → numbering.logs ≡ logs → length asked ≤ k → Asks k now seen → now ≡ adds first (expansion logs options asked) 0
-  all_asked k now seen logs same end asks =
-      asks.has.taken ∙ ap (λ names. adds first (after_asked numbering.logs options names nothing).text 0) (take_all k asked end)
-      ∙ ap (λ logs. adds first (expansion logs options asked) 0) same
-
 -- a name of which none is unknown has a log
 none_unknown : (logs : List Log) (asked : List (List ℕ)) (from k : ℕ) (default : List ℕ) → position_from (λ name. not (is_among name (targets_of logs))) from asked ≡ None → k < length asked
     → not (is_among (get_or asked k default) (targets_of logs)) ≡ false
@@ -174,46 +118,77 @@ flipped a false is = sym (ap not is)
 
 -- ---- a viewer
 
-module _ {W : Type 0} {tells : W → Option Taken} where
-  -- a target was shown
-  pub shows_asked : {target : List ℕ} {before after : Viewer W} {done : Result (Unit {0}) Stop} → Keeps before after
-      → ShowsAsked before.logs.now before.options.now target before.seen.now after.seen.now (tells before.out.now) (tells after.out.now) done → viewing.ShowsAsked tells target before after done
-  shows_asked kept shows = record { kept = kept; shows = shows }
+-- what was shown once the first of the targets asked for were gone over
+abbrev pub asked_so_far : List Log → Options → List (List ℕ) → ℕ → Shown
+asked_so_far logs options asked k = after_asked logs options (take k asked) nothing
 
 -- since it was made a viewer kept its logs, options and writer, and it came so far
 pub record HasAsked {W : Type 0} (tells : W → Option Taken) (asked : List (List ℕ)) (k : ℕ) (first now : Viewer W) : Type 0 where
   pub kept : Keeps first now
-  pub asks : Asks now.logs.now now.options.now asked (tells first.out.now) k (tells now.out.now) now.seen.now
+  pub names_differ : IsDistinct (pointwise nat_eq) now.logs.now.names
+  pub table : IsTable now.logs.now.logs
+  pub has : HasShown now.logs.now (tells first.out.now) (tells now.out.now) now.seen.now (asked_so_far now.logs.now.logs now.options asked k)
 
 module _ {W : Type 0} {tells : W → Option Taken} {asked : List (List ℕ)} {k : ℕ} {first now : Viewer W} (so_far : HasAsked tells asked k first now) where
-  pub fits_still : Fits now.logs.now now.seen.now
-  fits_still = asks_fit now.logs.now now.options.now asked (tells first.out.now) k (tells now.out.now) now.seen.now so_far.asks
+  abbrev logs : List Log
+  logs = now.logs.now.logs
 
-  same : expansion now.logs.now.logs now.options.now asked ≡ expansion first.logs.now.logs first.options.now asked
+  abbrev shown : Shown
+  shown = asked_so_far logs now.options asked k
+
+  abbrev told : Option Taken
+  told = tells first.out.now
+
+  -- there is a mark for each name and each log
+  pub fits_still : Fits now.logs.now now.seen.now
+  fits_still = record {
+    names_differ = so_far.names_differ;
+    table = so_far.table;
+    names = ap length so_far.has.seen_is.named ∙ length-map now.logs.now.names (λ name. is_among name shown.named);
+    logs =
+        ap length so_far.has.seen_is.opened ∙ length-map (targets_of logs) (λ name. is_among name shown.opened)
+        ∙ length-map logs (λ (log : Log). log.target);
+  }
+
+  same : expansion logs now.options asked ≡ expansion first.logs.now.logs first.options asked
   same = λ i. expansion (so_far.kept.logs i).logs (so_far.kept.options i) asked
 
   -- all targets were shown
-  pub all_shown : length asked ≤ k → viewing.Wrote tells {A = Unit {0}} first now (expansion first.logs.now.logs first.options.now asked) (Ok tt)
+  pub all_shown : length asked ≤ k → viewing.Wrote tells {A = Unit {0}} first now (expansion first.logs.now.logs first.options asked) (Ok tt)
   all_shown end =
-      all_asked now.logs.now now.options.now asked (tells first.out.now) k (tells now.out.now) now.seen.now now.logs.now.logs refl end so_far.asks
-      ∙ ap (λ text. adds (tells first.out.now) text 0) same
+      so_far.has.taken ∙ ap (λ names. adds told (after_asked logs now.options names nothing).text 0) (take_all k asked end) ∙ ap (λ text. adds told text 0) same
 
   module _ (default : List ℕ) {name : List ℕ} (below : k < length asked) (name_is : get_or asked k default ≡ name) where
     -- the next one has a log
-    pub known_still : unknown_among first.logs.now.logs asked ≡ None → is_among name (targets_of now.logs.now.logs) ≡ true
+    pub known_still : unknown_among first.logs.now.logs asked ≡ None → is_among name (targets_of logs) ≡ true
     known_still none = rw so_far.kept.logs (is_known first.logs.now.logs asked k default name none below name_is)
+
+    -- what is shown behind it
+    abbrev next : Shown
+    next = unless_opened logs now.options (is_among name shown.opened) name shown
+
+    next_is : next ≡ asked_so_far logs now.options asked (k + 1)
+    next_is =
+        sym (ap (λ names. after_asked logs now.options names nothing) (take_more asked k default below ∙ ap (λ n. take k asked ++ n ∷ []) name_is)
+        ∙ asked-append logs now.options (take k asked) (name ∷ []) nothing)
 
     -- it was shown
     pub one_more_shown : {after : Viewer W} {done : Unit {0}} → viewing.ShowsAsked tells name now after (Ok done) → HasAsked tells asked (k + 1) first after
     one_more_shown {after = after} shows = record {
       kept = kept_then so_far.kept shows.kept;
-      asks = rw (shows.kept.logs, shows.kept.options) (one_more_asked now.logs.now now.options.now asked (tells first.out.now) k default name below name_is
-          (tells now.out.now) (tells after.out.now) now.seen.now after.seen.now so_far.asks (shows.shows (tells first.out.now) (asked_so_far now.logs.now now.options.now asked (tells first.out.now) k) so_far.asks.has));
+      names_differ = rw shows.kept.logs so_far.names_differ;
+      table = rw shows.kept.logs so_far.table;
+      has = rw (shows.kept.logs, shows.kept.options) (subst (HasShown now.logs.now told (tells after.out.now) after.seen.now) next_is (shows.shows told shown so_far.has));
     }
 
     -- it wasn't, or not whole
-    pub one_stopped : {after : Viewer W} {stop : Stop} → viewing.ShowsAsked tells {A = Unit {0}} name now after (Err stop)
-        → viewing.Wrote tells {A = Unit {0}} first after (expansion first.logs.now.logs first.options.now asked) (Err stop)
-    one_stopped {after = after} {stop = stop} shows =
-        subst (λ text. Written {A = Unit {0}} (tells first.out.now) (tells after.out.now) text (Err stop)) same (asked_stopped now.logs.now now.options.now asked (tells first.out.now) k default name below name_is
-        (Unit {0}) (tells after.out.now) after.seen.now stop now.logs.now.logs refl (shows.shows (tells first.out.now) (asked_so_far now.logs.now now.options.now asked (tells first.out.now) k) so_far.asks.has))
+    pub one_stopped : {after : Viewer W} {fault : ViewFault} → viewing.ShowsAsked tells {A = Unit {0}} name now after (Err fault)
+        → viewing.Wrote tells {A = Unit {0}} first after (expansion first.logs.now.logs first.options asked) (Err fault)
+    one_stopped {after = after} {fault = fault} shows =
+        let more = asked_grows logs now.options (drop (k + 1) asked) (asked_so_far logs now.options asked (k + 1)) in
+        stopped (Unit {0}) (Unit {0}) told told (tells after.out.now) [] next.text more.0 (expansion first.logs.now.logs first.options asked) fault (adds-nothing told)
+        (wrote_stopped (Unit {0}) now.logs.now told (tells after.out.now) after.seen.now next fault (shows.shows told shown so_far.has))
+        (ap (λ (s : Shown). s.text ++ more.0) next_is ∙ sym more.1 ∙ ap (λ (s : Shown). s.text)
+        (sym (asked-append logs now.options (take (k + 1) asked) (drop (k + 1) asked) nothing)
+        ∙ ap (λ names. after_asked logs now.options names nothing) (take-append-drop (k + 1) asked))
+        ∙ same)

@@ -18,8 +18,8 @@ use Rattle.redo_logs.specs.Numbering.{AreLinesAt, AreTexts, IsNumbered, Numberin
 use Rattle.redo_view.specs.declared.log.Frame.{Frame}
 use Rattle.redo_view.specs.declared.options.Options.{Options}
 use Rattle.redo_view.specs.declared.step.Seen.{Seen}
-use Rattle.redo_view.specs.declared.stop.Stop.{Stop}
-use Rattle.redo_view.specs.declared.stop.Stop.TheVariants.{Write, OutOfMemory}
+use Rattle.redo_view.specs.declared.viewer.ViewFault.{ViewFault}
+use Rattle.redo_view.specs.declared.viewer.ViewFault.TheVariants.{Unknown, Write, OutOfMemory}
 use Rattle.redo_view.specs.declared.viewer.Viewer.{Viewer}
 use Rattle.redo_view.specs.Expansion.{Opening, Shown, after_entries, after_entry, begun, log_of, mentions, opened_log, with_text}
 use Rattle.redo_view.specs.Private.Shown.{Begins, HasShown, IsSeen, Shows, ShowsLog}
@@ -45,7 +45,8 @@ adds-nothing (Some taken) = λ i. Some (record { bytes = sym (append-nil taken.b
     none_more = omega arith
 
 -- a text that stopped in the midst of a longer one
-pub stopped : (A B : Type 0) (told middle after : Option Taken) (front part behind text : List ℕ) (stop : Stop) → middle ≡ adds told front 0 → Written {A = A} middle after part (Err stop) → (front ++ part) ++ behind ≡ text → Written {A = B} told after text (Err stop)
+pub stopped : (A B : Type 0) (told middle after : Option Taken) (front part behind text : List ℕ) (stop : ViewFault) → middle ≡ adds told front 0 → Written {A = A} middle after part (Err stop) → (front ++ part) ++ behind ≡ text → Written {A = B} told after text (Err stop)
+stopped A B told middle after front part behind text (Unknown place) written wrote is = absurd wrote
 stopped A B told middle after front part behind text Write written wrote is = in_midst told text middle after front part behind (record {}) (Err (record {})) refl written wrote is
 stopped A B told middle after front part behind text OutOfMemory written wrote is =
     let so_far = front ++ take wrote.0 part in
@@ -56,8 +57,9 @@ stopped A B told middle after front part behind text OutOfMemory written wrote i
     )
 
 -- which is what an answer says that is an error
-pub shows_stopped : (A B : Type 0) (numbering : Numbering) (first now : Option Taken) (seen : Seen) (whole : Shown) (stop : Stop)
+pub shows_stopped : (A B : Type 0) (numbering : Numbering) (first now : Option Taken) (seen : Seen) (whole : Shown) (stop : ViewFault)
     → Written {A = A} first now whole.text (Err stop) → Shows numbering {A = B} first now seen whole (Err stop)
+shows_stopped A B numbering first now seen whole (Unknown place) wrote = absurd wrote
 shows_stopped A B numbering first now seen whole Write wrote = wrote
 shows_stopped A B numbering first now seen whole OutOfMemory wrote = wrote
 
@@ -270,7 +272,7 @@ module _ (numbering : Numbering) (options : Options) (first : Option Taken) (who
                 ∙ sym all.1 ∙ ap (λ (s : Shown). s.text) went,
           )
 
-      pub stops : (A B : Type 0) (after : Option Taken) (stop : Stop) → Written {A = A} now after own (Err stop) → Written {A = B} first after whole.text (Err stop)
+      pub stops : (A B : Type 0) (after : Option Taken) (stop : ViewFault) → Written {A = A} now after own (Err stop) → Written {A = B} first after whole.text (Err stop)
       stops A B after stop wrote = stopped A B first now after walks.shown.text own rest.0 whole.text stop walks.has.taken wrote rest.1
 
       pub lacks_memory : (after : Option Taken) → after ≡ adds now own 0 → WroteFront first after whole.text
@@ -362,7 +364,7 @@ module _ (numbering : Numbering) (options : Options) (first : Option Taken) (who
       )
 
   -- texts weren't written whole
-  over_stopped : (A B : Type 0) (now after : Option Taken) (seen : Seen) (k : ℕ) (texts : List (List ℕ)) (stop : Stop) → Walks numbering options first whole now seen outer (at_entry k) → AreTexts numbering.logs number k texts
+  over_stopped : (A B : Type 0) (now after : Option Taken) (seen : Seen) (k : ℕ) (texts : List (List ℕ)) (stop : ViewFault) → Walks numbering options first whole now seen outer (at_entry k) → AreTexts numbering.logs number k texts
       → Written {A = A} now after (shown_lines options texts) (Err stop) → Written {A = B} first after whole.text (Err stop)
   over_stopped A B now after seen k texts stop walks are wrote =
       let over = over_all now seen k texts walks are in
@@ -512,7 +514,7 @@ module _ {numbering : Numbering} {options : Options} {number : ℕ} {before : Se
           (wrote ∙ ap (λ bytes. adds now bytes 0) bytes_shown) (ap (λ (n : ℕ). frame.next + n) (sym lines.count_is)) over.walks;
     }
 
-    pub lines_stopped : (A : Type 0) (later : Option Taken) (after : Seen) (stop : Stop) → Written {A = A} now later shown_bytes (Err stop) → ShowsLog numbering {A = Unit {0}} options number before after told later (Err stop)
+    pub lines_stopped : (A : Type 0) (later : Option Taken) (after : Seen) (stop : ViewFault) → Written {A = A} now later shown_bytes (Err stop) → ShowsLog numbering {A = Unit {0}} options number before after told later (Err stop)
     lines_stopped A later after stop wrote target first shown placed has =
         shows_stopped (Unit {0}) (Unit {0}) numbering first later after (opened_log numbering.logs options target 1 shown) stop
         (over_stopped numbering options first (opened_log numbering.logs options target 1 shown) outer frame.number A (Unit {0}) now later seen frame.next lines.texts stop (goes.walks target first shown placed has) lines.are
@@ -597,7 +599,7 @@ module _ {numbering : Numbering} {options : Options} {number : ℕ} {before : Se
         (less_in numbering.logs frame (numbered_seen numbering.names entry) at seen.opened.items outer frames inner (omega (arith, new.0, goes.fits.logs)) goes.fits.logs new.1 frames_are)
 
     -- its text wasn't written whole
-    pub text_stopped : (A : Type 0) (count : ℕ) (later : Option Taken) (after : Seen) (stop : Stop) → count ≡ length outer → Written {A = A} now later (text count) (Err stop)
+    pub text_stopped : (A : Type 0) (count : ℕ) (later : Option Taken) (after : Seen) (stop : ViewFault) → count ≡ length outer → Written {A = A} now later (text count) (Err stop)
         → ShowsLog numbering {A = Unit {0}} options number before after told later (Err stop)
     text_stopped A count later after stop around wrote target first shown placed has =
         shows_stopped (Unit {0}) (Unit {0}) numbering first later after (opened_log numbering.logs options target 1 shown) stop
@@ -612,7 +614,7 @@ module _ {numbering : Numbering} {options : Options} {number : ℕ} {before : Se
 
 -- ---- a viewer
 
-pub kept_all : {W : Type 0} {before after : Viewer W} → after.logs.now ≡ before.logs.now → after.options.now ≡ before.options.now → after.out.ghost_name ≡ before.out.ghost_name → Keeps before after
+pub kept_all : {W : Type 0} {before after : Viewer W} → after.logs.now ≡ before.logs.now → after.options ≡ before.options → after.out.ghost_name ≡ before.out.ghost_name → Keeps before after
 kept_all logs options out = record { logs = logs; options = options; out = out }
 
 pub kept_then : {W : Type 0} {before now after : Viewer W} → Keeps before now → Keeps now after → Keeps before after
@@ -621,20 +623,20 @@ kept_then first later = kept_all (later.logs ∙ first.logs) (later.options ∙ 
 -- Since it began to show this log, a viewer kept its logs, options and writer, and it stands here.
 pub record Stands {W : Type 0} (tells : W → Option Taken) (number : ℕ) (before now : Viewer W) (outer : List Frame) (frame : Frame) : Type 0 where
   pub kept : Keeps before now
-  pub goes : Goes now.logs.now now.options.now number before.seen.now (tells before.out.now) (tells now.out.now) now.seen.now outer frame
+  pub goes : Goes now.logs.now now.options number before.seen.now (tells before.out.now) (tells now.out.now) now.seen.now outer frame
 
 module _ {W : Type 0} {tells : W → Option Taken} {number : ℕ} {before now : Viewer W} {outer : List Frame} {frame : Frame} (stands : Stands tells number before now outer frame) {after : Viewer W} (kept : Keeps now after) where
   -- it came further
   pub stands_then : {around : List Frame} {next : Frame}
-      → Goes now.logs.now now.options.now number before.seen.now (tells before.out.now) (tells after.out.now) after.seen.now around next → Stands tells number before after around next
+      → Goes now.logs.now now.options number before.seen.now (tells before.out.now) (tells after.out.now) after.seen.now around next → Stands tells number before after around next
   stands_then goes = record {
     kept = kept_then stands.kept kept;
     goes = rw (kept.logs, kept.options) goes;
   }
 
   -- it stopped
-  pub stopped_there : {done : Result (Unit {0}) Stop}
-      → ShowsLog now.logs.now now.options.now number before.seen.now after.seen.now (tells before.out.now) (tells after.out.now) done → viewing.ShowsLog tells number before after done
+  pub stopped_there : {done : Result (Unit {0}) ViewFault}
+      → ShowsLog now.logs.now now.options number before.seen.now after.seen.now (tells before.out.now) (tells after.out.now) done → viewing.ShowsLog tells number before after done
   stopped_there shows = record {
     kept = kept_then stands.kept kept;
     shows = rw (sym stands.kept.logs, sym stands.kept.options) shows;

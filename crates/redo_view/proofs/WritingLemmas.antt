@@ -8,8 +8,8 @@ use Rattle.redo_line.specs.Lines.{line_feed, with_line_feed}
 use Rattle.redo_device.specs.Sink.{Taken, adds, Writes}
 use Rattle.redo_device.proofs.WritesLemmas.{then, stops}
 use Rattle.redo_view.specs.declared.options.Options.{Options}
-use Rattle.redo_view.specs.declared.stop.Stop.{Stop}
-use Rattle.redo_view.specs.declared.stop.Stop.TheVariants.{OutOfMemory}
+use Rattle.redo_view.specs.declared.viewer.ViewFault.{ViewFault}
+use Rattle.redo_view.specs.declared.viewer.ViewFault.TheVariants.{OutOfMemory}
 use Rattle.redo_view.specs.Private.Stopped.{Written}
 use Rattle.redo_view.specs.Text.{spaces, in_six_places, redo_line, exit_text}
 use Rattle.redo_view.specs.Private.Remarks.{exit_remark}
@@ -75,7 +75,7 @@ other_spaces count left some within few =
     ap (λ s. s ++ spaces (left - some)) (replicate-append-replicate (count - left) some 32) ∙ replicate-append-replicate ((count - left) + some) (left - some) 32 ∙ ap spaces (omega arith)
 
 -- all of a text was written, and then there was no memory
-pub whole_before_want : (A : Type 0) (before after : Option Taken) (text : List ℕ) (done : Result A Stop) → IsErrAnd done (λ stop. stop ≡ OutOfMemory) → after ≡ adds before text 0 → Written before after text done
+pub whole_before_want : (A : Type 0) (before after : Option Taken) (text : List ℕ) (done : Result A ViewFault) → IsErrAnd done (λ stop. stop ≡ OutOfMemory) → after ≡ adds before text 0 → Written before after text done
 whole_before_want A before after text (Ok x) is wrote = absurd is
 whole_before_want A before after text (Err stop) is wrote =
-    subst (λ (s : Stop). Written {A = A} before after text (Err s)) (sym is) (length text, wrote ∙ ap (λ t. adds before t 0) (sym (take_all (length text) text (le_refl (length text)))))
+    subst (λ (s : ViewFault). Written {A = A} before after text (Err s)) (sym is) (length text, wrote ∙ ap (λ t. adds before t 0) (sym (take_all (length text) text (le_refl (length text)))))

@@ -5,7 +5,6 @@ mod laws;
 mod log;
 mod options;
 mod step;
-mod stop;
 mod texts;
 mod viewer;
 

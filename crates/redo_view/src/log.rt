@@ -1,11 +1,10 @@
 //! A whole log, with the logs that it mentions.
 ghost use Rattle.std.specs.Prelude.{◌≡◌, ◌<◌, false, length};
-ghost use Rattle.redo_view.specs.Private.Viewing.{ShowsLog};
 ghost use Rattle.redo_view.specs.Private.Step.{Fits, is_marked};
+ghost use Rattle.redo_view.specs.Private.Viewing.{ShowsLog};
 
-use crate::stop::Stop;
 use crate::texts::write_lines;
-use crate::viewer::Viewer;
+use crate::viewer::{ViewFault, Viewer};
 use redo_line::Sink;
 
 // A log that is being shown, and which of its entries comes next.
@@ -15,10 +14,10 @@ pub struct Frame {
     next: usize,
 }
 
-impl<W: Sink> Viewer<'_, '_, W> {
+impl<W: Sink> Viewer<'_, W> {
     /// Opens the log of this number, and shows it with the logs that are opened from it, each one level deeper
     /// than the log that mentions it.
-    pub fn show_log(&mut self, number: u32) -> Result<(), Stop>
+    pub fn show_log(&mut self, number: u32) -> Result<(), ViewFault>
         requires number { number < length self.old.logs.now.logs }
         requires new { is_marked self.old.seen.now.opened.items number ≡ false }
         requires fits { Fits self.old.logs.now self.old.seen.now }
@@ -30,7 +29,7 @@ impl<W: Sink> Viewer<'_, '_, W> {
         'entries: loop {
             let (lines, count) = self.logs.lines(frame.number, frame.next);
             if count > 0 {
-                write_lines(self.options, lines, self.out)?;
+                write_lines(&self.options, lines, self.out)?;
                 frame.next += count;
             } else if let Some(entry) = self.logs.entry(frame.number, frame.next) {
                 frame.next += 1;

@@ -3,14 +3,13 @@ ghost use Rattle.std.specs.Prelude.{◌≡◌, ◌<◌, ◌^◌, Some, false, le
 ghost use Rattle.redo_device.specs.Sink.{Writes};
 ghost use Rattle.redo_logs.specs.declared.numbered.NumberedEntry.TheVariants.{Mention};
 ghost use Rattle.redo_view.specs.Expansion.{mentions};
-ghost use Rattle.redo_view.specs.Private.Viewing.{Keeps, Wrote, own_text, line_of, named_after, opened_by, opened_after};
 ghost use Rattle.redo_view.specs.Private.Shown.{Begins, IsSeen, nothing};
 ghost use Rattle.redo_view.specs.Private.Step.{Fits, IsStep, is_marked, marked};
+ghost use Rattle.redo_view.specs.Private.Viewing.{Keeps, Wrote, own_text, line_of, named_after, opened_by, opened_after};
 
 use crate::options::Options;
-use crate::stop::Stop;
 use crate::texts::{write_entry, write_mention, write_target};
-use crate::viewer::Viewer;
+use crate::viewer::{ViewFault, Viewer};
 use redo_line::{Broken, How, Sink};
 use redo_logs::{Numbered, NumberedEntry};
 use std::alloc::{AllocError, Global};
@@ -25,7 +24,7 @@ pub struct Seen {
 }
 
 impl Seen {
-    /// Nothing was shown.
+    /// What was shown before anything is.
     pub fn new(alloc: Global, logs: &Numbered<'_>) -> Result<Seen, AllocError>
         ensures fits { IfOk result (Fits logs.now) }
         ensures nothing { IfOk result (λ seen. IsSeen logs.now seen nothing) }
@@ -50,14 +49,14 @@ impl Seen {
     }
 }
 
-impl<W: Sink> Viewer<'_, '_, W> {
+impl<W: Sink> Viewer<'_, W> {
     /// Shows an entry that is no text, and names the target that it mentions. Answers the number of the log that
     /// is to be opened then.
     pub fn show_entry(
         &mut self,
         depth: usize,
         entry: NumberedEntry<'_>,
-    ) -> Result<Option<u32>, Stop>
+    ) -> Result<Option<u32>, ViewFault>
         requires depth { depth < 2 ^ 60 }
         requires entry { IsStep self.old.logs.now.names entry }
         requires fits { Fits self.old.logs.now self.old.seen.now }
@@ -70,7 +69,7 @@ impl<W: Sink> Viewer<'_, '_, W> {
         match entry {
             NumberedEntry::Mention { pid, how, name } => self.show_mention(depth, pid, how, name),
             NumberedEntry::Other(other) => {
-                write_entry(self.options, depth, other, self.out)?;
+                write_entry(&self.options, depth, other, self.out)?;
                 Ok(None)
             }
         }
@@ -82,7 +81,7 @@ impl<W: Sink> Viewer<'_, '_, W> {
         pid: u32,
         how: How,
         name: usize,
-    ) -> Result<Option<u32>, Stop>
+    ) -> Result<Option<u32>, ViewFault>
         requires depth { depth < 2 ^ 60 }
         requires name { name < length self.old.logs.now.names }
         requires fits { Fits self.old.logs.now self.old.seen.now }
@@ -92,7 +91,7 @@ impl<W: Sink> Viewer<'_, '_, W> {
         ensures opened { self.new.seen.now.opened.items ≡ self.old.seen.now.opened.items }
         ensures opens { IfOk result (λ inner. inner ≡ opened_after self.old (Mention pid how name)) }
     {
-        if !is_mention(self.options, how) {
+        if !is_mention(&self.options, how) {
             return Ok(None);
         }
         self.write_line(depth, pid, how, name)?;
@@ -111,11 +110,11 @@ impl<W: Sink> Viewer<'_, '_, W> {
     {
         let target = self.logs.name(name);
         if self.options.debug_locks {
-            write_mention(self.options, depth, pid, how, target, self.out)
+            write_mention(&self.options, depth, pid, how, target, self.out)
         } else if self.seen.named[name] {
             Ok(())
         } else {
-            write_target(self.options, depth, Some(pid), target, self.out)
+            write_target(&self.options, depth, Some(pid), target, self.out)
         }
     }
 
@@ -129,11 +128,7 @@ impl<W: Sink> Viewer<'_, '_, W> {
             return None;
         }
         let number = self.logs.log_of(name)?;
-        if self.seen.opened[number as usize] {
-            None
-        } else {
-            Some(number)
-        }
+        (!self.seen.opened[number as usize]).then_some(number)
     }
 }
 

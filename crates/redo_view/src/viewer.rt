@@ -3,20 +3,18 @@ ghost use Rattle.std.specs.List.{list_all};
 ghost use Rattle.redo_logs.specs.Logs.{has_ended, targets_of};
 ghost use Rattle.redo_view.specs.declared.viewer.ViewFault.TheVariants.{Unknown, Write, OutOfMemory};
 ghost use Rattle.redo_view.specs.Expansion.{is_among, expansion};
-ghost use Rattle.redo_view.specs.Private.Step.{Fits};
-ghost use Rattle.redo_view.specs.Private.Stopped.{Written};
 ghost use Rattle.redo_view.specs.Private.Shown.{IsSeen, nothing};
+ghost use Rattle.redo_view.specs.Private.Step.{Fits};
 ghost use Rattle.redo_view.specs.Private.Viewing.{Keeps, ShowsAsked, Wrote};
 ghost use Rattle.redo_view.specs.View.{unknown_among};
 ghost use Rattle.redo_view.specs.Written.{WroteAll, WroteFront, WroteNothing, WroteUntilFailed};
 
 use crate::options::Options;
 use crate::step::Seen;
-use crate::stop::Stop;
 use crate::texts::write_target;
-use redo_line::{Sink, TargetName};
+use redo_line::{Broken, Sink, TargetName};
 use redo_logs::{LogTable, Numbered};
-use std::alloc::Global;
+use std::alloc::{AllocError, AllocFailed, Global};
 
 /// Why logs aren't shown, or not their whole text.
 #[derive(Clone, Copy, Debug, PartialEq, Eq)]
@@ -30,14 +28,38 @@ pub enum ViewFault {
     OutOfMemory,
 }
 
-/// What is shown, how, and where its text goes, with what was shown so far.
+impl From<Broken> for ViewFault {
+    ghost from_gives = { λ _ fault. fault ≡ Write };
+
+    fn from(_: Broken) -> ViewFault {
+        ViewFault::Write
+    }
+}
+
+impl From<AllocError> for ViewFault {
+    ghost from_gives = { λ _ fault. fault ≡ OutOfMemory };
+
+    fn from(_: AllocError) -> ViewFault {
+        ViewFault::OutOfMemory
+    }
+}
+
+impl<T: Drop> From<AllocFailed<T>> for ViewFault {
+    ghost from_gives = { λ _ fault. fault ≡ OutOfMemory };
+
+    fn from(_: AllocFailed<T>) -> ViewFault {
+        ViewFault::OutOfMemory
+    }
+}
+
+/// What shows logs: how they are shown, what was shown so far, and where the text goes.
 #[derive(Drop)]
-pub struct Viewer<'a, 'o, W> {
+pub struct Viewer<'a, W> {
     pub alloc: Global,
     pub logs: &'a Numbered<'a>,
-    pub options: &'a Options,
-    pub seen: &'o mut Seen,
-    pub out: &'o mut W,
+    pub options: Options,
+    pub seen: &'a mut Seen,
+    pub out: &'a mut W,
 }
 
 /// Writes the text of logs, all of which have to have ended, at the targets asked for: for each the
@@ -72,11 +94,16 @@ pub fn view<W: Sink>(
     if let Some(place) = unknown_place(table, asked) {
         return Err(ViewFault::Unknown { place });
     }
-    match show_logs(alloc, table, options, asked, out) {
-        Ok(()) => Ok(()),
-        Err(Stop::Write) => Err(ViewFault::Write),
-        Err(Stop::OutOfMemory) => Err(ViewFault::OutOfMemory),
-    }
+    let logs = table.numbered();
+    let mut seen = Seen::new(alloc, &logs)?;
+    let mut viewer = Viewer {
+        alloc,
+        logs: &logs,
+        options: *options,
+        seen: &mut seen,
+        out,
+    };
+    viewer.show_asked(asked)
 }
 
 // The least place of a target that has no log.
@@ -90,37 +117,14 @@ fn unknown_place(table: &LogTable, asked: &[TargetName]) -> Option<usize>
     )
 }
 
-// Shows the logs at targets that have one each.
-fn show_logs<'a, W: Sink>(
-    alloc: Global,
-    table: &'a LogTable,
-    options: &'a Options,
-    asked: &[TargetName],
-    out: &mut W,
-) -> Result<(), Stop>
-    requires { unknown_among table.now asked.now ≡ None }
-    ensures { Written (W.tells out.old) (W.tells out.new) (expansion table.now options.now asked.now) result }
-{
-    let logs = table.numbered();
-    let mut seen = Seen::new(alloc, &logs)?;
-    let mut viewer = Viewer {
-        alloc,
-        logs: &logs,
-        options,
-        seen: &mut seen,
-        out,
-    };
-    viewer.show_asked(asked)
-}
-
-impl<W: Sink> Viewer<'_, '_, W> {
-    // Shows the first targets, each of which has a log.
-    fn show_asked(&mut self, asked: &[TargetName]) -> Result<(), Stop>
+impl<W: Sink> Viewer<'_, W> {
+    // Shows the targets asked for, each of which has a log, before anything else.
+    fn show_asked(&mut self, asked: &[TargetName]) -> Result<(), ViewFault>
         requires known { unknown_among self.old.logs.now.logs asked.now ≡ None }
         requires fits { Fits self.old.logs.now self.old.seen.now }
         requires first { IsSeen self.old.logs.now self.old.seen.now nothing }
         ensures kept { Keeps self.old self.new }
-        ensures wrote { Wrote W.tells self.old self.new (expansion self.old.logs.now.logs self.old.options.now asked.now) result }
+        ensures wrote { Wrote W.tells self.old self.new (expansion self.old.logs.now.logs self.old.options asked.now) result }
     {
         for name in asked {
             self.show_target(name)?;
@@ -129,7 +133,7 @@ impl<W: Sink> Viewer<'_, '_, W> {
     }
 
     // Shows the line and the log of a target, unless its log was opened before.
-    fn show_target(&mut self, name: &TargetName) -> Result<(), Stop>
+    fn show_target(&mut self, name: &TargetName) -> Result<(), ViewFault>
         requires known { is_among name.now (targets_of self.old.logs.now.logs) ≡ true }
         requires fits { Fits self.old.logs.now self.old.seen.now }
         ensures { ShowsAsked W.tells name.now self.old self.new result }
@@ -140,7 +144,7 @@ impl<W: Sink> Viewer<'_, '_, W> {
         if self.seen.opened[number as usize] {
             return Ok(());
         }
-        write_target(self.options, 0, None, name, self.out)?;
+        write_target(&self.options, 0, None, name, self.out)?;
         self.show_log(number)
     }
 }

@@ -5,10 +5,9 @@ use Rattle.redo_logs.specs.Logs.{place_of, targets_of}
 use Rattle.redo_logs.specs.Numbering.{Numbering}
 use Rattle.redo_view.specs.declared.options.Options.{Options}
 use Rattle.redo_view.specs.declared.step.Seen.{Seen}
-use Rattle.redo_view.specs.declared.stop.Stop.{Stop}
-use Rattle.redo_view.specs.declared.stop.Stop.TheVariants.{Write, OutOfMemory}
+use Rattle.redo_view.specs.declared.viewer.ViewFault.{ViewFault}
+use Rattle.redo_view.specs.declared.viewer.ViewFault.TheVariants.{Unknown, Write, OutOfMemory}
 use Rattle.redo_view.specs.Expansion.{Shown, is_among, begun, opened_log}
-use Rattle.redo_view.specs.Private.Choices.{unless_opened}
 use Rattle.redo_view.specs.Written.{WroteFront, WroteUntilFailed}
 
 -- name by name, whether it is among others
@@ -30,8 +29,9 @@ module _ (numbering : Numbering) where
     pub taken : now ≡ adds first shown.text 0
 
   -- that was shown, or a front of its text was written, by what is answered
-  abbrev pub Shows : {A : Type 0} → Option Taken → Option Taken → Seen → Shown → Result A Stop → Type 0
+  abbrev pub Shows : {A : Type 0} → Option Taken → Option Taken → Seen → Shown → Result A ViewFault → Type 0
   Shows first now seen whole (Ok done) = HasShown first now seen whole
+  Shows first now seen whole (Err (Unknown place)) = ⊥
   Shows first now seen whole (Err Write) = WroteUntilFailed first now whole.text
   Shows first now seen whole (Err OutOfMemory) = WroteFront first now whole.text
 
@@ -42,13 +42,7 @@ module _ (numbering : Numbering) where
       → IsSeen after (begun target shown)
 
   -- the log of this number is shown, with all that is opened from it
-  abbrev pub ShowsLog : {A : Type 0} → Options → ℕ → Seen → Seen → Option Taken → Option Taken → Result A Stop → Type 0
+  abbrev pub ShowsLog : {A : Type 0} → Options → ℕ → Seen → Seen → Option Taken → Option Taken → Result A ViewFault → Type 0
   ShowsLog options number before after told now done =
       (target : List ℕ) (first : Option Taken) (shown : Shown) → place_of target numbering.logs ≡ Some number
       → HasShown first told before shown → Shows first now after (opened_log numbering.logs options target 1 shown) done
-
-  -- a target that is asked for is shown
-  abbrev pub ShowsAsked : {A : Type 0} → Options → List ℕ → Seen → Seen → Option Taken → Option Taken → Result A Stop → Type 0
-  ShowsAsked options target before after told now done =
-      (first : Option Taken) (shown : Shown) → HasShown first told before shown
-      → Shows first now after (unless_opened numbering.logs options (is_among target shown.opened) target shown) done

@@ -7,11 +7,9 @@ use Rattle.redo_view.proofs.viewer.Viewer.show_asked.Goals as goal
 pub loop-name-init : goal.loop-name-init
 loop-name-init g c = record {
   kept = kept_all refl refl refl;
-  asks = record {
-    names_differ = c.requires.fits.names_differ;
-    table = c.requires.fits.table;
-    has = record { seen_is = c.requires.first; taken = adds-nothing _ };
-  };
+  names_differ = c.requires.fits.names_differ;
+  table = c.requires.fits.table;
+  has = record { seen_is = c.requires.first; taken = adds-nothing _ };
 }
 
 pub show_target-requires-clause-known : goal.show_target-requires-clause-known

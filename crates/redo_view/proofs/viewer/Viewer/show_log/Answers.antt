@@ -1,6 +1,6 @@
 use Rattle.std.proofs.Common.{rules, ℕ, Option, refl, sym, ◌∙◌}
 use Rattle.std.proofs.lemmas.Result.{err_from_is_err_and}
-use Rattle.redo_view.specs.declared.stop.Stop.TheVariants.{Write}
+use Rattle.redo_view.specs.declared.viewer.ViewFault.TheVariants.{Write}
 use Rattle.redo_view.proofs.Walking.{goes_deeper, goes_first, goes_further, goes_out, goes_over, gone_through, kept_all, less_back, less_deeper, less_further, less_over, lines_stopped, memory_lacked, stands_then, stopped_there, text_stopped}
 use Rattle.redo_view.proofs.viewer.Viewer.show_log.Goals as goal
 
@@ -8,7 +8,7 @@ pub entries-init : goal.entries-init
 entries-init g c =
     let begin = c.begin.ensures in record {
       kept = kept_all refl refl refl;
-      goes = goes_first c.args.self.now.logs.now c.args.self.now.options.now c.args.number c.args.self.now.seen.now _ _ _ c.requires.number c.requires.new c.requires.fits begin.fits begin.opened begin.begins c.new-outer.ensures.items;
+      goes = goes_first c.args.self.now.logs.now c.args.self.now.options c.args.number c.args.self.now.seen.now _ _ _ c.requires.number c.requires.new c.requires.fits begin.fits begin.opened begin.begins c.new-outer.ensures.items;
     }
 
 pub returns-in_err-write_lines : goal.returns-in_err-write_lines
