@@ -30,3 +30,4 @@ pub mod SourceLemmas
 mod SourceRows
 mod StatusLemmas
 mod Stripping
+mod TextLemmas

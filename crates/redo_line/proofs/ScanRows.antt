@@ -1,5 +1,5 @@
 -- Examples of what a scan took and answers, computed: in the log of the target `a`, which may have nine bytes.
-use Rattle.std.proofs.Common.{◌≡◌, ◌≢◌, ℕ, true, false, inl, inr, List, [], ◌∷◌, ◌++◌, Option, None, Some, Ok, Err, refl, ap, arith}
+use Rattle.std.proofs.Common.{◌≡◌, ◌≢◌, ℕ, true, false, inl, inr, List, [], ◌∷◌, ◌++◌, Option, None, Some, Ok, Err, refl, ap, arith, length}
 use Rattle.std.specs.Prelude.{codes}
 use Rattle.redo_line.specs.declared.entry.Entry.TheVariants.{Text}
 use Rattle.redo_line.specs.declared.scan.Step.TheVariants.{Found, More}
@@ -90,9 +90,35 @@ finds : Finds (scanned (codes "x") None) (scanned (line (codes "xy")) None) (lin
 unfolding cutting ended rest first_fault entry_of record_entry parted behind
 finds = (refl, record { fine = refl; line = codes "xy"; lines_are = refl; nothing_behind = refl; entry_is = refl; entries = refl })
 
-finds_more : FindsMore (scanned [] None) (scanned (line (codes "y")) None) (line (codes "y")) (Text (codes "x") ∷ []) (Text (codes "x") ∷ Text (codes "y") ∷ [])
+-- a line, behind an entry, and two lines
+finds_one : FindsMore (scanned [] None) (scanned (line (codes "y")) None) (line (codes "y")) 1 (Text (codes "x") ∷ []) (Text (codes "x") ∷ Text (codes "y") ∷ [])
 unfolding cutting ended rest first_fault entry_of record_entry parted behind
-finds_more = record { entry = Text (codes "y"); finds = (refl, record { fine = refl; line = codes "y"; lines_are = refl; nothing_behind = refl; entry_is = refl; entries = refl }); put = refl }
+finds_one = record {
+  more = Text (codes "y") ∷ [];
+  taken = refl;
+  ends = record { fine = refl; lines = codes "y" ∷ []; lines_are = refl; nothing_behind = refl; entries_are = refl; entries = refl };
+  some = omega arith;
+  few = omega arith;
+  put = refl;
+}
+
+finds_two : FindsMore (scanned (codes "x") None) (scanned (line (codes "xy") ++ line []) None) (line (codes "y") ++ line []) 2 [] (Text (codes "xy") ∷ Text [] ∷ [])
+unfolding cutting ended rest first_fault entry_of record_entry parted behind
+finds_two = record {
+  more = Text (codes "xy") ∷ Text [] ∷ [];
+  taken = refl;
+  ends = record { fine = refl; lines = codes "xy" ∷ [] ∷ []; lines_are = refl; nothing_behind = refl; entries_are = refl; entries = refl };
+  some = omega arith;
+  few = omega arith;
+  put = refl;
+}
+
+-- not more lines than were asked for, and not without one
+finds_no_other : (FindsMore (scanned [] None) (scanned (line [] ++ line []) None) (line [] ++ line []) 1 [] (Text [] ∷ Text [] ∷ []) → ⊥) × (FindsMore (scanned [] None) (scanned [] None) [] 1 [] [] → ⊥)
+finds_no_other = (
+  (λ is. let count = ap length is.put in omega (arith, count, is.few)),
+  (λ is. let count = ap length is.put in omega (arith, count, is.some)),
+)
 
 takes_all : TakesAll (scanned (codes "x") None) (scanned (codes "xy") None) (codes "y")
 unfolding cutting ended rest first_fault entry_of record_entry parted behind
