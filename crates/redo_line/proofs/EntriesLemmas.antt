@@ -1,5 +1,5 @@
 -- Entries stay what they are where more stands behind their texts and names, and more are put behind them.
-use Rattle.std.proofs.Common.{◌≡◌, ℕ, zero, suc, ◌+◌, ◌-◌, ◌≤◌, ◌<◌, List, [], ◌∷◌, ◌++◌, length, map, take, drop, Result, Ok, Err, IfOk, slice_index_or, slice_range, refl, sym, ap, ◌∙◌, subst, arith}
+use Rattle.std.proofs.Common.{◌≡◌, ℕ, ◌+◌, ◌-◌, ◌≤◌, ◌<◌, List, [], ◌∷◌, ◌++◌, length, map, take, drop, Result, Ok, Err, IfOk, slice_index_or, slice_range, refl, sym, ap, ◌∙◌, subst, arith}
 use Rattle.std.specs.List.{AllByRecursion, flat_map}
 use Rattle.std.proofs.lemmas.List.{drop-append-le, drop-take, take-append-le, take-take, length-append, length-drop, length-map, length-take, append_assoc, append-nil}
 use Rattle.std.proofs.Math.Seq.{drop-append_seam, take-length}
@@ -9,7 +9,7 @@ use Rattle.std.specs.declared.alloc.AllocError.{AllocError}
 use Rattle.redo_line.specs.declared.entry.Entry.{Entry}
 use Rattle.redo_line.specs.declared.entry.Entry.TheVariants as entry
 use Rattle.redo_line.specs.Entries.{AreWithin, IsNameAt, IsWithin, entries_at, entries_there}
-use Rattle.redo_line.specs.Lines.{AreWholeLines, HasNoLineFeed, line_feed, ended, rest}
+use Rattle.redo_line.specs.Lines.{AreWholeLines, HasNoLineFeed, line_feed, ended}
 use Rattle.redo_line.specs.Private.Entries.{AreCounted}
 use Rattle.redo_line.proofs.LineLemmas.{are_lines, ended-free, ended-line, few_lines, rest-free, rest-line}
 use Rattle.redo_name.specs.Names.{IsNormal}

@@ -34,26 +34,28 @@ are_within = (
   ((omega arith, omega arith, refl), ((omega arith, omega arith, refl), (tt, ((omega arith, omega arith, omega arith, ((λ is. absurd (cc)), ((λ is. absurd (cc)), ((λ is. absurd (cc)), ((λ is. absurd (cc)), ((λ is. absurd (cc)), tt))))), ((λ is. absurd (cc)), tt)), tt)))),
 )
 
--- lines of which the last isn't ended, one too many or too few, or none; places behind the end, or in another order
+-- lines of which the last isn't ended, one too many, or none; places in another order, or behind the end; line feeds in a note; and lines behind the end
 not_within :
-    (IsWithin bytes names (at.Texts 1 0 2) → ⊥)
+    (IsWithin bytes names (at.Texts 2 0 5) → ⊥)
     × (IsWithin bytes names (at.Texts 3 0 4) → ⊥)
-    × (IsWithin bytes names (at.Texts 1 0 4) → ⊥)
     × (IsWithin bytes names (at.Texts 0 4 4) → ⊥)
-    × (IsWithin bytes names (at.Texts 1 4 3) → ⊥)
     × (IsWithin bytes names (at.Note 6 5 4 10) → ⊥)
     × (IsWithin bytes names (at.Note 6 4 10 9) → ⊥)
     × (IsWithin bytes names (at.Note 6 4 9 11) → ⊥)
+    × (IsWithin bytes names (at.Note 6 2 3 3) → ⊥)
+    × (IsWithin bytes names (at.Note 6 2 2 3) → ⊥)
+    × (IsWithin (codes "ab" ++ line_feed ∷ []) names (at.Texts 1 0 9) → ⊥)
 unfolding cutting ended rest
 not_within = (
-  (λ is. let count : 0 ≡ 1 = is.2.count_is in omega (arith, count)),
+  (λ is. let same : codes "c" ≡ [] = is.2.nothing_behind in absurd (cc)),
   (λ is. let count : 2 ≡ 3 = is.2.count_is in omega (arith, count)),
-  (λ is. let count : 2 ≡ 1 = is.2.count_is in omega (arith, count)),
   (λ is. let some = is.2.some in omega (arith, some)),
-  (λ is. omega (arith, is.0)),
   (λ is. omega (arith, is.0)),
   (λ is. omega (arith, is.1)),
   (λ is. omega (arith, is.2)),
+  (λ is. is.3.0 refl),
+  (λ is. is.4.0 refl),
+  (λ is. omega (arith, is.1)),
 )
 
 no_name : (IsNameAt bytes names 1 0 → ⊥) × (IsNameAt bytes names 0 5 → ⊥) × (IsNameAt bytes (codes "./a") 0 3 → ⊥)

@@ -1,6 +1,6 @@
 -- How a scan goes on behind the bytes that it took.
 use Rattle.std.proofs.Common.{◌≡◌, ◌⊎◌, inl, inr, ℕ, ◌+◌, ◌-◌, ◌<◌, ◌≤◌, ◌^◌, Fits, w64, Bool, true, false, cond, List, [], ◌∷◌, ◌++◌, Option, None, Some, length, map, take, drop, get_or, refl, sym, ◌∙◌, ap, arith}
-use Rattle.std.specs.List.{filter_map, flat_map, cons_option}
+use Rattle.std.specs.List.{filter_map, cons_option}
 use Rattle.std.proofs.lemmas.Bool.{le-ltb, lt-ltb}
 use Rattle.std.proofs.lemmas.List.{append_assoc, append-nil, map-append, length-append, length-map, length-take, take_all}
 use Rattle.std.proofs.lemmas.List.Elements.{filter_map-append}
@@ -10,7 +10,7 @@ use Rattle.redo_line.specs.declared.stream_fault.StreamFault.{StreamFault}
 use Rattle.redo_line.specs.declared.stream_fault.StreamFault.TheVariants.{BadRecord, AfterClose, TooLong}
 use Rattle.redo_line.specs.Entry.{entry_of}
 use Rattle.redo_line.specs.Fault.{ending_fault}
-use Rattle.redo_line.specs.Lines.{line_feed, with_line_feed, ended, rest}
+use Rattle.redo_line.specs.Lines.{ended, rest}
 use Rattle.redo_line.specs.Log.{closes, line_entries, entries_of, first_fault, line_fault, or_else, fault_of, lines_before, part_of}
 use Rattle.redo_line.specs.Scan.{so_far, entries_so_far, EndLines, EndsNone}
 use Rattle.redo_line.specs.Private.Progress.{Progress, closed_by, IsAfter, Refuses}
@@ -200,7 +200,7 @@ module _ (p : Progress) (u : List ℕ) (after : IsAfter p u) where
             ∙ (λ i. sym part_u i ++ all_found p.target lines entries entries_are i)
 
         pub end_lines : EndLines p.target p.max_bytes u slice entries
-        end_lines = record { fine = fine_then; lines = lines; lines_are = lines_then; nothing_behind = rest_then; entries_are = entries_are; entries = more_entries }
+        end_lines = record { fine = fine_then; lines = lines; lines_are = lines_then; no_rest = rest_then; entries_are = entries_are; entries = more_entries }
 
     -- bytes in which no line ends
     module _ (kept : List ℕ) (cut : Cuts p.kept a [] kept) (open_log : (p.closed ≡ false) ⊎ (a ≡ [])) where

@@ -9,7 +9,7 @@ use Rattle.redo_line.specs.Entry.{record_entry, entry_of}
 use Rattle.redo_line.specs.Lines.{line_feed, cutting, ended, rest}
 use Rattle.redo_line.specs.Log.{first_fault}
 use Rattle.redo_line.specs.Parts.{parted, behind}
-use Rattle.redo_line.specs.Scan.{Scanned, so_far, fault_so_far, entries_so_far, EndsLine, EndsNone, AreAtFault, IsFine, took, refused_with, Finds, FindsMore, TakesAll, MayRefuse, Refuses, Steps, IsLateOrTooLong, RefusesFirst, entries_in, source_in, text_of}
+use Rattle.redo_line.specs.Scan.{Scanned, so_far, fault_so_far, entries_so_far, EndLines, EndsLine, EndsNone, AreAtFault, IsFine, took, refused_with, Finds, FindsMore, TakesAll, MayRefuse, Refuses, Steps, IsLateOrTooLong, RefusesFirst, entries_in, source_in, text_of}
 
 abbrev a : List ℕ
 a = codes "a"
@@ -96,7 +96,7 @@ unfolding cutting ended rest first_fault entry_of record_entry parted behind
 finds_one = record {
   more = Text (codes "y") ∷ [];
   taken = refl;
-  ends = record { fine = refl; lines = codes "y" ∷ []; lines_are = refl; nothing_behind = refl; entries_are = refl; entries = refl };
+  ends = record { fine = refl; lines = codes "y" ∷ []; lines_are = refl; no_rest = refl; entries_are = refl; entries = refl };
   some = omega arith;
   few = omega arith;
   put = refl;
@@ -107,14 +107,27 @@ unfolding cutting ended rest first_fault entry_of record_entry parted behind
 finds_two = record {
   more = Text (codes "xy") ∷ Text [] ∷ [];
   taken = refl;
-  ends = record { fine = refl; lines = codes "xy" ∷ [] ∷ []; lines_are = refl; nothing_behind = refl; entries_are = refl; entries = refl };
+  ends = record { fine = refl; lines = codes "xy" ∷ [] ∷ []; lines_are = refl; no_rest = refl; entries_are = refl; entries = refl };
   some = omega arith;
   few = omega arith;
   put = refl;
 }
 
+-- lines of which the last isn't ended, entries that aren't theirs, and too many bytes
+end_no_lines :
+    (EndLines a 9 [] (line (codes "x") ++ codes "y") (Text (codes "x") ∷ []) → ⊥)
+    × (EndLines a 9 [] (line (codes "x")) [] → ⊥)
+    × (EndLines a 1 [] (line (codes "x")) (Text (codes "x") ∷ []) → ⊥)
+unfolding cutting ended rest first_fault entry_of record_entry parted behind
+end_no_lines = (
+  (λ is. let same : codes "y" ≡ [] = is.no_rest in absurd (cc)),
+  (λ is. let same : Text (codes "x") ∷ [] ≡ [] = is.entries in absurd (cc)),
+  (λ is. let same : Some TooLong ≡ None = is.fine in absurd (cc)),
+)
+
 -- not more lines than were asked for, and not without one
 finds_no_other : (FindsMore (scanned [] None) (scanned (line [] ++ line []) None) (line [] ++ line []) 1 [] (Text [] ∷ Text [] ∷ []) → ⊥) × (FindsMore (scanned [] None) (scanned [] None) [] 1 [] [] → ⊥)
+unfolding cutting ended rest first_fault entry_of record_entry parted behind
 finds_no_other = (
   (λ is. let count = ap length is.put in omega (arith, count, is.few)),
   (λ is. let count = ap length is.put in omega (arith, count, is.some)),

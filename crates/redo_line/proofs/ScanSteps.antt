@@ -222,7 +222,7 @@ one_ends target max_bytes before bytes more entry one ends = by ends.lines refl
       fine = ends.fine;
       line = line;
       lines_are = ends.lines_are ∙ ap (λ ls. ended before ++ ls) is;
-      nothing_behind = ends.nothing_behind;
+      nothing_behind = ends.no_rest;
       entry_is = ap (λ es. get_or es 0 None) (sym (ap (line_entries target) is) ∙ ends.entries_are ∙ ap (map Some) one);
       entries = ends.entries ∙ ap (λ es. entries_so_far target max_bytes before ++ es) one;
     }

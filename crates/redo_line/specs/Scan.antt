@@ -50,7 +50,7 @@ module _ (target : List ℕ) (max_bytes : ℕ) where
     pub fine : fault_so_far (before ++ bytes) ≡ None
     pub lines : List (List ℕ)
     pub lines_are : ended (before ++ bytes) ≡ ended before ++ lines
-    pub nothing_behind : rest (before ++ bytes) ≡ []
+    pub no_rest : rest (before ++ bytes) ≡ []
     pub entries_are : line_entries target lines ≡ map Some more
     pub entries : entries_so_far (before ++ bytes) ≡ entries_so_far before ++ more
 

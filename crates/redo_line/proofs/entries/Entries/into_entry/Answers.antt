@@ -1,4 +1,4 @@
-use Rattle.std.proofs.Common.{[], ◌∷◌, arith, sym, ap, ◌∙◌, ◌≡◌, subst}
+use Rattle.std.proofs.Common.{[], ◌∷◌, arith, sym, ap, ◌∙◌, subst}
 use Rattle.redo_line.specs.Entries.{entries_there}
 use Rattle.redo_line.specs.Lines.{HasNoLineFeed}
 use Rattle.redo_line.specs.declared.entry.Entry.TheVariants.{Text}

@@ -1,9 +1,8 @@
 use Rattle.std.proofs.Common.{[], ◌∷◌, ◌++◌, ◌∙◌, refl}
-use Rattle.std.proofs.lemmas.List.{append_assoc}
 use Rattle.std.proofs.lemmas.Result.{MatchResult-from_err}
 use Rattle.redo_line.specs.Lines.{line_feed}
 use Rattle.redo_line.specs.declared.entry.Entry.TheVariants.{Text}
-use Rattle.redo_line.proofs.EntriesLemmas.{front_put, front_same, line_end, line_few, line_put, line_text, line_whole, more_are_seen, more_counted, put_twice, same_counted, same_seen, texts_are, texts_few, texts_within}
+use Rattle.redo_line.proofs.EntriesLemmas.{front_put, front_same, line_end, line_few, line_put, line_text, line_whole, more_are_seen, more_counted, put_twice, same_counted, same_seen, texts_are, texts_within}
 use Rattle.redo_line.proofs.entries.Entries.push_text.Goals as goal
 
 pub invariant_of-self-in_err-end : goal.invariant_of-self-in_err-end

@@ -1,4 +1,4 @@
-use Rattle.std.proofs.Common.{◌<◌, Some, arith, sym, ap, ◌∙◌, refl}
+use Rattle.std.proofs.Common.{◌<◌, arith, sym, ◌∙◌}
 use Rattle.std.proofs.lemmas.List.{take_rest}
 use Rattle.std.proofs.lemmas.Option.{none-some}
 use Rattle.redo_line.proofs.ScanLemmas.{next_lines_fit}
