@@ -11,7 +11,7 @@ use Rattle.redo_device.specs.Feed.{Stream, Pulls, SomeStream}
 use Rattle.redo_line.specs.Laws.{IsFront}
 use Rattle.redo_line.specs.Log.{stream_of, entries_of, part_of, unless_fault}
 use Rattle.redo_line.specs.Source.{Source, fault_from, log_from, source}
-use Rattle.redo_line.specs.Scan.{Scanned, Finds, IsFine, MayRefuse, TakesAll, entries_in, entries_so_far, fault_so_far, so_far, source_in, took}
+use Rattle.redo_line.specs.Scan.{Scanned, FindsMore, IsFine, MayRefuse, TakesAll, entries_in, entries_so_far, fault_so_far, so_far, source_in, took}
 use Rattle.redo_line.proofs.FaultLemmas.{early_fault, early_part, failed_read, failed_part, no_fault}
 use Rattle.redo_device.proofs.GaveLemmas.{Gave, Gave-none, Gave-more, Gave-end, Gave-failed, weaker}
 use Rattle.redo_line.proofs.LogLemmas.{entries_lead_part, entries_lead_log}
@@ -43,11 +43,11 @@ if_none None P none more = more
 fine_then : (old new : Scanned) (bytes : List ℕ) → new ≡ took bytes old → fault_so_far old.target old.max_bytes (old.bytes ++ bytes) ≡ None → IsFine new
 fine_then old new bytes is fine = subst IsFine (sym is) (record { refused_none = refl; no_fault = fine })
 
--- a line more, and bytes that end none
-pub one_line : (old new : Scanned) (bytes : List ℕ) (entry : Entry) (entries after : List Entry) → Finds old new bytes entry → IsRead old entries → after ≡ entries ++ entry ∷ [] → IsRead new after
-one_line old new bytes entry entries after finds read after_is = record {
-  fine = fine_then old new bytes finds.0 finds.1.fine;
-  entries_are = after_is ∙ ap (λ es. es ++ entry ∷ []) read.entries_are ∙ sym (ap entries_in finds.0 ∙ finds.1.entries);
+-- lines more, and bytes that end none
+pub lines_read : (old new : Scanned) (bytes : List ℕ) (most : ℕ) (first all entries after : List Entry) (found : FindsMore old new bytes most first all) → IsRead old entries → after ≡ entries ++ found.more → IsRead new after
+lines_read old new bytes most first all entries after found read after_is = record {
+  fine = fine_then old new bytes found.taken found.ends.fine;
+  entries_are = after_is ∙ ap (λ es. es ++ found.more) read.entries_are ∙ sym (ap entries_in found.taken ∙ found.ends.entries);
 }
 
 pub no_line : (old new : Scanned) (bytes : List ℕ) (entries : List Entry) → TakesAll old new bytes → IsRead old entries → IsRead new entries

@@ -9,6 +9,9 @@ ghost use Rattle.redo_gather.specs.Private.Reading.{IsRead, IsReadToEnd, IsRefus
 use redo_line::{Broken, Entries, Feed, Scan, StreamFault, TargetName};
 use std::alloc::Global;
 
+// How many lines that are text are taken at once.
+const MOST_AT_ONCE: u16 = 1024;
+
 /// What was read of a stream: the entries of its log and no fault, or those before its fault and the
 /// fault. Where there was no memory, it has some of the first entries and that for its fault.
 #[derive(Drop)]
@@ -112,7 +115,7 @@ fn read_piece(entries: &mut Entries, scan: &mut Scan, piece: &[u8]) -> Result<()
     ensures reads_nothing { IfErr result (λ fault. fault ≢ Read) }
 {
     let mut from = 0;
-    'lines: while let Some(upto) = scan.step_into(piece, from, entries)? {
+    'lines: while let Some(upto) = scan.step_into(piece, from, MOST_AT_ONCE, entries)? {
         from = upto;
     }
     Ok(())

@@ -19,7 +19,7 @@ const READ_BYTES: usize = 64 * 1024;
 // How many entries an item may have.
 const MOST_ENTRIES: usize = 1024;
 
-// An item has no entry more behind the one with which its texts and names come to so many bytes.
+// An item has no entry more behind the lines, taken at once, with which its texts and names come to so many bytes.
 const ENOUGH_BYTES: usize = 128 * 1024;
 
 /// The streams of one sender, in order: each has its number, the target of its log, whether it has to end with the
@@ -31,7 +31,7 @@ pub type Share<R> = Vec<(u32, TargetName, bool, R)>;
 /// goes on with the next one; or, where there was no memory, some of the first entries and that.
 ///
 /// It has posted every entry that the bytes so far complete before it reads again, in as few items as have at most
-/// 1,024 entries each, and none behind the one with which the texts and names of an item come to 131,072 bytes. It
+/// 1,024 entries each, and none behind the lines with which the texts and names of an item come to 131,072 bytes. It
 /// waits where the mailbox is full, and the gate is told before each read. It posts again what is handed back, so
 /// without a mailbox's other end it goes on for ever.
 pub fn send<T: Wait, R: Feed, G: Gate>(
@@ -216,7 +216,8 @@ fn read_run(
 {
     let mut upto = from;
     'lines: loop {
-        match scan.step_into(piece, upto, run)? {
+        let room = (MOST_ENTRIES - run.len()) as u16;
+        match scan.step_into(piece, upto, room, run)? {
             Some(behind) => upto = behind,
             None => return Ok(piece.len()),
         }

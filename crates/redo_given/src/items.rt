@@ -19,15 +19,18 @@ fn lines_text(alloc: Global, head: &str, entries: &Entries) -> Result<String, Al
     let layout = entries.layout();
     let mut text = format!(in alloc; "{head}")?;
     for place in layout.places {
-        text.push_str(" ")?;
-        text.push_str(text_at(layout.bytes, *place))?;
+        for line in text_at(layout.bytes, *place).lines() {
+            text.push_str(" ")?;
+            text.push_str(line)?;
+        }
     }
     Ok(text)
 }
 
+// The lines of a place.
 fn text_at(bytes: &[u8], place: EntryAt) -> &str {
     match place {
-        EntryAt::Text { start, end } => shown(
+        EntryAt::Texts { start, end, .. } => shown(
             bytes.get(start..end).unwrap_or(b"no text".as_slice()),
         ),
         _ => "no text",

@@ -44,11 +44,14 @@ pub line_in : (before line piece : List ℕ) (at : ℕ) → NoneBefore (Passes (
 line_in before line piece at found line_is taken kept =
     rw (upto_feed piece at found.0.high found.1, line_is) (cuts_line before (take at piece) (free_before piece at found.0.before) taken kept)
 
+-- bytes in which none is found hold none
+pub holds_none : (piece : List ℕ) → Nowhere (Passes (is_byte line_feed) piece) 0 (length piece) → HasNoLineFeed piece
+holds_none piece nowhere = subst HasNoLineFeed (take_all (length piece) piece (le_refl (length piece))) (free_before piece (length piece) nowhere)
+
 -- and where none does
 pub none_in : (before after piece : List ℕ) → Nowhere (Passes (is_byte line_feed) piece) 0 (length piece) → after ≡ before ++ piece → Cuts before piece [] after
 none_in before after piece nowhere after_is taken kept =
-    let free = subst HasNoLineFeed (take_all (length piece) piece (le_refl (length piece))) (free_before piece (length piece) nowhere) in
-    rw after_is (cuts_none before piece free taken kept)
+    rw after_is (cuts_none before piece (holds_none piece nowhere) taken kept)
 
 pub no_feed : (piece : List ℕ) → Nowhere (Passes (is_byte line_feed) piece) 0 (length piece) → Contains piece line_feed → ⊥
 no_feed piece nowhere here = nowhere here.0 zero-le here.1 (eq-eqb (get_or piece here.0 0) line_feed (get_or_default piece here.0 0 line_feed here.1 ∙ here.2))

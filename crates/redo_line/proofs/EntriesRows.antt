@@ -7,41 +7,58 @@ use Rattle.redo_line.specs.declared.entries.Layout.{Layout}
 use Rattle.redo_line.specs.declared.entry.Entry.TheVariants.{Text, Mention, Done, Closing, Note}
 use Rattle.redo_line.specs.declared.entry.How.TheVariants.{Made}
 use Rattle.redo_line.specs.Entries.{entries_at, IsNameAt, IsWithin, AreWithin, AreAt, IsLayout}
-use Rattle.redo_line.specs.Lines.{line_feed}
+use Rattle.redo_line.specs.Lines.{line_feed, AreWholeLines, cutting, ended, rest}
 use Rattle.redo_name.specs.Names.{from_back, normal}
 
--- a line and the texts of a note, and two names
+-- two lines and the texts of a note, and two names
 abbrev bytes : List ℕ
-bytes = codes "ab" ++ line_feed ∷ codes "checkx"
+bytes = codes "ab" ++ line_feed ∷ line_feed ∷ codes "checkx"
 
 abbrev names : List ℕ
 names = codes "cd/b"
 
 abbrev places : List EntryAt
-places = at.Text 0 2 ∷ at.Mention 7 Made 0 1 ∷ at.Done 8 (pos 1) 1 4 ∷ at.Closing 9 (pos 0) ∷ at.Note 6 3 8 9 ∷ []
+places = at.Texts 2 0 4 ∷ at.Mention 7 Made 0 1 ∷ at.Done 8 (pos 1) 1 4 ∷ at.Closing 9 (pos 0) ∷ at.Note 6 4 9 10 ∷ []
 
-stand_there : entries_at bytes names places ≡ Text (codes "ab") ∷ Mention 7 Made (codes "c") ∷ Done 8 (pos 1) (codes "d/b") ∷ Closing 9 (pos 0) ∷ Note 6 (codes "check") (codes "x") ∷ []
+stand_there : entries_at bytes names places ≡ Text (codes "ab") ∷ Text [] ∷ Mention 7 Made (codes "c") ∷ Done 8 (pos 1) (codes "d/b") ∷ Closing 9 (pos 0) ∷ Note 6 (codes "check") (codes "x") ∷ []
+unfolding cutting ended
 stand_there = refl
+
+are_whole : AreWholeLines (codes "ab" ++ line_feed ∷ line_feed ∷ []) 2
+unfolding cutting ended rest
+are_whole = record { count_is = refl; some = omega arith; nothing_behind = refl }
 
 are_within : AreWithin bytes names places
 unfolding from_back normal
-are_within = ((omega arith, refl), ((omega arith, omega arith, refl), ((omega arith, omega arith, refl), (tt, ((omega arith, omega arith, omega arith), tt)))))
+are_within = (
+  (omega arith, omega arith, are_whole),
+  ((omega arith, omega arith, refl), ((omega arith, omega arith, refl), (tt, ((omega arith, omega arith, omega arith, ((λ is. absurd (cc)), ((λ is. absurd (cc)), ((λ is. absurd (cc)), ((λ is. absurd (cc)), ((λ is. absurd (cc)), tt))))), ((λ is. absurd (cc)), tt)), tt)))),
+)
 
--- no line feed behind a text, places behind the end, or in another order, and a name that isn't a normal form
+-- lines of which the last isn't ended, one too many, or none; places in another order, or behind the end; line feeds in a note; and lines behind the end
 not_within :
-    (IsWithin bytes names (at.Text 0 1) → ⊥)
-    × (IsWithin bytes names (at.Text 3 2) → ⊥)
-    × (IsWithin bytes names (at.Note 6 4 3 9) → ⊥)
-    × (IsWithin bytes names (at.Note 6 3 9 8) → ⊥)
-    × (IsWithin bytes names (at.Note 6 3 8 10) → ⊥)
+    (IsWithin bytes names (at.Texts 2 0 5) → ⊥)
+    × (IsWithin bytes names (at.Texts 3 0 4) → ⊥)
+    × (IsWithin bytes names (at.Texts 0 4 4) → ⊥)
+    × (IsWithin bytes names (at.Note 6 5 4 10) → ⊥)
+    × (IsWithin bytes names (at.Note 6 4 10 9) → ⊥)
+    × (IsWithin bytes names (at.Note 6 4 9 11) → ⊥)
+    × (IsWithin bytes names (at.Note 6 2 3 3) → ⊥)
+    × (IsWithin bytes names (at.Note 6 2 2 3) → ⊥)
+    × (IsWithin (codes "ab" ++ line_feed ∷ []) names (at.Texts 1 0 9) → ⊥)
     × (IsWithin bytes names (at.Mention 7 Made 1 0) → ⊥)
     × (IsWithin bytes names (at.Done 8 (pos 1) 1 0) → ⊥)
+unfolding cutting ended rest
 not_within = (
-  (λ is. let same : Some 98 ≡ Some 10 = is.1 in absurd (cc)),
-  (λ is. omega (arith, is.0)),
+  (λ is. let same : codes "c" ≡ [] = is.2.nothing_behind in absurd (cc)),
+  (λ is. let count : 2 ≡ 3 = is.2.count_is in omega (arith, count)),
+  (λ is. let some = is.2.some in omega (arith, some)),
   (λ is. omega (arith, is.0)),
   (λ is. omega (arith, is.1)),
   (λ is. omega (arith, is.2)),
+  (λ is. is.3.0 refl),
+  (λ is. is.4.0 refl),
+  (λ is. omega (arith, is.1)),
   (λ is. omega (arith, is.0)),
   (λ is. omega (arith, is.0)),
 )
@@ -50,13 +67,20 @@ no_name : (IsNameAt bytes names 1 0 → ⊥) × (IsNameAt bytes names 0 5 → �
 unfolding from_back normal
 no_name = ((λ is. omega (arith, is.0)), (λ is. omega (arith, is.1)), (λ is. let same : Some (codes "a") ≡ Some (codes "./a") = is.2 in absurd (cc)))
 
-are_at : AreAt bytes names (at.Text 0 2 ∷ []) (Text (codes "ab") ∷ [])
-are_at = record { are = refl; within = ((omega arith, refl), tt) }
+are_at : AreAt bytes names (at.Texts 2 0 4 ∷ []) (Text (codes "ab") ∷ Text [] ∷ [])
+unfolding cutting ended
+are_at = record { are = refl; within = ((omega arith, omega arith, are_whole), tt) }
 
-not_at : (AreAt bytes names (at.Text 0 1 ∷ []) (Text (codes "a") ∷ []) → ⊥) × (AreAt bytes names (at.Text 0 2 ∷ []) (Text (codes "a") ∷ []) → ⊥)
+-- a line that a note's text would hold, two lines for one, and one for two
+not_at :
+    (AreAt bytes names (at.Note 6 0 2 4 ∷ []) (Note 6 (codes "ab") (line_feed ∷ line_feed ∷ []) ∷ []) → ⊥)
+    × (AreAt bytes names (at.Texts 2 0 4 ∷ []) (Text (codes "ab" ++ line_feed ∷ []) ∷ []) → ⊥)
+    × (AreAt bytes names (at.Texts 1 0 3 ∷ []) (Text (codes "ab") ∷ Text [] ∷ []) → ⊥)
+unfolding cutting ended
 not_at = (
-  (λ is. let same : Some 98 ≡ Some 10 = is.within.0.1 in absurd (cc)),
-  (λ is. let same : Text (codes "ab") ∷ [] ≡ Text (codes "a") ∷ [] = is.are in absurd (cc)),
+  (λ is. is.within.0.4.0 refl),
+  (λ is. let same : Text (codes "ab") ∷ Text [] ∷ [] ≡ Text (codes "ab" ++ line_feed ∷ []) ∷ [] = is.are in absurd (cc)),
+  (λ is. let same : Text (codes "ab") ∷ [] ≡ Text (codes "ab") ∷ Text [] ∷ [] = is.are in absurd (cc)),
 )
 
 -- the pieces of memory themselves
@@ -64,9 +88,10 @@ abbrev layout : List EntryAt → Layout
 layout places =
     record { bytes = record { ref_ptr = (0, 0); now = bytes }; names = record { ref_ptr = (0, 0); now = names }; places = record { ref_ptr = (0, 0); now = places } }
 
-laid_out : IsLayout (layout (at.Text 0 2 ∷ at.Mention 7 Made 0 1 ∷ [])) (Text (codes "ab") ∷ Mention 7 Made (codes "c") ∷ [])
-unfolding from_back normal
-laid_out = record { are = refl; within = ((omega arith, refl), ((omega arith, omega arith, refl), tt)) }
+laid_out : IsLayout (layout (at.Texts 2 0 4 ∷ at.Mention 7 Made 0 1 ∷ [])) (Text (codes "ab") ∷ Text [] ∷ Mention 7 Made (codes "c") ∷ [])
+unfolding cutting ended from_back normal
+laid_out = record { are = refl; within = ((omega arith, omega arith, are_whole), ((omega arith, omega arith, refl), tt)) }
 
-not_laid_out : IsLayout (layout (at.Text 0 2 ∷ [])) [] → ⊥
-not_laid_out is = let same : Text (codes "ab") ∷ [] ≡ [] = is.are in absurd (cc)
+not_laid_out : IsLayout (layout (at.Texts 2 0 4 ∷ [])) [] → ⊥
+unfolding cutting ended
+not_laid_out is = let same : Text (codes "ab") ∷ Text [] ∷ [] ≡ [] = is.are in absurd (cc)

@@ -13,7 +13,7 @@ use Rattle.redo_line.specs.Scan.{Scanned, fault_so_far, IsLateOrTooLong, Refuses
 use Rattle.redo_line.specs.Private.Progress.{Progress, IsAfter, byte_fault, first_byte_fault}
 use Rattle.redo_line.specs.Private.CutLine.{Cuts}
 use Rattle.redo_line.proofs.CutLemmas.{cuts_line, cuts_none}
-use Rattle.redo_line.proofs.ScanLemmas.{bad_refuses, ends_line, ends_none}
+use Rattle.redo_line.proofs.ScanLemmas.{bad_refuses, end_lines, ends_none, one_fine}
 use Rattle.redo_line.proofs.ScanSteps.{refuses_first}
 
 no_bad_record : {line : ℕ} → IsLateOrTooLong (BadRecord line) → ⊥
@@ -44,10 +44,10 @@ module _ (p : Progress) (u : List ℕ) (after : IsAfter p u) (byte : ℕ) where
 
         by : (entry : Option Entry) → entry_of p.target (p.kept ++ []) true ≡ entry → ⊥
         by None none =
-            let told = (bad_refuses p u after one one one_is one [] (p.kept ++ []) cut refl closed none).fault_is in
+            let told = (bad_refuses p u after one one one_is one [] ((p.kept ++ []) ∷ []) cut refl (p.kept ++ []) refl closed none).fault_is in
             no_bad_record (subst IsLateOrTooLong (same_Some fault (BadRecord (p.lines + 1)) (sym is ∙ told)) late_or_too_long)
         by (Some entry) some =
-            let fine = (ends_line p u after one one one_is one [] (p.kept ++ []) cut refl closed entry some).fine in
+            let fine = (end_lines p u after one one one_is one [] ((p.kept ++ []) ∷ []) cut refl (entry ∷ []) (ap (λ e. e ∷ []) some) (one_fine p.closed (p.lines + 1) entry closed)).fine in
             let none : None ≡ Some fault = sym fine ∙ is in
             absurd (cc)
 

@@ -31,3 +31,4 @@ pub mod SourceLemmas
 mod SourceRows
 mod StatusLemmas
 mod Stripping
+mod TextLemmas

@@ -1,8 +1,8 @@
 -- How bytes are cut into lines: one byte more, bytes behind others, and that there is one cutting alone.
-use Rattle.std.proofs.Common.{◌≡◌, ℕ, List, [], ◌∷◌, ◌++◌, Bool, true, false, eqb, refl, sym, ◌∙◌, ap, subst}
+use Rattle.std.proofs.Common.{◌≡◌, ℕ, ◌≤◌, length, arith, List, [], ◌∷◌, ◌++◌, Bool, true, false, eqb, refl, sym, ◌∙◌, ap, subst}
 use Rattle.std.specs.List.{AllByRecursion, flat_map}
 use Rattle.std.proofs.lemmas.Bool.{ne_eqb, eqb-false, eqb-true}
-use Rattle.std.proofs.lemmas.List.{append_assoc}
+use Rattle.std.proofs.lemmas.List.{append_assoc, length-append}
 use Rattle.redo_line.specs.Lines.{line_feed, HasNoLineFeed, with_line_feed, AreLines, Cutting, put_first, cutting, ended, rest}
 
 -- a byte in front of bytes that were cut, by whether it is a line feed
@@ -125,3 +125,18 @@ unfolding ended rest
 only_lines bytes lines last are =
     let same = ap cutting are.whole ∙ cutting-joined lines last are.lines_hold_none are.rest_holds_none in
     (sym (ap (λ c. c.lines) same), sym (ap (λ c. c.last) same))
+
+-- a line has a line feed at least
+few_in : (lines : List (List ℕ)) → length lines ≤ length (flat_map with_line_feed lines)
+few_in [] = omega arith
+few_in (line ∷ lines) =
+    let more = few_in lines in
+    let size = length-append (with_line_feed line) (flat_map with_line_feed lines) in
+    let own = length-append line (line_feed ∷ []) in
+    omega (arith, more, size, own)
+
+pub few_lines : (bytes : List ℕ) → length (ended bytes) ≤ length bytes
+few_lines bytes =
+    let few = few_in (ended bytes) in
+    let size = ap length (are_lines bytes).whole ∙ length-append (flat_map with_line_feed (ended bytes)) (rest bytes) in
+    omega (arith, few, size)

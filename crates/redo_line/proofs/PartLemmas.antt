@@ -1,8 +1,9 @@
 -- Bytes that are cut in two: at the first byte of a kind, and behind a front.
-use Rattle.std.proofs.Common.{◌≡◌, ◌≢◌, ℕ, Bool, true, false, cond, eqb, List, [], ◌∷◌, ◌++◌, Option, None, Some, refl, sym, ◌∙◌, ap, subst}
+use Rattle.std.proofs.Common.{◌≡◌, ◌≢◌, ℕ, Bool, true, false, cond, eqb, List, [], ◌∷◌, ◌++◌, Option, None, Some, take, drop, refl, sym, ◌∙◌, ap, subst}
 use Rattle.std.specs.List.{AllByRecursion}
 use Rattle.std.specs.Option.{option_map}
 use Rattle.std.proofs.lemmas.Bool.{eq-eqb, ne_eqb, eqb-true, eqb-false}
+use Rattle.std.proofs.lemmas.List.{take-append-drop}
 use Rattle.std.proofs.lemmas.Option.{none-some, same_Some}
 use Rattle.redo_line.specs.Parts.{parted, behind}
 
@@ -13,6 +14,13 @@ HasNo at bytes = AllByRecursion (λ byte. byte ≢ at) bytes
 pub free-append : (at : ℕ) (a b : List ℕ) → HasNo at a → HasNo at b → HasNo at (a ++ b)
 free-append at [] b first behind = behind
 free-append at (byte ∷ a) b first behind = (first.0, free-append at a b first.1 behind)
+
+pub free_parts : (at : ℕ) (a b : List ℕ) → HasNo at (a ++ b) → HasNo at a × HasNo at b
+free_parts at [] b all = (tt, all)
+free_parts at (byte ∷ a) b all = let parts = free_parts at a b all.1 in ((all.0, parts.0), parts.1)
+
+pub free_drop : (at n : ℕ) (bytes : List ℕ) → HasNo at bytes → HasNo at (drop n bytes)
+free_drop at n bytes all = (free_parts at (take n bytes) (drop n bytes) (subst (HasNo at) (sym (take-append-drop n bytes)) all)).1
 
 -- what stands before the first such byte, and what behind it
 pub record AreParts (at : ℕ) (bytes : List ℕ) (parts : List ℕ × List ℕ) : Type 0 where

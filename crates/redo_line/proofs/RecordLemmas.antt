@@ -1,18 +1,20 @@
 -- Records: what the tests of their parts tell, and that a line has the fields that are computed alone.
 use Rattle.std.proofs.Common.{◌≡◌, ◌≢◌, ℕ, ◌≤◌, true, eqb, leb, ◌&&◌, ◌||◌, inl, inr, List, [], ◌∷◌, ◌++◌, Option, None, Some, ℤ, pos, refl, sym, ◌∙◌, ap, subst, arith}
-use Rattle.std.specs.Prelude.{option_and_then, neg_ℤ}
+use Rattle.std.specs.Prelude.{option_and_then, option_map, neg_ℤ}
 use Rattle.std.specs.Bool.{Decides}
 use Rattle.std.specs.List.{AllByRecursion, list_all}
 use Rattle.std.proofs.Math.Bool.{or_assoc}
 use Rattle.std.proofs.lemmas.Bool.{eqb-false, false≢true, cond-true}
 use Rattle.std.proofs.lemmas.Bool.Decides.{Decides-at, Decides-eqb, Decides-and, Decides-or, Decides-like}
 use Rattle.std.proofs.lemmas.List.{append_assoc, append_cancel_left}
-use Rattle.std.proofs.lemmas.Option.{same_Some, cond_some, option_and_then_some}
+use Rattle.std.proofs.lemmas.Option.{none-some, same_Some, cond_some, option_and_then_some}
 use Rattle.redo_line.specs.Decimal.{number, AreDigits, are_digits, number_of}
+use Rattle.redo_line.specs.Lines.{line_feed}
 use Rattle.redo_line.specs.Parts.{parted, behind}
+use Rattle.redo_line.specs.Private.Record.{parts_of}
 use Rattle.redo_line.specs.Record.{mark, colon, at_sign, point, space, minus, greatest_pid, IsKindByte, IsTime, IsStatus, kind_of, FitsKind, Fields, IsRecord, is_kind_byte, is_kind, is_pid, is_time_cut, is_time, checked, fields_of, status_behind, status_of}
 use Rattle.redo_line.proofs.DigitLemmas.{leb-Decides, list_all-Decides, are_digits-Decides, digits_free}
-use Rattle.redo_line.proofs.PartLemmas.{HasNo, free-append, are_parts, parted_at, parted_free, behind_front, front_whole, behind_free}
+use Rattle.redo_line.proofs.PartLemmas.{HasNo, free-append, free_parts, are_parts, parted_at, parted_free, behind_front, front_whole, behind_free}
 
 -- the name of a kind
 kind_byte-Decides : (byte : ℕ) → Decides (is_kind_byte byte) (IsKindByte byte)
@@ -212,3 +214,19 @@ pub one_reading : (line : List ℕ) (fields others : Fields) → IsRecord line f
 one_reading line fields others is also =
     let begins = record_begins line fields is in
     same_Some fields others (sym (record_fields line begins.0 fields begins.1 is) ∙ record_fields line begins.0 others begins.1 also)
+
+-- the kind and the text of a record in a line hold no line feed
+pub parts_free : (bytes kind : List ℕ) (pid : ℕ) (text : List ℕ) → HasNo line_feed bytes → option_map parts_of (fields_of bytes) ≡ Some (kind, pid, text) → HasNo line_feed kind × HasNo line_feed text
+parts_free bytes kind pid text free is = by (fields_of bytes) refl is
+  where
+    by : (read : Option Fields) → fields_of bytes ≡ read → option_map parts_of read ≡ Some (kind, pid, text) → HasNo line_feed kind × HasNo line_feed text
+    by None read is = absurd (none-some (kind, pid, text) is)
+    by (Some fields) read is =
+        let same = same_Some (parts_of fields) (kind, pid, text) is in
+        let all = subst (HasNo line_feed) (fields_read bytes fields read).0 free in
+        let behind = free_parts line_feed fields.kind _ all in
+        let behind_pid = free_parts line_feed fields.pid _ behind.1.1 in
+        let behind_time = free_parts line_feed fields.time _ behind_pid.1.1 in (
+          subst (HasNo line_feed) (ap (λ (parts : List ℕ × ℕ × List ℕ). parts.0) same) behind.0,
+          subst (HasNo line_feed) (ap (λ (parts : List ℕ × ℕ × List ℕ). parts.2) same) behind_time.1.1.1.1,
+        )

@@ -1,6 +1,6 @@
 -- How a scan goes on behind the bytes that it took.
-use Rattle.std.proofs.Common.{◌≡◌, ◌⊎◌, inl, inr, ℕ, ◌+◌, ◌-◌, ◌<◌, ◌≤◌, ◌^◌, Fits, w64, Bool, true, false, cond, List, [], ◌∷◌, ◌++◌, Option, None, Some, length, take, refl, sym, ◌∙◌, ap, arith}
-use Rattle.std.specs.List.{filter_map, flat_map, cons_option}
+use Rattle.std.proofs.Common.{◌≡◌, ◌⊎◌, inl, inr, ℕ, ◌+◌, ◌-◌, ◌<◌, ◌≤◌, ◌^◌, Fits, w64, Bool, true, false, cond, List, [], ◌∷◌, ◌++◌, Option, None, Some, length, map, take, drop, get_or, refl, sym, ◌∙◌, ap, arith}
+use Rattle.std.specs.List.{filter_map, cons_option}
 use Rattle.std.proofs.lemmas.Bool.{le-ltb, lt-ltb}
 use Rattle.std.proofs.lemmas.List.{append_assoc, append-nil, map-append, length-append, length-map, length-take, take_all}
 use Rattle.std.proofs.lemmas.List.Elements.{filter_map-append}
@@ -10,14 +10,14 @@ use Rattle.redo_line.specs.declared.stream_fault.StreamFault.{StreamFault}
 use Rattle.redo_line.specs.declared.stream_fault.StreamFault.TheVariants.{BadRecord, AfterClose, TooLong}
 use Rattle.redo_line.specs.Entry.{entry_of}
 use Rattle.redo_line.specs.Fault.{ending_fault}
-use Rattle.redo_line.specs.Lines.{line_feed, with_line_feed, ended, rest}
+use Rattle.redo_line.specs.Lines.{ended, rest}
 use Rattle.redo_line.specs.Log.{closes, line_entries, entries_of, first_fault, line_fault, or_else, fault_of, lines_before, part_of}
-use Rattle.redo_line.specs.Scan.{so_far, entries_so_far, EndsLine, EndsNone}
+use Rattle.redo_line.specs.Scan.{so_far, entries_so_far, EndLines, EndsNone}
 use Rattle.redo_line.specs.Private.Progress.{Progress, closed_by, IsAfter, Refuses}
 use Rattle.redo_line.specs.Private.CutLine.{Cuts}
 use Rattle.redo_line.proofs.EntryListLemmas.{first_fault-append-none, first_fault-front-none, closed_by-append, first_fault-bad, first_fault-fine, first_fault-nil, IsFaultAt}
 use Rattle.redo_line.proofs.FaultLemmas.{rest_entries, entries_of-append, late_byte, lines_before-append, no_fault}
-use Rattle.redo_line.proofs.LineLemmas.{ended-append, are_lines}
+use Rattle.redo_line.proofs.LineLemmas.{ended-append, few_lines}
 
 -- the entries of ended lines
 abbrev pub found : List ℕ → List (List ℕ) → List Entry
@@ -48,26 +48,24 @@ pub fine_part : (target : List ℕ) (max_bytes : ℕ) (bytes : List ℕ) → fau
 fine_part target max_bytes bytes none within =
     ap (λ o. found target (lines_before o (ended (take max_bytes bytes)))) none ∙ ap (λ f. found target (ended f)) (take_all max_bytes bytes within)
 
+-- a line where the log isn't closed
+pub one_fine : (closed : Bool) (line : ℕ) (entry : Entry) → closed ≡ false → first_fault closed line (Some entry ∷ []) ≡ None
+one_fine closed line entry is =
+    ap (λ c. first_fault c line (Some entry ∷ [])) is ∙ first_fault-fine line entry [] ∙ first_fault-nil (closes (Some entry)) (line + 1)
+
+-- lines that have these entries
+all_found : (target : List ℕ) (lines : List (List ℕ)) (entries : List Entry) → line_entries target lines ≡ map Some entries → found target lines ≡ entries
+all_found target [] [] are = refl
+all_found target [] (entry ∷ entries) are = absurd (cc)
+all_found target (line ∷ lines) [] are = absurd (cc)
+all_found target (line ∷ lines) (entry ∷ entries) are =
+    ap (λ o. cons_option o (found target lines)) (ap (λ es. get_or es 0 None) are) ∙ ap (λ es. entry ∷ es) (all_found target lines entries (ap (drop 1) are))
+
 -- a rest alone is not at fault
 rest_fine : (target : List ℕ) (line : ℕ) (last : List ℕ) → first_fault false line (rest_entries target last) ≡ None
 unfolding first_fault entry_of
 rest_fine target line [] = refl
 rest_fine target line (byte ∷ last) = refl
-
--- a line has a line feed at least
-few_in : (lines : List (List ℕ)) → length lines ≤ length (flat_map with_line_feed lines)
-few_in [] = omega arith
-few_in (line ∷ lines) =
-    let more = few_in lines in
-    let size = length-append (with_line_feed line) (flat_map with_line_feed lines) in
-    let own = length-append line (line_feed ∷ []) in
-    omega (arith, more, size, own)
-
-few_lines : (bytes : List ℕ) → length (ended bytes) ≤ length bytes
-few_lines bytes =
-    let few = few_in (ended bytes) in
-    let size = ap length (are_lines bytes).whole ∙ length-append (flat_map with_line_feed (ended bytes)) (rest bytes) in
-    omega (arith, few, size)
 
 -- any byte behind the line that closes the log, and behind what was kept since, is at fault
 late_behind : (target : List ℕ) (line : ℕ) (kept : List ℕ) (byte : ℕ) (bytes : List ℕ) → first_fault true line (entries_of target (kept ++ byte ∷ bytes)) ≡ Some (AfterClose line)
@@ -141,67 +139,68 @@ module _ (p : Progress) (u : List ℕ) (after : IsAfter p u) where
         ∙ ap (λ (b : List ℕ). first_fault true (p.lines + 1) (entries_of p.target (p.kept ++ b))) some ∙ late_behind p.target (p.lines + 1) p.kept byte bytes)
         (ended (rest u ++ a)) (ended-append u a)
 
-    -- bytes of which the first end a line
-    module _ (slice more line : List ℕ) (cut : Cuts p.kept slice (line ∷ []) []) (a_parts : a ≡ slice ++ more) (closed : p.closed ≡ false) where
-      lines_then : ended (u ++ slice) ≡ ended u ++ line ∷ []
+    -- bytes of which the first end lines
+    module _ (slice more : List ℕ) (lines : List (List ℕ)) (cut : Cuts p.kept slice lines []) (a_parts : a ≡ slice ++ more) where
+      lines_then : ended (u ++ slice) ≡ ended u ++ lines
       lines_then = (cut u (sym after.kept_is)).0
 
       rest_then : rest (u ++ slice) ≡ []
       rest_then = (cut u (sym after.kept_is)).1
 
-      entries_then : line_entries p.target (ended (u ++ slice)) ≡ before ++ entry_of p.target line true ∷ []
-      entries_then = ap (line_entries p.target) lines_then ∙ map-append (λ line. entry_of p.target line true) (ended u) (line ∷ [])
+      entries_then : line_entries p.target (ended (u ++ slice)) ≡ before ++ line_entries p.target lines
+      entries_then = ap (line_entries p.target) lines_then ∙ map-append (λ line. entry_of p.target line true) (ended u) lines
 
       parts : u ++ a ≡ (u ++ slice) ++ more
       parts = ap (λ (b : List ℕ). u ++ b) a_parts ∙ sym (append_assoc u slice more)
 
       -- a line without an entry
-      pub bad_refuses : entry_of p.target line true ≡ None → Refuses p u left (BadRecord (p.lines + 1))
-      bad_refuses none =
+      pub bad_refuses : (line : List ℕ) → lines ≡ line ∷ [] → p.closed ≡ false → entry_of p.target line true ≡ None → Refuses p u left (BadRecord (p.lines + 1))
+      bad_refuses line one closed none =
           let behind = entries_of p.target (rest (u ++ slice) ++ more) in
           let number : p.lines + 1 ≡ 1 + p.lines = omega arith in
           refuses_line (BadRecord (p.lines + 1)) (inr (ap BadRecord number))
           (ap (line_fault p.target) parts ∙ ap (first_fault false 1) (entries_of-append p.target (u ++ slice) more)
-          ∙ ap (λ es. first_fault false 1 (es ++ behind)) (entries_then ∙ ap (λ e. before ++ e ∷ []) none)
+          ∙ ap (λ es. first_fault false 1 (es ++ behind)) (entries_then ∙ ap (λ ls. before ++ line_entries p.target ls) one ∙ ap (λ e. before ++ e ∷ []) none)
           ∙ ap (first_fault false 1) (append_assoc before (None ∷ []) behind)
           ∙ goes_on (None ∷ behind) ∙ ap (λ c. first_fault c (p.lines + 1) (None ∷ behind)) closed ∙ first_fault-bad (p.lines + 1) behind)
-          (line ∷ ended (rest (u ++ slice) ++ more))
+          (lines ++ ended (rest (u ++ slice) ++ more))
           (ap ended parts ∙ ended-append (u ++ slice) more ∙ ap (λ ls. ls ++ ended (rest (u ++ slice) ++ more)) lines_then
-          ∙ append_assoc (ended u) (line ∷ []) (ended (rest (u ++ slice) ++ more)))
+          ∙ append_assoc (ended u) lines (ended (rest (u ++ slice) ++ more)))
 
-      -- a line with one
-      module _ (entry : Entry) (entry_is : entry_of p.target line true ≡ Some entry) where
+      -- lines with entries, none of which stands behind one that closes the log
+      module _ (entries : List Entry) (entries_are : line_entries p.target lines ≡ map Some entries) (fine : first_fault p.closed (p.lines + 1) (map Some entries) ≡ None) where
         slice_within : length (u ++ slice) ≤ p.max_bytes
         slice_within = let all = a_within in let size = ap length parts ∙ length-append (u ++ slice) more in omega (arith, all, size)
 
-        line_fine : line_fault p.target (u ++ slice) ≡ None
-        line_fine =
+        lines_fine : line_fault p.target (u ++ slice) ≡ None
+        lines_fine =
             ap (λ last. first_fault false 1 (line_entries p.target (ended (u ++ slice)) ++ rest_entries p.target last)) rest_then
-            ∙ ap (first_fault false 1) (append-nil (line_entries p.target (ended (u ++ slice))) ∙ entries_then ∙ ap (λ e. before ++ e ∷ []) entry_is)
-            ∙ goes_on (Some entry ∷ []) ∙ ap (λ c. first_fault c (p.lines + 1) (Some entry ∷ [])) closed
-            ∙ first_fault-fine (p.lines + 1) entry [] ∙ first_fault-nil (closes (Some entry)) (p.lines + 1 + 1)
+            ∙ ap (first_fault false 1) (append-nil (line_entries p.target (ended (u ++ slice))) ∙ entries_then ∙ ap (λ es. before ++ es) entries_are)
+            ∙ goes_on (map Some entries) ∙ fine
 
         fine_then : fault_of p.target p.max_bytes (so_far (u ++ slice)) ≡ None
-        fine_then = fine_is p.target p.max_bytes (u ++ slice) line_fine slice_within
+        fine_then = fine_is p.target p.max_bytes (u ++ slice) lines_fine slice_within
 
-        pub after_line : (kept : List ℕ) (taken : ℕ) (closed : Bool) → kept ≡ [] → taken ≡ p.taken + length slice → closed ≡ closes (Some entry)
-            → IsAfter (record { target = p.target; max_bytes = p.max_bytes; kept = kept; taken = taken; lines = p.lines + 1; closed = closed }) (u ++ slice)
-        after_line kept taken closed none taken_is closed_is = record {
+        pub after_lines : (kept : List ℕ) (taken count : ℕ) (closed : Bool) → kept ≡ [] → taken ≡ p.taken + length slice → count ≡ p.lines + length lines → closed ≡ closed_by p.closed (map Some entries)
+            → IsAfter (record { target = p.target; max_bytes = p.max_bytes; kept = kept; taken = taken; lines = count; closed = closed }) (u ++ slice)
+        after_lines kept taken count closed none taken_is count_is closed_is = record {
           fine = fine_then;
           kept_is = none ∙ sym rest_then;
           taken_is = taken_is ∙ ap (λ n. n + length slice) after.taken_is ∙ sym (length-append u slice);
-          lines_are = ap (λ n. n + 1) after.lines_are ∙ sym (length-append (ended u) (line ∷ [])) ∙ ap length (sym lines_then);
-          closed_is = closed_is ∙ sym (ap (closed_by false) (entries_then ∙ ap (λ e. before ++ e ∷ []) entry_is) ∙ closed_by-append false before (Some entry ∷ []));
+          lines_are = count_is ∙ ap (λ n. n + length lines) after.lines_are ∙ sym (length-append (ended u) lines) ∙ ap length (sym lines_then);
+          closed_is =
+              closed_is ∙ ap (λ c. closed_by c (map Some entries)) after.closed_is
+              ∙ sym (ap (closed_by false) (entries_then ∙ ap (λ es. before ++ es) entries_are) ∙ closed_by-append false before (map Some entries));
         }
 
-        one_entry_more : entries_so_far p.target p.max_bytes (u ++ slice) ≡ entries_so_far p.target p.max_bytes u ++ entry ∷ []
-        one_entry_more =
+        more_entries : entries_so_far p.target p.max_bytes (u ++ slice) ≡ entries_so_far p.target p.max_bytes u ++ entries
+        more_entries =
             fine_part p.target p.max_bytes (u ++ slice) fine_then slice_within
-            ∙ ap (found p.target) lines_then ∙ filter_map-append (λ line. entry_of p.target line true) (ended u) (line ∷ [])
-            ∙ ap (λ e. found p.target (ended u) ++ cons_option e []) entry_is ∙ ap (λ es. es ++ entry ∷ []) (sym part_u)
+            ∙ ap (found p.target) lines_then ∙ filter_map-append (λ line. entry_of p.target line true) (ended u) lines
+            ∙ (λ i. sym part_u i ++ all_found p.target lines entries entries_are i)
 
-        pub ends_line : EndsLine p.target p.max_bytes u slice entry
-        ends_line = record { fine = fine_then; line = line; lines_are = lines_then; nothing_behind = rest_then; entry_is = entry_is; entries = one_entry_more }
+        pub end_lines : EndLines p.target p.max_bytes u slice entries
+        end_lines = record { fine = fine_then; lines = lines; lines_are = lines_then; no_rest = rest_then; entries_are = entries_are; entries = more_entries }
 
     -- bytes in which no line ends
     module _ (kept : List ℕ) (cut : Cuts p.kept a [] kept) (open_log : (p.closed ≡ false) ⊎ (a ≡ [])) where
@@ -261,9 +260,9 @@ module _ (p : Progress) (u : List ℕ) (after : IsAfter p u) where
         pub ends_none : EndsNone p.target p.max_bytes u left
         ends_none = record { fine = fine_all; lines = same_lines; entries = same_entries }
 
--- the number of the line behind them is none that a machine can't hold
-pub next_line_fits : (now p : Progress) → p ≡ now → (u : List ℕ) → IsAfter now u → now.max_bytes ≤ 2 ^ 40 → Fits w64 (p.lines + 1)
-next_line_fits now p same u after limit =
+-- the number of a line not far behind them is none that a machine can't hold
+pub next_lines_fit : (now p : Progress) → p ≡ now → (u : List ℕ) → IsAfter now u → now.max_bytes ≤ 2 ^ 40 → (more : ℕ) → more < 2 ^ 16 → Fits w64 (p.lines + more)
+next_lines_fit now p same u after limit more few =
     let within = lines_within now u after in
     let lines = ap (λ (q : Progress). q.lines) same in
-    omega (arith, within, limit, lines)
+    omega (arith, within, limit, lines, few)

@@ -1,5 +1,5 @@
 -- Examples of what a scan took and answers, computed: in the log of the target `a`, which may have nine bytes.
-use Rattle.std.proofs.Common.{◌≡◌, ◌≢◌, ℕ, true, false, inl, inr, List, [], ◌∷◌, ◌++◌, Option, None, Some, Ok, Err, refl, ap, arith}
+use Rattle.std.proofs.Common.{◌≡◌, ◌≢◌, ℕ, true, false, inl, inr, List, [], ◌∷◌, ◌++◌, Option, None, Some, Ok, Err, refl, ap, arith, length}
 use Rattle.std.specs.Prelude.{codes}
 use Rattle.redo_line.specs.declared.entry.Entry.TheVariants.{Text}
 use Rattle.redo_line.specs.declared.scan.Step.TheVariants.{Found, More}
@@ -10,7 +10,7 @@ use Rattle.redo_line.specs.Lines.{line_feed, cutting, ended, rest}
 use Rattle.redo_line.specs.Log.{first_fault}
 use Rattle.redo_line.specs.Parts.{parted, behind}
 use Rattle.redo_line.specs.Record.{fields_of}
-use Rattle.redo_line.specs.Scan.{Scanned, so_far, fault_so_far, entries_so_far, EndsLine, EndsNone, AreAtFault, IsFine, took, refused_with, Finds, FindsMore, TakesAll, MayRefuse, Refuses, Steps, IsLateOrTooLong, RefusesFirst, entries_in, source_in, text_of}
+use Rattle.redo_line.specs.Scan.{Scanned, so_far, fault_so_far, entries_so_far, EndLines, EndsLine, EndsNone, AreAtFault, IsFine, took, refused_with, Finds, FindsMore, TakesAll, MayRefuse, Refuses, Steps, IsLateOrTooLong, RefusesFirst, entries_in, source_in, text_of}
 
 abbrev a : List ℕ
 a = codes "a"
@@ -91,14 +91,52 @@ finds : Finds (scanned (codes "x") None) (scanned (line (codes "xy")) None) (lin
 unfolding cutting ended rest first_fault entry_of record_entry parted behind
 finds = (refl, record { fine = refl; line = codes "xy"; lines_are = refl; nothing_behind = refl; entry_is = refl; entries = refl })
 
-finds_more : FindsMore (scanned [] None) (scanned (line (codes "y")) None) (line (codes "y")) (Text (codes "x") ∷ []) (Text (codes "x") ∷ Text (codes "y") ∷ [])
+-- a line, behind an entry, and two lines
+finds_one : FindsMore (scanned [] None) (scanned (line (codes "y")) None) (line (codes "y")) 1 (Text (codes "x") ∷ []) (Text (codes "x") ∷ Text (codes "y") ∷ [])
 unfolding cutting ended rest first_fault entry_of record_entry parted behind
-finds_more = record { entry = Text (codes "y"); finds = (refl, record { fine = refl; line = codes "y"; lines_are = refl; nothing_behind = refl; entry_is = refl; entries = refl }); put = refl }
+finds_one = record {
+  more = Text (codes "y") ∷ [];
+  taken = refl;
+  ends = record { fine = refl; lines = codes "y" ∷ []; lines_are = refl; no_rest = refl; entries_are = refl; entries = refl };
+  some = omega arith;
+  few = omega arith;
+  put = refl;
+}
 
--- the entry that was put behind others is the one that was found
-finds_no_other : FindsMore (scanned [] None) (scanned (line (codes "y")) None) (line (codes "y")) [] (Text [] ∷ []) → ⊥
+finds_two : FindsMore (scanned (codes "x") None) (scanned (line (codes "xy") ++ line []) None) (line (codes "y") ++ line []) 2 [] (Text (codes "xy") ∷ Text [] ∷ [])
 unfolding cutting ended rest first_fault entry_of record_entry parted behind
-finds_no_other is = let found : Text (codes "y") ∷ [] ≡ is.entry ∷ [] = is.finds.1.entries in let put : Text [] ∷ [] ≡ is.entry ∷ [] = is.put in absurd (cc)
+finds_two = record {
+  more = Text (codes "xy") ∷ Text [] ∷ [];
+  taken = refl;
+  ends = record { fine = refl; lines = codes "xy" ∷ [] ∷ []; lines_are = refl; no_rest = refl; entries_are = refl; entries = refl };
+  some = omega arith;
+  few = omega arith;
+  put = refl;
+}
+
+-- lines of which the last isn't ended, entries that aren't theirs, and too many bytes
+end_no_lines :
+    (EndLines a 9 [] (line (codes "x") ++ codes "y") (Text (codes "x") ∷ []) → ⊥)
+    × (EndLines a 9 [] (line (codes "x")) [] → ⊥)
+    × (EndLines a 1 [] (line (codes "x")) (Text (codes "x") ∷ []) → ⊥)
+unfolding cutting ended rest first_fault entry_of record_entry parted behind
+end_no_lines = (
+  (λ is. let same : codes "y" ≡ [] = is.no_rest in absurd (cc)),
+  (λ is. let same : Text (codes "x") ∷ [] ≡ [] = is.entries in absurd (cc)),
+  (λ is. let same : Some TooLong ≡ None = is.fine in absurd (cc)),
+)
+
+-- not more lines than were asked for, and not without one; and the entry that was put behind others is the one that was found
+finds_no_other :
+    (FindsMore (scanned [] None) (scanned (line [] ++ line []) None) (line [] ++ line []) 1 [] (Text [] ∷ Text [] ∷ []) → ⊥)
+    × (FindsMore (scanned [] None) (scanned [] None) [] 1 [] [] → ⊥)
+    × (FindsMore (scanned [] None) (scanned (line (codes "y")) None) (line (codes "y")) 1 [] (Text [] ∷ []) → ⊥)
+unfolding cutting ended rest first_fault entry_of record_entry parted behind
+finds_no_other = (
+  (λ is. let count = ap length is.put in omega (arith, count, is.few)),
+  (λ is. let count = ap length is.put in omega (arith, count, is.some)),
+  (λ is. let found : Text (codes "y") ∷ [] ≡ is.more = is.ends.entries in let put : Text [] ∷ [] ≡ is.more = is.put in absurd (cc)),
+)
 
 takes_all : TakesAll (scanned (codes "x") None) (scanned (codes "xy") None) (codes "y")
 unfolding cutting ended rest first_fault entry_of record_entry parted behind

@@ -1,18 +1,24 @@
 -- What one step of a scan gives, by what its cutter found in the bytes of a piece that are within the limit.
-use Rattle.std.proofs.Common.{◌≡◌, ◌⊎◌, inl, inr, ℕ, zero, suc, ◌+◌, ◌-◌, ◌<◌, ◌≤◌, Bool, true, false, List, [], ◌∷◌, ◌++◌, None, Some, Result, Ok, Err, IfErr, IsErrAnd, length, take, drop, refl, sym, ◌∙◌, ap, subst, arith}
-use Rattle.std.specs.List.{slice_range}
-use Rattle.std.proofs.lemmas.List.{append-nil, length-take, take_all, take-append-le, take-append-drop}
+use Rattle.std.proofs.Common.{◌≡◌, ◌⊎◌, inl, inr, ℕ, zero, suc, ◌+◌, ◌-◌, ◌<◌, ◌≤◌, Bool, true, false, List, [], ◌∷◌, ◌++◌, None, Some, Result, Ok, Err, IfErr, IsErrAnd, length, map, get_or, nat_eq, take, drop, refl, sym, ◌∙◌, ap, subst, arith}
+use Rattle.std.specs.List.{AllByRecursion, slice_range, starts_with}
+use Rattle.std.proofs.lemmas.List.{append-nil, length-map, length-take, take_all, take-append-le, take-append-drop, take-take}
 use Rattle.std.proofs.Math.Seq.{take-nil}
 use Rattle.std.proofs.lemmas.Option.{same_Some}
 use Rattle.redo_line.specs.declared.entry.Entry.{Entry}
+use Rattle.redo_line.specs.declared.entry.Entry.TheVariants.{Text}
 use Rattle.redo_line.specs.declared.stream_fault.StreamFault.{StreamFault}
 use Rattle.redo_line.specs.declared.stream_fault.StreamFault.TheVariants.{BadRecord, AfterClose, TooLong, OutOfMemory}
 use Rattle.redo_line.specs.Entry.{entry_of}
 use Rattle.redo_line.specs.Lines.{ended, rest}
-use Rattle.redo_line.specs.Log.{closes}
-use Rattle.redo_line.specs.Private.Progress.{Progress, IsAfter, Finds, TakesAll, Refuses, byte_fault, first_byte_fault}
-use Rattle.redo_line.specs.Private.CutLine.{Cuts}
-use Rattle.redo_line.proofs.ScanLemmas.{late_refuses, bad_refuses, after_line, ends_line, long_refuses, after_rest, ends_none}
+use Rattle.redo_line.specs.Log.{closes, first_fault, line_entries}
+use Rattle.redo_line.specs.Scan.{Scanned, EndLines, EndsLine, Finds as FindsOne, FindsMore, entries_so_far}
+use Rattle.redo_line.specs.Private.Progress.{Progress, IsAfter, Finds, TakesAll, Refuses, byte_fault, closed_by, first_byte_fault}
+use Rattle.redo_line.specs.Private.CutLine.{AreTextLines, Cuts}
+use Rattle.redo_line.specs.Record.{mark}
+use Rattle.redo_line.proofs.ScanLemmas.{late_refuses, bad_refuses, after_lines, end_lines, long_refuses, after_rest, ends_none, one_fine}
+use Rattle.redo_line.proofs.EntryListLemmas.{first_fault-fine, first_fault-nil}
+use Rattle.redo_line.proofs.LineLemmas.{ended-append, few_lines, rest-append}
+use Rattle.redo_line.proofs.ReadingLemmas.{is_text}
 
 -- a fault that is handed on
 pub handed_on : {X : Type 0} (result : Result X StreamFault) (given : StreamFault) (P : StreamFault → Type 0) → IsErrAnd result (λ fault. fault ≡ given) → P given → IfErr result P
@@ -99,18 +105,20 @@ module _ (now p : Progress) (same : p ≡ now) (u : List ℕ) (after_now : IsAft
 
       pub refuses_bad : entry_of p.target line true ≡ None → Refuses now u (drop from piece) (BadRecord (p.lines + 1))
       refuses_bad none =
-          refuses (BadRecord (p.lines + 1)) (bad_refuses p u after left a a_is (take upto a) (drop upto a) line cut (sym (take-append-drop upto a)) open_log none)
+          refuses (BadRecord (p.lines + 1)) (bad_refuses p u after left a a_is (take upto a) (drop upto a) (line ∷ []) cut (sym (take-append-drop upto a)) line refl open_log none)
 
       pub line_found : (entry : Entry) (kept : List ℕ) (closed : Bool) → entry_of p.target line true ≡ Some entry → kept ≡ [] → closed ≡ closes (Some entry)
-          → Finds now (record { target = p.target; max_bytes = p.max_bytes; kept = kept; taken = p.taken + upto; lines = p.lines + 1; closed = closed }) u (slice_range piece from (from + upto)) entry
+          → Finds now (record { target = p.target; max_bytes = p.max_bytes; kept = kept; taken = p.taken + upto; lines = p.lines + 1; closed = closed }) u (slice_range piece from (from + upto)) (entry ∷ [])
       line_found entry kept closed entry_is none closed_is =
           let size : length (take upto a) ≡ upto = let few = length-take upto a in let within = place.1 in omega (arith, few, within) in
           let parts = sym (take-append-drop upto a) in
-          let behind = after_line p u after left a a_is (take upto a) (drop upto a) line cut parts open_log entry entry_is kept (p.taken + upto) closed none (ap (λ n. p.taken + n) (sym size)) closed_is in
-          let ends = ends_line p u after left a a_is (take upto a) (drop upto a) line cut parts open_log entry entry_is in
+          let are : line_entries p.target (line ∷ []) ≡ map Some (entry ∷ []) = ap (λ e. e ∷ []) entry_is in
+          let fine = one_fine p.closed (p.lines + 1) entry open_log in
+          let behind = after_lines p u after left a a_is (take upto a) (drop upto a) (line ∷ []) cut parts (entry ∷ []) are fine kept (p.taken + upto) (p.lines + 1) closed none (ap (λ n. p.taken + n) (sym size)) refl closed_is in
+          let ends = end_lines p u after left a a_is (take upto a) (drop upto a) (line ∷ []) cut parts (entry ∷ []) are fine in
           let then : Progress = record { target = p.target; max_bytes = p.max_bytes; kept = kept; taken = p.taken + upto; lines = p.lines + 1; closed = closed } in
-          let finds : Finds p then u (take upto a) entry = record { after = behind; ends = ends } in
-          subst (λ (s : List ℕ). Finds now then u s entry) (sym slice_is) (subst (λ (q : Progress). Finds q then u (take upto a) entry) same finds)
+          let finds : Finds p then u (take upto a) (entry ∷ []) = record { after = behind; ends = ends } in
+          subst (λ (s : List ℕ). Finds now then u s (entry ∷ [])) (sym slice_is) (subst (λ (q : Progress). Finds q then u (take upto a) (entry ∷ [])) same finds)
 
     module _ (kept : List ℕ) (cut : Cuts p.kept a [] kept) where
       pub refuses_long : length a < length left → Refuses now u (drop from piece) TooLong
@@ -126,3 +134,99 @@ module _ (now p : Progress) (same : p ≡ now) (u : List ℕ) (after_now : IsAft
           let then : Progress = record { target = p.target; max_bytes = p.max_bytes; kept = kept; taken = p.taken + length left; lines = p.lines; closed = p.closed } in
           let takes : TakesAll p then u left = record { after = behind; ends = ends } in
           subst (λ (l : List ℕ). TakesAll now then u l) left_is (subst (λ (q : Progress). TakesAll q then u left) same takes)
+
+-- ---- lines that are text
+
+module _ (target : List ℕ) where
+  texts_are : (lines : List (List ℕ)) → AllByRecursion (λ line. starts_with nat_eq line mark ≡ false) lines → line_entries target lines ≡ map Some (map Text lines)
+  texts_are [] all = refl
+  texts_are (line ∷ lines) all = λ i. is_text target line line true refl all.0 i ∷ texts_are lines all.1 i
+
+texts_fine : (line : ℕ) (lines : List (List ℕ)) → first_fault false line (map Some (map Text lines)) ≡ None
+texts_fine line [] = first_fault-nil false line
+texts_fine line (first ∷ lines) = first_fault-fine line (Text first) (map Some (map Text lines)) ∙ texts_fine (line + 1) lines
+
+texts_close_none : (lines : List (List ℕ)) → closed_by false (map Some (map Text lines)) ≡ false
+texts_close_none [] = refl
+texts_close_none (line ∷ lines) = texts_close_none lines
+
+-- of a piece from a place on so many bytes are lines that are text, where no line is begun and the log isn't closed
+module _ (now p : Progress) (same : p ≡ now) (u : List ℕ) (after_now : IsAfter now u) (piece left : List ℕ) (from : ℕ) (left_is : left ≡ drop from piece)
+    (upto count : ℕ) (are : AreTextLines (take upto left) count) (within : upto ≤ length left) (room_now : now.taken + upto ≤ now.max_bytes) (some : 0 < count) (none_now : now.kept ≡ []) (open_now : now.closed ≡ false) where
+  room : p.taken + upto ≤ p.max_bytes
+  room = subst (λ (q : Progress). q.taken + upto ≤ q.max_bytes) (sym same) room_now
+
+  none_kept : p.kept ≡ []
+  none_kept = ap (λ (q : Progress). q.kept) same ∙ none_now
+
+  not_closed : p.closed ≡ false
+  not_closed = ap (λ (q : Progress). q.closed) same ∙ open_now
+
+  -- they have bytes
+  pub texts_bytes : 0 < upto
+  texts_bytes = let few = few_lines (take upto left) in let size = length-take upto left in omega (arith, are.count_is, some, few, size)
+
+  pub texts_count : length (map Text (ended (take upto left))) ≡ count
+  texts_count = length-map (ended (take upto left)) Text ∙ are.count_is
+
+  abbrev pub text_entries : List Entry
+  text_entries = map Text (ended (take upto left))
+
+  pub texts_found : Finds now (record { target = p.target; max_bytes = p.max_bytes; kept = p.kept; taken = p.taken + upto; lines = p.lines + count; closed = p.closed }) u (slice_range piece from (from + upto)) text_entries
+  texts_found =
+      let slice = take upto left in
+      let lines = ended slice in
+      let a = take (p.max_bytes - p.taken) left in
+      let after : IsAfter p u = subst (λ q. IsAfter q u) (sym same) after_now in
+      let front : take upto a ≡ slice = take-take upto (p.max_bytes - p.taken) left (let fits = room in omega (arith, fits)) in
+      let parts : a ≡ slice ++ drop upto a = sym (take-append-drop upto a) ∙ ap (λ (b : List ℕ). b ++ drop upto a) front in
+      let cut : Cuts p.kept slice lines [] = λ taken is. (
+          ended-append taken slice ∙ ap (λ (k : List ℕ). ended taken ++ ended (k ++ slice)) (is ∙ none_kept),
+          rest-append taken slice ∙ ap (λ (k : List ℕ). rest (k ++ slice)) (is ∙ none_kept) ∙ are.nothing_behind,
+      ) in
+      let entries_are = texts_are p.target lines are.texts in
+      let fine : first_fault p.closed (p.lines + 1) (map Some text_entries) ≡ None = ap (λ c. first_fault c (p.lines + 1) (map Some text_entries)) not_closed ∙ texts_fine (p.lines + 1) lines in
+      let size : length slice ≡ upto = omega (arith, length-take upto left, within) in
+      let closed_is : p.closed ≡ closed_by p.closed (map Some text_entries) = not_closed ∙ sym (texts_close_none lines) ∙ ap (λ c. closed_by c (map Some text_entries)) (sym not_closed) in
+      let then : Progress = record { target = p.target; max_bytes = p.max_bytes; kept = p.kept; taken = p.taken + upto; lines = p.lines + count; closed = p.closed } in
+      let finds : Finds p then u slice text_entries = record {
+        after = after_lines p u after left a refl slice (drop upto a) lines cut parts text_entries entries_are fine p.kept (p.taken + upto) (p.lines + count) p.closed none_kept
+            (ap (λ n. p.taken + n) (sym size)) (ap (λ n. p.lines + n) (sym are.count_is)) closed_is;
+        ends = end_lines p u after left a refl slice (drop upto a) lines cut parts text_entries entries_are fine;
+      } in
+      let slice_is : slice_range piece from (from + upto) ≡ slice =
+          let whole : from + upto - from ≡ upto = omega arith in
+          ap (λ n. take n (drop from piece)) whole ∙ ap (take upto) (sym left_is) in
+      subst (λ (s : List ℕ). Finds now then u s text_entries) (sym slice_is) (subst (λ (q : Progress). Finds q then u slice text_entries) same finds)
+
+  -- so their first byte is not at fault by where it stands
+  pub texts_at_once : first_byte_fault now (drop from piece) ≡ None
+  texts_at_once = ap (first_byte_fault now) (sym left_is) ∙ ap (λ q. first_byte_fault q left) (sym same) ∙ by left (p.max_bytes - p.taken) refl refl
+    where
+      by : (bytes : List ℕ) (left_room : ℕ) → left ≡ bytes → p.max_bytes - p.taken ≡ left_room → first_byte_fault p left ≡ None
+      by [] left_room none room_is = ap (first_byte_fault p) none
+      by (byte ∷ bytes) zero some_left room_is = absurd (let none = texts_bytes in let fits = room in omega (arith, none, fits, room_is))
+      by (byte ∷ bytes) (suc left_room) some_left room_is =
+          ap (first_byte_fault p) some_left ∙ ap (λ n. byte_fault n p.lines p.closed) room_is ∙ ap (byte_fault (suc left_room) p.lines) not_closed
+
+-- ---- a single line
+
+-- lines whose only entry is this one are one line
+pub one_ends : (target : List ℕ) (max_bytes : ℕ) (before bytes : List ℕ) (more : List Entry) (entry : Entry) → more ≡ entry ∷ [] → EndLines target max_bytes before bytes more → EndsLine target max_bytes before bytes entry
+one_ends target max_bytes before bytes more entry one ends = by ends.lines refl
+  where
+    by : (lines : List (List ℕ)) → ends.lines ≡ lines → EndsLine target max_bytes before bytes entry
+    by [] is = absurd (let are = sym (ap (line_entries target) is) ∙ ends.entries_are ∙ ap (map Some) one in cc)
+    by (first ∷ second ∷ lines) is = absurd (let are = sym (ap (line_entries target) is) ∙ ends.entries_are ∙ ap (map Some) one in cc)
+    by (line ∷ []) is = record {
+      fine = ends.fine;
+      line = line;
+      lines_are = ends.lines_are ∙ ap (λ ls. ended before ++ ls) is;
+      nothing_behind = ends.no_rest;
+      entry_is = ap (λ es. get_or es 0 None) (sym (ap (line_entries target) is) ∙ ends.entries_are ∙ ap (map Some) one);
+      entries = ends.entries ∙ ap (λ es. entries_so_far target max_bytes before ++ es) one;
+    }
+
+pub one_found : (old new : Scanned) (bytes : List ℕ) (first all : List Entry) (entry : Entry) → first ≡ [] → all ≡ entry ∷ [] → FindsMore old new bytes 1 first all → FindsOne old new bytes entry
+one_found old new bytes first all entry none is found =
+    (found.taken, one_ends old.target old.max_bytes old.bytes bytes found.more entry (ap (λ es. es ++ found.more) (sym none) ∙ sym found.put ∙ is) found.ends)

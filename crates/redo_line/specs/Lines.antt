@@ -1,5 +1,5 @@
 -- How a list of bytes is cut into lines and a rest.
-use Rattle.std.specs.Prelude.{◌≡◌, ◌≢◌, ℕ, List, [], ◌∷◌, ◌++◌, Option, None, Some, option_to_list, ◌==◌, if◌then◌else◌}
+use Rattle.std.specs.Prelude.{◌≡◌, ◌≢◌, ℕ, ◌<◌, length, List, [], ◌∷◌, ◌++◌, Option, None, Some, option_to_list, ◌==◌, if◌then◌else◌}
 use Rattle.std.specs.List.{AllByRecursion, flat_map}
 
 -- the byte that ends a line, and is no part of it
@@ -45,6 +45,12 @@ ended bytes = (cutting bytes).lines
 -- what stands behind the last line feed
 unfoldable pub rest : List ℕ → List ℕ
 rest bytes = (cutting bytes).last
+
+-- the bytes are so many lines, one at least, and nothing stands behind the last line feed
+pub record AreWholeLines (bytes : List ℕ) (count : ℕ) : Type 0 where
+  pub count_is : length (ended bytes) ≡ count
+  pub some : 0 < count
+  pub nothing_behind : rest bytes ≡ []
 
 -- a rest, if it is one: an empty rest is no line
 abbrev pub unended : List ℕ → Option (List ℕ)

@@ -1,5 +1,5 @@
 -- What a scan took, and what it answers.
-use Rattle.std.specs.Prelude.{◌≡◌, ◌≢◌, ◌<◌, ◌≤◌, ℕ, Bool, true, false, ◌⊎◌, List, [], ◌∷◌, ◌++◌, Option, None, Some, Result, Ok, Err, length, take, drop, slice_range}
+use Rattle.std.specs.Prelude.{◌≡◌, ◌≢◌, ◌<◌, ◌≤◌, ℕ, Bool, true, false, ◌⊎◌, List, [], ◌∷◌, ◌++◌, Option, None, Some, Result, Ok, Err, length, map, take, drop, slice_range}
 use Rattle.redo_line.specs.declared.entry.Entry.{Entry}
 use Rattle.redo_line.specs.declared.entry.Entry.TheVariants.{Text}
 use Rattle.redo_line.specs.declared.scan.Step.{Step}
@@ -9,7 +9,7 @@ use Rattle.redo_line.specs.declared.stream_fault.StreamFault.TheVariants.{AfterC
 use Rattle.redo_device.specs.Feed.{Stream}
 use Rattle.redo_line.specs.Lines.{ended, rest}
 use Rattle.redo_line.specs.Entry.{entry_of}
-use Rattle.redo_line.specs.Log.{stream_of, fault_of, part_of}
+use Rattle.redo_line.specs.Log.{stream_of, fault_of, line_entries, part_of}
 use Rattle.redo_line.specs.Source.{Source, source}
 
 -- A scan as contracts see it: of whose log, how many bytes this may have, whether it has to be closed, the bytes that
@@ -45,6 +45,15 @@ module _ (target : List ℕ) (max_bytes : ℕ) where
     pub entry_is : entry_of target line true ≡ Some entry
     pub entries : entries_so_far (before ++ bytes) ≡ entries_so_far before ++ entry ∷ []
 
+  -- bytes behind others end lines more, which have these entries, and nothing stands behind the last; there is no fault
+  pub record EndLines (before bytes : List ℕ) (more : List Entry) : Type 0 where
+    pub fine : fault_so_far (before ++ bytes) ≡ None
+    pub lines : List (List ℕ)
+    pub lines_are : ended (before ++ bytes) ≡ ended before ++ lines
+    pub no_rest : rest (before ++ bytes) ≡ []
+    pub entries_are : line_entries target lines ≡ map Some more
+    pub entries : entries_so_far (before ++ bytes) ≡ entries_so_far before ++ more
+
   -- bytes behind others end no line, and there is no fault
   pub record EndsNone (before bytes : List ℕ) : Type 0 where
     pub fine : fault_so_far (before ++ bytes) ≡ None
@@ -75,11 +84,14 @@ refused_with fault scan = record { target = scan.target; max_bytes = scan.max_by
 abbrev pub Finds : Scanned → Scanned → List ℕ → Entry → Type 0
 Finds old new bytes entry = (new ≡ took bytes old) × EndsLine old.target old.max_bytes old.bytes bytes entry
 
--- ..which was put behind others
-pub record FindsMore (old new : Scanned) (bytes : List ℕ) (first all : List Entry) : Type 0 where
-  pub entry : Entry
-  pub finds : Finds old new bytes entry
-  pub put : all ≡ first ++ entry ∷ []
+-- these bytes were taken: they end lines more, one at least and at most so many, whose entries were put behind others
+pub record FindsMore (old new : Scanned) (bytes : List ℕ) (most : ℕ) (first all : List Entry) : Type 0 where
+  pub more : List Entry
+  pub taken : new ≡ took bytes old
+  pub ends : EndLines old.target old.max_bytes old.bytes bytes more
+  pub some : 0 < length more
+  pub few : length more ≤ most
+  pub put : all ≡ first ++ more
 
 -- these bytes were taken: no line ends in them, and no entry comes
 abbrev pub TakesAll : Scanned → Scanned → List ℕ → Type 0

@@ -1,6 +1,7 @@
 //! Entries in few pieces of memory.
-ghost use Rattle.std.specs.Prelude.{◌≡◌, ◌+◌, true, [], ◌∷◌, ◌++◌, length, IfOk, OnOk, OnErr};
-ghost use Rattle.redo_line.specs.Entries.{AreAt, IsLayout, IsWithin, entry_at};
+ghost use Rattle.std.specs.Prelude.{◌≡◌, ◌≤◌, ◌+◌, true, [], ◌∷◌, ◌++◌, length, map, drop, slice_range, IfOk, OnOk, OnErr};
+ghost use Rattle.redo_line.specs.Entries.{AreAt, IsLayout, IsWithin, entries_there};
+ghost use Rattle.redo_line.specs.Lines.{AreWholeLines, HasNoLineFeed, ended};
 ghost use Rattle.redo_name.specs.Names.{IsNormal};
 ghost use Rattle.redo_line.specs.Private.CutLine.{line_bytes};
 ghost use Rattle.redo_line.specs.declared.entry.Entry.TheVariants.{Text, Mention, Done, Closing, Note};
@@ -12,11 +13,12 @@ use redo_name::TargetName;
 use std::alloc::{AllocError, Global};
 use std::marker::Model;
 
-/// Where the texts of an entry stand, or its name. Its cases are those of [`Entry`].
+/// Where the texts of lines stand, or of an entry, or its name. Its cases are those of [`Entry`].
 #[derive(Clone, Copy, Debug)]
 pub enum EntryAt {
-    /// A line feed stands behind it.
-    Text {
+    /// So many lines that are text, one at least, each with its line feed.
+    Texts {
+        lines: u16,
         start: usize,
         end: usize,
     },
@@ -52,6 +54,8 @@ pub struct Entries {
     bytes: Vec<u8>,
     names: Vec<u8>,
     places: Vec<EntryAt>,
+    // How many entries there are.
+    count: usize,
     // How many bytes the first text asks room for.
     room: usize,
 }
@@ -63,20 +67,21 @@ pub struct Layout<'a> {
     pub bytes: &'a [u8],
     /// Their names, one behind the other.
     pub names: &'a [u8],
-    /// Of each entry, where its texts stand, or its name.
+    /// Of lines, or of an entry, where their texts stand, or its name.
     pub places: &'a [EntryAt],
 }
 
 impl Model for Entries {
     ghost use Rattle.std.specs.Prelude.{List};
     ghost use Rattle.redo_line.specs.declared.entry.Entry as spec;
-    ghost use Rattle.redo_line.specs.Entries.{AreWithin, entries_at};
+    ghost use Rattle.redo_line.specs.Entries.{entries_at};
+    ghost use Rattle.redo_line.specs.Private.Entries.{AreCounted};
 
     ghost Value = { List spec.Entry };
 
     ghost view = { λ run. entries_at run.bytes.items run.names.items run.places.items };
 
-    ghost invariant = { λ run. AreWithin run.bytes.items run.names.items run.places.items };
+    ghost invariant = { λ run. AreCounted run.bytes.items run.names.items run.places.items run.count };
 }
 
 impl Entries {
@@ -88,6 +93,7 @@ impl Entries {
             bytes: Vec::new(alloc),
             names: Vec::new(alloc),
             places: Vec::new(alloc),
+            count: 0,
             room: 0,
         }
     }
@@ -100,6 +106,7 @@ impl Entries {
             bytes: Vec::new(alloc),
             names: Vec::new(alloc),
             places: Vec::with_capacity(alloc, entries)?,
+            count: 0,
             room: bytes,
         })
     }
@@ -108,7 +115,7 @@ impl Entries {
     pub fn len(&self) -> usize
         ensures { result ≡ length self.now }
     {
-        self.places.len()
+        self.count
     }
 
     /// What they are made of.
@@ -122,7 +129,7 @@ impl Entries {
         }
     }
 
-    /// The pieces of memory: their texts and kinds, their names, and of each entry, where it stands.
+    /// The pieces of memory: their texts and kinds, their names, and where they stand.
     pub fn into_pieces(self) -> (Vec<u8>, Vec<u8>, Vec<EntryAt>)
         ensures { AreAt result.0.items result.1.items result.2.items self }
     {
@@ -135,15 +142,15 @@ impl Entries {
         ensures { IfOk result (λ entry. self ≡ entry ∷ []) }
     {
         let Entries {
-            mut bytes,
+            bytes,
             names,
             places,
             ..
         } = self;
         match places[0] {
-            EntryAt::Text { start, end } => {
-                bytes.truncate(end);
-                Ok(Entry::Text(LineText::from_vec(bytes).behind(start)))
+            EntryAt::Texts { start, end, .. } => {
+                let line = part_of(bytes, start, end - 1);
+                Ok(Entry::Text(LineText::from_vec(line)))
             }
             place => copy_at(alloc, &bytes, &names, place),
         }
@@ -165,6 +172,7 @@ impl Entries {
 
     // Puts a line behind them, as text. A refusal changes nothing.
     pub(crate) fn push_line(&mut self, line: Line<'_>) -> Result<(), AllocError>
+        requires { HasNoLineFeed (line_bytes line) }
         ensures pushed { OnOk result (self.new ≡ self.old ++ Text (line_bytes line.entry) ∷ []) }
         ensures err { OnErr result (self.new ≡ self.old) }
     {
@@ -174,28 +182,55 @@ impl Entries {
         }
     }
 
+    // Puts so many lines behind them, as texts. A refusal changes nothing.
+    pub(crate) fn push_lines(&mut self, lines: &[u8], count: u16) -> Result<(), AllocError>
+        requires { AreWholeLines lines.now count }
+        ensures pushed { OnOk result (self.new ≡ self.old ++ map Text (ended lines.now)) }
+        ensures err { OnErr result (self.new ≡ self.old) }
+    {
+        let (start, end) = put_with_room(&mut self.bytes, self.room, lines)?;
+        self.places.push(EntryAt::Texts {
+            lines: count,
+            start,
+            end,
+        })?;
+        self.count += count as usize;
+        Ok(())
+    }
+
     fn push_text(&mut self, line: &[u8]) -> Result<(), AllocError>
+        requires { HasNoLineFeed line.now }
         ensures pushed { OnOk result (self.new ≡ self.old ++ Text line.now ∷ []) }
         ensures err { OnErr result (self.new ≡ self.old) }
     {
-        let (start, end) = put_with_room(&mut self.bytes, self.room, line)?;
-        self.bytes.push(b'\n')?;
-        self.places.push(EntryAt::Text { start, end })?;
+        let (start, _) = put_with_room(&mut self.bytes, self.room, line)?;
+        let (_, end) = put(&mut self.bytes, b"\n")?;
+        self.places.push(EntryAt::Texts {
+            lines: 1,
+            start,
+            end,
+        })?;
+        self.count += 1;
         Ok(())
     }
 
     // The first text brings its memory, where there is no room for it.
     fn push_joined(&mut self, line: Vec<u8>) -> Result<(), AllocError>
+        requires { HasNoLineFeed line.items }
         ensures pushed { OnOk result (self.new ≡ self.old ++ Text line.items ∷ []) }
         ensures err { OnErr result (self.new ≡ self.old) }
     {
         if !is_first_beyond(&self.bytes, self.room, line.len()) {
             return self.push_text(&line);
         }
-        let end = line.len();
         self.bytes = line;
-        self.bytes.push(b'\n')?;
-        self.places.push(EntryAt::Text { start: 0, end })?;
+        let (_, end) = put(&mut self.bytes, b"\n")?;
+        self.places.push(EntryAt::Texts {
+            lines: 1,
+            start: 0,
+            end,
+        })?;
+        self.count += 1;
         Ok(())
     }
 
@@ -211,6 +246,7 @@ impl Entries {
             start,
             end,
         })?;
+        self.count += 1;
         Ok(())
     }
 
@@ -226,6 +262,7 @@ impl Entries {
             start,
             end,
         })?;
+        self.count += 1;
         Ok(())
     }
 
@@ -234,10 +271,13 @@ impl Entries {
         ensures err { OnErr result (self.new ≡ self.old) }
     {
         self.places.push(EntryAt::Closing { pid, status })?;
+        self.count += 1;
         Ok(())
     }
 
     pub(crate) fn push_note(&mut self, pid: u32, kind: &[u8], text: &[u8]) -> Result<(), AllocError>
+        requires kind { HasNoLineFeed kind.now }
+        requires text { HasNoLineFeed text.now }
         ensures pushed { OnOk result (self.new ≡ self.old ++ Note pid kind.now text.now ∷ []) }
         ensures err { OnErr result (self.new ≡ self.old) }
     {
@@ -249,18 +289,39 @@ impl Entries {
             middle,
             end,
         })?;
+        self.count += 1;
         Ok(())
     }
 }
 
-// The entry that stands there, with memory of its own.
+// A part of bytes, in their memory.
+fn part_of(mut bytes: Vec<u8>, start: usize, end: usize) -> Vec<u8>
+    requires order { start ≤ end }
+    requires end { end ≤ length bytes.items }
+    ensures { result.items ≡ slice_range bytes.items start end }
+{
+    bytes.truncate(end);
+    behind(bytes, start)
+}
+
+// What stands behind so many bytes, in their memory.
+fn behind(mut bytes: Vec<u8>, count: usize) -> Vec<u8>
+    requires { count ≤ length bytes.items }
+    ensures { result.items ≡ drop count bytes.items }
+{
+    bytes.drain(..count);
+    bytes
+}
+
+// The entry that stands there alone, with memory of its own; a line is copied apart.
 fn copy_at(alloc: Global, bytes: &[u8], names: &[u8], place: EntryAt) -> Result<Entry, AllocError>
-    requires { IsWithin bytes.now names.now place }
-    ensures { IfOk result (λ entry. entry ≡ entry_at bytes.now names.now place) }
+    requires within { IsWithin bytes.now names.now place }
+    requires alone { length (entries_there bytes.now names.now place) ≡ 1 }
+    ensures { IfOk result (λ entry. entries_there bytes.now names.now place ≡ entry ∷ []) }
 {
     match place {
-        EntryAt::Text { start, end } => {
-            let text = LineText::copy_of(alloc, &bytes[start..end])?;
+        EntryAt::Texts { start, end, .. } => {
+            let text = LineText::copy_of(alloc, &bytes[start..end - 1])?;
             Ok(Entry::Text(text))
         }
         EntryAt::Mention {

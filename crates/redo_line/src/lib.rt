@@ -21,6 +21,7 @@ mod progress;
 mod record;
 mod scan;
 mod stream_fault;
+mod texts;
 
 pub use cutter::{Cut, Cutter};
 pub use decimal::read_number;

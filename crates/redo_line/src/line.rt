@@ -4,6 +4,7 @@ ghost use Rattle.redo_line.specs.Parts.{parted};
 ghost use Rattle.redo_line.specs.Record.{mark, space};
 ghost use Rattle.redo_line.specs.Entry.{entry_of, behind_mark, done_parted};
 ghost use Rattle.redo_line.specs.Line.{bad_name};
+ghost use Rattle.redo_line.specs.Lines.{HasNoLineFeed};
 ghost use Rattle.redo_line.specs.Private.CutLine.{line_bytes};
 ghost use Rattle.redo_line.specs.Private.Line.{Reads, ReadsInto};
 ghost use Rattle.redo_line.specs.declared.entry.Entry.TheVariants.{Text};
@@ -19,7 +20,7 @@ use redo_name::{NameFault, TargetName, resolve_to};
 use std::alloc::{AllocError, Global};
 
 // What a record begins with.
-const MARK: &[u8] = b"@@REDO:";
+pub const MARK: &[u8] = b"@@REDO:";
 
 /// Why a line has no entry.
 #[derive(Clone, Copy, Debug, PartialEq, Eq)]
@@ -80,7 +81,8 @@ fn is_candidate(line: &[u8], ended: bool) -> bool
 
 // What a record says, in memory of its own.
 fn read_apart(alloc: Global, target: &TargetName, line: &[u8]) -> Result<Entry, LineFault>
-    requires { IsTrue (starts_with nat_eq line.now mark) }
+    requires mark { IsTrue (starts_with nat_eq line.now mark) }
+    requires no_feed { HasNoLineFeed line.now }
     ensures { Reads result (entry_of target.now line.now true) }
 {
     let mut read = Entries::new(alloc);
@@ -98,6 +100,7 @@ pub fn read_into(
     target: &TargetName,
     line: Line<'_>,
 ) -> Result<bool, LineFault>
+    requires { HasNoLineFeed (line_bytes line) }
     ensures { ReadsInto result (entry_of target.now (line_bytes line.entry) true) entries.old entries.new }
 {
     if is_candidate(line.bytes(), true) {
@@ -113,7 +116,8 @@ fn read_record(
     target: &TargetName,
     line: &[u8],
 ) -> Result<bool, LineFault>
-    requires { IsTrue (starts_with nat_eq line.now mark) }
+    requires mark { IsTrue (starts_with nat_eq line.now mark) }
+    requires no_feed { HasNoLineFeed line.now }
     ensures { ReadsInto result (entry_of target.now line.now true) entries.old entries.new }
 {
     let Some(fields) = read_fields(&line[MARK.len()..]) else {

@@ -1,5 +1,5 @@
-ghost use Rattle.std.specs.Prelude.{◌≡◌, ◌<◌, ◌≤◌, ◌↔◌, [], ◌∷◌, ◌++◌, length, take, Contains, IsSome, IfSome, IfNone, IfOk, OnErr};
-ghost use Rattle.redo_line.specs.Lines.{line_feed, unended};
+ghost use Rattle.std.specs.Prelude.{◌≡◌, ◌<◌, ◌≤◌, ◌↔◌, true, [], ◌∷◌, ◌++◌, length, take, Contains, IsSome, IfSome, IfNone, IfOk, OnErr};
+ghost use Rattle.redo_line.specs.Lines.{HasNoLineFeed, line_feed, unended};
 ghost use Rattle.redo_line.specs.Private.CutLine.{Cuts, IsWithin, line_bytes};
 
 use crate::line_text::LineText;
@@ -48,10 +48,13 @@ pub struct LineStart {
 
 impl Model for LineStart {
     ghost use Rattle.std.specs.Prelude.{ℕ, List};
+    ghost use Rattle.redo_line.specs.Lines.{HasNoLineFeed};
 
     ghost Value = { List ℕ };
 
     ghost view = { λ start. start.kept.items };
+
+    ghost invariant = { λ start. HasNoLineFeed start.kept.items };
 }
 
 impl LineStart {
@@ -65,6 +68,13 @@ impl LineStart {
         }
     }
 
+    // Whether nothing came since the last line feed.
+    pub fn is_empty(&self) -> bool
+        ensures { (result ≡ true) ↔ (self.now ≡ []) }
+    {
+        self.kept.is_empty()
+    }
+
     // Takes the bytes of a piece up to its first line feed, and answers the line and how many bytes these are; or all
     // of the piece, where none is in it. A refusal changes nothing.
     pub fn next_line<'a>(
@@ -74,6 +84,7 @@ impl LineStart {
         ensures found { IfOk result (λ found. IsSome found ↔ Contains piece.now line_feed) }
         ensures place { IfOk result (λ found. IfSome found (λ cut. (0 < cut.1) × (cut.1 ≤ length piece.now))) }
         ensures line { IfOk result (λ found. IfSome found (λ cut. Cuts self.old (take cut.1 piece.now) (line_bytes cut.0 ∷ []) [])) }
+        ensures no_feed { IfOk result (λ found. IfSome found (λ cut. HasNoLineFeed (line_bytes cut.0))) }
         ensures line_kept { IfOk result (λ found. IfSome found (λ _. self.new ≡ [])) }
         ensures within { IfOk result (λ found. IfSome found (λ cut. IsWithin cut.0 → self.old ≡ [])) }
         ensures more { IfOk result (λ found. IfNone found (Cuts self.old piece.now [] self.new)) }
@@ -93,6 +104,8 @@ impl LineStart {
 
     // The line that what is kept makes with these bytes behind it.
     fn take_with<'a>(&mut self, bytes: &'a [u8]) -> Result<Line<'a>, AllocError>
+        requires { HasNoLineFeed bytes.now }
+        ensures no_feed { IfOk result (λ line. HasNoLineFeed (line_bytes line)) }
         ensures line { IfOk result (λ line. line_bytes line ≡ self.old ++ bytes.now) }
         ensures taken { IfOk result (λ _. self.new ≡ []) }
         ensures within { IfOk result (λ line. IsWithin line → self.old ≡ []) }

@@ -1,9 +1,10 @@
-ghost use Rattle.std.specs.Prelude.{◌≡◌, ◌≤◌, length, drop, IfOk};
+ghost use Rattle.std.specs.Prelude.{◌≡◌, IfOk};
+ghost use Rattle.redo_line.specs.Lines.{HasNoLineFeed};
 
 use std::alloc::{AllocError, Global};
 use std::marker::Model;
 
-/// The bytes of a line, or of a part of one. They need be no text.
+/// The bytes of a line, or of a part of one. They need be no text, and hold no line feed.
 #[derive(Debug, Drop)]
 pub struct LineText {
     bytes: Vec<u8>,
@@ -11,14 +12,18 @@ pub struct LineText {
 
 impl Model for LineText {
     ghost use Rattle.std.specs.Prelude.{ℕ, List};
+    ghost use Rattle.redo_line.specs.Lines.{HasNoLineFeed};
 
     ghost Value = { List ℕ };
 
     ghost view = { λ text. text.bytes.items };
+
+    ghost invariant = { λ text. HasNoLineFeed text.bytes.items };
 }
 
 impl LineText {
     pub(crate) fn from_vec(bytes: Vec<u8>) -> LineText
+        requires { HasNoLineFeed bytes.items }
         ensures { result ≡ bytes.items }
     {
         LineText { bytes }
@@ -26,6 +31,7 @@ impl LineText {
 
     // The same bytes in memory of their own.
     pub(crate) fn copy_of(alloc: Global, bytes: &[u8]) -> Result<LineText, AllocError>
+        requires { HasNoLineFeed bytes.now }
         ensures { IfOk result (λ text. text ≡ bytes.now) }
     {
         Ok(LineText {
@@ -34,23 +40,16 @@ impl LineText {
     }
 
     pub(crate) fn into_vec(self) -> Vec<u8>
-        ensures { result.items ≡ self }
+        ensures bytes { result.items ≡ self }
+        ensures no_feed { HasNoLineFeed result.items }
     {
         self.bytes
     }
 
-    // What stands behind so many bytes, in the memory of the line.
-    pub(crate) fn behind(mut self, count: usize) -> LineText
-        requires { count ≤ length self }
-        ensures { result ≡ drop count self }
-    {
-        self.bytes.drain(..count);
-        self
-    }
-
     /// The bytes, as they were read.
     pub fn bytes(&self) -> &[u8]
-        ensures { result.now ≡ self.now }
+        ensures bytes { result.now ≡ self.now }
+        ensures no_feed { HasNoLineFeed result.now }
     {
         &self.bytes
     }

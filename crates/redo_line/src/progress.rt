@@ -1,7 +1,7 @@
-ghost use Rattle.std.specs.Prelude.{◌≡◌, ◌↔◌, Err, ◌<◌, ◌≤◌, ◌+◌, ◌^◌, ◌⊎◌, List, ℕ, true, None, Some, [], IfOk, IfErr, IfSome, IfNone, length, take, drop, slice_range};
+ghost use Rattle.std.specs.Prelude.{◌≡◌, ◌↔◌, Err, ◌<◌, ◌≤◌, ◌+◌, ◌-◌, false, ◌^◌, ◌⊎◌, List, ℕ, true, None, Some, [], IfOk, IfErr, IfSome, IfNone, length, take, drop, slice_range};
 ghost use Rattle.redo_line.specs.Entry.{entry_of};
-ghost use Rattle.redo_line.specs.Lines.{unended};
-ghost use Rattle.redo_line.specs.Private.CutLine.{line_bytes};
+ghost use Rattle.redo_line.specs.Lines.{HasNoLineFeed, unended};
+ghost use Rattle.redo_line.specs.Private.CutLine.{AreTextLines, line_bytes};
 ghost use Rattle.redo_line.specs.Private.Line.{IsPut};
 ghost use Rattle.redo_line.specs.Private.Progress.{IsAfter, FindsMore, TakesAll, Refuses, first_byte_fault};
 ghost use Rattle.redo_line.specs.declared.stream_fault.StreamFault.{StreamFault};
@@ -12,6 +12,7 @@ use crate::line::{LineFault, read_into};
 use crate::line_start::{Line, LineStart};
 use crate::line_text::LineText;
 use crate::stream_fault::StreamFault;
+use crate::texts::text_lines;
 use redo_name::TargetName;
 use std::alloc::Global;
 use std::marker::Model;
@@ -61,10 +62,62 @@ impl Progress {
         }
     }
 
-    // Takes the bytes of a piece from a place on, up to the end of the first line, puts its entry behind others, and
-    // answers the place behind it; or takes all, where no line ends. After a refusal nothing is known of it, and the
-    // entries are as they were.
+    // Takes the bytes of a piece from a place on, up to the end of the first line, or of several that are text, at most
+    // so many; puts their entries behind others, and answers the place behind them; or takes all, where no line ends.
+    // After a refusal nothing is known of it, and the entries are as they were.
     pub fn advance(
+        &mut self,
+        piece: &[u8],
+        from: usize,
+        most: u16,
+        entries: &mut Entries,
+    ) -> Result<Option<usize>, StreamFault>
+        requires from { from ≤ length piece.now }
+        requires most { 1 ≤ most }
+        requires limit { self.old.max_bytes ≤ 2 ^ 40 }
+        requires after { (before : List ℕ) × IsAfter self.old before }
+        ensures place { IfOk result (λ found. IfSome found (λ upto. (from < upto) × (upto ≤ length piece.now))) }
+        ensures found { (before : List ℕ) → IsAfter self.old before → IfOk result (λ found. IfSome found (λ upto.
+            FindsMore self.old self.new before (slice_range piece.now from upto) most entries.old entries.new)) }
+        ensures more { (before : List ℕ) → IsAfter self.old before →
+            IfOk result (λ found. IfNone found (TakesAll self.old self.new before (drop from piece.now))) }
+        ensures none { IfOk result (λ found. IfNone found (entries.new ≡ entries.old)) }
+        ensures refuses { (before : List ℕ) → IsAfter self.old before →
+            IfErr result (λ fault. (fault ≡ OutOfMemory) ⊎ Refuses self.old before (drop from piece.now) fault) }
+        ensures at_once { (fault : StreamFault) → first_byte_fault self.old (drop from piece.now) ≡ Some fault → result ≡ Err fault }
+        ensures err { IfErr result (λ _. entries.new ≡ entries.old) }
+        ensures target { self.new.target ≡ self.old.target }
+        ensures max_bytes { self.new.max_bytes ≡ self.old.max_bytes }
+    {
+        let left = &piece[from..];
+        let (length, count) = self.texts(left, most);
+        if count == 0 {
+            return self.take_line(piece, from, entries);
+        }
+        entries.push_lines(&left[..length], count)?;
+        self.taken += length as u64;
+        self.lines += count as u64;
+        Ok(Some(from + length))
+    }
+
+    // How many bytes the lines have that can be taken at once as texts, and how many these lines are.
+    fn texts(&self, left: &[u8], most: u16) -> (usize, u16)
+        requires { self.now.taken ≤ self.now.max_bytes }
+        ensures lines { AreTextLines (take result.0 left.now) result.1 }
+        ensures place { result.0 ≤ length left.now }
+        ensures room { self.now.taken + result.0 ≤ self.now.max_bytes }
+        ensures most { result.1 ≤ most }
+        ensures begun { 0 < result.1 → self.now.kept ≡ [] }
+        ensures begun_log { 0 < result.1 → self.now.closed ≡ false }
+    {
+        if self.closed || !self.start.is_empty() {
+            return (0, 0);
+        }
+        text_lines(within(left, self.max_bytes - self.taken), most)
+    }
+
+    // Takes the first line, of whatever kind, or all.
+    fn take_line(
         &mut self,
         piece: &[u8],
         from: usize,
@@ -75,7 +128,7 @@ impl Progress {
         requires after { (before : List ℕ) × IsAfter self.old before }
         ensures place { IfOk result (λ found. IfSome found (λ upto. (from < upto) × (upto ≤ length piece.now))) }
         ensures found { (before : List ℕ) → IsAfter self.old before → IfOk result (λ found. IfSome found (λ upto.
-            FindsMore self.old self.new before (slice_range piece.now from upto) entries.old entries.new)) }
+            FindsMore self.old self.new before (slice_range piece.now from upto) 1 entries.old entries.new)) }
         ensures more { (before : List ℕ) → IsAfter self.old before →
             IfOk result (λ found. IfNone found (TakesAll self.old self.new before (drop from piece.now))) }
         ensures none { IfOk result (λ found. IfNone found (entries.new ≡ entries.old)) }
@@ -162,6 +215,7 @@ fn read_entry(
     line: Line<'_>,
     number: u64,
 ) -> Result<bool, StreamFault>
+    requires { HasNoLineFeed (line_bytes line) }
     ensures put { IfOk result (λ closing. IsPut closing (entry_of target.now (line_bytes line.entry) true) entries.old entries.new) }
     ensures fault { IfErr result (λ fault.
         (fault ≡ OutOfMemory) ⊎ ((fault ≡ BadRecord number) × (entry_of target.now (line_bytes line.entry) true ≡ None))) }

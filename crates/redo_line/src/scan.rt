@@ -92,7 +92,7 @@ impl Scan {
     {
         let before = History::then(&self.history, &[]);
         let mut read = Entries::new(self.alloc);
-        let Some(upto) = self.step_into(piece, from, &mut read)? else {
+        let Some(upto) = self.step_into(piece, from, 1, &mut read)? else {
             return Ok(Step::More);
         };
         match read.into_entry(self.alloc) {
@@ -105,20 +105,23 @@ impl Scan {
         }
     }
 
-    /// The same, in which the entry of the line is put behind others, and the place after its line feed is answered,
-    /// or `None`, where no line ends. Where it is refused the entries stay as they are.
+    /// The same, in which the bytes up to the end of several lines may be taken at once, of at most so many. Their
+    /// entries are put behind others, and the place after their line feeds is answered, or `None`, where no line ends.
+    /// Where it is refused the entries stay as they are.
     pub fn step_into(
         &mut self,
         piece: &[u8],
         from: usize,
+        most: u16,
         entries: &mut Entries,
     ) -> Result<Option<usize>, StreamFault>
-        requires { from ≤ length piece.now }
+        requires from { from ≤ length piece.now }
+        requires most { 1 ≤ most }
 
-        // The bytes up to the place end one line more, which has no fault, and its entry stands last.
+        // The bytes up to the place end lines more, which have no fault, and their entries stand last.
         ensures place { IfOk result (λ found. IfSome found (λ upto. (from < upto) × (upto ≤ length piece.now))) }
         ensures found { IfOk result (λ found. IfSome found (λ upto.
-            FindsMore self.old self.new (slice_range piece.now from upto) entries.old entries.new)) }
+            FindsMore self.old self.new (slice_range piece.now from upto) most entries.old entries.new)) }
 
         // Or all that is left of the piece was taken. It ends no line more, and has no fault.
         ensures more { IfOk result (λ found. IfNone found (TakesAll self.old self.new (drop from piece.now))) }
@@ -140,7 +143,7 @@ impl Scan {
         if let Some(fault) = self.refused {
             return Err(fault);
         }
-        match self.progress.advance(piece, from, entries) {
+        match self.progress.advance(piece, from, most, entries) {
             Ok(Some(upto)) => {
                 self.history = History::then(&self.history, &piece[from..upto]);
                 Ok(Some(upto))

@@ -95,7 +95,8 @@ fn take_together(
     Ok(fault)
 }
 
-/// Puts the entries of the lines that end in a piece behind others. Each has to end behind the one before.
+/// Puts the entries of the lines that end in a piece behind others, of at most three lines in a step. Each step has to
+/// end behind the one before.
 fn step_through(
     scan: &mut Scan,
     piece: &[u8],
@@ -106,7 +107,7 @@ fn step_through(
         if from > piece.len() {
             return Err("a place past the piece".into());
         }
-        match scan.step_into(piece, from, read) {
+        match scan.step_into(piece, from, 3, read) {
             Ok(Some(upto)) => from = upto,
             Ok(None) => return Ok(None),
             Err(fault) => return Ok(Some(fault)),

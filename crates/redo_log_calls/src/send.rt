@@ -121,13 +121,13 @@ fn tell_entries(rt: &impl Print, item: &Item, entries: &Entries) -> io::Result<(
     Ok(())
 }
 
-/// Prints one of several entries as it is printed where it is the only one.
+/// Prints each of several entries as it is printed where it is the only one.
 fn tell_place(rt: &impl Print, item: &Item, layout: &Layout<'_>, place: EntryAt) -> io::Result<()> {
     let Item { sender, stream, .. } = item;
     match place {
-        EntryAt::Text { start, end } => {
-            let line = layout.bytes.get(start..end).unwrap_or(b"".as_slice());
-            println!(rt; "sender {sender}, stream {stream}: Text(LineText {{ bytes: {line:?} }})")
+        EntryAt::Texts { start, end, .. } => {
+            let lines = layout.bytes.get(start..end).unwrap_or(b"".as_slice());
+            tell_lines(rt, item, lines.strip_suffix(b"\n").unwrap_or(lines))
         }
         EntryAt::Mention {
             pid,
@@ -142,6 +142,14 @@ fn tell_place(rt: &impl Print, item: &Item, layout: &Layout<'_>, place: EntryAt)
         }
         other => println!(rt; "sender {sender}, stream {stream}: {other:?}"),
     }
+}
+
+fn tell_lines(rt: &impl Print, item: &Item, lines: &[u8]) -> io::Result<()> {
+    let Item { sender, stream, .. } = item;
+    for line in lines.split(|byte: &u8| *byte == b'\n') {
+        println!(rt; "sender {sender}, stream {stream}: Text(LineText {{ bytes: {line:?} }})")?;
+    }
+    Ok(())
 }
 
 fn tell_entry(rt: &impl Print, item: &Item, entry: &Entry) -> io::Result<()> {

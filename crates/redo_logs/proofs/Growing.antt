@@ -1,7 +1,7 @@
 -- One log more in a table.
 use Rattle.std.proofs.Common.{◌≡◌, ◌≢◌, ℕ, zero, suc, ◌+◌, ◌-◌, ◌≤◌, ◌<◌, Bool, true, false, cond, eqb, ltb, nat_eq, List, [], ◌∷◌, ◌++◌, Option, None, Some, is_some, map, length, take, replicate, get_or, slice_set, position, refl, sym, ap, ◌∙◌, subst, arith}
 use Rattle.std.specs.Cmp.Lexicographic.{pointwise, same_text}
-use Rattle.std.specs.List.{AllByRecursion, IsDistinct, list_any, position_from}
+use Rattle.std.specs.List.{AllByRecursion, IsDistinct, flat_map, list_any, position_from}
 use Rattle.std.proofs.lemmas.Bool.{ltb-true, ltb-false, eqb-true, eqb-false}
 use Rattle.std.proofs.lemmas.Cmp.{nat_list_eq_equiv}
 use Rattle.std.proofs.lemmas.Iterator.Adapters.{position_from-zero}
@@ -110,7 +110,7 @@ module _ (parts : Parts) (logs : List Stored) (places : List (Option ℕ)) where
           nat_list_eq_equiv.symm (name_at parts.names one) (name_at parts.names other)
           ∙ apart_from_distinct (pointwise nat_eq) parts.names other one [] distinct (apart (ltb-false one other is)) below
 
-  module _ (number : ℕ) (log : Stored) (name_is : log.name ≡ number) (empty : log.records.items ≡ []) (running : log.state ≡ Running) where
+  module _ (number : ℕ) (log : Stored) (name_is : log.name ≡ number) (empty : log.records ≡ []) (running : log.state ≡ Running) where
     abbrev target : List ℕ
     target = name_at parts.names number
 
@@ -118,7 +118,7 @@ module _ (parts : Parts) (logs : List Stored) (places : List (Option ℕ)) where
     pub one_stored : logs_of parts (logs ++ log ∷ []) ≡ logs_of parts logs ++ new_log target ∷ []
     one_stored =
         map_push (log_of parts) logs log
-        ∙ (λ i. logs_of parts logs ++ record { target = name_at parts.names (name_is i); entries = map (seen parts) (empty i); state = running i } ∷ [])
+        ∙ (λ i. logs_of parts logs ++ record { target = name_at parts.names (name_is i); entries = flat_map (seen parts) (empty i); state = running i } ∷ [])
 
     module _ (stored : IsStored parts logs places) (below : number < length parts.names) (room : length logs < most) (has_place : number < length places)
         (absent : place_of target (logs_of parts logs) ≡ None) where

@@ -1,7 +1,7 @@
 -- What is kept stays where it is, when more is kept.
 use Rattle.std.proofs.Common.{◌≡◌, ◌≢◌, ℕ, zero, suc, ◌+◌, ◌-◌, ◌≤◌, ◌<◌, Bool, true, false, if◌then◌else◌, List, [], ◌∷◌, ◌++◌, Option, None, Some, nat_eq, length, map, take, drop, get_or, slice_get, slice_range, Vec, Global, refl, sym, ap, ◌∙◌, subst, arith}
 use Rattle.std.specs.Cmp.Lexicographic.{pointwise, same_text}
-use Rattle.std.specs.List.{AllByRecursion, IsDistinct, list_any}
+use Rattle.std.specs.List.{AllByRecursion, IsDistinct, flat_map, list_any}
 use Rattle.std.proofs.lemmas.List.{drop-append-le, take-append-le, get_or_append_left, get_or-map, length-append, length-map, length-drop, take_all, append_assoc, append-nil}
 use Rattle.std.proofs.Math.Seq.{drop-append_seam}
 use Rattle.std.proofs.lemmas.Bool.{or_parts}
@@ -9,11 +9,11 @@ use Rattle.std.proofs.lemmas.List.Folds.{list_any-append}
 use Rattle.std.proofs.lemmas.Cmp.{nat_list_eq_equiv}
 use Rattle.std.proofs.lemmas.Map.Keys.{IsDistinct-push}
 use Rattle.std.proofs.lemmas.Option.{slice_get_within, get_or_from_slice_get}
-use Rattle.redo_line.specs.Lines.{line_feed}
+use Rattle.redo_line.specs.Lines.{AreWholeLines, ended}
 use Rattle.redo_line.specs.declared.entry.Entry.TheVariants as entry
 use Rattle.redo_logs.specs.declared.kept.NoteAt.{NoteAt}
 use Rattle.redo_logs.specs.declared.kept.Record.{Record}
-use Rattle.redo_logs.specs.declared.kept.Record.TheVariants.{Text, Mention, Done, Closing, Note}
+use Rattle.redo_logs.specs.declared.kept.Record.TheVariants.{Texts, Mention, Done, Closing, Note}
 use Rattle.redo_logs.specs.Numbering.{name_at}
 use Rattle.redo_logs.specs.Private.Kept.{Parts, IsFront, NamesGrow, Grows, IsNamed, block_of, note_seen, seen, IsNoteWithin, Within}
 
@@ -45,7 +45,7 @@ range_grown xs ys start end front order within =
     ap (λ bytes. slice_range bytes start end) front.is ∙ range_front xs front.more start end order within
 
 -- what stands at a place of a front
-get_front : {A : Type 0} (xs more : List A) (number : ℕ) → number < length xs → slice_get (xs ++ more) number ≡ slice_get xs number
+pub get_front : {A : Type 0} (xs more : List A) (number : ℕ) → number < length xs → slice_get (xs ++ more) number ≡ slice_get xs number
 get_front [] more number within = absurd (omega (arith, within))
 get_front (x ∷ xs) more zero within = refl
 get_front (x ∷ xs) more (suc number) within = get_front xs more number (omega (arith, within))
@@ -84,24 +84,25 @@ note_at_grown old new parts note front within =
     there None is within = absurd within
     there (Some at) is within = slice_get_within old note at is
 
--- an entry stays what it is seen as
+-- a record stays what it is seen as
 pub seen_grown : (old new : Parts) (record' : Record) → Grows old new → Within old record' → seen new record' ≡ seen old record'
-seen_grown old new (Text block start end) grows within =
-    let end_there : end ≤ length (block_of old block) = let below = slice_get_within (block_of old block) end line_feed within.1 in omega (arith, below) in
-    ap entry.Text (range_grown (block_of old block) (block_of new block) start end (block_grown old new block grows) within.0 end_there)
-seen_grown old new (Mention pid how name) grows within = ap (entry.Mention pid how) (name_grown old.names new.names name grows.names within)
-seen_grown old new (Done pid status name) grows within = ap (entry.Done pid status) (name_grown old.names new.names name grows.names within)
+seen_grown old new (Texts lines block start end) grows within =
+    ap (λ bytes. map entry.Text (ended bytes)) (range_grown (block_of old block) (block_of new block) start end (block_grown old new block grows) within.0 within.1)
+seen_grown old new (Mention pid how name) grows within = ap (λ n. entry.Mention pid how n ∷ []) (name_grown old.names new.names name grows.names within)
+seen_grown old new (Done pid status name) grows within = ap (λ n. entry.Done pid status n ∷ []) (name_grown old.names new.names name grows.names within)
 seen_grown old new (Closing pid status) grows within = refl
 seen_grown old new (Note note) grows within =
-    ap (note_seen new) (note_at_grown old.notes new.notes old note grows.notes within)
-    ∙ note_grown old new (slice_get old.notes note) grows within
+    ap (λ e. e ∷ []) (ap (note_seen new) (note_at_grown old.notes new.notes old note grows.notes within)
+    ∙ note_grown old new (slice_get old.notes note) grows within)
 
 -- and is still there
 pub within_grown : (old new : Parts) (record' : Record) → Grows old new → Within old record' → Within new record'
-within_grown old new (Text block start end) grows within =
+within_grown old new (Texts lines block start end) grows within =
     let front = block_grown old new block grows in (
       within.0,
-      ap (λ bytes. slice_get bytes end) front.is ∙ get_front (block_of old block) front.more end (slice_get_within (block_of old block) end line_feed within.1) ∙ within.1,
+      omega (arith, within.1, front_length (block_of old block) (block_of new block) front),
+      block_there old new block grows within.2,
+      subst (λ bytes. AreWholeLines bytes lines) (sym (range_grown (block_of old block) (block_of new block) start end front within.0 within.1)) within.3,
     )
 within_grown old new (Mention pid how name) grows within = omega (arith, within, front_length old.names new.names grows.names.front)
 within_grown old new (Done pid status name) grows within = omega (arith, within, front_length old.names new.names grows.names.front)
@@ -118,9 +119,9 @@ within_grown old new (Note note) grows within =
       block_there old new at.block grows within.3,
     )
 
-pub all_seen_grown : (old new : Parts) (records : List Record) → Grows old new → AllByRecursion (Within old) records → map (seen new) records ≡ map (seen old) records
+pub all_seen_grown : (old new : Parts) (records : List Record) → Grows old new → AllByRecursion (Within old) records → flat_map (seen new) records ≡ flat_map (seen old) records
 all_seen_grown old new [] grows within = refl
-all_seen_grown old new (one ∷ records) grows within = λ i. seen_grown old new one grows within.0 i ∷ all_seen_grown old new records grows within.1 i
+all_seen_grown old new (one ∷ records) grows within = λ i. seen_grown old new one grows within.0 i ++ all_seen_grown old new records grows within.1 i
 
 pub all_within_grown : (old new : Parts) (records : List Record) → Grows old new → AllByRecursion (Within old) records → AllByRecursion (Within new) records
 all_within_grown old new [] grows within = within

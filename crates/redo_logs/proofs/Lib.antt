@@ -1,10 +1,12 @@
 pub mod ChangedLemmas
 mod FirstFault
+mod FirstLines
 mod Growing
 mod Keeping
 mod KeepingAll
 pub mod LeastFault
+mod Marks
 mod Shifting
 mod Storing
 mod TableRows
-pub mod TextLines
+mod TextLines

@@ -1,30 +1,27 @@
 -- Entries whose texts stand behind others.
-use Rattle.std.proofs.Common.{◌≡◌, ℕ, zero, suc, ◌+◌, ◌-◌, ◌<◌, List, [], ◌∷◌, Result, Ok, Err, IfOk, Some, length, take, drop, slice_get, slice_range, refl, sym, ap, ◌∙◌, arith}
-use Rattle.std.proofs.lemmas.List.{length-drop}
-use Rattle.std.proofs.lemmas.Option.{slice_get_within}
-use Rattle.redo_line.specs.Lines.{line_feed}
+use Rattle.std.proofs.Common.{◌≡◌, ℕ, zero, suc, ◌+◌, ◌-◌, List, [], ◌∷◌, Result, Ok, Err, IfOk, take, drop, slice_get, slice_range, refl, sym, ap, ◌∙◌, arith}
 use Rattle.redo_line.specs.declared.entry.Entry.{Entry}
 use Rattle.redo_logs.specs.declared.kept.Record.{Record}
 use Rattle.redo_logs.specs.Private.Kept.{Parts, seen}
 
 module _ (shift : ℕ) where
   -- a place behind so many bytes
-  pub get_shifted : (whole : List ℕ) (at : ℕ) → slice_get whole (shift + at) ≡ slice_get (drop shift whole) at
-  get_shifted whole at = by shift whole
+  pub get_shifted : {A : Type 0} (whole : List A) (at : ℕ) → slice_get whole (shift + at) ≡ slice_get (drop shift whole) at
+  get_shifted {A} whole at = by shift whole
     where
-      by : (count : ℕ) (xs : List ℕ) → slice_get xs (count + at) ≡ slice_get (drop count xs) at
+      by : (count : ℕ) (xs : List A) → slice_get xs (count + at) ≡ slice_get (drop count xs) at
       by zero xs = let none : 0 + at ≡ at = omega arith in ap (slice_get xs) none
       by (suc count) [] = refl
       by (suc count) (x ∷ xs) = let next : suc count + at ≡ suc (count + at) = omega arith in ap (slice_get (x ∷ xs)) next ∙ by count xs
 
-  drop_twice : (whole : List ℕ) (start : ℕ) → drop (shift + start) whole ≡ drop start (drop shift whole)
-  drop_twice whole start = by shift whole
+  pub drop_twice : {A : Type 0} (whole : List A) (start : ℕ) → drop (shift + start) whole ≡ drop start (drop shift whole)
+  drop_twice {A} whole start = by shift whole
     where
-      none : (count : ℕ) → drop {A = ℕ} count [] ≡ []
+      none : (count : ℕ) → drop {A = A} count [] ≡ []
       none zero = refl
       none (suc count) = refl
 
-      by : (count : ℕ) (xs : List ℕ) → drop (count + start) xs ≡ drop start (drop count xs)
+      by : (count : ℕ) (xs : List A) → drop (count + start) xs ≡ drop start (drop count xs)
       by zero xs = let same : 0 + start ≡ start = omega arith in ap (λ n. drop n xs) same
       by (suc count) [] = none (suc count + start) ∙ sym (none start)
       by (suc count) (x ∷ xs) = let next : suc count + start ≡ suc (count + start) = omega arith in ap (λ n. drop n (x ∷ xs)) next ∙ by count xs
@@ -35,11 +32,7 @@ module _ (shift : ℕ) where
       let count : shift + end - (shift + start) ≡ end - start = omega arith in
       ap (λ n. take n (drop (shift + start) whole)) count ∙ ap (take (end - start)) (drop_twice whole start)
 
-  -- where a line ends is within all
-  pub line_shifted : (whole : List ℕ) (end : ℕ) → slice_get (drop shift whole) end ≡ Some line_feed → shift + end < length whole
-  line_shifted whole end at = omega (arith, slice_get_within (drop shift whole) end line_feed at, length-drop shift whole)
-
 -- what is kept is seen as the same
-pub note_then : {E : Type 0} (result : Result Record E) (parts : Parts) (first second : Entry) → IfOk result (λ kept. seen parts kept ≡ first) → first ≡ second → IfOk result (λ kept. seen parts kept ≡ second)
+pub note_then : {E : Type 0} (result : Result Record E) (parts : Parts) (first second : List Entry) → IfOk result (λ kept. seen parts kept ≡ first) → first ≡ second → IfOk result (λ kept. seen parts kept ≡ second)
 note_then (Ok kept) parts first second is same = is ∙ same
 note_then (Err fault) parts first second is same = is

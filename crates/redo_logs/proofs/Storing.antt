@@ -1,9 +1,10 @@
 -- The logs of a table, and what is stored for them.
 use Rattle.std.proofs.Common.{◌≡◌, ℕ, zero, suc, ◌≤◌, ◌<◌, nat_eq, Bool, true, false, ◌&&◌, ◌||◌, true≢false, ◌-◌, List, [], ◌∷◌, ◌++◌, Option, None, Some, length, map, slice_get, slice_set, get_or, ltb, position, is_some, refl, sym, ap, ◌∙◌, subst, arith}
 use Rattle.std.specs.Cmp.Lexicographic.{pointwise}
-use Rattle.std.specs.List.{AllByRecursion, list_all, list_any}
+use Rattle.std.specs.List.{AllByRecursion, flat_map, list_all, list_any}
+use Rattle.std.proofs.lemmas.Grind.{flat_map-append}
 use Rattle.std.proofs.lemmas.Bool.{ltb-true, ltb-false}
-use Rattle.std.proofs.lemmas.List.{length-map, map-append, map_push, get_or_past, get_or-append_right, length-append}
+use Rattle.std.proofs.lemmas.List.{length-map, get_or_past, get_or-append_right, length-append}
 use Rattle.std.proofs.lemmas.List.Folds.{list_any_at}
 use Rattle.std.proofs.lemmas.Option.{same_Some, slice_get_within}
 use Rattle.redo_line.proofs.PlaceLemmas.{some_place}
@@ -11,7 +12,7 @@ use Rattle.redo_line.specs.declared.entry.Entry.{Entry}
 use Rattle.redo_logs.specs.declared.log_table.Log.{Log as Stored}
 use Rattle.redo_logs.specs.declared.log_state.LogState.{LogState}
 use Rattle.redo_logs.specs.declared.kept.Record.{Record}
-use Rattle.redo_logs.specs.Logs.{Log, IsTable, changed, with_entries, with_entry, targets_of, states_of, place_of, ends, has_ended}
+use Rattle.redo_logs.specs.Logs.{Log, IsTable, changed, with_entries, targets_of, states_of, place_of, ends, has_ended}
 use Rattle.redo_logs.specs.Numbering.{name_at}
 use Rattle.redo_logs.specs.Private.Kept.{Parts, Grows, NamesGrow, Within, seen}
 use Rattle.redo_logs.specs.Private.Stored.{IsLogWithin, IsStored, log_of, logs_of}
@@ -65,9 +66,9 @@ module _ (parts : Parts) where
 
 module _ (parts : Parts) (old new : Stored) (name_is : new.name ≡ old.name) where
   -- the same records in the same state
-  module _ (same : new.records.items ≡ old.records.items) where
+  module _ (same : new.records ≡ old.records) where
     pub same_log : new.state ≡ old.state → log_of parts new ≡ log_of parts old
-    same_log state = λ i. record { target = name_at parts.names (name_is i); entries = map (seen parts) (same i); state = state i }
+    same_log state = λ i. record { target = name_at parts.names (name_is i); entries = flat_map (seen parts) (same i); state = state i }
 
     pub same_log_within : IsLogWithin parts old → IsLogWithin parts new
     same_log_within within = record {
@@ -75,34 +76,17 @@ module _ (parts : Parts) (old new : Stored) (name_is : new.name ≡ old.name) wh
       records = subst (AllByRecursion (Within parts)) (sym same) within.records;
     }
 
-  -- one more record is one more entry
-  module _ (one : Record) (more : new.records.items ≡ old.records.items ++ one ∷ []) where
-    pub entry_log : (entry : Entry) → seen parts one ≡ entry → new.state ≡ old.state → log_of parts new ≡ with_entry entry (log_of parts old)
-    entry_log entry is state =
-        let entries = ap (map (seen parts)) more ∙ map_push (seen parts) old.records.items one ∙ ap (λ e. map (seen parts) old.records.items ++ e ∷ []) is in
-        λ i. record { target = name_at parts.names (name_is i); entries = entries i; state = state i }
-
-    pub entry_log_within : Within parts one → IsLogWithin parts old → IsLogWithin parts new
-    entry_log_within there within = record {
-      name = subst (λ n. n < length parts.names) (sym name_is) within.name;
-      records = subst (AllByRecursion (Within parts)) (sym more) (push old.records.items within.records);
-    }
-      where
-        push : (records : List Record) → AllByRecursion (Within parts) records → AllByRecursion (Within parts) (records ++ one ∷ [])
-        push [] all = (there, tt)
-        push (r ∷ records) all = (all.0, push records all.1)
-
-  -- with several records more
-  module _ (records : List Record) (more : new.records.items ≡ old.records.items ++ records) where
-    pub entries_log : (entries : List Entry) → map (seen parts) records ≡ entries → new.state ≡ old.state → log_of parts new ≡ with_entries entries (log_of parts old)
+  -- with more records
+  module _ (records : List Record) (more : new.records ≡ old.records ++ records) where
+    pub entries_log : (entries : List Entry) → flat_map (seen parts) records ≡ entries → new.state ≡ old.state → log_of parts new ≡ with_entries entries (log_of parts old)
     entries_log entries are state =
-        let all = ap (map (seen parts)) more ∙ map-append (seen parts) old.records.items records ∙ ap (λ es. map (seen parts) old.records.items ++ es) are in
+        let all = ap (flat_map (seen parts)) more ∙ flat_map-append (seen parts) old.records records ∙ ap (λ es. flat_map (seen parts) old.records ++ es) are in
         λ i. record { target = name_at parts.names (name_is i); entries = all i; state = state i }
 
     pub entries_log_within : AllByRecursion (Within parts) records → IsLogWithin parts old → IsLogWithin parts new
     entries_log_within there within = record {
       name = subst (λ n. n < length parts.names) (sym name_is) within.name;
-      records = subst (AllByRecursion (Within parts)) (sym more) (both old.records.items within.records);
+      records = subst (AllByRecursion (Within parts)) (sym more) (both old.records within.records);
     }
       where
         both : (first : List Record) → AllByRecursion (Within parts) first → AllByRecursion (Within parts) (first ++ records)
@@ -166,7 +150,7 @@ module _ (old new : Parts) (grows : Grows old new) where
   log_grown : (stored : Stored) → IsLogWithin old stored → log_of new stored ≡ log_of old stored
   log_grown stored within =
       let target = name_grown old.names new.names stored.name grows.names within.name in
-      let entries = all_seen_grown old new stored.records.items grows within.records in
+      let entries = all_seen_grown old new stored.records grows within.records in
       λ i. record { target = target i; entries = entries i; state = stored.state }
 
   -- the logs are the same
@@ -177,7 +161,7 @@ module _ (old new : Parts) (grows : Grows old new) where
   logs_within : (logs : List Stored) → AllByRecursion (IsLogWithin old) logs → AllByRecursion (IsLogWithin new) logs
   logs_within [] within = within
   logs_within (log ∷ logs) within =
-      (record { name = omega (arith, within.0.name, front_length old.names new.names grows.names.front); records = all_within_grown old new log.records.items grows within.0.records }, logs_within logs within.1)
+      (record { name = omega (arith, within.0.name, front_length old.names new.names grows.names.front); records = all_within_grown old new log.records grows within.0.records }, logs_within logs within.1)
 
   -- a name that is new has no log
   pub grown_stored : (logs : List Stored) (places : List (Option ℕ)) → IsStored old logs places → IsStored new logs places

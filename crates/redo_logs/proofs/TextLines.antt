@@ -1,193 +1,204 @@
--- Texts that stand one behind the other, each with a line feed.
-use Rattle.std.proofs.Common.{◌≡◌, ℕ, zero, suc, ◌+◌, ◌-◌, ◌≤◌, ◌<◌, List, [], ◌∷◌, ◌++◌, Option, None, Some, inl, inr, length, take, drop, get_or, slice_get, slice_range, refl, sym, ap, ◌∙◌, subst, arith}
+-- Which entry of a log has a number, and the lines that stand there.
+use Rattle.std.proofs.Common.{◌≡◌, ℕ, zero, suc, ◌+◌, ◌≤◌, ◌<◌, List, [], ◌∷◌, ◌++◌, Option, None, Some, inl, inr, length, map, drop, get_or, slice_get, slice_range, ◌-◌, refl, sym, ap, ◌∙◌, subst, arith}
 use Rattle.std.specs.Prelude.{option_and_then}
 use Rattle.std.specs.List.{AllByRecursion, flat_map}
 use Rattle.std.specs.Option.{option_map}
 use Rattle.std.proofs.lemmas.Grind.{flat_map-append}
-use Rattle.std.proofs.lemmas.List.{append-nil, drop_all, drop_more, get_or-drop, length-append, length-drop, length-take, take_all, take_more}
-use Rattle.std.proofs.lemmas.List.Folds.{drop_split}
-use Rattle.std.proofs.lemmas.Option.{get_or_from_slice_get, none-some, same_Some, slice_get-map, slice_get_cases, slice_get_within}
-use Rattle.std.proofs.Math.Seq.{take-append-add}
-use Rattle.redo_line.specs.Lines.{line_feed, with_line_feed}
+use Rattle.std.proofs.lemmas.List.{append_assoc, append-nil, drop-append-le, length-append, length-drop, length-map}
+use Rattle.std.proofs.lemmas.Option.{none-some, same_Some, slice_get-map, slice_get_within}
+use Rattle.redo_line.proofs.LineLemmas.{are_lines}
+use Rattle.redo_line.specs.Lines.{ended, rest, with_line_feed}
+use Rattle.redo_line.specs.declared.entry.Entry.{Entry}
 use Rattle.redo_line.specs.declared.entry.Entry.TheVariants as entry
+use Rattle.redo_line.specs.declared.entry.How.{How}
 use Rattle.redo_logs.specs.declared.kept.NoteAt.{NoteAt}
 use Rattle.redo_logs.specs.declared.kept.Record.{Record}
-use Rattle.redo_logs.specs.declared.kept.Record.TheVariants.{Closing, Done, Mention, Note, Text}
+use Rattle.redo_logs.specs.declared.kept.Record.TheVariants.{Closing, Done, Mention, Note, Texts}
 use Rattle.redo_logs.specs.declared.log_table.Log.{Log as Stored}
 use Rattle.redo_logs.specs.Logs.{Log, entry_at}
-use Rattle.redo_logs.specs.Numbering.{AreLinesAt, AreTexts, HasText}
-use Rattle.redo_logs.specs.Private.Kept.{AreLinesOf, IsTextRecord, Parts, SeenAsTexts, Within, block_of, note_seen, seen}
+use Rattle.redo_logs.specs.Numbering.{AreLinesAt, AreTexts, HasText, MentionsNothing}
+use Rattle.redo_logs.specs.Private.Kept.{AreLinesOf, IsFront, IsNoteWithin, IsTexts, Parts, Within, block_of, count_in, note_seen, seen}
+use Rattle.redo_logs.specs.Private.Records.{IsFound, count_of}
 use Rattle.redo_logs.specs.Private.Stored.{log_of, logs_of}
+use Rattle.redo_logs.proofs.Keeping.{get_front}
+use Rattle.redo_logs.proofs.Shifting.{drop_twice, get_shifted}
 
--- ---- ranges
+-- behind a front stands the rest
+drop_front : {A : Type 0} (xs ys : List A) → drop (length xs) (xs ++ ys) ≡ ys
+drop_front [] ys = refl
+drop_front (x ∷ xs) ys = drop_front xs ys
 
-range_length : (xs : List ℕ) (start end : ℕ) → start ≤ end → end ≤ length xs → length (slice_range xs start end) ≡ end - start
-range_length xs start end order within = length-take (end - start) (drop start xs) ∙ (let rest = length-drop start xs in omega (arith, order, within, rest))
-
--- two ranges, one behind the other
-range_join : (xs : List ℕ) (start middle end : ℕ) → start ≤ middle → middle ≤ end → middle ≤ length xs → slice_range xs start end ≡ slice_range xs start middle ++ slice_range xs middle end
-range_join xs start middle end first second within =
-    let size = range_length xs start middle first within in
-    let parts : end - start ≡ length (slice_range xs start middle) + (end - middle) = omega (arith, size, first, second) in
-    ap (λ n. take n (drop start xs)) parts ∙ ap (take (length (slice_range xs start middle) + (end - middle))) (drop_split xs start middle first)
-    ∙ take-append-add (slice_range xs start middle) (drop middle xs) (end - middle)
-
--- a range, and the line feed behind it
-range_line : (xs : List ℕ) (start end : ℕ) → start ≤ end → slice_get xs end ≡ Some line_feed → slice_range xs start (end + 1) ≡ with_line_feed (slice_range xs start end)
-range_line xs start end order at =
-    let below = slice_get_within xs end line_feed at in
-    let one : (end + 1) - start ≡ (end - start) + 1 = omega (arith, order) in
-    let there : end - start < length (drop start xs) = omega (arith, order, below, length-drop start xs) in
-    let place : start + (end - start) ≡ end = omega (arith, order) in
-    ap (λ n. take n (drop start xs)) one ∙ take_more (drop start xs) (end - start) line_feed there
-    ∙ ap (λ x. slice_range xs start end ++ x ∷ [])
-    (get_or-drop start xs (end - start) line_feed ∙ ap (λ n. get_or xs n line_feed) place ∙ get_or_from_slice_get xs end line_feed line_feed at)
-
--- ---- what is left of a list
-
--- nothing, behind its end
-pub drop_past : {A : Type 0} (k : ℕ) (xs : List A) → slice_get xs k ≡ None → drop k xs ≡ []
-drop_past k xs none = elim ((slice_get_cases xs k).1) [ inl there ↦ absurd (none-some there.0 (sym none ∙ there.2)) | inr past ↦ drop_all k xs past.0 ]
-
--- or what stands there, and what is left behind it
-pub drop_there : {A : Type 0} (k : ℕ) (xs : List A) (x : A) → slice_get xs k ≡ Some x → drop k xs ≡ x ∷ drop (k + 1) xs
-drop_there k xs x at = drop_more xs k x (slice_get_within xs k x at) ∙ ap (λ y. y ∷ drop (k + 1) xs) (get_or_from_slice_get xs k x x at)
-
--- ---- records of texts
-
--- a block in which something stands is there
-pub block_with : (parts : Parts) (block at x : ℕ) → slice_get (block_of parts block) at ≡ Some x → block ≤ length parts.taken
-block_with parts zero at x is = omega arith
-block_with parts (suc number) at x is = by parts.taken number is
-  where
-    by : (blocks : List (List ℕ)) (number : ℕ) → slice_get (get_or blocks number []) at ≡ Some x → suc number ≤ length blocks
-    by [] number is = absurd (none-some x is)
-    by (block ∷ blocks) zero is = omega arith
-    by (block ∷ blocks) (suc number) is = omega (arith, by blocks number is)
+-- what stands at a place is the first of what is left there
+get_first : {A : Type 0} (xs : List A) (k : ℕ) → slice_get xs k ≡ slice_get (drop k xs) 0
+get_first xs k = let same : k ≡ k + 0 = omega arith in ap (slice_get xs) same ∙ get_shifted k xs 0
 
 module _ (parts : Parts) where
-  texts_push : (records : List Record) (texts : List (List ℕ)) (one : Record) (text : List ℕ) → SeenAsTexts parts records texts → slice_get records (length texts) ≡ Some one → seen parts one ≡ entry.Text text
-      → SeenAsTexts parts records (texts ++ text ∷ [])
-  texts_push [] [] one text are at says = absurd (none-some one at)
-  texts_push (first ∷ records) [] one text are at says = (ap (seen parts) (same_Some first one at) ∙ says, tt)
-  texts_push [] (other ∷ texts) one text are at says = absurd are
-  texts_push (first ∷ records) (other ∷ texts) one text are at says = (are.0, texts_push records texts one text are.1 at says)
+  count_seen : (one : Record) → Within parts one → length (seen parts one) ≡ count_in one
+  count_seen (Texts lines block start end) within = length-map _ entry.Text ∙ within.3.count_is
+  count_seen (Mention pid how name) within = refl
+  count_seen (Done pid status name) within = refl
+  count_seen (Closing pid status) within = refl
+  count_seen (Note note) within = refl
 
-  all_within : (records : List Record) (number : ℕ) (one : Record) → AllByRecursion (Within parts) records → slice_get records number ≡ Some one → Within parts one
-  all_within [] number one within at = absurd (none-some one at)
-  all_within (first ∷ records) zero one within at = subst (Within parts) (same_Some first one at) within.0
-  all_within (first ∷ records) (suc number) one within at = all_within records number one within.1 at
+  counts_seen : (records : List Record) → AllByRecursion (Within parts) records → length (flat_map (seen parts) records) ≡ count_of records
+  counts_seen [] within = refl
+  counts_seen (one ∷ records) within =
+      length-append (seen parts one) (flat_map (seen parts) records) ∙ (λ i. count_seen one within.0 i + counts_seen records within.1 i)
 
-  -- the first texts of some records stand in a block, from `first` to `last`
-  pub record Lined (records : List Record) (block first last count : ℕ) : Type 0 where
-    pub texts : List (List ℕ)
-    pub are : SeenAsTexts parts records texts
-    pub count_is : length texts ≡ count
-    pub order : first ≤ last
-    pub within : last ≤ length (block_of parts block)
-    pub bytes_are : slice_range (block_of parts block) first last ≡ flat_map with_line_feed texts
+  front_within : (first others : List Record) → AllByRecursion (Within parts) (first ++ others) → AllByRecursion (Within parts) first × AllByRecursion (Within parts) others
+  front_within [] others within = (tt, within)
+  front_within (one ∷ first) others within = let parts = front_within first others within.1 in ((within.0, parts.0), parts.1)
 
-  module _ (records : List Record) (all : AllByRecursion (Within parts) records) where
-    -- a text ends before its block does
-    pub ends_within : (number block start end : ℕ) → slice_get records number ≡ Some (Text block start end) → end < length (block_of parts block)
-    ends_within number block start end at = slice_get_within (block_of parts block) end line_feed (all_within records number (Text block start end) all at).1
+  module _ (records : List Record) (number : ℕ) (one : Record) (place : ℕ) (within : AllByRecursion (Within parts) records) (found : IsFound records number one place) where
+    pub found_within : Within parts one
+    found_within = (front_within found.before (one ∷ found.behind) (subst (AllByRecursion (Within parts)) found.are within)).1.0
 
-    -- its block is there
-    pub text_there : (number block start end : ℕ) → slice_get records number ≡ Some (Text block start end) → block ≤ length parts.taken
-    text_there number block start end at = block_with parts block end line_feed (all_within records number (Text block start end) all at).1
+    -- what is left of the entries begins with what is left of the record's
+    left : drop number (flat_map (seen parts) records) ≡ drop place (seen parts one) ++ flat_map (seen parts) found.behind
+    left =
+        let own = seen parts one in
+        let first = flat_map (seen parts) found.before in
+        let behind = flat_map (seen parts) found.behind in
+        let before_there = (front_within found.before (one ∷ found.behind) (subst (AllByRecursion (Within parts)) found.are within)).0 in
+        let size : length first ≡ count_of found.before = counts_seen found.before before_there in
+        let number_is : number ≡ length first + place = found.number_is ∙ ap (λ n. n + place) (sym size) in
+        let low : place ≤ length own = let count = count_seen one found_within in let below = found.place_within in omega (arith, count, below) in
+        (λ i. drop (number_is i) ((ap (flat_map (seen parts)) found.are ∙ flat_map-append (seen parts) found.before (one ∷ found.behind)) i))
+        ∙ drop_twice (length first) (first ++ (own ++ behind)) place ∙ ap (drop place) (drop_front first (own ++ behind))
+        ∙ drop-append-le place own behind low
 
-    pub lined_one : (block start end : ℕ) → slice_get records 0 ≡ Some (Text block start end) → Lined records block start (end + 1) 1
-    lined_one block start end at =
-        let there = all_within records 0 (Text block start end) all at in
-        let below = slice_get_within (block_of parts block) end line_feed there.1 in
-        record {
-          texts = slice_range (block_of parts block) start end ∷ [];
-          are = texts_push records [] (Text block start end) (slice_range (block_of parts block) start end) (none records) at refl;
-          count_is = refl;
-          order = let order = there.0 in omega (arith, order);
-          within = omega (arith, below);
-          bytes_are = range_line (block_of parts block) start end there.0 there.1 ∙ sym (append-nil (with_line_feed (slice_range (block_of parts block) start end)));
-        }
-      where
-        none : (records : List Record) → SeenAsTexts parts records []
-        none [] = tt
-        none (one ∷ records) = tt
+    pub get_found : slice_get (flat_map (seen parts) records) number ≡ slice_get (seen parts one) place
+    get_found =
+        let own = seen parts one in
+        let some : 0 < length (drop place own) = let count = count_seen one found_within in let below = found.place_within in let size = length-drop place own in omega (arith, count, below, size) in
+        get_first (flat_map (seen parts) records) number ∙ ap (λ es. slice_get es 0) left ∙ get_front (drop place own) (flat_map (seen parts) found.behind) 0 some
+        ∙ sym (get_first own place)
 
-    pub lined_more : (block first last count end : ℕ) → Lined records block first last count → slice_get records count ≡ Some (Text block last end) → Lined records block first (end + 1) (count + 1)
-    lined_more block first last count end lined at =
-        let there = all_within records count (Text block last end) all at in
-        let below = slice_get_within (block_of parts block) end line_feed there.1 in
-        let text = slice_range (block_of parts block) last end in
-        record {
-          texts = lined.texts ++ text ∷ [];
-          are = texts_push records lined.texts (Text block last end) text lined.are (ap (slice_get records) lined.count_is ∙ at) refl;
-          count_is = length-append lined.texts (text ∷ []) ∙ ap (λ (n : ℕ). n + 1) lined.count_is;
-          order = let order = lined.order in let more = there.0 in omega (arith, order, more);
-          within = omega (arith, below);
-          bytes_are =
-              range_join (block_of parts block) first last (end + 1) lined.order (let more = there.0 in omega (arith, more)) lined.within
-              ∙ (λ i. lined.bytes_are i ++ range_line (block_of parts block) last end there.0 there.1 i)
-              ∙ ap (λ line. flat_map with_line_feed lined.texts ++ line) (sym (append-nil (with_line_feed text)))
-              ∙ sym (flat_map-append with_line_feed lined.texts (text ∷ []));
-        }
+    front_found : (texts : List (List ℕ)) → IsFront (map entry.Text texts) (drop place (seen parts one)) → IsFront (map entry.Text texts) (drop number (flat_map (seen parts) records))
+    front_found texts front = record {
+      more = front.more ++ flat_map (seen parts) found.behind;
+      is = left ∙ ap (λ es. es ++ flat_map (seen parts) found.behind) front.is ∙ append_assoc (map entry.Text texts) front.more (flat_map (seen parts) found.behind);
+    }
 
-  texts_within : (records : List Record) (texts : List (List ℕ)) → SeenAsTexts parts records texts → length texts ≤ length records
-  texts_within records [] are = omega arith
-  texts_within [] (text ∷ texts) are = absurd are
-  texts_within (one ∷ records) (text ∷ texts) are = omega (arith, texts_within records texts are.1)
-
-  -- there are no more lines than records
-  pub lines_within : (records : List Record) (bytes : List ℕ) (count : ℕ) → AreLinesOf parts records bytes count → count ≤ length records
-  lines_within records bytes count lines = let within = texts_within records lines.texts lines.are in omega (arith, within, lines.count_is)
-
-  -- ---- the same of a log
-
-  entry_of : (logs : List Stored) (i k : ℕ) (log : Stored) → slice_get logs i ≡ Some log → entry_at i k (logs_of parts logs) ≡ option_map (seen parts) (slice_get log.records.items k)
-  entry_of logs i k log at =
-      ap (option_and_then (λ (l : Log). slice_get l.entries k)) (slice_get-map (log_of parts) logs i ∙ ap (option_map (log_of parts)) at)
-      ∙ slice_get-map (seen parts) log.records.items k
-
-  texts_of_log : (logs : List Stored) (i k : ℕ) (log : Stored) (texts : List (List ℕ)) → slice_get logs i ≡ Some log → SeenAsTexts parts (drop k log.records.items) texts → AreTexts (logs_of parts logs) i k texts
-  texts_of_log logs i k log [] at are = tt
-  texts_of_log logs i k log (text ∷ texts) at are = by (slice_get log.records.items k) refl (λ here. texts_of_log logs i (k + 1) log texts at here)
-    where
-      by : (one : Option Record) → slice_get log.records.items k ≡ one → (SeenAsTexts parts (drop (k + 1) log.records.items) texts → AreTexts (logs_of parts logs) i (k + 1) texts)
-          → AreTexts (logs_of parts logs) i k (text ∷ texts)
-      by None none others = absurd (subst (λ records. SeenAsTexts parts records (text ∷ texts)) (drop_past k log.records.items none) are)
-      by (Some one) there others =
-          let here = subst (λ records. SeenAsTexts parts records (text ∷ texts)) (drop_there k log.records.items one there) are in
-          (entry_of logs i k log at ∙ ap (option_map (seen parts)) there ∙ ap Some here.0, others here.1)
-
-  pub lines_of_log : (logs : List Stored) (i k : ℕ) (log : Stored) (bytes : List ℕ) (count : ℕ) → slice_get logs i ≡ Some log → AreLinesOf parts (drop k log.records.items) bytes count
-      → AreLinesAt (logs_of parts logs) i k bytes count
-  lines_of_log logs i k log bytes count at lines = record {
-    texts = lines.texts;
-    are = texts_of_log logs i k log lines.texts at lines.are;
-    count_is = lines.count_is;
-    bytes_are = lines.bytes_are;
-  }
-
-  -- what is seen as a text is a record of one
-  text_record : (one : Record) (text : List ℕ) → seen parts one ≡ entry.Text text → IsTextRecord (Some one)
-  text_record (Text block start end) text is = tt
-  text_record (Mention pid how name) text is = absurd (cc)
-  text_record (Done pid status name) text is = absurd (cc)
-  text_record (Closing pid status) text is = absurd (cc)
-  text_record (Note note) text is = absurd (no_text (slice_get parts.notes note) is)
+  -- what is seen as a text is a record of lines
+  texts_record : (one : Record) (place : ℕ) (text : List ℕ) → slice_get (seen parts one) place ≡ Some (entry.Text text) → IsTexts one
+  texts_record (Texts lines block start end) place text is = tt
+  texts_record (Mention pid how name) zero text is = absurd (cc)
+  texts_record (Mention pid how name) (suc place) text is = absurd (cc)
+  texts_record (Done pid status name) zero text is = absurd (cc)
+  texts_record (Done pid status name) (suc place) text is = absurd (cc)
+  texts_record (Closing pid status) zero text is = absurd (cc)
+  texts_record (Closing pid status) (suc place) text is = absurd (cc)
+  texts_record (Note note) (suc place) text is = absurd (cc)
+  texts_record (Note note) zero text is = absurd (no_text (slice_get parts.notes note) (same_Some _ _ is))
     where
       no_text : (at : Option NoteAt) → note_seen parts at ≡ entry.Text text → ⊥
       no_text None is = cc
       no_text (Some at) is = cc
 
-  pub text_of_log : (logs : List Stored) (i k : ℕ) (log : Stored) → slice_get logs i ≡ Some log → HasText (logs_of parts logs) i k → (k < length log.records.items) × IsTextRecord (slice_get (drop k log.records.items) 0)
-  text_of_log logs i k log at text = by (slice_get log.records.items k) refl
-    where
-      by : (one : Option Record) → slice_get log.records.items k ≡ one → (k < length log.records.items) × IsTextRecord (slice_get (drop k log.records.items) 0)
-      by None none = absurd (none-some (entry.Text text.0) (sym (ap (option_map (seen parts)) none) ∙ sym (entry_of logs i k log at) ∙ text.1))
-      by (Some one) there =
-          let says = same_Some (seen parts one) (entry.Text text.0) (sym (ap (option_map (seen parts)) there) ∙ sym (entry_of logs i k log at) ∙ text.1) in
-          (slice_get_within log.records.items k one there, subst (λ records. IsTextRecord (slice_get records 0)) (sym (drop_there k log.records.items one there)) (text_record one text.0 says))
+  -- ---- the same of a log
 
--- the end of a list
-pub range_to_end : {A : Type 0} (xs : List A) (k : ℕ) → slice_range xs k (length xs) ≡ drop k xs
-range_to_end xs k = take_all (length xs - k) (drop k xs) (let rest = length-drop k xs in omega (arith, rest))
+  module _ (logs : List Stored) (i k : ℕ) (log : Stored) (at : slice_get logs i ≡ Some log) where
+    pub entry_of : entry_at i k (logs_of parts logs) ≡ slice_get (flat_map (seen parts) log.records) k
+    entry_of = ap (option_and_then (λ (l : Log). slice_get l.entries k)) (slice_get-map (log_of parts) logs i ∙ ap (option_map (log_of parts)) at)
+
+    -- no entry has a number behind all
+    pub none_of : AllByRecursion (Within parts) log.records → count_of log.records ≤ k → entry_at i k (logs_of parts logs) ≡ None
+    none_of within past = entry_of ∙ by (slice_get (flat_map (seen parts) log.records) k) refl
+      where
+        by : (found : Option Entry) → slice_get (flat_map (seen parts) log.records) k ≡ found → found ≡ None
+        by None is = refl
+        by (Some e) is = absurd (let below = slice_get_within (flat_map (seen parts) log.records) k e is in let count = counts_seen log.records within in omega (arith, below, count, past))
+
+    module _ (one : Record) (place : ℕ) (within : AllByRecursion (Within parts) log.records) (found : IsFound log.records k one place) where
+      pub entry_found : entry_at i k (logs_of parts logs) ≡ slice_get (seen parts one) place
+      entry_found = entry_of ∙ get_found log.records k one place within found
+
+      pub text_found : HasText (logs_of parts logs) i k → IsTexts one
+      text_found text = texts_record one place text.0 (sym entry_found ∙ text.1)
+
+  texts_at : (logs : List Stored) (i k : ℕ) (log : Stored) (texts : List (List ℕ)) → slice_get logs i ≡ Some log → IsFront (map entry.Text texts) (drop k (flat_map (seen parts) log.records))
+      → AreTexts (logs_of parts logs) i k texts
+  texts_at logs i k log [] at front = tt
+  texts_at logs i k log (text ∷ texts) at front =
+      let entries = flat_map (seen parts) log.records in (
+        entry_of logs i k log at ∙ get_first entries k ∙ ap (λ es. slice_get es 0) front.is,
+        texts_at logs i (k + 1) log texts at (record { more = front.more; is = drop_twice k entries 1 ∙ ap (drop 1) front.is }),
+      )
+
+  pub lines_found : (logs : List Stored) (i k : ℕ) (log : Stored) (one : Record) (place : ℕ) (bytes : List ℕ) (count : ℕ) → slice_get logs i ≡ Some log → AllByRecursion (Within parts) log.records
+      → IsFound log.records k one place → AreLinesOf parts one place bytes count → AreLinesAt (logs_of parts logs) i k bytes count
+  lines_found logs i k log one place bytes count at within found lines = record {
+    texts = lines.texts;
+    are = texts_at logs i k log lines.texts at (front_found log.records k one place within found lines.texts lines.are);
+    count_is = lines.count_is;
+    bytes_are = lines.bytes_are;
+  }
+
+-- what is stored for a log is there
+pub stored_at : {A : Type 0} (P : A → Type 0) (xs : List A) (number : ℕ) (x : A) → AllByRecursion P xs → slice_get xs number ≡ Some x → P x
+stored_at P [] number x all at = absurd (none-some x at)
+stored_at P (y ∷ xs) zero x all at = subst P (same_Some y x at) all.0
+stored_at P (y ∷ xs) (suc number) x all at = stored_at P xs number x all.1 at
+
+-- ---- a record
+
+-- the only one
+pub one_there : {A : Type 0} (x : A) (place : ℕ) → place < 1 → slice_get (x ∷ []) place ≡ Some x
+one_there x zero below = refl
+one_there x (suc place) below = absurd (omega (arith, below))
+
+drop_map : {A B : Type 0} (f : A → B) (n : ℕ) (xs : List A) → drop n (map f xs) ≡ map f (drop n xs)
+drop_map f zero xs = refl
+drop_map f (suc n) [] = refl
+drop_map f (suc n) (x ∷ xs) = drop_map f n xs
+
+-- a range of a block, and what stands behind some lines in it
+module _ (parts : Parts) (lines block start end place : ℕ) (range left : List ℕ) (within : Within parts (Texts lines block start end)) (range_is : range ≡ slice_range (block_of parts block) start end)
+    (left_lines : ended left ≡ drop place (ended range)) where
+  pub text_shown : (line : List ℕ) → slice_get (ended left) 0 ≡ Some line → slice_get (seen parts (Texts lines block start end)) place ≡ Some (entry.Text line)
+  text_shown line first =
+      ap (λ bytes. slice_get (map entry.Text (ended bytes)) place) (sym range_is) ∙ slice_get-map entry.Text (ended range) place
+      ∙ ap (option_map entry.Text) (get_first (ended range) place ∙ ap (λ ls. slice_get ls 0) (sym left_lines) ∙ first)
+
+  pub lines_shown : rest left ≡ rest range → AreLinesOf parts (Texts lines block start end) place left (lines - place)
+  lines_shown last = record {
+    texts = ended left;
+    are = record {
+      more = [];
+      is =
+          ap (λ bytes. drop place (map entry.Text (ended bytes))) (sym range_is) ∙ drop_map entry.Text place (ended range) ∙ ap (map entry.Text) (sym left_lines)
+          ∙ sym (append-nil (map entry.Text (ended left)));
+    };
+    count_is =
+        ap length left_lines ∙ length-drop place (ended range) ∙ ap (λ n. n - place) (ap (λ bytes. length (ended bytes)) range_is ∙ within.3.count_is);
+    bytes_are =
+        (are_lines left).whole ∙ ap (λ r. flat_map with_line_feed (ended left) ++ r) (last ∙ ap rest range_is ∙ within.3.nothing_behind)
+        ∙ append-nil (flat_map with_line_feed (ended left));
+  }
+
+-- an entry that is no mention mentions nothing
+pub no_mention : (parts : Parts) (one : Record) (place : ℕ) (e : Entry) → ((pid : ℕ) (how : How) (name : ℕ) → one ≡ Mention pid how name → ⊥) → slice_get (seen parts one) place ≡ Some e → MentionsNothing e
+no_mention parts (Texts lines block start end) place e other is = by (slice_get (ended (slice_range (block_of parts block) start end)) place) refl
+  where
+    by : (text : Option (List ℕ)) → slice_get (ended (slice_range (block_of parts block) start end)) place ≡ text → MentionsNothing e
+    by None none = absurd (none-some e (sym (slice_get-map entry.Text (ended (slice_range (block_of parts block) start end)) place ∙ ap (option_map entry.Text) none) ∙ is))
+    by (Some text) some =
+        subst MentionsNothing (same_Some (entry.Text text) e (sym (slice_get-map entry.Text (ended (slice_range (block_of parts block) start end)) place ∙ ap (option_map entry.Text) some) ∙ is)) tt
+no_mention parts (Mention pid how name) place e other is = absurd (other pid how name refl)
+no_mention parts (Done pid status name) zero e other is = subst MentionsNothing (same_Some _ e is) tt
+no_mention parts (Done pid status name) (suc place) e other is = absurd (none-some e is)
+no_mention parts (Closing pid status) zero e other is = subst MentionsNothing (same_Some _ e is) tt
+no_mention parts (Closing pid status) (suc place) e other is = absurd (none-some e is)
+no_mention parts (Note note) (suc place) e other is = absurd (none-some e is)
+no_mention parts (Note note) zero e other is = subst MentionsNothing (same_Some _ e is) (no_name (slice_get parts.notes note))
+  where
+    no_name : (at : Option NoteAt) → MentionsNothing (note_seen parts at)
+    no_name None = tt
+    no_name (Some at) = tt
+
+-- a note that is within stands at its place
+pub note_there : (parts : Parts) (notes : List NoteAt) (note : ℕ) (at : NoteAt) → IsNoteWithin parts (slice_get notes note) → at ≡ get_or notes note at → slice_get notes note ≡ Some at
+note_there parts [] note at within is = absurd within
+note_there parts (first ∷ notes) zero at within is = ap Some (sym is)
+note_there parts (first ∷ notes) (suc note) at within is = note_there parts notes note at within is

@@ -1,3 +1,4 @@
 -- What only clauses of private functions cite: it helps to prove the others, and nobody has to believe it.
 pub mod Kept
+pub mod Records
 pub mod Stored

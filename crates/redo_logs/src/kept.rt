@@ -1,25 +1,29 @@
 //! What the entries of all logs are kept in: their texts, one behind the other, and their names, each once.
-ghost use Rattle.std.specs.Prelude.{◌≡◌, ◌+◌, ◌<◌, ◌≤◌, ◌^◌, ◌++◌, [], Some, nat_eq, length, map, drop, position, slice_get, IfOk};
-ghost use Rattle.std.specs.List.{AllByRecursion};
+ghost use Rattle.std.specs.Prelude.{◌≡◌, ◌+◌, ◌<◌, ◌≤◌, ◌^◌, ◌++◌, [], ◌∷◌, Some, nat_eq, length, drop, position, slice_get, IfOk};
+ghost use Rattle.std.specs.List.{AllByRecursion, flat_map};
 ghost use Rattle.std.specs.Cmp.Lexicographic.{pointwise};
-ghost use Rattle.redo_line.specs.Entries.{IsWithin, entry_at};
+ghost use Rattle.redo_line.specs.Entries.{IsWithin, entries_there};
+ghost use Rattle.redo_line.specs.Lines.{HasNoLineFeed};
 ghost use Rattle.redo_name.specs.Names.{IsNormal};
 ghost use Rattle.redo_line.specs.declared.entry.Entry.TheVariants.{Note, Text};
 ghost use Rattle.redo_logs.specs.EntryRef.{entry_seen};
 ghost use Rattle.redo_logs.specs.Numbering.{IsNumbered, numbered_seen};
-ghost use Rattle.redo_logs.specs.Private.Kept.{AreLinesOf, Grows, IsNamed, IsNoteWithin, IsTextRecord, Within, block_of, no_parts, note_seen, seen};
+ghost use Rattle.redo_logs.specs.Private.Kept.{AreLinesOf, Grows, IsNamed, IsNoteWithin, IsTexts, Within, block_of, count_in, no_parts, note_seen, seen};
 
 use crate::entry_ref::EntryRef;
+use crate::lines::{behind_lines, first_line};
 use crate::numbered::NumberedEntry;
 use indexmap::{Equivalent, IndexSet};
 use redo_line::{Entries, Entry, EntryAt, How, TargetName};
 use std::alloc::{AllocError, Global};
 use std::marker::Model;
 
-/// An entry as a log keeps it: where its texts are, and which names it has.
+/// Entries as a log keeps them: where their texts are, or which name one has.
 #[derive(Clone, Copy)]
 pub enum Record {
-    Text {
+    /// So many lines, each with its line feed.
+    Texts {
+        lines: u16,
         block: u32,
         start: usize,
         end: usize,
@@ -43,8 +47,21 @@ pub enum Record {
     },
 }
 
-// A table asks for so many bytes an entry, beside its texts.
+// A table asks for so many bytes for lines that came together, and for any other entry, beside its texts.
 const _: () = prove!(std::mem::size_of::<Record>() == 24);
+
+impl Record {
+    /// How many entries it is.
+    pub fn count(&self) -> usize
+        ensures is { result ≡ count_in self.now }
+        ensures few { result < 2 ^ 16 }
+    {
+        match self {
+            Record::Texts { lines, .. } => *lines as usize,
+            _ => 1,
+        }
+    }
+}
 
 /// A note's pid, and where its kind and its text are, one behind the other.
 #[derive(Clone, Copy)]
@@ -122,7 +139,7 @@ impl Kept {
     pub fn keep(&mut self, entry: Entry) -> Result<Record, AllocError>
         ensures grows { Grows self.old self.new }
         ensures within { IfOk result (Within self.new) }
-        ensures seen { IfOk result (λ kept. seen self.new kept ≡ entry) }
+        ensures seen { IfOk result (λ kept. seen self.new kept ≡ entry ∷ []) }
     {
         match entry {
             Entry::Text(line) => self.keep_line(line.bytes()),
@@ -143,7 +160,7 @@ impl Kept {
     pub fn keep_all(&mut self, alloc: Global, entries: Entries) -> Result<Vec<Record>, AllocError>
         ensures grows { Grows self.old self.new }
         ensures within { IfOk result (λ records. AllByRecursion (Within self.new) records.items) }
-        ensures seen { IfOk result (λ records. map (seen self.new) records.items ≡ entries) }
+        ensures seen { IfOk result (λ records. flat_map (seen self.new) records.items ≡ entries) }
     {
         let (texts, names, places) = entries.into_pieces();
         let (block, shift) = self.keep_texts(texts)?;
@@ -183,7 +200,7 @@ impl Kept {
         Ok(self.taken.len() as u32)
     }
 
-    // Keeps one of several entries, whose texts and kinds stand in this block behind so many bytes.
+    // Keeps one of several entries, or lines, whose texts and kinds stand in this block behind so many bytes.
     fn keep_place(
         &mut self,
         alloc: Global,
@@ -199,10 +216,11 @@ impl Kept {
         ensures grows { Grows self.old self.new }
         ensures blocks { (self.new.bytes ≡ self.old.bytes) × (self.new.taken ≡ self.old.taken) }
         ensures within { IfOk result (Within self.new) }
-        ensures seen { IfOk result (λ kept. seen self.new kept ≡ entry_at (drop shift (block_of self.old block)) names.now place) }
+        ensures seen { IfOk result (λ kept. seen self.new kept ≡ entries_there (drop shift (block_of self.old block)) names.now place) }
     {
         match place {
-            EntryAt::Text { start, end } => Ok(Record::Text {
+            EntryAt::Texts { lines, start, end } => Ok(Record::Texts {
+                lines,
                 block,
                 start: shift + start,
                 end: shift + end,
@@ -262,15 +280,17 @@ impl Kept {
         Ok((start, self.bytes.len()))
     }
 
-    // Behind a line stands a line feed, so that lines of a log that stand one behind the other are had at once.
+    // Behind a line stands a line feed.
     fn keep_line(&mut self, line: &[u8]) -> Result<Record, AllocError>
+        requires { HasNoLineFeed line.now }
         ensures grows { Grows self.old self.new }
         ensures within { IfOk result (Within self.new) }
-        ensures seen { IfOk result (λ kept. seen self.new kept ≡ Text line.now) }
+        ensures seen { IfOk result (λ kept. seen self.new kept ≡ Text line.now ∷ []) }
     {
-        let (start, end) = self.put(line)?;
-        self.put(b"\n")?;
-        Ok(Record::Text {
+        let (start, _) = self.put(line)?;
+        let (_, end) = self.put(b"\n")?;
+        Ok(Record::Texts {
+            lines: 1,
             block: 0,
             start,
             end,
@@ -280,7 +300,7 @@ impl Kept {
     fn keep_note(&mut self, pid: u32, kind: &[u8], text: &[u8]) -> Result<Record, AllocError>
         ensures grows { Grows self.old self.new }
         ensures within { IfOk result (Within self.new) }
-        ensures seen { IfOk result (λ kept. seen self.new kept ≡ Note pid kind.now text.now) }
+        ensures seen { IfOk result (λ kept. seen self.new kept ≡ Note pid kind.now text.now ∷ []) }
     {
         let (start, middle) = self.put(kind)?;
         let (_, end) = self.put(text)?;
@@ -299,7 +319,7 @@ impl Kept {
         ensures grows { Grows self.old self.new }
         ensures blocks { (self.new.bytes ≡ self.old.bytes) × (self.new.taken ≡ self.old.taken) }
         ensures within { IfOk result (Within self.new) }
-        ensures seen { IfOk result (λ kept. seen self.new kept ≡ note_seen self.old (Some at)) }
+        ensures seen { IfOk result (λ kept. seen self.new kept ≡ note_seen self.old (Some at) ∷ []) }
     {
         let note = self.notes.len();
         self.notes.push(at)?;
@@ -364,13 +384,19 @@ impl Kept {
         }
     }
 
-    /// An entry that is kept.
-    pub fn show(&self, kept: Record) -> EntryRef<'_>
-        requires { Within self.now kept }
-        ensures { entry_seen result ≡ seen self.now kept }
+    /// The entry that is kept so, by its place among those of the record.
+    pub fn show(&self, kept: Record, place: usize) -> EntryRef<'_>
+        requires within { Within self.now kept }
+        requires place { place < count_in kept }
+        ensures { slice_get (seen self.now kept) place ≡ Some (entry_seen result) }
     {
         match kept {
-            Record::Text { block, start, end } => EntryRef::Text(&self.block(block)[start..end]),
+            Record::Texts {
+                block, start, end, ..
+            } => {
+                let lines = &self.block(block)[start..end];
+                EntryRef::Text(first_line(behind_lines(lines, place)))
+            }
             Record::Mention { pid, how, name } => EntryRef::Mention {
                 pid,
                 how,
@@ -401,51 +427,38 @@ impl Kept {
     }
 
     /// The same, in which a mentioned target stands as the number of its name.
-    pub fn show_numbered(&self, kept: Record) -> NumberedEntry<'_>
-        requires { Within self.now kept }
-        ensures seen { numbered_seen self.now.names result ≡ seen self.now kept }
+    pub fn show_numbered(&self, kept: Record, place: usize) -> NumberedEntry<'_>
+        requires within { Within self.now kept }
+        requires place { place < count_in kept }
+        ensures seen { slice_get (seen self.now kept) place ≡ Some (numbered_seen self.now.names result) }
         ensures numbered { IsNumbered self.now.names result }
     {
         match kept {
             Record::Mention { pid, how, name } => NumberedEntry::Mention { pid, how, name },
-            other => NumberedEntry::Other(self.show(other)),
+            other => NumberedEntry::Other(self.show(other, place)),
         }
     }
 
-    /// The lines of the texts that records have first, as far as these stand one behind the other, and how many
-    /// they are.
-    pub fn lines(&self, records: &[Record]) -> (&[u8], usize)
-        requires { AllByRecursion (Within self.now) records.now }
-        ensures lines { AreLinesOf self.now records.now result.0.now result.1 }
-        ensures some { IsTextRecord (slice_get records.now 0) → 0 < result.1 }
+    /// The lines of the texts that a record is from a place among its entries on, and how many they are.
+    pub fn lines(&self, kept: Record, place: usize) -> (&[u8], usize)
+        requires within { Within self.now kept }
+        requires place { place < count_in kept }
+        ensures lines { AreLinesOf self.now kept place result.0.now result.1 }
+        ensures some { IsTexts kept → 0 < result.1 }
+        ensures few { result.1 < 2 ^ 16 }
     {
-        let Some(
-            Record::Text {
+        match kept {
+            Record::Texts {
+                lines,
                 block,
-                start: first,
-                end,
-            },
-        ) = records.first()
-        else {
-            return (&[], 0);
-        };
-        let bytes = self.block(*block);
-        let mut last = *end + 1;
-        let mut count = 1;
-        while let Some(
-            Record::Text {
-                block: other,
                 start,
                 end,
-            },
-        ) = records.get(count)
-            && *start == last
-            && *other == *block
-        {
-            last = *end + 1;
-            count += 1;
+            } => {
+                let bytes = &self.block(block)[start..end];
+                (behind_lines(bytes, place), lines as usize - place)
+            }
+            _ => (&[], 0),
         }
-        (&bytes[*first..last], count)
     }
 }
 

@@ -7,9 +7,11 @@
 mod entry_ref;
 mod kept;
 mod laws;
+mod lines;
 mod log_state;
 mod log_table;
 mod numbered;
+mod records;
 mod table_fault;
 
 pub use entry_ref::EntryRef;

@@ -8,9 +8,10 @@ ghost use Rattle.redo_logs.specs.Logs.{IsTable, most, new_log, with_entries, wit
 ghost use Rattle.redo_logs.specs.Logs.{targets_of, states_of, place_of, entry_at, first_failed, has_ended};
 
 use crate::entry_ref::EntryRef;
-use crate::kept::{Kept, Record};
+use crate::kept::Kept;
 use crate::log_state::LogState;
 use crate::numbered::Numbered;
+use crate::records::Records;
 use crate::table_fault::TableFault;
 use redo_line::{Entries, Entry, StreamFault, TargetName};
 use std::alloc::{AllocError, Global};
@@ -23,7 +24,7 @@ const MOST: usize = 1_048_575;
 pub struct Log {
     // The number of its target's name.
     pub name: usize,
-    pub records: Vec<Record>,
+    pub records: Records,
     pub state: LogState,
 }
 
@@ -96,7 +97,7 @@ impl LogTable {
         make_room(&mut self.places, self.kept.len())?;
         self.logs.push(Log {
             name,
-            records: Vec::new(self.alloc),
+            records: Records::new(self.alloc),
             state: LogState::Running,
         })?;
         self.places[name] = Some(number);
@@ -122,9 +123,7 @@ impl LogTable {
         ensures err { OnErr result (self.new ≡ self.old) }
     {
         let records = self.kept.keep_all(self.alloc, entries)?;
-        self.logs[stream as usize]
-            .records
-            .extend_from_slice(&records)?;
+        self.logs[stream as usize].records.append(&records)?;
         Ok(())
     }
 
@@ -181,8 +180,8 @@ impl LogTable {
         ensures fits { OnSome result (k < 2 ^ 63) }
     {
         let log = self.logs.get(i as usize)?;
-        let record = log.records.get(k)?;
-        Some(self.kept.show(*record))
+        let (one, place) = log.records.find(k)?;
+        Some(self.kept.show(one, place))
     }
 
     /// The least number of a log that failed, and its fault, if one did.

@@ -111,12 +111,12 @@ impl<'a> Numbered<'a> {
         ensures fits { OnSome result (k < 2 ^ 63) }
     {
         let log = self.logs.get(i as usize)?;
-        let record = log.records.get(k)?;
-        Some(self.kept.show_numbered(*record))
+        let (one, place) = log.records.find(k)?;
+        Some(self.kept.show_numbered(one, place))
     }
 
     /// The lines of the texts that stand in the log number `i` from its entry number `k` on, each with its line
-    /// feed, as far as they were added one behind the other, and how many they are. There is one at least
+    /// feed, as far as they were kept together, and how many they are. There is one at least
     /// where the entry is a text.
     pub fn lines(&self, i: u32, k: usize) -> (&'a [u8], usize)
         ensures lines { AreLinesAt self.now.logs i k result.0.now result.1 }
@@ -126,8 +126,8 @@ impl<'a> Numbered<'a> {
         let Some(log) = self.logs.get(i as usize) else {
             return (&[], 0);
         };
-        match log.records.get(k..) {
-            Some(records) => self.kept.lines(records),
+        match log.records.find(k) {
+            Some((one, place)) => self.kept.lines(one, place),
             None => (&[], 0),
         }
     }

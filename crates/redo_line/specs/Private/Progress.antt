@@ -1,11 +1,11 @@
 -- How far a scan came: what it keeps of the bytes that it took.
-use Rattle.std.specs.Prelude.{◌≡◌, ◌≢◌, ℕ, zero, suc, ◌+◌, ◌-◌, ◌≤◌, ◌^◌, Bool, true, false, List, [], ◌∷◌, ◌++◌, Option, None, Some, length}
+use Rattle.std.specs.Prelude.{◌≡◌, ◌≢◌, ℕ, zero, suc, ◌+◌, ◌-◌, ◌≤◌, ◌^◌, ◌<◌, Bool, true, false, List, [], ◌∷◌, ◌++◌, Option, None, Some, length}
 use Rattle.redo_line.specs.declared.entry.Entry.{Entry}
 use Rattle.redo_line.specs.declared.stream_fault.StreamFault.{StreamFault}
 use Rattle.redo_line.specs.declared.stream_fault.StreamFault.TheVariants.{AfterClose, TooLong, Read, NotClosed}
 use Rattle.redo_line.specs.Lines.{ended, rest}
 use Rattle.redo_line.specs.Log.{closes, line_entries}
-use Rattle.redo_line.specs.Scan.{fault_so_far, EndsLine, EndsNone, AreAtFault}
+use Rattle.redo_line.specs.Scan.{fault_so_far, EndLines, EndsNone, AreAtFault}
 
 pub record Progress : Type 0 where
   pub target : List ℕ
@@ -31,16 +31,18 @@ pub record IsAfter (progress : Progress) (bytes : List ℕ) : Type 0 where
   pub lines_are : progress.lines ≡ length (ended bytes)
   pub closed_is : progress.closed ≡ closed_by false (line_entries progress.target (ended bytes))
 
--- these bytes were taken, and end one line more
-pub record Finds (old new : Progress) (before bytes : List ℕ) (entry : Entry) : Type 0 where
+-- these bytes were taken, and end lines more
+pub record Finds (old new : Progress) (before bytes : List ℕ) (more : List Entry) : Type 0 where
   pub after : IsAfter new (before ++ bytes)
-  pub ends : EndsLine old.target old.max_bytes before bytes entry
+  pub ends : EndLines old.target old.max_bytes before bytes more
 
--- ..whose entry was put behind others
-pub record FindsMore (old new : Progress) (before bytes : List ℕ) (first all : List Entry) : Type 0 where
-  pub entry : Entry
-  pub finds : Finds old new before bytes entry
-  pub put : all ≡ first ++ entry ∷ []
+-- ..one at least and at most so many, whose entries were put behind others
+pub record FindsMore (old new : Progress) (before bytes : List ℕ) (most : ℕ) (first all : List Entry) : Type 0 where
+  pub more : List Entry
+  pub finds : Finds old new before bytes more
+  pub some : 0 < length more
+  pub few : length more ≤ most
+  pub put : all ≡ first ++ more
 
 -- these bytes were taken, and end no line
 pub record TakesAll (old new : Progress) (before bytes : List ℕ) : Type 0 where

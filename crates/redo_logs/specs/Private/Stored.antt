@@ -1,6 +1,6 @@
 -- How the logs of a table are stored.
 use Rattle.std.specs.Prelude.{◌≡◌, ℕ, ◌≤◌, ◌<◌, nat_eq, List, Option, None, length, map, slice_index_or}
-use Rattle.std.specs.List.{AllByRecursion, IsDistinct}
+use Rattle.std.specs.List.{AllByRecursion, IsDistinct, flat_map}
 use Rattle.std.specs.Cmp.Lexicographic.{pointwise}
 use Rattle.redo_logs.specs.declared.log_table.Log.{Log as Stored}
 use Rattle.redo_logs.specs.Logs.{Log, IsTable, place_of}
@@ -10,7 +10,7 @@ use Rattle.redo_logs.specs.Private.Kept.{Parts, Within, seen}
 module _ (parts : Parts) where
   -- the log that is stored so
   abbrev pub log_of : Stored → Log
-  log_of stored = record { target = name_at parts.names stored.name; entries = map (seen parts) stored.records.items; state = stored.state }
+  log_of stored = record { target = name_at parts.names stored.name; entries = flat_map (seen parts) stored.records; state = stored.state }
 
   abbrev pub logs_of : List Stored → List Log
   logs_of logs = map log_of logs
@@ -22,7 +22,7 @@ module _ (parts : Parts) where
   -- what it points to is there
   pub record IsLogWithin (stored : Stored) : Type 0 where
     pub name : stored.name < length parts.names
-    pub records : AllByRecursion (Within parts) stored.records.items
+    pub records : AllByRecursion (Within parts) stored.records
 
   -- by the number of a name, the number of its log; behind the last place there is none
   abbrev pub ArePlaces : List Stored → List (Option ℕ) → Type 0

@@ -1,7 +1,7 @@
 use Rattle.std.proofs.Common.{◌≤◌, arith, sym, subst, zero-le}
 use Rattle.std.proofs.lemmas.Result.{err_from_is_err_and}
 use Rattle.redo_gather.specs.Private.Reading.{IsRead, IsRefused}
-use Rattle.redo_gather.proofs.ReadingLemmas.{if_none, no_line, one_line, refused_behind, took_nothing, took_rest, took_to}
+use Rattle.redo_gather.proofs.ReadingLemmas.{if_none, lines_read, no_line, refused_behind, took_nothing, took_rest, took_to}
 use Rattle.redo_gather.proofs.one_stream.read_piece.Goals as goal
 
 pub lines-init : goal.lines-init
@@ -14,8 +14,8 @@ lines-preserved c =
     let found = rw c.in-Some.is at c.in_ok-upto.ensures.found in
     let forward : c.lines.from ≤ c.in-Some.upto = omega (arith, place.0) in (
       place.1,
-      took_to c.args.scan.now c.args.piece.now c.lines.scan c.lines.from kept.1 c.step_into.new.self c.in-Some.upto forward found.finds.0,
-      one_line c.lines.scan c.step_into.new.self _ found.entry c.lines.entries c.step_into.new.entries found.finds kept.2 found.put,
+      took_to c.args.scan.now c.args.piece.now c.lines.scan c.lines.from kept.1 c.step_into.new.self c.in-Some.upto forward found.taken,
+      lines_read c.lines.scan c.step_into.new.self _ _ _ _ c.lines.entries c.step_into.new.entries found kept.2 found.put,
     )
 
 pub returns-in_err-upto-clause-refused : goal.returns-in_err-upto-clause-refused

@@ -4,7 +4,7 @@ use Rattle.std.proofs.Math.Seq.{take-length}
 use Rattle.std.proofs.lemmas.Result.{err_from_is_err_and}
 use Rattle.redo_line.specs.Scan.{took}
 use Rattle.redo_gather.specs.Private.Reading.{IsRead, IsRefused}
-use Rattle.redo_gather.proofs.ReadingLemmas.{no_line, one_line, refused_behind, took_rest, took_to}
+use Rattle.redo_gather.proofs.ReadingLemmas.{lines_read, no_line, refused_behind, took_rest, took_to}
 use Rattle.redo_gather.proofs.sending.read_run.Goals as goal
 
 pub returns-then-len-eq-MOST_ENTRIES-clause-read : goal.returns-then-len-eq-MOST_ENTRIES-clause-read
@@ -13,9 +13,9 @@ returns-then-len-eq-MOST_ENTRIES-clause-read c begun first read =
     let place = rw c.in-Some.is at c.in_ok-behind.ensures.place in
     let found = rw c.in-Some.is at c.in_ok-behind.ensures.found in
     let forward : c.lines.upto ≤ c.in-Some.behind = omega (arith, place.0) in (
-      took_to begun c.args.piece.now c.lines.scan c.lines.upto was.0 c.step_into.new.self c.in-Some.behind forward found.finds.0,
-      one_line c.lines.scan c.step_into.new.self _ found.entry (first ++ c.lines.run) (first ++ c.step_into.new.entries) found.finds was.1
-          (ap (λ es. first ++ es) found.put ∙ sym (append_assoc first c.lines.run (found.entry ∷ []))),
+      took_to begun c.args.piece.now c.lines.scan c.lines.upto was.0 c.step_into.new.self c.in-Some.behind forward found.taken,
+      lines_read c.lines.scan c.step_into.new.self _ _ _ _ (first ++ c.lines.run) (first ++ c.step_into.new.entries) found was.1
+          (ap (λ es. first ++ es) found.put ∙ sym (append_assoc first c.lines.run found.more)),
     )
 
 pub lines-preserved : goal.lines-preserved
@@ -24,16 +24,16 @@ lines-preserved c =
     let place = rw c.in-Some.is at c.in_ok-behind.ensures.place in
     let found = rw c.in-Some.is at c.in_ok-behind.ensures.found in
     let forward : c.lines.upto ≤ c.in-Some.behind = omega (arith, place.0) in
-    let one_more = ap length found.put ∙ length-append c.lines.run (found.entry ∷ []) in
+    let one_more = ap length found.put ∙ length-append c.lines.run found.more in
     let fewer = c.if-len-eq-MOST_ENTRIES.false in (
       omega (arith, kept.0, place.0),
       place.1,
       omega (arith, kept.2, one_more, fewer, c.len.ensures),
       λ begun first read.
           let was = kept.3 begun first read in (
-            took_to begun c.args.piece.now c.lines.scan c.lines.upto was.0 c.step_into.new.self c.in-Some.behind forward found.finds.0,
-            one_line c.lines.scan c.step_into.new.self _ found.entry (first ++ c.lines.run) (first ++ c.step_into.new.entries) found.finds was.1
-                (ap (λ es. first ++ es) found.put ∙ sym (append_assoc first c.lines.run (found.entry ∷ []))),
+            took_to begun c.args.piece.now c.lines.scan c.lines.upto was.0 c.step_into.new.self c.in-Some.behind forward found.taken,
+            lines_read c.lines.scan c.step_into.new.self _ _ _ _ (first ++ c.lines.run) (first ++ c.step_into.new.entries) found was.1
+                (ap (λ es. first ++ es) found.put ∙ sym (append_assoc first c.lines.run found.more)),
           ),
     )
 

@@ -1,19 +1,41 @@
-use Rattle.std.proofs.Common.{◌<◌, [], ◌∷◌, length, drop, arith, sym, ap, ◌∙◌}
-use Rattle.std.proofs.lemmas.List.{length-map}
-use Rattle.redo_line.specs.declared.entries.EntryAt.TheVariants as place
+use Rattle.std.proofs.Common.{[], ◌∷◌, arith, sym, ap, ◌∙◌, subst}
+use Rattle.redo_line.specs.Entries.{entries_there}
+use Rattle.redo_line.specs.Lines.{HasNoLineFeed}
 use Rattle.redo_line.specs.declared.entry.Entry.TheVariants.{Text}
-use Rattle.redo_line.specs.Entries.{entry_at}
-use Rattle.redo_line.proofs.EntriesLemmas.{first_within, only_one, range_cut}
+use Rattle.redo_line.proofs.EntriesLemmas.{if_ok, only_line, only_one}
 use Rattle.redo_line.proofs.entries.Entries.into_entry.Goals as goal
 
-pub returns-in-Text : goal.returns-in-Text
-returns-in-Text c =
-    let bytes = c.self.inside.bytes.items in
-    let names = c.self.inside.names.items in
-    let places = c.self.inside.places.items in
-    let at = place.Text c.in-Text.start c.in-Text.end in
-    let first = sym c.in-Text.is ∙ c.index.ensures in
-    let some : 0 < length places = omega (arith, length-map places (entry_at bytes names), ap length c.self.view_is, c.requires) in
-    let order = (first_within bytes names places at _ c.self.invariant some first).0 in
-    only_one bytes names places c.args.self at _ c.self.view_is c.requires first
-    ∙ ap (λ line. Text line ∷ []) (sym (c.behind.ensures ∙ ap (drop c.in-Text.start) (c.from_vec.ensures ∙ c.truncate.ensures.items) ∙ range_cut bytes c.in-Text.start c.in-Text.end order))
+pub overflow_sub-end : goal.overflow_sub-end
+overflow_sub-end c =
+    let first = sym c.in-Texts.is ∙ c.index.ensures in
+    let line = only_line c.self.inside.bytes.items c.self.inside.names.items _ c.args.self _ _ _ _ c.self.invariant.within c.self.view_is c.requires first in
+    omega (arith, line.0.some)
+
+pub part_of-line-requires-clause-order : goal.part_of-line-requires-clause-order
+part_of-line-requires-clause-order c =
+    let first = sym c.in-Texts.is ∙ c.index.ensures in
+    let line = only_line c.self.inside.bytes.items c.self.inside.names.items _ c.args.self _ _ _ _ c.self.invariant.within c.self.view_is c.requires first in
+    omega (arith, line.0.some)
+
+pub part_of-line-requires-clause-end : goal.part_of-line-requires-clause-end
+part_of-line-requires-clause-end c =
+    let first = sym c.in-Texts.is ∙ c.index.ensures in
+    let line = only_line c.self.inside.bytes.items c.self.inside.names.items _ c.args.self _ _ _ _ c.self.invariant.within c.self.view_is c.requires first in
+    omega (arith, line.1)
+
+pub from_vec-requires : goal.from_vec-requires
+from_vec-requires c =
+    let first = sym c.in-Texts.is ∙ c.index.ensures in
+    let line = only_line c.self.inside.bytes.items c.self.inside.names.items _ c.args.self _ _ _ _ c.self.invariant.within c.self.view_is c.requires first in
+    subst HasNoLineFeed (sym c.part_of-line.ensures) line.0.no_feed
+
+pub returns-in-Texts : goal.returns-in-Texts
+returns-in-Texts c =
+    let first = sym c.in-Texts.is ∙ c.index.ensures in
+    let line = only_line c.self.inside.bytes.items c.self.inside.names.items _ c.args.self _ _ _ _ c.self.invariant.within c.self.view_is c.requires first in
+    line.2 ∙ ap (λ l. Text l ∷ []) (sym (c.from_vec.ensures ∙ c.part_of-line.ensures))
+
+pub returns-in_default : goal.returns-in_default
+returns-in_default c =
+    let only = only_one c.self.inside.bytes.items c.self.inside.names.items c.self.inside.places.items c.args.self c.index.result.now _ c.self.invariant.within c.self.view_is c.requires c.index.ensures in
+    if_ok c.copy_at.result _ _ (λ entry is. only.1 ∙ (λ i. entries_there (sym c.deref.ensures.value i) (sym c.deref-in_default.ensures.value i) c.index.result.now) ∙ is) c.copy_at.ensures

@@ -1,38 +1,49 @@
-use Rattle.std.proofs.Common.{[], ◌∷◌, ◌∙◌, ap, refl}
+use Rattle.std.proofs.Common.{[], ◌∷◌, ◌++◌, ◌∙◌, refl}
 use Rattle.std.proofs.lemmas.Result.{MatchResult-from_err}
 use Rattle.redo_line.specs.Lines.{line_feed}
-use Rattle.redo_line.specs.declared.entry.Entry.TheVariants as entry
-use Rattle.redo_line.proofs.EntriesLemmas.{front_put, front_same, line_is, line_within, one_seen, one_within, put_twice, same_seen, same_within}
+use Rattle.redo_line.specs.declared.entry.Entry.TheVariants.{Text}
+use Rattle.redo_line.proofs.EntriesLemmas.{front_put, front_same, line_end, line_few, line_put, line_text, line_whole, more_are_seen, more_counted, put_twice, same_counted, same_seen, texts_are, texts_within}
 use Rattle.redo_line.proofs.entries.Entries.push_text.Goals as goal
+
+pub invariant_of-self-in_err-end : goal.invariant_of-self-in_err-end
+invariant_of-self-in_err-end c =
+    same_counted c.args.self.now c.self.inside.bytes.items c.self.inside.names.items c.self.inside.places.items c.self.inside.count c.self.view_is c.self.invariant _ _ _
+    (front_put _ c.args.line.now _ (c.in_err-end.ensures.err ∙ c.in_ok-start.ensures.put)) (front_same _ _ refl) refl
+
+pub returns-in_err-end-clause-err : goal.returns-in_err-end-clause-err
+returns-in_err-end-clause-err c =
+    MatchResult-from_err c.from_residual-in_err-end.result _ _ c.from_residual-in_err-end.ensures.0
+    (λ fault. same_seen c.args.self.now c.self.inside.bytes.items c.self.inside.names.items c.self.inside.places.items c.self.inside.count c.self.view_is c.self.invariant _ _ _
+    (front_put _ c.args.line.now _ (c.in_err-end.ensures.err ∙ c.in_ok-start.ensures.put)) (front_same _ _ refl) refl)
+
+pub invariant_of-self-in_err-push : goal.invariant_of-self-in_err-push
+invariant_of-self-in_err-push c =
+    same_counted c.args.self.now c.self.inside.bytes.items c.self.inside.names.items c.self.inside.places.items c.self.inside.count c.self.view_is c.self.invariant _ _ _
+    (put_twice _ c.args.line.now (line_feed ∷ []) _ _ c.in_ok-start.ensures.put c.in_ok-end.ensures.put) (front_same _ _ refl) c.in_err-push.ensures.items
 
 pub returns-in_err-push-clause-err : goal.returns-in_err-push-clause-err
 returns-in_err-push-clause-err c =
-    let bytes = c.self.inside.bytes.items in
     MatchResult-from_err c.from_residual-in_err-push.result _ _ c.from_residual-in_err-push.ensures.0
-    (λ fault. same_seen c.args.self.now bytes c.self.inside.names.items c.self.inside.places.items c.self.view_is c.self.invariant _ _ _
-    (front_put bytes c.args.line.now _ (c.in_err-push.ensures.items ∙ c.in_ok-start.ensures.put)) (front_same _ _ refl) refl)
-
-pub invariant_of-self-in_err-push-2 : goal.invariant_of-self-in_err-push-2
-invariant_of-self-in_err-push-2 c =
-    same_within c.args.self.now c.self.inside.bytes.items c.self.inside.names.items c.self.inside.places.items c.self.view_is c.self.invariant _ _ _
-    (put_twice _ c.args.line.now (line_feed ∷ []) _ _ c.in_ok-start.ensures.put c.in_ok-push.ensures.items) (front_same _ _ refl) c.in_err-push-2.ensures.items
-
-pub returns-in_err-push-2-clause-err : goal.returns-in_err-push-2-clause-err
-returns-in_err-push-2-clause-err c =
-    MatchResult-from_err c.from_residual-in_err-push-2.result _ _ c.from_residual-in_err-push-2.ensures.0
-    (λ fault. same_seen c.args.self.now c.self.inside.bytes.items c.self.inside.names.items c.self.inside.places.items c.self.view_is c.self.invariant _ _ _
-    (put_twice _ c.args.line.now (line_feed ∷ []) _ _ c.in_ok-start.ensures.put c.in_ok-push.ensures.items) (front_same _ _ refl) c.in_err-push-2.ensures.items)
+    (λ fault. same_seen c.args.self.now c.self.inside.bytes.items c.self.inside.names.items c.self.inside.places.items c.self.inside.count c.self.view_is c.self.invariant _ _ _
+    (put_twice _ c.args.line.now (line_feed ∷ []) _ _ c.in_ok-start.ensures.put c.in_ok-end.ensures.put) (front_same _ _ refl) c.in_err-push.ensures.items)
 
 pub invariant_of-self-2 : goal.invariant_of-self-2
 invariant_of-self-2 c =
-    let start = c.in_ok-start.ensures in
-    one_within c.args.self.now c.self.inside.bytes.items c.self.inside.names.items c.self.inside.places.items c.self.view_is c.self.invariant _ _ _
-    (put_twice _ c.args.line.now (line_feed ∷ []) _ _ start.put c.in_ok-push.ensures.items) (front_same _ _ refl) _ c.in_ok-push-2.ensures.items
-    (line_within _ c.args.line.now _ _ start.put c.in_ok-push.ensures.items _ _ start.start start.end)
+    let line = c.args.line.now in
+    let put = line_put _ line _ _ c.in_ok-start.ensures.put c.in_ok-end.ensures.put in
+    let whole = line_whole line c.requires in
+    let end = line_end _ line _ _ c.in_ok-start.ensures.put c.in_ok-end.ensures.put _ c.in_ok-end.ensures.end in
+    more_counted c.args.self.now c.self.inside.bytes.items c.self.inside.names.items c.self.inside.places.items c.self.inside.count c.self.view_is c.self.invariant _ _ _
+    (front_put _ _ _ put) (front_same _ _ refl) _ (Text line ∷ []) c.in_ok-push.ensures.items
+    (texts_are _ (line ++ line_feed ∷ []) _ put _ _ 1 c.in_ok-start.ensures.start end whole ∙ line_text line c.requires)
+    (texts_within _ (line ++ line_feed ∷ []) _ put _ _ 1 c.in_ok-start.ensures.start end whole) _ refl
+    (line_few _ line _ _ c.in_ok-start.ensures.put c.in_ok-end.ensures.put)
 
 pub returns-clause-pushed : goal.returns-clause-pushed
 returns-clause-pushed c =
-    let start = c.in_ok-start.ensures in
-    one_seen c.args.self.now c.self.inside.bytes.items c.self.inside.names.items c.self.inside.places.items c.self.view_is c.self.invariant _ _ _
-    (put_twice _ c.args.line.now (line_feed ∷ []) _ _ start.put c.in_ok-push.ensures.items) (front_same _ _ refl) _ (entry.Text c.args.line.now) c.in_ok-push-2.ensures.items
-    (ap entry.Text (line_is _ c.args.line.now _ _ start.put c.in_ok-push.ensures.items _ _ start.start start.end))
+    let line = c.args.line.now in
+    let put = line_put _ line _ _ c.in_ok-start.ensures.put c.in_ok-end.ensures.put in
+    let end = line_end _ line _ _ c.in_ok-start.ensures.put c.in_ok-end.ensures.put _ c.in_ok-end.ensures.end in
+    more_are_seen c.args.self.now c.self.inside.bytes.items c.self.inside.names.items c.self.inside.places.items c.self.inside.count c.self.view_is c.self.invariant _ _ _
+    (front_put _ _ _ put) (front_same _ _ refl) _ (Text line ∷ []) c.in_ok-push.ensures.items
+    (texts_are _ (line ++ line_feed ∷ []) _ put _ _ 1 c.in_ok-start.ensures.start end (line_whole line c.requires) ∙ line_text line c.requires)

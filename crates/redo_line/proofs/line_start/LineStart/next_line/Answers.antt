@@ -1,5 +1,7 @@
-use Rattle.std.proofs.Common.{◌++◌, rules, ap, ◌∙◌}
-use Rattle.redo_line.proofs.CutLemmas.{line_in, no_feed, none_in}
+use Rattle.std.proofs.Common.{◌++◌, rules, ap, sym, ◌∙◌, subst}
+use Rattle.redo_line.specs.Lines.{HasNoLineFeed, line_feed}
+use Rattle.redo_line.proofs.PartLemmas.{free-append}
+use Rattle.redo_line.proofs.CutLemmas.{holds_none, line_in, no_feed, none_in}
 use Rattle.redo_line.proofs.line_start.LineStart.next_line.Goals as goal
 
 pub returns-in_ok-line-in-Some-clause-line : goal.returns-in_ok-line-in-Some-clause-line
@@ -15,3 +17,8 @@ returns-in_ok-extend_from_slice-in-None-clause-more c =
 
 pub returns-in_err-extend_from_slice-in-None-clause-err : goal.returns-in_err-extend_from_slice-in-None-clause-err
 returns-in_err-extend_from_slice-in-None-clause-err c = search rules
+
+pub invariant_of-self-in-None : goal.invariant_of-self-in-None
+invariant_of-self-in-None c =
+    subst HasNoLineFeed (sym c.in_ok-extend_from_slice-in-None.ensures.items)
+    (free-append line_feed c.self.inside.kept.items c.args.piece.now c.self.invariant (holds_none c.args.piece.now c.in-None.ensures))

@@ -1,7 +1,7 @@
 use Rattle.std.proofs.Common.{rules, ◌<◌, ℕ, List, drop, get_or, length, sym, subst}
 use Rattle.std.proofs.lemmas.List.{get_or_default}
 use Rattle.redo_line.specs.declared.entries.EntryAt.{EntryAt}
-use Rattle.redo_line.specs.declared.entries.EntryAt.TheVariants.{Text}
+use Rattle.redo_line.specs.declared.entries.EntryAt.TheVariants.{Texts}
 use Rattle.redo_line.specs.Entries.{IsWithin}
 use Rattle.redo_logs.specs.declared.kept.Record.{Record}
 use Rattle.redo_logs.specs.Private.Kept.{block_of}
@@ -43,7 +43,7 @@ keep_place-requires-clause-within c =
     let places = c.deref-place-items.result.now in
     let names = c.into_pieces-texts.result.1.items in
     let below : c.loop-place.place-index < length places = search rules in
-    let place = get_or places c.loop-place.place-index (Text 0 0) in
+    let place = get_or places c.loop-place.place-index (Texts 0 0 0) in
     subst (λ (ns : List ℕ). IsWithin (drop c.in_ok-block.shift (block_of c.loop-place.self c.in_ok-block.block)) ns place) (sym c.deref.ensures.value)
     (next_within c.args.self.now c.args.entries names places c.in_ok-block.block c.in_ok-block.shift c.loop-place.self c.loop-place.records.items c.loop-place.place-index
     c.loop-place.invariant place below (get_or_default places c.loop-place.place-index _ _ below))

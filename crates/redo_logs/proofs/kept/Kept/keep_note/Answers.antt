@@ -1,3 +1,4 @@
+use Rattle.std.proofs.Common.{[], ◌∷◌, ap}
 use Rattle.redo_logs.proofs.Keeping.{end_of, grows_more, note_put}
 use Rattle.redo_logs.proofs.Shifting.{note_then}
 use Rattle.redo_logs.proofs.kept.Kept.keep_note.Goals as goal
@@ -14,5 +15,5 @@ returns-clause-seen c =
     let kind = c.in_ok-start.ensures in
     let text = c.in_ok-end.ensures in
     note_then c.note_at.result _ _ _ c.note_at.ensures.seen
-    (note_put c.args.pid c.args.self.now.bytes c.args.kind.now c.args.text.now c.put.new.self.bytes c.put-2.new.self.bytes kind.bytes text.bytes _ _ _ kind.start
-    (end_of _ _ _ _ kind.end kind.bytes) (end_of _ _ _ _ text.end text.bytes))
+    (ap (λ e. e ∷ []) (note_put c.args.pid c.args.self.now.bytes c.args.kind.now c.args.text.now c.put.new.self.bytes c.put-2.new.self.bytes kind.bytes text.bytes _ _ _ kind.start
+    (end_of _ _ _ _ kind.end kind.bytes) (end_of _ _ _ _ text.end text.bytes)))

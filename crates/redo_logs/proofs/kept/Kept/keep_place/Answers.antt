@@ -1,23 +1,24 @@
-use Rattle.std.proofs.Common.{drop, arith, sym, ap, ◌∙◌, subst}
+use Rattle.std.proofs.Common.{[], ◌∷◌, drop, map, arith, sym, ap, ◌∙◌, subst}
 use Rattle.std.proofs.lemmas.List.{length-drop}
-use Rattle.redo_line.specs.Entries.{IsWithin, entry_at}
+use Rattle.redo_line.specs.Entries.{IsWithin, entries_there}
+use Rattle.redo_line.specs.Lines.{AreWholeLines, ended}
 use Rattle.redo_line.specs.declared.entry.Entry.TheVariants as entry
 use Rattle.redo_logs.specs.Private.Kept.{block_of}
 use Rattle.redo_logs.proofs.Keeping.{grows_none}
-use Rattle.redo_logs.proofs.Shifting.{get_shifted, line_shifted, note_then, range_shifted}
+use Rattle.redo_logs.proofs.Shifting.{note_then, range_shifted}
 use Rattle.redo_logs.proofs.kept.Kept.keep_place.Goals as goal
 
 pub overflow_add-result : goal.overflow_add-result
 overflow_add-result c =
     let block = block_of c.args.self.now c.args.block in
-    let within = subst (IsWithin (drop c.args.shift block) c.args.names.now) c.in-Text.is c.requires.within in
-    omega (arith, line_shifted c.args.shift block c.in-Text.end within.1, within.0, c.requires.fits)
+    let within = subst (IsWithin (drop c.args.shift block) c.args.names.now) c.in-Texts.is c.requires.within in
+    omega (arith, within.0, within.1, length-drop c.args.shift block, c.requires.place, c.requires.fits)
 
-pub overflow_add-result-in-Text : goal.overflow_add-result-in-Text
-overflow_add-result-in-Text c =
+pub overflow_add-result-in-Texts : goal.overflow_add-result-in-Texts
+overflow_add-result-in-Texts c =
     let block = block_of c.args.self.now c.args.block in
-    let within = subst (IsWithin (drop c.args.shift block) c.args.names.now) c.in-Text.is c.requires.within in
-    omega (arith, line_shifted c.args.shift block c.in-Text.end within.1, c.requires.fits)
+    let within = subst (IsWithin (drop c.args.shift block) c.args.names.now) c.in-Texts.is c.requires.within in
+    omega (arith, within.1, length-drop c.args.shift block, c.requires.place, c.requires.fits)
 
 pub overflow_add-shift : goal.overflow_add-shift
 overflow_add-shift c =
@@ -43,22 +44,27 @@ note_at-requires c =
     let within = subst (IsWithin (drop c.args.shift block) c.args.names.now) c.in-Note.is c.requires.within in
     (omega (arith, within.0), omega (arith, within.1), omega (arith, within.2, length-drop c.args.shift block, c.requires.place), c.requires.block)
 
-pub returns-in-Text-clause-grows : goal.returns-in-Text-clause-grows
-returns-in-Text-clause-grows c = grows_none _
+pub returns-in-Texts-clause-grows : goal.returns-in-Texts-clause-grows
+returns-in-Texts-clause-grows c = grows_none _
 
 pub returns-in-Closing-clause-grows : goal.returns-in-Closing-clause-grows
 returns-in-Closing-clause-grows c = grows_none _
 
-pub returns-in-Text-clause-within : goal.returns-in-Text-clause-within
-returns-in-Text-clause-within c =
+pub returns-in-Texts-clause-within : goal.returns-in-Texts-clause-within
+returns-in-Texts-clause-within c =
     let block = block_of c.args.self.now c.args.block in
-    let within = subst (IsWithin (drop c.args.shift block) c.args.names.now) c.in-Text.is c.requires.within in
-    (omega (arith, within.0), get_shifted c.args.shift block c.in-Text.end ∙ within.1)
+    let within = subst (IsWithin (drop c.args.shift block) c.args.names.now) c.in-Texts.is c.requires.within in
+    (
+      omega (arith, within.0),
+      omega (arith, within.1, length-drop c.args.shift block, c.requires.place),
+      c.requires.block,
+      subst (λ bytes. AreWholeLines bytes c.in-Texts.lines) (sym (range_shifted c.args.shift block c.in-Texts.start c.in-Texts.end)) within.2,
+    )
 
-pub returns-in-Text-clause-seen : goal.returns-in-Text-clause-seen
-returns-in-Text-clause-seen c =
+pub returns-in-Texts-clause-seen : goal.returns-in-Texts-clause-seen
+returns-in-Texts-clause-seen c =
     let block = block_of c.args.self.now c.args.block in
-    ap entry.Text (range_shifted c.args.shift block c.in-Text.start c.in-Text.end) ∙ ap (entry_at (drop c.args.shift block) c.args.names.now) (sym c.in-Text.is)
+    ap (λ bytes. map entry.Text (ended bytes)) (range_shifted c.args.shift block c.in-Texts.start c.in-Texts.end) ∙ ap (entries_there (drop c.args.shift block) c.args.names.now) (sym c.in-Texts.is)
 
 pub returns-in-Note-clause-seen : goal.returns-in-Note-clause-seen
 returns-in-Note-clause-seen c =
@@ -66,4 +72,4 @@ returns-in-Note-clause-seen c =
     let kind = range_shifted c.args.shift block c.in-Note.start c.in-Note.middle in
     let text = range_shifted c.args.shift block c.in-Note.middle c.in-Note.end in
     note_then c.note_at.result _ _ _ c.note_at.ensures.seen
-    ((λ i. entry.Note c.in-Note.pid (kind i) (text i)) ∙ ap (entry_at (drop c.args.shift block) c.args.names.now) (sym c.in-Note.is))
+    ((λ i. entry.Note c.in-Note.pid (kind i) (text i) ∷ []) ∙ ap (entries_there (drop c.args.shift block) c.args.names.now) (sym c.in-Note.is))

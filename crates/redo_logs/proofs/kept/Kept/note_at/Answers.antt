@@ -24,5 +24,5 @@ pub returns-clause-seen : goal.returns-clause-seen
 returns-clause-seen c =
     let place : c.len-note.result ≡ length c.self.inside.notes.items = search rules in
     let new : Parts = record { bytes = c.self.inside.bytes.items; taken = map (λ block. block.items) c.self.inside.taken.items; notes = c.push.new.self.items; names = c.self.inside.names.keys } in
-    note_last_seen c.args.self.now new c.len-note.result c.args.at (get_last c.self.inside.notes.items c.args.at _ _ c.in_ok-push.ensures.items place)
-    (ap (λ (p : Parts). p.bytes) c.self.view_is, ap (λ (p : Parts). p.taken) c.self.view_is)
+    ap (λ e. e ∷ []) (note_last_seen c.args.self.now new c.len-note.result c.args.at (get_last c.self.inside.notes.items c.args.at _ _ c.in_ok-push.ensures.items place)
+    (ap (λ (p : Parts). p.bytes) c.self.view_is, ap (λ (p : Parts). p.taken) c.self.view_is))

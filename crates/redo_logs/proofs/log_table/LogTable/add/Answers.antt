@@ -1,11 +1,13 @@
-use Rattle.std.proofs.Common.{rules, refl, ap, ◌∙◌}
+use Rattle.std.proofs.Common.{[], ◌∷◌, rules, refl, ap, ◌∙◌}
+use Rattle.std.proofs.lemmas.List.{append-nil}
 use Rattle.std.proofs.lemmas.Option.{slice_get_read}
 use Rattle.std.proofs.lemmas.Result.{MatchResult-from_err}
 use Rattle.redo_logs.specs.declared.log_state.LogState.TheVariants.{Running}
 use Rattle.redo_logs.specs.declared.log_table.Log.{Log as Stored}
 use Rattle.redo_logs.specs.Logs.{changed, with_entry}
+use Rattle.redo_logs.specs.Private.Kept.{seen}
 use Rattle.redo_logs.proofs.ChangedLemmas.{changed-none}
-use Rattle.redo_logs.proofs.Storing.{changed_stored, entry_log, entry_log_within, grown_stored, has_state, logs_grown, same_log, same_log_within, written}
+use Rattle.redo_logs.proofs.Storing.{changed_stored, entries_log, entries_log_within, grown_stored, has_state, logs_grown, same_log, same_log_within, written}
 use Rattle.redo_logs.proofs.log_table.LogTable.add.Goals as goal
 
 pub invariant_of-self : goal.invariant_of-self
@@ -28,7 +30,7 @@ invariant_of-self-in_err-push c =
     let below = has_state _ _ _ c.args.stream Running c.self.view_is c.requires.running in
     changed_stored c.keep.new.self c.self.inside.logs.items c.self.inside.places.items c.args.stream old new (λ log. log) (λ log. refl)
     (slice_get_read _ _ c.args.stream _ refl below c.index_mut.ensures.value)
-    (same_log _ old new refl c.in_err-push.ensures.items refl) (same_log_within _ old new refl c.in_err-push.ensures.items)
+    (same_log _ old new refl c.in_err-push.ensures.err refl) (same_log_within _ old new refl c.in_err-push.ensures.err)
     (grown_stored _ _ c.in_ok-record.ensures.grows _ _ c.self.invariant)
 
 pub returns-in_err-push-clause-err : goal.returns-in_err-push-clause-err
@@ -37,7 +39,7 @@ returns-in_err-push-clause-err c =
     let new : Stored = record { name = old.name; records = c.push.new.self; state = old.state } in
     let below = has_state _ _ _ c.args.stream Running c.self.view_is c.requires.running in
     MatchResult-from_err c.from_residual-in_err-push.result _ _ c.from_residual-in_err-push.ensures.0
-    (λ fault. written c.keep.new.self c.self.inside.logs.items c.args.stream old new (λ log. log) (slice_get_read _ _ c.args.stream _ refl below c.index_mut.ensures.value) (same_log _ old new refl c.in_err-push.ensures.items refl)
+    (λ fault. written c.keep.new.self c.self.inside.logs.items c.args.stream old new (λ log. log) (slice_get_read _ _ c.args.stream _ refl below c.index_mut.ensures.value) (same_log _ old new refl c.in_err-push.ensures.err refl)
     ∙ changed-none c.args.stream _ ∙ logs_grown _ _ c.in_ok-record.ensures.grows _ c.self.invariant.within ∙ c.self.view_is)
 
 pub invariant_of-self-2 : goal.invariant_of-self-2
@@ -47,8 +49,8 @@ invariant_of-self-2 c =
     let below = has_state _ _ _ c.args.stream Running c.self.view_is c.requires.running in
     changed_stored c.keep.new.self c.self.inside.logs.items c.self.inside.places.items c.args.stream old new (with_entry c.args.entry) (λ log. refl)
     (slice_get_read _ _ c.args.stream _ refl below c.index_mut.ensures.value)
-    (entry_log _ old new refl c.in_ok-record.record c.in_ok-push.ensures.items c.args.entry c.in_ok-record.ensures.seen refl)
-    (entry_log_within _ old new refl c.in_ok-record.record c.in_ok-push.ensures.items c.in_ok-record.ensures.within)
+    (entries_log _ old new refl (c.in_ok-record.record ∷ []) c.in_ok-push.ensures.pushed (c.args.entry ∷ []) (append-nil (seen c.keep.new.self c.in_ok-record.record) ∙ c.in_ok-record.ensures.seen) refl)
+    (entries_log_within _ old new refl (c.in_ok-record.record ∷ []) c.in_ok-push.ensures.pushed (c.in_ok-record.ensures.within, tt))
     (grown_stored _ _ c.in_ok-record.ensures.grows _ _ c.self.invariant)
 
 pub returns-clause-added : goal.returns-clause-added
@@ -57,5 +59,5 @@ returns-clause-added c =
     let new : Stored = record { name = old.name; records = c.push.new.self; state = old.state } in
     let below = has_state _ _ _ c.args.stream Running c.self.view_is c.requires.running in
     written c.keep.new.self c.self.inside.logs.items c.args.stream old new (with_entry c.args.entry) (slice_get_read _ _ c.args.stream _ refl below c.index_mut.ensures.value)
-    (entry_log _ old new refl c.in_ok-record.record c.in_ok-push.ensures.items c.args.entry c.in_ok-record.ensures.seen refl)
+    (entries_log _ old new refl (c.in_ok-record.record ∷ []) c.in_ok-push.ensures.pushed (c.args.entry ∷ []) (append-nil (seen c.keep.new.self c.in_ok-record.record) ∙ c.in_ok-record.ensures.seen) refl)
     ∙ ap (changed c.args.stream (with_entry c.args.entry)) (logs_grown _ _ c.in_ok-record.ensures.grows _ c.self.invariant.within ∙ c.self.view_is)

@@ -21,41 +21,41 @@ index_mut-requires c =
     let below = has_state _ _ _ c.args.stream Running c.self.view_is c.requires.running in
     search (rules, below)
 
-pub invariant_of-self-in_err-extend_from_slice : goal.invariant_of-self-in_err-extend_from_slice
-invariant_of-self-in_err-extend_from_slice c =
+pub invariant_of-self-in_err-append : goal.invariant_of-self-in_err-append
+invariant_of-self-in_err-append c =
     let old = c.index_mut.result.now in
-    let new : Stored = record { name = old.name; records = c.extend_from_slice.new.self; state = old.state } in
+    let new : Stored = record { name = old.name; records = c.append.new.self; state = old.state } in
     let below = has_state _ _ _ c.args.stream Running c.self.view_is c.requires.running in
     changed_stored c.keep_all.new.self c.self.inside.logs.items c.self.inside.places.items c.args.stream old new (λ log. log) (λ log. refl)
     (slice_get_read _ _ c.args.stream _ refl below c.index_mut.ensures.value)
-    (same_log _ old new refl c.in_err-extend_from_slice.ensures.items refl) (same_log_within _ old new refl c.in_err-extend_from_slice.ensures.items)
+    (same_log _ old new refl c.in_err-append.ensures.err refl) (same_log_within _ old new refl c.in_err-append.ensures.err)
     (grown_stored _ _ c.in_ok-records.ensures.grows _ _ c.self.invariant)
 
-pub returns-in_err-extend_from_slice-clause-err : goal.returns-in_err-extend_from_slice-clause-err
-returns-in_err-extend_from_slice-clause-err c =
+pub returns-in_err-append-clause-err : goal.returns-in_err-append-clause-err
+returns-in_err-append-clause-err c =
     let old = c.index_mut.result.now in
-    let new : Stored = record { name = old.name; records = c.extend_from_slice.new.self; state = old.state } in
+    let new : Stored = record { name = old.name; records = c.append.new.self; state = old.state } in
     let below = has_state _ _ _ c.args.stream Running c.self.view_is c.requires.running in
-    MatchResult-from_err c.from_residual-in_err-extend_from_slice.result _ _ c.from_residual-in_err-extend_from_slice.ensures.0
-    (λ fault. written c.keep_all.new.self c.self.inside.logs.items c.args.stream old new (λ log. log) (slice_get_read _ _ c.args.stream _ refl below c.index_mut.ensures.value) (same_log _ old new refl c.in_err-extend_from_slice.ensures.items refl)
+    MatchResult-from_err c.from_residual-in_err-append.result _ _ c.from_residual-in_err-append.ensures.0
+    (λ fault. written c.keep_all.new.self c.self.inside.logs.items c.args.stream old new (λ log. log) (slice_get_read _ _ c.args.stream _ refl below c.index_mut.ensures.value) (same_log _ old new refl c.in_err-append.ensures.err refl)
     ∙ changed-none c.args.stream _ ∙ logs_grown _ _ c.in_ok-records.ensures.grows _ c.self.invariant.within ∙ c.self.view_is)
 
 pub invariant_of-self-2 : goal.invariant_of-self-2
 invariant_of-self-2 c =
     let old = c.index_mut.result.now in
-    let new : Stored = record { name = old.name; records = c.extend_from_slice.new.self; state = old.state } in
+    let new : Stored = record { name = old.name; records = c.append.new.self; state = old.state } in
     let below = has_state _ _ _ c.args.stream Running c.self.view_is c.requires.running in
     changed_stored c.keep_all.new.self c.self.inside.logs.items c.self.inside.places.items c.args.stream old new (with_entries c.args.entries) (λ log. refl)
     (slice_get_read _ _ c.args.stream _ refl below c.index_mut.ensures.value)
-    (entries_log _ old new refl c.in_ok-records.records.items (c.in_ok-extend_from_slice.ensures.items ∙ ap (λ more. c.index_mut.result.now.records.items ++ more) c.deref.ensures.value) c.args.entries c.in_ok-records.ensures.seen refl)
-    (entries_log_within _ old new refl c.in_ok-records.records.items (c.in_ok-extend_from_slice.ensures.items ∙ ap (λ more. c.index_mut.result.now.records.items ++ more) c.deref.ensures.value) c.in_ok-records.ensures.within)
+    (entries_log _ old new refl c.in_ok-records.records.items (c.in_ok-append.ensures.appended ∙ ap (λ more. c.index_mut.result.now.records ++ more) c.deref.ensures.value) c.args.entries c.in_ok-records.ensures.seen refl)
+    (entries_log_within _ old new refl c.in_ok-records.records.items (c.in_ok-append.ensures.appended ∙ ap (λ more. c.index_mut.result.now.records ++ more) c.deref.ensures.value) c.in_ok-records.ensures.within)
     (grown_stored _ _ c.in_ok-records.ensures.grows _ _ c.self.invariant)
 
 pub returns-clause-added : goal.returns-clause-added
 returns-clause-added c =
     let old = c.index_mut.result.now in
-    let new : Stored = record { name = old.name; records = c.extend_from_slice.new.self; state = old.state } in
+    let new : Stored = record { name = old.name; records = c.append.new.self; state = old.state } in
     let below = has_state _ _ _ c.args.stream Running c.self.view_is c.requires.running in
     written c.keep_all.new.self c.self.inside.logs.items c.args.stream old new (with_entries c.args.entries) (slice_get_read _ _ c.args.stream _ refl below c.index_mut.ensures.value)
-    (entries_log _ old new refl c.in_ok-records.records.items (c.in_ok-extend_from_slice.ensures.items ∙ ap (λ more. c.index_mut.result.now.records.items ++ more) c.deref.ensures.value) c.args.entries c.in_ok-records.ensures.seen refl)
+    (entries_log _ old new refl c.in_ok-records.records.items (c.in_ok-append.ensures.appended ∙ ap (λ more. c.index_mut.result.now.records ++ more) c.deref.ensures.value) c.args.entries c.in_ok-records.ensures.seen refl)
     ∙ ap (changed c.args.stream (with_entries c.args.entries)) (logs_grown _ _ c.in_ok-records.ensures.grows _ c.self.invariant.within ∙ c.self.view_is)

@@ -58,12 +58,12 @@ invariant_of-self-2 c =
     let absent = (λ i. place_of (named.is i) (same i)) ∙ c.requires.absent in
     subst (λ ls. IsStored parts ls (slice_set places c.in_ok-name.name (Some c.len-number.result))) (sym {A = List Stored} c.in_ok-push.ensures.items)
     (subst (λ n. IsStored parts (logs ++ log ∷ []) (slice_set places c.in_ok-name.name (Some n))) (sym count)
-    (one_more parts logs places c.in_ok-name.name log refl c.new.ensures.items refl stored named.below room has_place absent))
+    (one_more parts logs places c.in_ok-name.name log refl c.new.ensures refl stored named.below room has_place absent))
 
 pub returns-clause-entered : goal.returns-clause-entered
 returns-clause-entered c =
     let log : Stored = record { name = c.in_ok-name.name; records = c.new.result; state = Running } in
     let same = logs_grown _ _ c.in_ok-name.ensures.grows _ c.self.invariant.within ∙ c.self.view_is in
     ap (logs_of c.number_of.new.self) c.in_ok-push.ensures.items
-    ∙ one_stored c.number_of.new.self c.self.inside.logs.items c.make_room.new.places.items c.in_ok-name.name log refl c.new.ensures.items refl
+    ∙ one_stored c.number_of.new.self c.self.inside.logs.items c.make_room.new.places.items c.in_ok-name.name log refl c.new.ensures refl
     ∙ (λ i. same i ++ new_log (c.in_ok-name.ensures.is.is i) ∷ [])

@@ -1,38 +1,43 @@
-use Rattle.std.proofs.Common.{inl, inr, length, drop, slice_get, refl, sym, ap, ◌∙◌, subst, arith}
+use Rattle.std.proofs.Common.{Some, None, refl, sym, ap, ◌∙◌, subst}
 use Rattle.std.proofs.lemmas.Bool.{ltb-true}
-use Rattle.std.proofs.lemmas.Option.{slice_get_read}
+use Rattle.std.proofs.lemmas.Option.{none-some, slice_get_read}
+use Rattle.redo_line.specs.declared.entry.Entry.TheVariants.{Text}
 use Rattle.redo_logs.specs.Numbering.{AreLinesAt, HasText, Numbering}
-use Rattle.redo_logs.specs.Private.Kept.{AreLinesOf, IsTextRecord}
-use Rattle.redo_logs.proofs.TextLines.{lines_of_log, lines_within, range_to_end, text_of_log}
+use Rattle.redo_logs.specs.Private.Stored.{IsLogWithin}
+use Rattle.redo_logs.proofs.TextLines.{found_within, lines_found, none_of, stored_at, text_found}
 use Rattle.redo_logs.proofs.numbered.Numbered.lines.Goals as goal
 
-pub returns-in-Some-get-clause-lines : goal.returns-in-Some-get-clause-lines
-returns-in-Some-get-clause-lines c =
+pub lines-requires-clause-within : goal.lines-requires-clause-within
+lines-requires-clause-within c =
     let logs = c.self.inside.logs.now in
+    let parts = c.self.inside.kept.now in
     let at = slice_get_read logs _ c.args.i _ refl (ltb-true _ _ (sym c.in-Some.ensures.lookup.0)) c.in-Some.ensures.lookup.1 in
-    let records = c.in-Some-get.ensures.lookup.0.2 ∙ range_to_end c.deref.result.now c.args.k ∙ ap (drop c.args.k) c.deref.ensures.value in
-    subst (λ (n : Numbering). AreLinesAt n.logs c.args.i c.args.k c.lines.result.0.now c.lines.result.1) c.self.view_is
-    (lines_of_log c.self.inside.kept.now logs c.args.i c.args.k c.in-Some.log.now c.lines.result.0.now c.lines.result.1 at
-    (subst (λ rs. AreLinesOf c.self.inside.kept.now rs c.lines.result.0.now c.lines.result.1) records c.lines.ensures.lines))
+    let within = (stored_at (IsLogWithin parts) logs c.args.i c.in-Some.log.now c.self.invariant.within at).records in
+    found_within parts c.in-Some.log.now.records c.args.k c.in-Some-find.one c.in-Some-find.place within c.in-Some-find.ensures.found
 
-pub returns-in-Some-get-clause-some : goal.returns-in-Some-get-clause-some
-returns-in-Some-get-clause-some c text =
+pub returns-in-Some-find-clause-lines : goal.returns-in-Some-find-clause-lines
+returns-in-Some-find-clause-lines c =
     let logs = c.self.inside.logs.now in
+    let parts = c.self.inside.kept.now in
     let at = slice_get_read logs _ c.args.i _ refl (ltb-true _ _ (sym c.in-Some.ensures.lookup.0)) c.in-Some.ensures.lookup.1 in
-    let records = c.in-Some-get.ensures.lookup.0.2 ∙ range_to_end c.deref.result.now c.args.k ∙ ap (drop c.args.k) c.deref.ensures.value in
-    let has = text_of_log c.self.inside.kept.now logs c.args.i c.args.k c.in-Some.log.now at (subst (λ (n : Numbering). HasText n.logs c.args.i c.args.k) (sym c.self.view_is) text) in
-    c.lines.ensures.some (subst (λ rs. IsTextRecord (slice_get rs 0)) (sym records) has.1)
+    let within = (stored_at (IsLogWithin parts) logs c.args.i c.in-Some.log.now c.self.invariant.within at).records in
+    subst (λ (n : Numbering). AreLinesAt n.logs c.args.i c.args.k c.lines.result.0.now c.lines.result.1) c.self.view_is
+    (lines_found parts logs c.args.i c.args.k c.in-Some.log.now c.in-Some-find.one c.in-Some-find.place _ _ at within c.in-Some-find.ensures.found c.lines.ensures.lines)
+
+pub returns-in-Some-find-clause-some : goal.returns-in-Some-find-clause-some
+returns-in-Some-find-clause-some c text =
+    let logs = c.self.inside.logs.now in
+    let parts = c.self.inside.kept.now in
+    let at = slice_get_read logs _ c.args.i _ refl (ltb-true _ _ (sym c.in-Some.ensures.lookup.0)) c.in-Some.ensures.lookup.1 in
+    let within = (stored_at (IsLogWithin parts) logs c.args.i c.in-Some.log.now c.self.invariant.within at).records in
+    c.lines.ensures.some (text_found parts logs c.args.i c.args.k c.in-Some.log.now at c.in-Some-find.one c.in-Some-find.place within c.in-Some-find.ensures.found
+    (subst (λ (n : Numbering). HasText n.logs c.args.i c.args.k) (sym c.self.view_is) text))
 
 pub returns-in-None-clause-some : goal.returns-in-None-clause-some
 returns-in-None-clause-some c text =
     let logs = c.self.inside.logs.now in
+    let parts = c.self.inside.kept.now in
     let at = slice_get_read logs _ c.args.i _ refl (ltb-true _ _ (sym c.in-Some.ensures.lookup.0)) c.in-Some.ensures.lookup.1 in
-    let has = text_of_log c.self.inside.kept.now logs c.args.i c.args.k c.in-Some.log.now at (subst (λ (n : Numbering). HasText n.logs c.args.i c.args.k) (sym c.self.view_is) text) in
-    let below = has.0 in
-    let count = ap length c.deref.ensures.value in
-    absurd (elim c.in-None.ensures.lookup.0 [ inl past ↦ omega (arith, below, past, count) | inr past ↦ omega (arith, past) ])
-
-pub returns-in-Some-get-clause-fits : goal.returns-in-Some-get-clause-fits
-returns-in-Some-get-clause-fits c =
-    let within = lines_within c.self.inside.kept.now c.in-Some-get.records.now c.lines.result.0.now c.lines.result.1 c.lines.ensures.lines in
-    omega (arith, within, c.in-Some-get.ensures.lookup.0.3, c.deref.type_inv.1)
+    let within = (stored_at (IsLogWithin parts) logs c.args.i c.in-Some.log.now c.self.invariant.within at).records in
+    let has = subst (λ (n : Numbering). HasText n.logs c.args.i c.args.k) (sym c.self.view_is) text in
+    absurd (none-some (Text has.0) (sym (none_of parts logs c.args.i c.args.k c.in-Some.log.now at within c.in-None.ensures.none) ∙ has.1))

@@ -1,0 +1,29 @@
+//! Lines that are text, many at once.
+ghost use Rattle.std.specs.Prelude.{◌≤◌, length, take};
+ghost use Rattle.redo_line.specs.Private.CutLine.{AreTextLines};
+
+use crate::line::MARK;
+use memchr::memchr;
+
+// How many bytes the lines have that stand first, each with its line feed, as far as none of them begins as a record
+// does, and how many these lines are; at most so many.
+pub fn text_lines(bytes: &[u8], most: u16) -> (usize, u16)
+    ensures lines { AreTextLines (take result.0 bytes.now) result.1 }
+    ensures place { result.0 ≤ length bytes.now }
+    ensures most { result.1 ≤ most }
+{
+    let mut upto = 0;
+    let mut count = 0;
+    'lines: while count < most {
+        let left = &bytes[upto..];
+        if left.starts_with(MARK) {
+            break 'lines;
+        }
+        let Some(at) = memchr(b'\n', left) else {
+            break 'lines;
+        };
+        upto += at + 1;
+        count += 1;
+    }
+    (upto, count)
+}
