@@ -1,6 +1,6 @@
 //! The records of a log, of which one may be several entries.
 ghost use Rattle.std.specs.Prelude.{◌≡◌, ◌≤◌, ◌<◌, ◌*◌, ◌^◌, ◌⊎◌, ◌++◌, [], ◌∷◌, length, take, IfSome, IfNone, OnOk, OnErr, OnSome};
-ghost use Rattle.redo_logs.specs.Private.Records.{IsBefore, IsFound, count_of};
+ghost use Rattle.redo_logs.specs.Private.Records.{AddsMark, IsBefore, IsFound, count_of};
 
 use crate::kept::Record;
 use std::alloc::{AllocError, Global};
@@ -125,7 +125,7 @@ impl Records {
 
 // Puts a mark behind the others, where it is the next one's turn: so many records have so many entries.
 fn mark_next(marks: &mut Vec<usize>, records: usize, entries: usize) -> Result<(), AllocError>
-    ensures { (marks.new.items ≡ marks.old.items) ⊎ ((marks.new.items ≡ marks.old.items ++ entries ∷ []) × (records ≡ length marks.old.items * 8)) }
+    ensures { AddsMark marks.old.items marks.new.items records entries }
 {
     if records / APART == marks.len() && records % APART == 0 {
         marks.push(entries)?;

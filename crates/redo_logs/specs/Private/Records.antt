@@ -1,5 +1,5 @@
 -- How many entries records are, and marks by which one of these is found.
-use Rattle.std.specs.Prelude.{◌≡◌, ℕ, ◌+◌, ◌*◌, ◌^◌, ◌≤◌, ◌<◌, List, [], ◌∷◌, ◌++◌, length, take, slice_index_or}
+use Rattle.std.specs.Prelude.{◌≡◌, ℕ, ◌+◌, ◌*◌, ◌^◌, ◌≤◌, ◌<◌, ◌⊎◌, List, [], ◌∷◌, ◌++◌, length, take, slice_index_or}
 use Rattle.redo_logs.specs.declared.kept.Record.{Record}
 use Rattle.redo_logs.specs.Private.Kept.{count_in}
 
@@ -15,6 +15,10 @@ pub record IsBefore (records : List Record) (place count : ℕ) : Type 0 where
 -- a mark for every eighth record, as far as there are marks
 abbrev pub AreMarks : List Record → List ℕ → Type 0
 AreMarks records marks = (number : ℕ) → number < length marks → IsBefore records (number * 8) (slice_index_or marks number 0)
+
+-- marks as they were, or one more, which is that of the next record
+abbrev pub AddsMark : List ℕ → List ℕ → ℕ → ℕ → Type 0
+AddsMark before after records entries = (after ≡ before) ⊎ ((after ≡ before ++ entries ∷ []) × (records ≡ length before * 8))
 
 -- records with so many entries, and with marks
 pub record AreNumbered (records : List Record) (marks : List ℕ) (entries : ℕ) : Type 0 where
