@@ -6,7 +6,7 @@ import shutil
 import signal
 import subprocess
 
-from builds import BY_SHELL, TOOL, make, of_a_terminal, project, ran, shown, wait_for, write
+from builds import BY_SHELL, TOOL, log_of, make, of_a_terminal, project, ran, shown, wait_for, wait_until, write
 from checks import environment
 
 MARKING = ("--must-close",)
@@ -246,6 +246,7 @@ def in_the_middle(checks, at):
     folder = project(at("killed"), "all: x y\nx: ; @echo x >&2\ny: ; @echo y >&2; touch begun; exec sleep 60\n")
     build = subprocess.Popen([TOOL, "make", "-s"], cwd=folder, env=environment(), stderr=subprocess.DEVNULL, preexec_fn=of_a_terminal)
     wait_for(os.path.join(folder, "begun"))
+    wait_until("y has spoken", lambda: log_of(folder, "y") == "y\n")
     os.killpg(build.pid, signal.SIGKILL)
     build.wait()
     write(f"{folder}/capture/names", "1 all\n")
