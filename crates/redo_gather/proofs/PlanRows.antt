@@ -1,5 +1,5 @@
 -- Examples of plans, and of the faults of gatherings, computed.
-use Rattle.std.proofs.Common.{◌≡◌, ℕ, ◌+◌, ◌^◌, Ok, Err, refl, arith}
+use Rattle.std.proofs.Common.{◌≡◌, ℕ, Ok, Err, refl, arith}
 use Rattle.redo_line.specs.declared.stream_fault.StreamFault.TheVariants.{TooLong}
 use Rattle.redo_gather.specs.GatherFault.{IfStreamFault}
 use Rattle.redo_gather.specs.declared.gather_fault.GatherFault.TheVariants as gather

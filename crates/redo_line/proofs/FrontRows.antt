@@ -1,5 +1,5 @@
 -- Examples of entries that others begin with, computed.
-use Rattle.std.proofs.Common.{◌≡◌, List, [], ◌∷◌, pos, refl}
+use Rattle.std.proofs.Common.{◌≡◌, [], ◌∷◌, pos, refl}
 use Rattle.std.specs.Prelude.{codes}
 use Rattle.redo_line.specs.declared.entry.Entry.{Entry}
 use Rattle.redo_line.specs.declared.entry.Entry.TheVariants.{Closing, Text}

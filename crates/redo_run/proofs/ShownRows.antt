@@ -1,5 +1,5 @@
 -- Examples of what runs tell and write, computed. Without targets what a run comes to is the same for all streams.
-use Rattle.std.proofs.Common.{◌≡◌, ℕ, true, false, List, [], ◌∷◌, ◌++◌, Option, None, Some, Result, Ok, Err, length, refl, sym, ap, arith, unwrap_or}
+use Rattle.std.proofs.Common.{◌≡◌, ℕ, true, false, List, [], ◌∷◌, Option, Some, Result, Ok, Err, length, refl, sym, ap, arith, unwrap_or}
 use Rattle.std.specs.Prelude.{codes}
 use Rattle.std.specs.Global.{Vec}
 use Rattle.redo_line.specs.declared.stream_fault.StreamFault.TheVariants.{TooLong}

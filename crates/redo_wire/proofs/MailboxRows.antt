@@ -7,7 +7,7 @@ use Rattle.redo_wire.specs.declared.item.Item.{Item}
 use Rattle.redo_wire.specs.declared.item.What.TheVariants.{End}
 use Rattle.redo_wire.specs.Machine.{FindsNothing, Takes, of}
 use Rattle.redo_wire.specs.Mailbox.{AreAllMet, AreApart, AreEndsOf, AreFronts, AreLeft, AreOfSenders, AreWhole, Collector, HasSchedule, IsAmong, IsOpened, LeavesRoom, Mailbox, MakesPost, MakesStep, Met, Poster, Shows, left_of, meets, posts, takes}
-use Rattle.redo_wire.proofs.MachineRows.{a, b, c, none_else, one_posted, opened, opens, reached, reached_ends, reached_opened, the_first, two_ends, two_met}
+use Rattle.redo_wire.proofs.MachineRows.{a, b, c, none_else, one_posted, opened, reached, reached_ends, reached_opened, the_first, two_ends, two_met}
 use Rattle.redo_wire.proofs.Steps.{lawful_reached, made_reached, of-append}
 
 -- the ends, once all posted what they have to, the second one met last
