@@ -254,7 +254,7 @@ class Trial:
         control = errors.pop("differs", [])
         if not re.search(r"^only=1 ", ran.stdout, re.M) or not refusal(control, "Control", "refused", set()):
             last = [line for line in ran.stdout.splitlines() if "error" in line][:3] or ran.stdout.splitlines()[-3:]
-            return [(False, f"the check came to no end: {' / '.join(last)[:600]}")]
+            return [(False, f"the check came to no end, with status {ran.returncode}: {' / '.join(last)[:600]}")]
         amiss = [f"{name} without an edit: {module}: {first_line(text)}" for name in self.crates for module, text in errors.get(name, [])]
         return [(False, fault) for fault in amiss] + [self.judged(number, wrong, errors.get(f"wrong_{number}", [])) for number, wrong in enumerate(self.wrongs)]
 
