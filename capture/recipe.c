@@ -106,7 +106,8 @@ static void begin_run(const char *book) {
 static void list(void) {
   char *names = path_of("names");
   unsigned last = last_number();
-  if (last == 0 || access(path_of(".capture/targets"), F_OK) < 0) {
+  struct stat targets;
+  if (last == 0 || stat(path_of(".capture/targets"), &targets) < 0) {
     struct list listed = read_list();
     read_closed();
     take_list(&listed);
