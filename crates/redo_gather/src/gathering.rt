@@ -17,7 +17,7 @@ use crate::plan::Plan;
 use crate::sender::{Owing, Sender};
 use crate::sending::Share;
 use crate::storing::enter_all;
-use redo_line::{Feed, TargetName};
+use redo_line::{Feed, HashKeys, TargetName};
 use redo_logs::LogTable;
 use redo_wire::PostEnd;
 use std::alloc::{AllocError, Global};
@@ -38,7 +38,8 @@ use std::thread::{PromisedHandle, Scope, Threads};
 /// want of memory, also of a thread, is told before any of them.
 ///
 /// The gate is told of each read by the sender, before it, and of each entry and each end by the thread that
-/// calls, once it took it.
+/// calls, once it took it. Whoever may choose the names that logs mention can choose them so that this is slow:
+/// [`gather_with_keys`] is for these.
 pub fn gather<T: Threads + Wait + Sync, R: Feed + Send, G: Gate>(
     rt: &T,
     alloc: Global,
@@ -63,7 +64,45 @@ pub fn gather<T: Threads + Wait + Sync, R: Feed + Send, G: Gate>(
     ensures number { IfStreamFault result (λ number fault. number < length names.items) }
     ensures no_memory { IfStreamFault result (λ number fault. fault ≢ OutOfMemory) }
 {
-    let table = enter_all(alloc, names)?;
+    gather_with_keys(
+        rt,
+        alloc,
+        HashKeys::fixed(),
+        names,
+        marks,
+        readers,
+        plan,
+        gate,
+    )
+}
+
+/// The same, in which names are looked up by a hash with these keys. What it answers doesn't depend on them.
+pub fn gather_with_keys<T: Threads + Wait + Sync, R: Feed + Send, G: Gate>(
+    rt: &T,
+    alloc: Global,
+    keys: HashKeys,
+    names: Vec<TargetName>,
+    marks: Vec<bool>,
+    readers: Vec<R>,
+    plan: &Plan,
+    gate: &G,
+) -> Result<LogTable, GatherFault>
+    requires marks { length marks.items ≡ length names.items }
+    requires readers { length readers.items ≡ length names.items }
+    requires distinct { IsDistinct (pointwise nat_eq) names.items }
+    requires size { length names.items ≤ most }
+
+    // The logs of the streams, all of them whole.
+    ensures logs { IfOk result (AreLogs plan.now.max_bytes names.items (told_of R.tells marks.items readers.items)) }
+    ensures targets { IfOk result (λ table. targets_of table ≡ names.items) }
+    ensures ended { IfOk result (λ table. list_all has_ended table ≡ true) }
+
+    // The fault of the least-numbered stream that has one.
+    ensures fault { IfStreamFault result (IsFault plan.now.max_bytes names.items (told_of R.tells marks.items readers.items)) }
+    ensures number { IfStreamFault result (λ number fault. number < length names.items) }
+    ensures no_memory { IfStreamFault result (λ number fault. fault ≢ OutOfMemory) }
+{
+    let table = enter_all(alloc, keys, names)?;
     let senders = plan.senders().min(table.len());
     if senders == 0 {
         return Ok(table);

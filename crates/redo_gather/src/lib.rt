@@ -20,7 +20,7 @@ mod storing;
 
 pub use gate::{Free, Gate};
 pub use gather_fault::GatherFault;
-pub use gathering::gather;
+pub use gathering::{gather, gather_with_keys};
 pub use laws::{
     items_of_a_share, logs_unless_fault, owed_for_a_share, owed_for_a_stream, streams_told,
 };

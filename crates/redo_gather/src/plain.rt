@@ -15,7 +15,7 @@ use crate::gather_fault::GatherFault;
 use crate::marking::with_marks;
 use crate::one_stream::read_stream;
 use crate::storing::{enter_all, store};
-use redo_line::{Feed, TargetName};
+use redo_line::{Feed, HashKeys, TargetName};
 use redo_logs::LogTable;
 use std::alloc::Global;
 
@@ -55,7 +55,7 @@ pub fn gather_plain<R: Feed>(
     ensures no_memory { IfStreamFault result (λ number fault. fault ≢ OutOfMemory) }
 {
     let mut room = vec![in alloc; 0u8; READ_BYTES]?;
-    let mut table = enter_all(alloc, names)?;
+    let mut table = enter_all(alloc, HashKeys::fixed(), names)?;
     let readers = with_marks(alloc, marks, readers)?;
     gather_into(alloc, &mut table, readers, max_bytes, room.as_mut_slice()).and(Ok(table))
 }

@@ -10,18 +10,18 @@ ghost use Rattle.redo_gather.specs.Private.Collecting.{step};
 ghost use Rattle.redo_gather.specs.Private.Storing.{completed};
 
 use crate::one_stream::StreamLog;
-use redo_line::{StreamFault, TargetName};
+use redo_line::{HashKeys, StreamFault, TargetName};
 use redo_logs::{LogState, LogTable, TableFault};
 use redo_wire::{Item, What};
 use std::alloc::{AllocError, Global};
 
 /// A table of these targets, whose logs are empty.
-pub fn enter_all(alloc: Global, names: Vec<TargetName>) -> Result<LogTable, AllocError>
+pub fn enter_all(alloc: Global, keys: HashKeys, names: Vec<TargetName>) -> Result<LogTable, AllocError>
     requires distinct { IsDistinct (pointwise nat_eq) names.items }
     requires size { length names.items ≤ most }
     ensures { IfOk result (λ table. table ≡ map new_log names.items) }
 {
-    let mut table = LogTable::new(alloc);
+    let mut table = LogTable::with_keys(alloc, keys);
     enter_each(&mut table, names).and(Ok(table))
 }
 

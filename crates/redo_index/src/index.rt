@@ -11,7 +11,7 @@ use crate::index_fault::IndexFault;
 use crate::listed::Listed;
 use indexmap::{IndexMap, IndexSet};
 use memchr::memchr;
-use redo_line::{NameFault, TargetName, read_number};
+use redo_line::{HashKeys, NameFault, TargetName, read_number};
 use std::alloc::{AllocError, Global};
 use std::marker::Model;
 
@@ -23,7 +23,7 @@ const MOST: usize = 1_048_575;
 #[derive(Drop)]
 pub struct Index {
     // The log file of each target, by its name.
-    targets: IndexMap<TargetName, LogFile>,
+    targets: IndexMap<TargetName, LogFile, HashKeys>,
 }
 
 /// The file that has the log of a target: its number, and whether it has to end with the record that closes the log.
@@ -52,8 +52,13 @@ impl Index {
         ensures { result ≡ [] }
     {
         Index {
-            targets: IndexMap::new(alloc),
+            targets: IndexMap::with_hasher(alloc, HashKeys::fixed()),
         }
+    }
+
+    /// With which keys its names are hashed.
+    pub fn keys(&self) -> HashKeys {
+        *self.targets.hasher()
     }
 
     /// How many targets are listed. No number and no name stands twice among them, and there are at
@@ -132,13 +137,27 @@ impl Index {
 }
 
 /// Reads an index: lines of which each is a number, a space and the name of a target, perhaps behind a mark. A refusal
-/// names the least line that can't be listed, with its first cause. docs/format.md has the rule.
+/// names the least line that can't be listed, with its first cause. docs/format.md has the rule. Whoever may choose the
+/// numbers and names can choose them so that this is slow: [`read_index_with_keys`] is for these.
 pub fn read_index(alloc: Global, bytes: &[u8]) -> Result<Index, IndexFault>
     ensures listed { IfOk result (λ index. IsIndexOf (all_lines bytes.now) index) }
     ensures refused { IfErr result (λ fault. (fault ≡ OutOfMemory) ⊎ IsRefused (all_lines bytes.now) fault) }
 {
-    let mut numbers = IndexSet::new(alloc);
-    let mut targets = IndexMap::new(alloc);
+    read_index_with_keys(alloc, HashKeys::fixed(), bytes)
+}
+
+/// The same, in which numbers and names are looked up by a hash with these keys. What it answers doesn't depend on
+/// them. The index keeps them ([`Index::keys`]).
+pub fn read_index_with_keys(
+    alloc: Global,
+    keys: HashKeys,
+    bytes: &[u8],
+) -> Result<Index, IndexFault>
+    ensures listed { IfOk result (λ index. IsIndexOf (all_lines bytes.now) index) }
+    ensures refused { IfErr result (λ fault. (fault ≡ OutOfMemory) ⊎ IsRefused (all_lines bytes.now) fault) }
+{
+    let mut numbers = IndexSet::with_hasher(alloc, keys);
+    let mut targets = IndexMap::with_hasher(alloc, keys);
     let mut left = bytes;
     'lines: while !left.is_empty() {
         let (line, behind) = first_line(left);
@@ -163,8 +182,8 @@ fn first_line(bytes: &[u8]) -> (&[u8], &[u8])
 // Lists one more line.
 fn add(
     alloc: Global,
-    numbers: &mut IndexSet<u32>,
-    targets: &mut IndexMap<TargetName, LogFile>,
+    numbers: &mut IndexSet<u32, HashKeys>,
+    targets: &mut IndexMap<TargetName, LogFile, HashKeys>,
     line: &[u8],
 ) -> Result<(), IndexFault>
     ensures holds { (listed : List Listed) → Hold numbers.old.keys targets.old.entries listed →

@@ -8,6 +8,6 @@ mod index_fault;
 mod laws;
 mod listed;
 
-pub use index::{Index, read_index};
+pub use index::{Index, read_index, read_index_with_keys};
 pub use index_fault::IndexFault;
 pub use laws::{listed_of_a_line, one_answer_of_an_index};

@@ -35,6 +35,6 @@ pub use laws::{
 pub use line::{LineFault, read_line};
 pub use line_text::LineText;
 pub use redo_device::{Broken, Feed, Pieces, Reading, Sink, Taker, Writing, push_all};
-pub use redo_name::{NameFault, TargetName};
+pub use redo_name::{HashKeys, NameFault, TargetName};
 pub use scan::{Scan, Step};
 pub use stream_fault::StreamFault;

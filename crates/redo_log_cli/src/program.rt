@@ -20,11 +20,12 @@ use crate::told::fault_line;
 use crate::words::{help_text, read_words};
 use crate::words_fault::WordsFault;
 use redo_gather::{Free, Plan};
-use redo_index::{Index, read_index};
-use redo_line::{Feed, Reading, Writing};
+use redo_index::{Index, read_index_with_keys};
+use redo_line::{Feed, HashKeys, Reading, Writing};
 use redo_run::{RunFault, run};
 use std::alloc::{AllocError, Global};
 use std::io::{BufWriter, ErrorKind, Write};
+use std::random::RandomSource;
 use std::rt::{Env, Files};
 use std::sync::Wait;
 use std::thread::Threads;
@@ -70,7 +71,11 @@ pub fn refuse<E: Write>(alloc: Global, failure: &Failure, err: &mut E) -> u8
 /// The program: reads the words of its command line, without its own name, and the directory that they
 /// name, and writes the text to `out`. Of a failure it writes one line to `err`. What it answers is the
 /// exit status; docs/format.md has the table.
-pub fn command<R: Files<File: Send> + Threads + Wait + Sync + AllocGlobal, W: Write, E: Write>(
+pub fn command<
+    R: Files<File: Send> + RandomSource + Threads + Wait + Sync + AllocGlobal,
+    W: Write,
+    E: Write,
+>(
     rt: &R,
     words: Vec<String>,
     out: &mut W,
@@ -87,7 +92,11 @@ pub fn command<R: Files<File: Send> + Threads + Wait + Sync + AllocGlobal, W: Wr
 }
 
 // Does a job: reads the index of its directory, and shows the logs of its targets.
-fn show_job<R: Files<File: Send> + Threads + Wait + Sync + AllocGlobal, W: Write, E: Write>(
+fn show_job<
+    R: Files<File: Send> + RandomSource + Threads + Wait + Sync + AllocGlobal,
+    W: Write,
+    E: Write,
+>(
     rt: &R,
     job: &Job,
     out: &mut W,
@@ -177,12 +186,13 @@ fn tell<E: Write>(
 }
 
 // Reads the index of a directory.
-fn find_index<R: Files + AllocGlobal>(rt: &R, dir: &str) -> Result<Index, Failure>
+fn find_index<R: Files + RandomSource + AllocGlobal>(rt: &R, dir: &str) -> Result<Index, Failure>
     ensures { IfErr result IsOfNoRun }
 {
     let alloc = rt.alloc();
     let path = names_path(alloc, dir)?;
-    index_of(alloc, fs::open(rt, path).map(Reading))
+    let keys = HashKeys::by_chance(rt);
+    index_of(alloc, keys, fs::open(rt, path).map(Reading))
 }
 
 // The path of the list of targets.
@@ -193,7 +203,11 @@ fn names_path(alloc: Global, dir: &str) -> Result<String, AllocError>
 }
 
 // The index of a file that was to be opened: that of all its bytes, and no more than there may be.
-fn index_of<F: Feed>(alloc: Global, opened: io::Result<F>) -> Result<Index, Failure>
+fn index_of<F: Feed>(
+    alloc: Global,
+    keys: HashKeys,
+    opened: io::Result<F>,
+) -> Result<Index, Failure>
     ensures read { IfOk opened (λ reader. SomeStream (F.tells reader) (TellsIndex result)) }
     ensures unopened { IfErr opened (λ error. result ≡ Err (failure_after (error_kind error))) }
     ensures refused { IfErr result IsOfNoRun }
@@ -208,7 +222,7 @@ fn index_of<F: Feed>(alloc: Global, opened: io::Result<F>) -> Result<Index, Fail
         }
     };
     let bytes = read_names(alloc, &mut reader)?;
-    read_index(alloc, &bytes).map_err(Failure::Index)
+    read_index_with_keys(alloc, keys, &bytes).map_err(Failure::Index)
 }
 
 // Runs a job over readers, one for each target of the index, and writes the text through a buffer.

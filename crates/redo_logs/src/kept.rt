@@ -14,8 +14,9 @@ use crate::entry_ref::EntryRef;
 use crate::lines::{behind_lines, first_line};
 use crate::numbered::NumberedEntry;
 use indexmap::{Equivalent, IndexSet};
-use redo_line::{Entries, Entry, EntryAt, How, TargetName};
+use redo_line::{Entries, Entry, EntryAt, HashKeys, How, TargetName};
 use std::alloc::{AllocError, Global};
+use std::hash::{Hash, Hasher};
 use std::marker::Model;
 
 /// Entries as a log keeps them: where their texts are, or which name one has.
@@ -77,19 +78,32 @@ pub struct NoteAt {
 const MOST_TAKEN: usize = 4_294_967_295;
 
 // The bytes of a name, by which it is looked up.
-#[derive(Clone, Copy, PartialEq, Eq, Hash)]
+#[derive(Clone, Copy, PartialEq, Eq)]
 struct NameBytes<'a> {
     bytes: &'a [u8],
+}
+
+impl<'a> Hash for NameBytes<'a> {
+    ghost use Rattle.std.proofs.Common.{rules};
+    ghost use Rattle.std.specs.Cmp.Rules.{hashing};
+
+    ghost hash_input = { λ query. query.bytes.now ∷ [] };
+
+    ghost respects_eq = { Prim.search (hashing, rules) };
+
+    // As that of a `TargetName`.
+    fn hash<H: Hasher>(&self, state: &mut H) {
+        state.write(self.bytes);
+    }
 }
 
 impl<'a> Equivalent<TargetName> for NameBytes<'a> {
     ghost use Rattle.std.proofs.Common.{ap, sym};
     ghost use Rattle.std.specs.Cmp.Lexicographic.{nat_list_eq_equiv, same_text};
-    ghost use Rattle.std.specs.Hash as fed;
 
     ghost equivalent = { λ query name. pointwise nat_eq query.bytes.now name };
 
-    ghost respects_hash = { λ query name is. ap (fed.slice fed.u8) (same_text query.bytes.now name (sym is)) };
+    ghost respects_hash = { λ query name is. ap (λ bytes. bytes ∷ []) (same_text query.bytes.now name (sym is)) };
 
     ghost respects_eq = { λ query one other. nat_list_eq_equiv.congr query.bytes.now one other };
 
@@ -106,7 +120,7 @@ pub struct Kept {
     // The others: what came in memory of its own, and fills it.
     taken: Vec<Vec<u8>>,
     notes: Vec<NoteAt>,
-    names: IndexSet<TargetName>,
+    names: IndexSet<TargetName, HashKeys>,
 }
 
 impl Model for Kept {
@@ -124,14 +138,14 @@ impl Model for Kept {
 }
 
 impl Kept {
-    pub fn new(alloc: Global) -> Kept
+    pub fn new(alloc: Global, keys: HashKeys) -> Kept
         ensures { result ≡ no_parts }
     {
         Kept {
             bytes: Vec::new(alloc),
             taken: Vec::new(alloc),
             notes: Vec::new(alloc),
-            names: IndexSet::new(alloc),
+            names: IndexSet::with_hasher(alloc, keys),
         }
     }
 

@@ -13,7 +13,7 @@ use crate::log_state::LogState;
 use crate::numbered::Numbered;
 use crate::records::Records;
 use crate::table_fault::TableFault;
-use redo_line::{Entries, Entry, StreamFault, TargetName};
+use redo_line::{Entries, Entry, HashKeys, StreamFault, TargetName};
 use std::alloc::{AllocError, Global};
 use std::marker::Model;
 
@@ -53,13 +53,21 @@ impl Model for LogTable {
 }
 
 impl LogTable {
-    /// A table without a log. It asks for no memory, and its calls take theirs from `alloc`.
+    /// A table without a log. It asks for no memory, and its calls take theirs from `alloc`. Whoever may choose the names
+    /// that its logs mention can choose them so that look-ups are slow: [`LogTable::with_keys`] is for these.
     pub fn new(alloc: Global) -> LogTable
+        ensures { result ≡ [] }
+    {
+        LogTable::with_keys(alloc, HashKeys::fixed())
+    }
+
+    /// The same, in which names are looked up by a hash with these keys. What it answers doesn't depend on them.
+    pub fn with_keys(alloc: Global, keys: HashKeys) -> LogTable
         ensures { result ≡ [] }
     {
         LogTable {
             alloc,
-            kept: Kept::new(alloc),
+            kept: Kept::new(alloc, keys),
             logs: Vec::new(alloc),
             places: Vec::new(alloc),
         }

@@ -1,10 +1,9 @@
-ghost use Rattle.std.specs.Prelude.{◌≡◌, ◌<◌, ◌↔◌, [], Some, Err, IsTrue, IfOk, OnOk, length, option_copied, if◌then◌else◌};
+ghost use Rattle.std.specs.Prelude.{◌≡◌, ◌<◌, ◌↔◌, [], ◌∷◌, Some, Err, IsTrue, IfOk, OnOk, length, option_copied, if◌then◌else◌};
 ghost use Rattle.std.proofs.Common.{rules};
 ghost use Rattle.std.specs.Cmp.Rules.{hashing};
 ghost use Rattle.std.specs.Cmp.Lexicographic.{nat_list_eq_equiv, pointwise};
 ghost use Rattle.std.specs.Cmp.{partial_equiv_from_equiv};
 ghost use Rattle.std.specs.Prelude.{nat_eq};
-ghost use Rattle.std.specs.Hash as fed;
 ghost use Rattle.redo_name.specs.Names.{normal, segments, is_absolute, directory_of, IsNormal};
 ghost use Rattle.redo_name.specs.Private.Path.{LeavesSame};
 ghost use Rattle.redo_name.specs.declared.name.NameFault.TheVariants.{OutOfMemory};
@@ -179,11 +178,11 @@ impl Eq for TargetName {
 }
 
 impl Hash for TargetName {
-    ghost hash_input = { λ name. fed.slice fed.u8 name };
+    ghost hash_input = { λ name. name ∷ [] };
 
     ghost respects_eq = { Prim.search (hashing, rules) };
 
     fn hash<H: Hasher>(&self, state: &mut H) {
-        self.bytes().hash(state);
+        state.write(self.bytes());
     }
 }

@@ -15,7 +15,7 @@ ghost use Rattle.redo_run.specs.RunFault.{IfStreamFault, IfTold, IfUnknown};
 ghost use Rattle.redo_run.specs.Shown.{FailsInText, HasFault, WritesAll, WritesFront};
 
 use crate::run_fault::RunFault;
-use redo_gather::{Gate, GatherFault, Plan, gather, logs_unless_fault};
+use redo_gather::{Gate, GatherFault, Plan, gather_with_keys, logs_unless_fault};
 use redo_index::Index;
 use redo_line::{Feed, NameFault, Sink, TargetName};
 use redo_logs::LogTable;
@@ -102,7 +102,16 @@ fn gather_listed<T: Threads + Wait + Sync, R: Feed + Send, G: Gate>(
 {
     let names = index.names(alloc)?;
     let marks = index.marks(alloc)?;
-    gather(rt, alloc, names, marks, readers, plan, gate)
+    gather_with_keys(
+        rt,
+        alloc,
+        index.keys(),
+        names,
+        marks,
+        readers,
+        plan,
+        gate,
+    )
 }
 
 // Shows logs at targets that have one each.

@@ -3,7 +3,7 @@ use Rattle.redo_line.specs.Lines.{all_lines}
 use Rattle.redo_index.specs.declared.index_fault.IndexFault.TheVariants.{OutOfMemory}
 use Rattle.redo_index.specs.Index.{IsIndex, IsRefused}
 use Rattle.redo_index.proofs.IndexLines.{carried, refused_here, one_more, all_listed}
-use Rattle.redo_index.proofs.index.read_index.Goals as goal
+use Rattle.redo_index.proofs.index.read_index_with_keys.Goals as goal
 
 pub returns-in_err-add-clause-refused : goal.returns-in_err-add-clause-refused
 returns-in_err-add-clause-refused c =

@@ -4,7 +4,7 @@ use Rattle.redo_gather.specs.Streams.{told_by}
 use Rattle.redo_gather.proofs.EnteredLemmas.{begins_empty, gathered_of, has_room, one_for_each}
 use Rattle.redo_gather.proofs.GatheredLemmas.{none_asked}
 use Rattle.redo_gather.proofs.MarkLemmas.{count_zip}
-use Rattle.redo_gather.proofs.gathering.gather.Goals as goal
+use Rattle.redo_gather.proofs.gathering.gather_with_keys.Goals as goal
 
 pub enter_all-requires : goal.enter_all-requires
 enter_all-requires g c = record { distinct = c.requires.distinct; size = c.requires.size }
