@@ -1,21 +1,36 @@
 //! The way of a normal form from the front: the segments that stay so far are kept as the bytes of
 //! the name that they make, without the first slash of a relative one.
-ghost use Rattle.std.specs.Prelude.{◌≡◌, ℕ, ◌↔◌, ◌≤◌, List, [], ◌∷◌, ◌++◌, IsTrue, OnOk, length, take};
+ghost use Rattle.std.specs.Prelude.{◌≡◌, ℕ, ◌↔◌, ◌<◌, ◌≤◌, List, [], ◌∷◌, ◌++◌, IsTrue, IfNone, IfSome, OnOk, length, take};
 ghost use Rattle.redo_name.specs.Names.{slash, segment_kind, Skipped, Upward, segments, HasNoSlash};
 ghost use Rattle.redo_name.specs.Private.Path.{Adds, EndsSo, with_separator};
 
-use bstr::ByteSlice;
-use memchr::memrchr;
+use memchr::{memchr, memrchr};
 use std::alloc::AllocError;
 
 /// Adds the segments of a name to a path.
 pub fn add_segments(path: &mut Vec<u8>, absolute: bool, name: &[u8]) -> Result<(), AllocError>
     ensures { OnOk result (Adds absolute path.old.items (segments name.now) path.new.items) }
 {
-    for segment in name.split_str(b"/") {
+    let mut left = name;
+    'segments: while let Some((segment, behind)) = first_segment(left) {
         add_segment(path, absolute, segment)?;
+        left = behind;
     }
+    add_segment(path, absolute, left)?;
     Ok(())
+}
+
+// What stands before the first slash, and behind it, if there is one.
+fn first_segment(name: &[u8]) -> Option<(&[u8], &[u8])>
+    ensures first { IfSome result (λ parts. segments name.now ≡ parts.0.now ∷ segments parts.1.now) }
+    ensures free { IfSome result (λ parts. HasNoSlash parts.0.now) }
+    ensures less { IfSome result (λ parts. length parts.1.now < length name.now) }
+    ensures none { IfNone result (HasNoSlash name.now) }
+{
+    match memchr(b'/', name) {
+        Some(at) => Some((&name[..at], &name[at + 1..])),
+        None => None,
+    }
 }
 
 fn add_segment(path: &mut Vec<u8>, absolute: bool, segment: &[u8]) -> Result<(), AllocError>

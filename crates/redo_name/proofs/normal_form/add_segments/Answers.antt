@@ -1,32 +1,22 @@
-use Rattle.std.proofs.Common.{ℕ, List, sym, subst, ◌∙◌}
-use Rattle.std.specs.List.{AllByRecursion}
-use Rattle.redo_name.specs.Names.{segments, HasNoSlash}
-use Rattle.redo_name.proofs.NameLemmas.{cut-each}
-use Rattle.redo_name.proofs.SegmentLemmas.{split_is}
+use Rattle.std.proofs.Common.{ℕ, List, [], subst}
+use Rattle.redo_name.specs.Names.{segments}
+use Rattle.redo_name.proofs.NameLemmas.{cut-free}
 use Rattle.redo_name.proofs.PathLemmas.{Halfway, none_yet, one_more, all_added}
 use Rattle.redo_name.proofs.normal_form.add_segments.Goals as goal
 
-pub loop-segment-init : goal.loop-segment-init
-loop-segment-init c =
-    let name = c.args.name.now in
-    let path = c.args.path.now.items in
-    let is = c.into_iter-segment-iterator.ensures.into_iter_gives ∙ c.split_str-segment-items.ensures.value ∙ split_is name in (
-      subst (AllByRecursion HasNoSlash) (sym is) (cut-each name),
-      λ parts stands. subst (λ (rest : List (List ℕ)). Halfway c.args.absolute parts (segments name) rest path) (sym is) (none_yet c.args.absolute parts (segments name) path stands),
-    )
+pub segments-init : goal.segments-init
+segments-init c parts stands = none_yet c.args.absolute parts (segments c.args.name.now) c.args.path.now.items stands
 
-pub loop-segment-preserved : goal.loop-segment-preserved
-loop-segment-preserved c =
-    let next = c.in-Some.ensures.steps in
-    let kept = c.loop-segment.invariant in
-    let each = subst (AllByRecursion HasNoSlash) next kept.0 in (
-      each.1,
-      λ parts stands. one_more c.args.absolute parts (segments c.args.name.now) c.next.new.self c.in-Some.segment.now c.loop-segment.path.items c.add_segment.new.path.items each.0
-          (subst (λ (rest : List (List ℕ)). Halfway c.args.absolute parts (segments c.args.name.now) rest c.loop-segment.path.items) next (kept.1 parts stands)) c.in_ok-add_segment.ensures,
-    )
+pub segments-preserved : goal.segments-preserved
+segments-preserved c parts stands =
+    let found = c.in-Some.ensures in
+    let half = subst (λ (rest : List (List ℕ)). Halfway c.args.absolute parts (segments c.args.name.now) rest c.segments.path.items) found.first (c.segments.invariant parts stands) in
+    one_more c.args.absolute parts (segments c.args.name.now) _ _ c.segments.path.items c.add_segment.new.path.items found.free half c.in_ok-add_segment.ensures
 
 pub returns : goal.returns
 returns c each parts stands =
-    let next = c.in-None.ensures.steps in
-    all_added c.args.absolute parts (segments c.args.name.now) c.loop-segment.path.items
-    (subst (λ (rest : List (List ℕ)). Halfway c.args.absolute parts (segments c.args.name.now) rest c.loop-segment.path.items) next.0 (c.loop-segment.invariant.1 parts stands))
+    let left = c.segments.left.now in
+    let free = c.in_default.ensures.none in
+    let last = subst (λ (rest : List (List ℕ)). Halfway c.args.absolute parts (segments c.args.name.now) rest c.segments.path.items) (cut-free left free) (c.segments.invariant parts stands) in
+    all_added c.args.absolute parts (segments c.args.name.now) c.add_segment-2.new.path.items
+    (one_more c.args.absolute parts (segments c.args.name.now) [] left c.segments.path.items c.add_segment-2.new.path.items free last c.in_ok-add_segment-2.ensures)
