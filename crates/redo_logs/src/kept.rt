@@ -392,7 +392,10 @@ impl Kept {
     {
         match kept {
             Record::Texts {
-                block, start, end, ..
+                block,
+                start,
+                end,
+                ..
             } => {
                 let lines = &self.block(block)[start..end];
                 EntryRef::Text(first_line(behind_lines(lines, place)))
