@@ -155,7 +155,7 @@ one_line bytes lines start end order within whole one = by (ended (slice_range b
     by (line ∷ []) found =
         let are = are_lines (slice_range bytes start end) in
         let whole_is : (slice_range bytes start end) ≡ line ++ line_feed ∷ [] =
-            are.whole ∙ (λ i. flat_map (λ l. l ++ line_feed ∷ []) (found i) ++ whole.nothing_behind i) ∙ append-nil _ ∙ append-nil _ in
+        are.whole ∙ (λ i. flat_map (λ l. l ++ line_feed ∷ []) (found i) ++ whole.nothing_behind i) ∙ append-nil _ ∙ append-nil _ in
         let size = ap length whole_is ∙ length-append line (line_feed ∷ []) in
         let room = length-take (end - start) (drop start bytes) in
         let behind = length-drop start bytes in
@@ -163,8 +163,8 @@ one_line bytes lines start end order within whole one = by (ended (slice_range b
         let count : end - 1 - start ≡ length line = omega (arith, size, room, behind, within, order) in
         let fewer : length line ≤ end - start = omega (arith, size, room) in
         let is : slice_range bytes start (end - 1) ≡ line =
-            ap (λ n. take n (drop start bytes)) count ∙ sym (take-take (length line) (end - start) (drop start bytes) fewer) ∙ ap (take (length line)) whole_is
-            ∙ take-append-le (length line) line (line_feed ∷ []) (omega arith) ∙ take-length line in
+        ap (λ n. take n (drop start bytes)) count ∙ sym (take-take (length line) (end - start) (drop start bytes) fewer) ∙ ap (take (length line)) whole_is
+        ∙ take-append-le (length line) line (line_feed ∷ []) (omega arith) ∙ take-length line in
         record {
           some = some;
           no_feed = subst HasNoLineFeed (sym is) ((subst (AllByRecursion HasNoLineFeed) found are.lines_hold_none).0);

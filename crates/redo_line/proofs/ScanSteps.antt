@@ -181,8 +181,8 @@ module _ (now p : Progress) (same : p ≡ now) (u : List ℕ) (after_now : IsAft
       let front : take upto a ≡ slice = take-take upto (p.max_bytes - p.taken) left (let fits = room in omega (arith, fits)) in
       let parts : a ≡ slice ++ drop upto a = sym (take-append-drop upto a) ∙ ap (λ (b : List ℕ). b ++ drop upto a) front in
       let cut : Cuts p.kept slice lines [] = λ taken is. (
-          ended-append taken slice ∙ ap (λ (k : List ℕ). ended taken ++ ended (k ++ slice)) (is ∙ none_kept),
-          rest-append taken slice ∙ ap (λ (k : List ℕ). rest (k ++ slice)) (is ∙ none_kept) ∙ are.nothing_behind,
+        ended-append taken slice ∙ ap (λ (k : List ℕ). ended taken ++ ended (k ++ slice)) (is ∙ none_kept),
+        rest-append taken slice ∙ ap (λ (k : List ℕ). rest (k ++ slice)) (is ∙ none_kept) ∙ are.nothing_behind,
       ) in
       let entries_are = texts_are p.target lines are.texts in
       let fine : first_fault p.closed (p.lines + 1) (map Some text_entries) ≡ None = ap (λ c. first_fault c (p.lines + 1) (map Some text_entries)) not_closed ∙ texts_fine (p.lines + 1) lines in
@@ -195,8 +195,8 @@ module _ (now p : Progress) (same : p ≡ now) (u : List ℕ) (after_now : IsAft
         ends = end_lines p u after left a refl slice (drop upto a) lines cut parts text_entries entries_are fine;
       } in
       let slice_is : slice_range piece from (from + upto) ≡ slice =
-          let whole : from + upto - from ≡ upto = omega arith in
-          ap (λ n. take n (drop from piece)) whole ∙ ap (take upto) (sym left_is) in
+      let whole : from + upto - from ≡ upto = omega arith in
+      ap (λ n. take n (drop from piece)) whole ∙ ap (take upto) (sym left_is) in
       subst (λ (s : List ℕ). Finds now then u s text_entries) (sym slice_is) (subst (λ (q : Progress). Finds q then u slice text_entries) same finds)
 
   -- so their first byte is not at fault by where it stands

@@ -46,10 +46,10 @@ module _ (bytes left : List ℕ) (upto count at : ℕ) (are : AreTextLines (take
       let line = take at left in
       let free : HasNoLineFeed line = free_before left at found.0.before in
       let whole : take (upto + (at + 1)) bytes ≡ front ++ (line ++ line_feed ∷ []) =
-          take-add upto (at + 1) bytes ∙ ap (λ (b : List ℕ). front ++ take (at + 1) b) (sym left_is) ∙ ap (λ (b : List ℕ). front ++ b) (upto_feed left at found.0.high found.1) in
+      take-add upto (at + 1) bytes ∙ ap (λ (b : List ℕ). front ++ take (at + 1) b) (sym left_is) ∙ ap (λ (b : List ℕ). front ++ b) (upto_feed left at found.0.high found.1) in
       let lines : ended (take (upto + (at + 1)) bytes) ≡ ended front ++ line ∷ [] =
-          ap ended whole ∙ ended-append front (line ++ line_feed ∷ []) ∙ ap (λ (r : List ℕ). ended front ++ ended (r ++ (line ++ line_feed ∷ []))) are.nothing_behind
-          ∙ ap (λ ls. ended front ++ ls) (ended-line line [] free ∙ ap (λ ls. line ∷ ls) (ended-free [] tt)) in
+      ap ended whole ∙ ended-append front (line ++ line_feed ∷ []) ∙ ap (λ (r : List ℕ). ended front ++ ended (r ++ (line ++ line_feed ∷ []))) are.nothing_behind
+      ∙ ap (λ ls. ended front ++ ls) (ended-line line [] free ∙ ap (λ ls. line ∷ ls) (ended-free [] tt)) in
       record {
         count_is = ap length lines ∙ length-append (ended front) (line ∷ []) ∙ ap (λ n. n + 1) are.count_is;
         nothing_behind =

@@ -1,6 +1,6 @@
 //! The table of logs: what its calls answer, and what they leave.
 use redo_given::{entry_text, line, logs_text};
-use redo_line::{StreamFault, TargetName, read_line};
+use redo_line::{Entries, Scan, StreamFault, TargetName, read_line};
 use redo_logs::{LogState, LogTable, Numbered, NumberedEntry, TableFault};
 use std::alloc::Global;
 use std::process::Abort;
@@ -239,15 +239,29 @@ fn all_logs_of_an_empty_table_have_ended(rt: HostRuntime) {
     expect_ends(&rt, &LogTable::new(rt.alloc()), None, true);
 }
 
-/// Enters both logs. The first has two texts, then one that was added behind the other's, and a mention.
+/// Adds the entries of the lines of a piece that are text to a log, together.
+fn add_together(alloc: Global, table: &mut LogTable, number: u32, piece: &str) -> Result<(), Fail> {
+    if number >= table.len() {
+        return Err("no such log".into());
+    }
+    let LogState::Running = table.state(number) else {
+        return Err("the log doesn't run".into());
+    };
+    let mut scan = Scan::new(alloc, table.name(number).copy(alloc)?, 1_000, false);
+    let mut read = Entries::new(alloc);
+    scan.step_into(piece.as_bytes(), 0, 10, &mut read)?;
+    Ok(table.add_all(number, read)?)
+}
+
+/// Enters both logs. The first has two texts that came together, then one that came behind the other's, and a mention.
 fn enter_lines(alloc: Global, table: &mut LogTable) -> Result<(), Fail> {
     enter_both(alloc, table)?;
-    add_all(alloc, table, 0, &["x", "yy"])?;
+    add_together(alloc, table, 0, "x\nyy\n")?;
     add(alloc, table, 1, "other")?;
     add_all(alloc, table, 0, &["z", "@@REDO:do:1:1@@ b", ""])
 }
 
-/// At each entry the lines of the texts that were added one behind the other, and how many they are.
+/// At each entry the lines of the texts that came together, from it on, and how many they are.
 static LINES: [(u32, usize, &str, usize); 8] = [
     (0, 0, "x\nyy\n", 2),
     (0, 1, "yy\n", 1),

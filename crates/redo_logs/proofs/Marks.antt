@@ -93,7 +93,7 @@ cut records marks old count entries are before few = record {
 pub fewer_before : (records : List Record) (place count : ℕ) → IsBefore records place count → count ≤ count_of records
 fewer_before records place count before =
     let all : count_of records ≡ count_of (take place records) + count_of (drop place records) =
-        ap count_of (sym (take-append-drop place records)) ∙ count_append (take place records) (drop place records) in
+    ap count_of (sym (take-append-drop place records)) ∙ count_append (take place records) (drop place records) in
     omega (arith, all, before.is)
 
 -- ---- one after another

@@ -406,7 +406,10 @@ impl Kept {
     {
         match kept {
             Record::Texts {
-                block, start, end, ..
+                block,
+                start,
+                end,
+                ..
             } => {
                 let lines = &self.block(block)[start..end];
                 EntryRef::Text(first_line(behind_lines(lines, place)))

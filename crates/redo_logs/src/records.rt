@@ -149,12 +149,7 @@ fn last_not_behind(numbers: &[usize], number: usize) -> usize {
 }
 
 // The same, from the record at a place on, before which so many entries stand.
-fn find_from(
-    records: &[Record],
-    at: usize,
-    before: usize,
-    number: usize,
-) -> Option<(Record, usize)>
+fn find_from(records: &[Record], at: usize, before: usize, number: usize) -> Option<(Record, usize)>
     requires before { IsBefore records.now at before }
     requires not_behind { before ≤ number }
     requires few { count_of records.now ≤ 2 ^ 62 }

@@ -1,4 +1,4 @@
-use Rattle.std.proofs.Common.{Some, sym, ap}
+use Rattle.std.proofs.Common.{ap}
 use Rattle.std.specs.Prelude.{slice_get}
 use Rattle.redo_logs.proofs.FirstLines.{first_ended, no_line}
 use Rattle.redo_logs.proofs.lines.first_line.Goals as goal

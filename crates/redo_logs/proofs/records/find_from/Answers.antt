@@ -1,4 +1,4 @@
-use Rattle.std.proofs.Common.{◌<◌, ◌-◌, ◌+◌, length, arith, sym, subst, ap}
+use Rattle.std.proofs.Common.{◌<◌, ◌-◌, ◌+◌, arith, sym, subst}
 use Rattle.std.proofs.lemmas.Bool.{ltb-true}
 use Rattle.redo_logs.specs.Private.Records.{IsBefore}
 use Rattle.redo_logs.proofs.Marks.{fewer_before, found_here, next_before}
@@ -22,8 +22,7 @@ returns-then-number-before-clause-fits c =
 pub records-preserved : goal.records-preserved
 records-preserved c =
     let kept = c.records.invariant in
-    let look = c.in-Some.ensures.lookup in
-    (
+    let look = c.in-Some.ensures.lookup in (
       subst (λ n. IsBefore c.args.records.now (c.records.at + 1) (c.records.before + n)) (sym c.count-count.ensures.is)
           (next_before c.args.records.now c.records.at c.records.before c.in-Some.one.now kept.0 (ltb-true _ _ (sym look.0)) look.1),
       omega (arith, kept.1, c.if-number-before.false),

@@ -33,7 +33,7 @@ returns-clause-found c u after =
     record {
       more = _;
       finds = texts_found c.args.self.now _ c.self.view_is u after c.args.piece.now _ c.args.from (take_rest c.args.piece.now c.args.from) c.texts-length.result.0 c.texts-length.result.1
-    told.lines told.place told.room some (told.begun some) (told.begun_log some);
+          told.lines told.place told.room some (told.begun some) (told.begun_log some);
       some = omega (arith, count, some);
       few = omega (arith, count, told.most);
       put = c.in_ok-push_lines.ensures.pushed;

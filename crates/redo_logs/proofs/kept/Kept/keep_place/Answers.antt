@@ -53,8 +53,7 @@ returns-in-Closing-clause-grows c = grows_none _
 pub returns-in-Texts-clause-within : goal.returns-in-Texts-clause-within
 returns-in-Texts-clause-within c =
     let block = block_of c.args.self.now c.args.block in
-    let within = subst (IsWithin (drop c.args.shift block) c.args.names.now) c.in-Texts.is c.requires.within in
-    (
+    let within = subst (IsWithin (drop c.args.shift block) c.args.names.now) c.in-Texts.is c.requires.within in (
       omega (arith, within.0),
       omega (arith, within.1, length-drop c.args.shift block, c.requires.place),
       c.requires.block,
