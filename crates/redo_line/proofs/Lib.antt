@@ -16,6 +16,7 @@ pub mod LineLemmas
 mod LineRows
 pub mod LogLemmas
 mod LogRows
+mod NearLemmas
 mod Numbers
 pub mod PartLemmas
 mod PartRows

@@ -16,6 +16,7 @@ mod laws;
 mod line;
 mod line_start;
 mod line_text;
+mod near;
 mod parts;
 mod progress;
 mod record;

@@ -3,7 +3,7 @@ ghost use Rattle.std.specs.Prelude.{◌≤◌, length, take};
 ghost use Rattle.redo_line.specs.Private.CutLine.{AreTextLines};
 
 use crate::line::MARK;
-use memchr::memchr;
+use crate::near::first_place;
 
 // How many bytes the lines have that stand first, each with its line feed, as far as none of them begins as a record
 // does, and how many these lines are; at most so many.
@@ -19,7 +19,7 @@ pub fn text_lines(bytes: &[u8], most: u16) -> (usize, u16)
         if left.starts_with(MARK) {
             break 'lines;
         }
-        let Some(at) = memchr(b'\n', left) else {
+        let Some(at) = first_place(b'\n', left) else {
             break 'lines;
         };
         upto += at + 1;
