@@ -4,7 +4,8 @@ ghost use Rattle.std.specs.Prelude.{◌≡◌, ℕ, ◌↔◌, ◌<◌, ◌≤�
 ghost use Rattle.redo_name.specs.Names.{slash, segment_kind, Skipped, Upward, segments, HasNoSlash};
 ghost use Rattle.redo_name.specs.Private.Path.{Adds, EndsSo, with_separator};
 
-use memchr::{memchr, memrchr};
+use bstr::ByteSlice;
+use memchr::memrchr;
 use std::alloc::AllocError;
 
 /// Adds the segments of a name to a path.
@@ -27,7 +28,7 @@ fn first_segment(name: &[u8]) -> Option<(&[u8], &[u8])>
     ensures less { IfSome result (λ parts. length parts.1.now < length name.now) }
     ensures none { IfNone result (HasNoSlash name.now) }
 {
-    match memchr(b'/', name) {
+    match name.find_byte(b'/') {
         Some(at) => Some((&name[..at], &name[at + 1..])),
         None => None,
     }
