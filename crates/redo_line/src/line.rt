@@ -20,7 +20,7 @@ use redo_name::{NameFault, TargetName, resolve_to};
 use std::alloc::{AllocError, Global};
 
 // What a record begins with.
-pub const MARK: &[u8] = b"@@REDO:";
+const MARK: &[u8] = b"@@REDO:";
 
 /// Why a line has no entry.
 #[derive(Clone, Copy, Debug, PartialEq, Eq)]
@@ -76,7 +76,17 @@ pub fn read_line(
 fn is_candidate(line: &[u8], ended: bool) -> bool
     ensures { result ≡ (ended && starts_with nat_eq line.now mark) }
 {
-    ended && line.starts_with(MARK)
+    ended && is_marked(line)
+}
+
+// Whether the line begins as a record does. Most differ in the first byte.
+pub fn is_marked(line: &[u8]) -> bool
+    ensures { result ≡ starts_with nat_eq line.now mark }
+{
+    match line.first() {
+        Some(b'@') => line.starts_with(MARK),
+        _ => false,
+    }
 }
 
 // What a record says, in memory of its own.

@@ -2,7 +2,7 @@
 ghost use Rattle.std.specs.Prelude.{◌≤◌, length, take};
 ghost use Rattle.redo_line.specs.Private.CutLine.{AreTextLines};
 
-use crate::line::MARK;
+use crate::line::is_marked;
 use crate::near::first_place;
 
 // How many bytes the lines have that stand first, each with its line feed, as far as none of them begins as a record
@@ -16,7 +16,7 @@ pub fn text_lines(bytes: &[u8], most: u16) -> (usize, u16)
     let mut count = 0;
     'lines: while count < most {
         let left = &bytes[upto..];
-        if left.starts_with(MARK) {
+        if is_marked(left) {
             break 'lines;
         }
         let Some(at) = first_place(b'\n', left) else {

@@ -1,4 +1,4 @@
-use Rattle.std.proofs.Common.{arith, subst, zero-le}
+use Rattle.std.proofs.Common.{◌≡◌, arith, subst, zero-le}
 use Rattle.std.proofs.lemmas.Bool.{eq-eqb}
 use Rattle.std.proofs.lemmas.List.{take_rest}
 use Rattle.memchr.specs.Find.{Nowhere, Passes, is_byte}
@@ -17,10 +17,12 @@ loop-at-preserved c = none_more c.args.byte c.args.bytes.now c.loop-at.at c.loop
 
 pub returns-in-Some : goal.returns-in-Some
 returns-in-Some c =
-    let none = subst (Nowhere (Passes (is_byte c.args.byte) c.args.bytes.now) 0) (omega (arith, c.loop-at-test.false, c.loop-at.auto.at-end)) c.loop-at.invariant in
+    let end : c.loop-at.at ≡ c.min-near.result = omega (arith, c.loop-at-test.false, c.loop-at.auto.at-end) in
+    let none = subst (Nowhere (Passes (is_byte c.args.byte) c.args.bytes.now) 0) end c.loop-at.invariant in
     found_behind c.args.byte c.args.bytes.now _ c.min-near.result (take_rest c.args.bytes.now c.min-near.result) none c.in-Some.at c.in-Some.ensures
 
 pub returns-in-None : goal.returns-in-None
 returns-in-None c =
-    let none = subst (Nowhere (Passes (is_byte c.args.byte) c.args.bytes.now) 0) (omega (arith, c.loop-at-test.false, c.loop-at.auto.at-end)) c.loop-at.invariant in
+    let end : c.loop-at.at ≡ c.min-near.result = omega (arith, c.loop-at-test.false, c.loop-at.auto.at-end) in
+    let none = subst (Nowhere (Passes (is_byte c.args.byte) c.args.bytes.now) 0) end c.loop-at.invariant in
     none_behind c.args.byte c.args.bytes.now _ c.min-near.result (take_rest c.args.bytes.now c.min-near.result) none (omega (arith, c.min-near.ensures)) c.in-None.ensures

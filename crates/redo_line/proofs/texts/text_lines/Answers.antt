@@ -13,5 +13,5 @@ lines-preserved c =
     let left = take_rest c.args.bytes.now c.lines.upto in (
       (let size = length-drop c.lines.upto c.args.bytes.now in let high = found.0.high in let all = ap length left in omega (arith, kept.0, size, high, all)),
       (let more = c.lines-test.true in omega (arith, more)),
-      next_text c.args.bytes.now _ c.lines.upto c.lines.count c.in-Some.at kept.2 left found (sym c.starts_with.ensures.value ∙ c.if-starts_with.false),
+      next_text c.args.bytes.now _ c.lines.upto c.lines.count c.in-Some.at kept.2 left found (sym c.is_marked.ensures ∙ c.if-is_marked.false),
     )
