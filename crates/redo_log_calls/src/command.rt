@@ -6,6 +6,7 @@ use redo_log_cli::{
 use std::alloc::{AllocError, Global};
 use std::io;
 use std::io::Write;
+use std::random::RandomSource;
 use std::rt::Files;
 use std::sync::Wait;
 use std::thread::Threads;
@@ -118,7 +119,7 @@ impl Write for Unflushed {
 /// The command for the targets `x` and `all` of the directory that this runs in, with writers whose
 /// flush fails.
 pub fn command_unflushed(
-    rt: &(impl Print + Files<File: Send> + Threads + Wait + Sync + AllocGlobal),
+    rt: &(impl Print + Files<File: Send> + RandomSource + Threads + Wait + Sync + AllocGlobal),
 ) -> io::Result<()> {
     let alloc = rt.alloc();
     let Ok(words) = strings(alloc, &["x", "all"]) else {
