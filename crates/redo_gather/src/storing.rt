@@ -16,7 +16,11 @@ use redo_wire::{Item, What};
 use std::alloc::{AllocError, Global};
 
 /// A table of these targets, whose logs are empty.
-pub fn enter_all(alloc: Global, keys: HashKeys, names: Vec<TargetName>) -> Result<LogTable, AllocError>
+pub fn enter_all(
+    alloc: Global,
+    keys: HashKeys,
+    names: Vec<TargetName>,
+) -> Result<LogTable, AllocError>
     requires distinct { IsDistinct (pointwise nat_eq) names.items }
     requires size { length names.items ≤ most }
     ensures { IfOk result (λ table. table ≡ map new_log names.items) }

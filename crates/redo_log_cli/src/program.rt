@@ -75,12 +75,7 @@ pub fn command<
     R: Files<File: Send> + RandomSource + Threads + Wait + Sync + AllocGlobal,
     W: Write,
     E: Write,
->(
-    rt: &R,
-    words: Vec<String>,
-    out: &mut W,
-    err: &mut E,
-) -> u8
+>(rt: &R, words: Vec<String>, out: &mut W, err: &mut E) -> u8
     ensures { IsStatus result }
 {
     let alloc = rt.alloc();
@@ -96,12 +91,7 @@ fn show_job<
     R: Files<File: Send> + RandomSource + Threads + Wait + Sync + AllocGlobal,
     W: Write,
     E: Write,
->(
-    rt: &R,
-    job: &Job,
-    out: &mut W,
-    err: &mut E,
-) -> u8
+>(rt: &R, job: &Job, out: &mut W, err: &mut E) -> u8
     ensures { IsStatus result }
 {
     match find_index(rt, job.dir()) {
@@ -203,11 +193,7 @@ fn names_path(alloc: Global, dir: &str) -> Result<String, AllocError>
 }
 
 // The index of a file that was to be opened: that of all its bytes, and no more than there may be.
-fn index_of<F: Feed>(
-    alloc: Global,
-    keys: HashKeys,
-    opened: io::Result<F>,
-) -> Result<Index, Failure>
+fn index_of<F: Feed>(alloc: Global, keys: HashKeys, opened: io::Result<F>) -> Result<Index, Failure>
     ensures read { IfOk opened (λ reader. SomeStream (F.tells reader) (TellsIndex result)) }
     ensures unopened { IfErr opened (λ error. result ≡ Err (failure_after (error_kind error))) }
     ensures refused { IfErr result IsOfNoRun }

@@ -102,16 +102,7 @@ fn gather_listed<T: Threads + Wait + Sync, R: Feed + Send, G: Gate>(
 {
     let names = index.names(alloc)?;
     let marks = index.marks(alloc)?;
-    gather_with_keys(
-        rt,
-        alloc,
-        index.keys(),
-        names,
-        marks,
-        readers,
-        plan,
-        gate,
-    )
+    gather_with_keys(rt, alloc, index.keys(), names, marks, readers, plan, gate)
 }
 
 // Shows logs at targets that have one each.
