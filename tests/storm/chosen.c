@@ -25,8 +25,8 @@ static uint64_t fold_text(uint64_t state, const char *text) {
   return state;
 }
 
-/* A name has one text of each pair, and both leave the same state, so all names do. It takes a minute to find a pair, behind those
-   before it: of the 2^30 states that texts of five letters leave two differ by what a sixth letter makes up for. */
+/* A name has one text of each pair, and both leave the same state, so all names do. Behind those before it a pair takes a
+   minute to find: of the 2^30 states that texts of five letters leave two differ by what a sixth letter makes up for. */
 static const char *const pairs[PAIRS][2] = {
   {"OcaKKD", "DGWhtz"}, {"vNjbiA", "eUprvV"}, {"tKV6hA", "haCWaR"}, {"jidQ0A", "2XZKgw"}, {"n1QP40", "UEYlsW"},
   {"qSiap0", "NibKW8"}, {"Smj1u0", "CGZp2U"}, {"sB7LL0", "C5uFOu"}, {"_M2=r0", "qu0HKa"}, {"aZHps1", "T8LkU."},
@@ -69,8 +69,8 @@ static uint64_t sip_end(struct sip s, uint64_t rest, uint64_t bytes) {
 }
 
 /* A table has a power of two of groups, of nine entries each at most. It looks for an entry from the group on that the lowest
-   bits of its hash say, at those with its tag, the highest bits. Chosen is what has the first group and a low tag, or one of the
-   first groups, so that of all that are tried a twentieth more is chosen than asked for. */
+   bits of its hash say, at those with its tag, the highest bits. Chosen is what has the first group and a low tag, or has one
+   of the first groups: so many of them that of all that are tried a twentieth more are chosen than asked for. */
 static uint64_t groups = 1, most;
 static void choose(long count, double tried) {
   while (9 * groups < (uint64_t)count) groups *= 2;

@@ -1,9 +1,9 @@
 """Directories of names and numbers that were chosen so that they fall together in a table. Usage: chosen.py PROGRAM
 
 PROGRAM has to answer what each directory holds, and may take little more time of the processor than for names and numbers at
-random. Those of `fold` (chosen.c) fall together under the hash that a table takes by itself, whose seed is fixed: a program with
-that fails the check of their time in each directory. Those of `sip` fall together where the system gives no keys: a library
-(no_keys.c) has it give none, and the answers have to be the same, and to take longer, which shows that they are well chosen.
+random. Those of `fold` (chosen.c) fall together under the hash that a table takes by itself, whose seed is fixed: a program
+that had it failed the check of their time in each directory. Those of `sip` fall together where the system gives no keys: a
+library (no_keys.c) has it give none, and the answers have to be the same, and to take longer, as these are well chosen.
 """
 
 import os
@@ -131,8 +131,8 @@ def ran(program, directory, words, library=""):
 
 
 def compared(checks, program, library, folder, fill, sets):
-    """One directory with the names and numbers of each set. Returns how many times the seconds of those at random the others took,
-    with keys and without."""
+    """A directory with the names and numbers of each set. Returns how many times as long as those at random others took, with keys
+    and without."""
     name = fill.__name__.replace("_", " ")
     cases = {}
     for by, (names, numbers) in sets.items():
@@ -164,7 +164,7 @@ def main(program):
         sets = {"random": at_random(), **chosen(folder)}
         found = [compared(checks, program, library, folder, fill, sets) for fill in DIRECTORIES]
     with_keys, without = (max(times) for times in zip(*found))
-    print(f"{COUNT:,} names and numbers: chosen ones took up to {with_keys:.1f} times as long as others, without keys {without:.0f} times")
+    print(f"{COUNT:,} chosen ones took up to {with_keys:.1f} times as long as others, and {without:.0f} times without keys")
     checks.end("chosen names and numbers")
 
 
