@@ -6,6 +6,7 @@
      run        the book of the last run: which that is, a process and when it began; then what came of each target
      last       the last number that a target got
      closed     the numbers of the logs that are closed, but for those that the run of the book has begun anew
+     left       `names` without marks, as what is known of targets goes by it, below a count of files in targets/
      spaces     is there once a target with a space in its name is
      targets/   what is known of each target, in a file of its own, so that no line has to go over a list */
 extern const char *at;
@@ -32,9 +33,10 @@ char *quoted(const char *word);
 char *contents(const char *path, size_t *size);
 /* Writes all of it, or answers -1. */
 int write_all(int file, const char *bytes, size_t size);
-/* Adds to a file, which is made if the flags say so. What there was no room for is taken off again, and told by -1, or as
-   what can't be written. */
-int try_append(const char *path, int flags, const char *bytes, size_t size);
+/* Adds to a file, which is made if only a path is given. What there was no room for is taken off again, and told by -1, or as what
+   can't be written. */
+int add_to(int file, const char *bytes, size_t size);
+int try_append(const char *path, const char *bytes, size_t size);
 void append(const char *path, const char *bytes, size_t size);
 void append_line(const char *path, const char *format, ...);
 /* Whether a file ends in the middle of a line. */
@@ -73,6 +75,13 @@ struct target {
 };
 struct target look_up(const char *name);
 void keep(struct target target, const char *name);
+/* With this number; and what is to be known of a name with spaces. */
+void keep_listed(unsigned number, const char *name);
+void keep_spaces(void);
+void each_target(void (*meet)(struct target target, const char *name));
+unsigned count_targets(void); /* their files */
+/* The last number that a target got, or 0 if that isn't known. */
+unsigned last_number(void);
 void forget_targets(void);
 
 /* What stands for the process and the time in records that are there only until the run has ended: mentions of what a recipe
@@ -124,14 +133,31 @@ void show_next(int listening);
 /* Of a recipe: has what it said shown, if that is asked for, and waits for it. */
 void ask_to_show(unsigned number, int status, const char *name);
 
-/* closed.c: which logs are closed, and the marks by which `names` says of a log that it has to be */
+/* closed.c: which logs are closed */
 
 /* Reads the list, without what the run that the book is of has begun. It is kept by number, and written again. */
 void read_closed(void);
-void set_closed(unsigned number, int is_closed);
+int is_closed(unsigned number);
+void set_closed(unsigned number, int is_so);
 void write_closed(void);
-/* Marks all that is closed, or nothing. */
-void write_marks(int must_close);
+
+/* names.c: the list of targets, with marks that say of a log that it has to be closed */
+
+/* As many as may be listed, and the largest number. */
+enum { MOST_LOGS = 1048575 };
+char *normal_form(const char *name);
+struct line { unsigned number; const char *name; size_t place; };
+struct list { struct line *lines; size_t count; char *bytes; };
+/* Reads it, with names in normal form. One that is missing is empty. A line that redo-log would refuse is left out, and told. */
+struct list read_list(void);
+/* Lists a target, unless it is; other lines with its number or its name go. That of the run comes first. */
+void put_line(struct list *list, unsigned number, const char *name);
+/* Has what is kept of targets, and which logs are closed, go by the list, to which that of the run is added if it is missing. */
+void take_list(struct list *list);
+/* Where all that was added since to the list that targets go by is of the run, they go by the whole. */
+void keep_left(const struct list *list, int (*is_of_run)(const struct line *line));
+/* Writes it, if that isn't what is there, with each log marked that is closed, or none. */
+void write_list(struct list *list, int must_close);
 
 /* recipe.c and finish.c */
 

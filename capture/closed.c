@@ -1,4 +1,4 @@
-/* Which logs are closed, and the marks by which `names` says of a log that it has to be. */
+/* Which logs are closed. */
 #include "capture.h"
 #include <stdio.h>
 #include <stdlib.h>
@@ -8,9 +8,10 @@
 static char *closed;
 static size_t count;
 
-static int is_listed(unsigned number) { return number < count && closed[number]; }
+int is_closed(unsigned number) { return number < count && closed[number]; }
 
-void set_closed(unsigned number, int is_closed) {
+void set_closed(unsigned number, int is_so) {
+  if (number > MOST_LOGS) return;
   if (number >= count) {
     size_t more = 2 * (size_t)number + 1;
     closed = realloc(closed, more);
@@ -18,7 +19,7 @@ void set_closed(unsigned number, int is_closed) {
     memset(closed + count, 0, more - count);
     count = more;
   }
-  closed[number] = is_closed;
+  closed[number] = is_so;
 }
 
 static char *list_path(void) { return path_of(".capture/closed"); }
@@ -41,21 +42,4 @@ void write_closed(void) {
     if (closed[number]) fprintf(stream, "%u\n", number);
   if (fclose(stream) != 0) fail(1, "out of memory");
   replace(list_path(), list, size);
-}
-
-void write_marks(int must_close) {
-  char *names = contents(path_of("names"), NULL), *marked;
-  size_t size;
-  if (!names) fail(1, "cannot read %s", path_of("names"));
-  FILE *stream = open_memstream(&marked, &size);
-  if (!stream) fail(1, "out of memory");
-  for (char *line = names, *behind; *line; line = behind) {
-    behind = line + strcspn(line, "\n");
-    behind += *behind == '\n';
-    line += *line == '!';
-    if (must_close && is_listed(atoi(line))) fputc('!', stream);
-    fwrite(line, 1, behind - line, stream);
-  }
-  if (fclose(stream) != 0) fail(1, "out of memory");
-  if (strcmp(names, marked) != 0) replace(path_of("names"), marked, size);
 }

@@ -71,7 +71,7 @@ char *contents(const char *path, size_t *size) {
   int file = open(path, O_RDONLY | O_CLOEXEC);
   if (file < 0) {
     if (errno == ENOENT) return NULL;
-    fail(1, "cannot read %s", path);
+    fail(unwritten, "cannot read %s", path);
   }
   size_t room = 4096, held = 0;
   char *bytes = malloc(room);
@@ -79,7 +79,7 @@ char *contents(const char *path, size_t *size) {
     if (held + 1 == room) bytes = realloc(bytes, room *= 2);
     if (!bytes) fail(1, "out of memory");
     got = read(file, bytes + held, room - held - 1);
-    if (got < 0) fail(1, "cannot read %s", path);
+    if (got < 0) fail(unwritten, "cannot read %s", path);
   }
   close(file);
   bytes[held] = 0;
@@ -99,19 +99,25 @@ int write_all(int file, const char *bytes, size_t size) {
   return 0;
 }
 
-int try_append(const char *path, int flags, const char *bytes, size_t size) {
+int add_to(int file, const char *bytes, size_t size) {
   struct stat before;
-  int file = open(path, O_WRONLY | O_APPEND | O_CLOEXEC | flags, 0666);
-  if (file < 0) return -1;
   int result = fstat(file, &before) < 0 ? -1 : write_all(file, bytes, size), error = errno;
   if (result < 0 && ftruncate(file, before.st_size) < 0) error = errno;
+  errno = error;
+  return result;
+}
+
+int try_append(const char *path, const char *bytes, size_t size) {
+  int file = open(path, O_WRONLY | O_APPEND | O_CLOEXEC | O_CREAT, 0666);
+  if (file < 0) return -1;
+  int result = add_to(file, bytes, size), error = errno;
   close(file);
   errno = error;
   return result;
 }
 
 void append(const char *path, const char *bytes, size_t size) {
-  if (try_append(path, O_CREAT, bytes, size) < 0) cannot_write(path);
+  if (try_append(path, bytes, size) < 0) cannot_write(path);
 }
 
 void append_line(const char *path, const char *format, ...) {

@@ -9,11 +9,12 @@
 
 /* A target that is listed, and what the book says of it. */
 struct entry {
-  char *name;
+  const char *name;
   unsigned number, is_begun; /* in this run */
   unsigned leader;           /* 0 for the run */
   unsigned records;          /* in front of its log */
-  int is_named, status;      /* the status is -1 for one that didn't end */
+  int is_listed, is_named;
+  int status;                /* the status is -1 for one that didn't end */
   int process;               /* that make began for its last line */
   long long began, ended;    /* when its first line did, and its last */
   int is_leader, led_to_failure;
@@ -35,39 +36,58 @@ static void make_room(unsigned number) {
   if (number < room) return;
   entries = realloc(entries, (2 * (size_t)number + 1) * sizeof *entries);
   if (!entries) fail(1, "out of memory");
-  memset(entries + room, 0, (2 * (size_t)number + 1 - room) * sizeof *entries);
-  room = 2 * number + 1;
+  for (; room < 2 * number + 1; room++) entries[room] = (struct entry){.number = room, .status = -1};
 }
 
-static void read_names(void) {
-  char *names = contents(path_of("names"), NULL), *left;
-  if (!names) fail(1, "cannot read %s", path_of("names"));
-  for (char *line = strtok_r(names, "\n", &left); line; line = strtok_r(NULL, "\n", &left)) {
-    char *space = strchr(line, ' ');
-    unsigned number = atoi(line + (*line == '!'));
-    if (!space) fail(1, "%s: a bad line: %s", path_of("names"), line);
-    make_room(number);
-    entries[number].name = space + 1;
-    entries[number].number = number;
-    entries[number].status = -1;
+static void read_names(const struct list *list) {
+  make_room(1);
+  for (size_t i = 0; i < list->count; i++) {
+    make_room(list->lines[i].number);
+    entries[list->lines[i].number].name = list->lines[i].name;
   }
 }
 
-/* Lines as recipe.c writes them. */
+/* What `names` lost meanwhile, or has otherwise, is put there again. */
+static void list_again(struct list *list) {
+  put_line(list, 1, "all");
+  entries[1].name = "all";
+  for (unsigned number = 2; number <= last; number++)
+    if (entries[number].is_begun && !entries[number].is_listed) put_line(list, number, entries[number].name);
+  write_list(list, 0);
+}
+
+static int is_of_run(const struct line *line) {
+  return entries[line->number].is_begun && strcmp(entries[line->number].name, line->name) == 0;
+}
+
+/* A book of an older version has no names. */
+static void read_beginning(struct entry *entry, const char *line) {
+  int behind = 0, process;
+  if (sscanf(line, "began %*u %d %lld %u %u%n", &process, &entry->began, &entry->leader, &entry->records, &behind) != 4) return;
+  entry->process = process;
+  const char *name = line[behind] == ' ' ? line + behind + 1 : entry->name;
+  entry->is_begun = name != NULL;
+  entry->is_listed = name && entry->name && strcmp(name, entry->name) == 0;
+  entry->name = name;
+}
+
+/* Lines as recipe.c writes them. What a recipe led to that is not in the book any more is mentioned by the run. */
 static void read_book(char *book) {
   char *left;
   for (char *line = strtok_r(book, "\n", &left); line; line = strtok_r(NULL, "\n", &left)) {
     char event[8];
-    struct entry new = {.is_begun = 1};
-    if (sscanf(line, "%7s %u", event, &new.number) < 2 || new.number == 0 || new.number > last) continue;
+    struct entry new = {0};
+    if (sscanf(line, "%7s %u", event, &new.number) < 2 || new.number == 0 || new.number > MOST_LOGS) continue;
+    make_room(new.number);
     struct entry *entry = &entries[new.number];
+    read_beginning(entry, line);
     if (strcmp(event, "named") == 0) entry->is_named = 1;
-    if (sscanf(line, "began %*u %d %lld %u %u", &new.process, &new.began, &new.leader, &new.records) == 4)
-      entry->is_begun = 1, entry->process = new.process, entry->began = new.began, entry->leader = new.leader, entry->records = new.records;
     if (sscanf(line, "again %*u %d", &new.process) == 1) entry->process = new.process, entry->status = -1;
     if (sscanf(line, "ended %*u %d %lld %d", &new.process, &new.ended, &new.status) == 3)
       entry->process = new.process, entry->ended = new.ended, entry->status = new.status;
   }
+  for (unsigned number = 1; number <= last; number++)
+    if (entries[number].leader > last || !entries[entries[number].leader].is_begun) entries[number].leader = 0;
 }
 
 /* The log of what a recipe was led to by. */
@@ -75,7 +95,7 @@ static struct entry *leader_of(const struct entry *led) { return &entries[led->l
 
 /* The name of a target, as the log of its leader says it. */
 static char *path_to(const struct entry *led) {
-  char *path = led->name;
+  char *path = text("%s", led->name);
   if (path[0] == '/') return path;
   for (const char *name = leader_of(led)->name; (name = strchr(name, '/')); name++) path = text("../%s", path);
   return path;
@@ -135,7 +155,7 @@ static struct failures failures_among(struct entry **sorted, unsigned count) {
   for (unsigned i = 0; i < count; i++)
     if (sorted[i]->status > 0 && sorted[i]->leader != sorted[i]->number) entries[sorted[i]->leader].led_to_failure = 1;
   for (unsigned i = 0; i < count; i++)
-    if (sorted[i]->status > 0 && !sorted[i]->led_to_failure) failed.names[failed.count++] = sorted[i]->name;
+    if (sorted[i]->status > 0 && !sorted[i]->led_to_failure) failed.names[failed.count++] = text("%s", sorted[i]->name);
   return failed;
 }
 
@@ -157,11 +177,13 @@ static void end_run(int status) {
   entries[1].process = getpid(), entries[1].ended = time(NULL), entries[1].status = status;
 }
 
-static struct failures finish_run(const char *run, int status) {
+static struct failures finish_run(const char *run, int status, struct list *list) {
   char *book = contents(path_of(".capture/run"), NULL);
   mark = mark_of(run);
-  read_names();
+  read_names(list);
   read_book(book);
+  list_again(list);
+  keep_left(list, is_of_run);
   write_closed(); /* without what was begun anew: no book tells that any more */
   char *ended = text("ended %s\n", run); /* so that no log is closed twice */
   replace(path_of(".capture/run"), ended, strlen(ended));
@@ -187,9 +209,13 @@ struct failures finish(int status, int must_close) {
   struct failures failed = {NULL, 0};
   int held = lock();
   char *run = run_of_book();
+  struct list list = read_list();
   read_closed();
-  if (strncmp(run, "ended", 5) != 0) failed = finish_run(run, status);
-  if (must_close) write_marks(1);
+  if (strncmp(run, "ended", 5) != 0) failed = finish_run(run, status, &list);
+  if (must_close) {
+    take_list(&list);
+    write_list(&list, 1);
+  }
   unlock(held);
   return failed;
 }

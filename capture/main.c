@@ -2,11 +2,14 @@
 #define _GNU_SOURCE
 #include "capture.h"
 #include <ctype.h>
+#include <errno.h>
+#include <fcntl.h>
 #include <limits.h>
 #include <signal.h>
 #include <stdio.h>
 #include <stdlib.h>
 #include <string.h>
+#include <sys/stat.h>
 #include <unistd.h>
 
 static const char help[] =
@@ -66,9 +69,16 @@ static _Noreturn void finish_left(const char *directory) {
 /* A capture directory has to be one that can be written, and a new one or one that has captures. */
 static void expect_directory(const char *directory) {
   const char *refusal = refusal_of(at);
+  struct stat names;
   if (refusal) fail(1, "cannot write %s: %s", directory, refusal);
-  if (access(path_of("names"), F_OK) == 0 && access(path_of(".capture"), F_OK) < 0)
-    fail(1, "%s/names is there already, and no capture wrote it", directory);
+  char *own = path_of(".capture");
+  int is_listed = access(path_of("names"), F_OK) == 0, is_known = access(own, F_OK) == 0;
+  if (is_listed && !is_known) fail(1, "%s/names is there already, and no capture wrote it", directory);
+  if (is_known) refusal = refusal_of(own);
+  if (refusal) fail(1, "cannot write %s/.capture: %s", directory, refusal);
+  if (is_listed && faccessat(AT_FDCWD, path_of("names"), R_OK | W_OK, AT_EACCESS) < 0)
+    fail(1, "cannot write %s/names: %s", directory, strerror(errno));
+  if (is_listed && (stat(path_of("names"), &names) < 0 || !S_ISREG(names.st_mode))) fail(1, "%s/names is no file", directory);
 }
 
 /* The command that shows these logs: redo-log looks for `capture` where there are no captures here. */

@@ -10,6 +10,7 @@
 #include <stdlib.h>
 #include <string.h>
 #include <sys/ioctl.h>
+#include <sys/stat.h>
 #include <time.h>
 #include <unistd.h>
 
@@ -18,20 +19,31 @@
    for more at the end, where nothing comes, and in all. */
 enum { PIECE = 65536, LITTLE = 16384, LONGEST = 64 << 20, SILENCE = 200, REST = 1, PAUSE = 20, MOMENT = 100 };
 
-/* The log, and what is to be known to add to it; none of these files is made here. */
+/* The log, and what is to be known to add to it. A recipe may remove the directory, and another make a new one of the same run, in
+   which this number is that of another log: so it stays open. */
 static const char *own_run;
-static char *lock_path, *book_path, *log_path;
+static char *lock_path, *book_path;
+static int log_file, open_error;
 
 /* What was read and isn't in the log yet; whether the log ends with the front of a line; and what couldn't be written. */
 static char first[2 * PIECE], *kept = first;
 static size_t held, room = sizeof first;
 static int is_unended, error;
 
-/* Adds to the log, unless another run has the directory. */
+/* Adds to the log, if that is there still. */
+static int add_to_log(const char *bytes, size_t size) {
+  struct stat found;
+  int is_open = log_file >= 0 && fstat(log_file, &found) == 0;
+  if (is_open && found.st_nlink > 0) return add_to(log_file, bytes, size);
+  errno = is_open ? ENOENT : open_error;
+  return -1;
+}
+
+/* The same under the lock, unless another run has the directory. */
 static int add(const char *bytes, size_t size) {
   int lock = try_lock(lock_path);
   if (lock < 0) return -1;
-  int result = is_book_of(book_path, own_run) ? try_append(log_path, 0, bytes, size) : 0, cause = errno;
+  int result = is_book_of(book_path, own_run) ? add_to_log(bytes, size) : 0, cause = errno;
   unlock(lock);
   errno = cause;
   return result;
@@ -79,11 +91,13 @@ static void end_what_was_said(void) {
   put(held);
 }
 
-static void close_others(int kept_open) {
+static void close_others(int pipe) {
   DIR *files = opendir("/proc/self/fd");
   if (!files) return;
-  for (struct dirent *file; (file = readdir(files));)
-    if (*file->d_name != '.' && atoi(file->d_name) != kept_open && atoi(file->d_name) != dirfd(files)) close(atoi(file->d_name));
+  for (struct dirent *file; (file = readdir(files));) {
+    int number = atoi(file->d_name);
+    if (*file->d_name != '.' && number != pipe && number != log_file && number != dirfd(files)) close(number);
+  }
   closedir(files);
 }
 
@@ -124,7 +138,7 @@ static int is_over(int pipe) {
 }
 
 int listen_to_command(int pipe, const char *run, unsigned number) {
-  own_run = run, log_path = log_of(number);
+  own_run = run, log_file = open(log_of(number), O_WRONLY | O_APPEND | O_CLOEXEC), open_error = errno;
   lock_path = path_of(".capture/lock"), book_path = path_of(".capture/run");
   int source = pipe;
   for (enum event event; (event = await(source, held > 0 ? SILENCE : -1)) != ENDED;) {

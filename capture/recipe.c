@@ -17,27 +17,16 @@ static struct target target;
 /* The leader is the target whose recipe runs the make that this belongs to, or 0, for the run, whose log is that of the target
    1. Until the run ends, that log mentions this target, as `path_for_leader`. */
 static unsigned leader;
-static char *path_for_leader;
+static char *leader_name, *path_for_leader;
 
 /* The name of a target, as make has it here, from where the build began. */
 static char *normal(const char *given) {
   static char *here, *base;
   if (!here) here = getcwd(NULL, 0), base = getenv("CAPTURE_BASE");
   if (!here || !base) fail(1, "no directory to work in");
-  char *rest = given[0] == '/' ? text("%s", given) : text("%s/%s", here, given);
-  char *path = calloc(strlen(rest) + 2, 1), *end = path, *left;
-  if (!path) fail(1, "out of memory");
-  for (char *part = strtok_r(rest, "/", &left); part; part = strtok_r(NULL, "/", &left)) {
-    if (strcmp(part, "..") == 0) {
-      while (end > path && *--end != '/') continue;
-      *end = 0;
-    } else if (strcmp(part, ".") != 0) {
-      *end++ = '/';
-      end = stpcpy(end, part);
-    }
-  }
+  char *path = normal_form(given[0] == '/' ? given : text("%s/%s", here, given));
   size_t front = strcmp(base, "/") == 0 ? 0 : strlen(base);
-  if (strncmp(path, base, front) != 0 || (path[front] != '/' && path[front] != 0)) return *path ? path : "/";
+  if (strncmp(path, base, front) != 0 || (path[front] != '/' && path[front] != 0)) return path;
   return path[front] && path[front + 1] ? path + front + 1 : ".";
 }
 
@@ -99,20 +88,13 @@ static void mention_needs(struct front *front, const char *needs) {
 
 /* Begins the run, if no other has the directory. No log is begun anew as long as it is marked, or listed as closed. */
 static void begin_run(const char *book) {
-  char *names = path_of("names");
-  struct stat listed;
   if (!is_running(own_run)) fail(1, "the build that this belongs to has ended");
   if (is_running(book)) fail(1, "%s is in use by another make, process %d", at, atoi(book));
-  if (stat(names, &listed) < 0 || listed.st_size == 0) {
-    forget_targets();
-    struct target all = look_up("all");
-    all.number = 1;
-    keep(all, "all");
-    replace(path_of(".capture/last"), "1\n", 2);
-    append_line(names, "1 all");
-  }
-  write_marks(0);
+  struct list list = read_list();
+  if (list.count == 0) forget_targets();
   read_closed();
+  take_list(&list);
+  write_list(&list, 0);
   set_closed(1, 0);
   write_closed();
   if (unlink(log_of(1)) < 0 && errno != ENOENT) cannot_write(log_of(1));
@@ -122,18 +104,20 @@ static void begin_run(const char *book) {
 
 /* A process may be killed between any two of these steps: then the number is lost, and nothing has it twice. */
 static void list(void) {
-  for (char *space = name; (space = strchr(space, ' ')); space++) {
-    write_over(path_of(".capture/spaces"), "");
-    char *front = text("%.*s", (int)(space - name) + 1, name);
-    struct target known = look_up(front);
-    if (access(known.file, F_OK) < 0) keep(known, front);
+  char *names = path_of("names");
+  unsigned last = last_number();
+  struct stat targets;
+  if (last == 0 || stat(path_of(".capture/targets"), &targets) < 0) {
+    struct list listed = read_list();
+    read_closed();
+    take_list(&listed);
+    last = last_number();
   }
-  char *last = path_of(".capture/last"), *names = path_of("names");
-  target.number = atoi(contents(last, NULL)) + 1;
-  write_over(last, text("%u\n", target.number));
-  keep(target, name);
-  char *line = text("%u %s\n", target.number, name);
-  if (try_append(names, O_CREAT, line, strlen(line)) < 0) unlink(target.file), cannot_write(names);
+  target.number = last + 1, target.run = "none";
+  write_over(path_of(".capture/last"), text("%u\n", target.number));
+  keep_listed(target.number, name);
+  char *line = text("%s%u %s\n", is_within_line(names) ? "\n" : "", target.number, name);
+  if (try_append(names, line, strlen(line)) < 0) unlink(target.file), cannot_write(names);
 }
 
 /* Writes a record for the leader's log, which stands there until the run has ended. */
@@ -166,7 +150,7 @@ static void begin_first(char *needs) {
   if (!front.records || !front.named) fail(1, "out of memory");
   mention_needs(&front, needs_of(needs));
   if (fclose(front.records) != 0 || fclose(front.named) != 0) fail(1, "out of memory");
-  append_line(book, "began %u %d %lld %u %u", target.number, getpid(), (long long)time(NULL), leader, front.count);
+  append_line(book, "began %u %d %lld %u %u %s", target.number, getpid(), (long long)time(NULL), leader, front.count, name);
   if (unlink(log) < 0 && errno != ENOENT) cannot_write(log);
   append(log, records, records_size);
   target.run = own_run, target.status = -1;
@@ -175,16 +159,23 @@ static void begin_first(char *needs) {
   tell_leader("do", "");
 }
 
-/* Takes the directory, if it is new or has captures. Recipes that begin at the same time may all find nothing there: each
-   makes `.capture` before there is a list of names, so that list is looked for first. */
+/* Takes the directory, if it is new or has captures; redo-log-capture in front has seen that it is so. Recipes that begin at the
+   same time may all find nothing there: each makes `.capture` before there is a list of names, so that list is looked for first. */
 static void take_directory(void) {
   char *names = path_of("names");
   int is_listed = access(names, F_OK) == 0;
   if (access(path_of(".capture"), F_OK) == 0) return;
-  if (is_listed) fail(1, "%s is there already, and no capture wrote it", names);
+  if (is_listed && !getenv("CAPTURE_WITH")) fail(1, "%s is there already, and no capture wrote it", names);
   int is_new = access(at, F_OK) < 0;
   make_directory(path_of(".capture"));
   if (is_new) write_over(path_of(".gitignore"), "*\n");
+}
+
+/* Whether what was captured of a target in this run is there: a recipe may have removed the directory, and one that began later
+   have made it anew. */
+static int is_begun(unsigned number, const char *known) {
+  struct target found = look_up(known);
+  return found.number == number && strcmp(found.run, own_run) == 0;
 }
 
 static void begin(char *needs) {
@@ -192,6 +183,7 @@ static void begin(char *needs) {
   int held = lock();
   char *book = run_of_book();
   if (strcmp(book, own_run) != 0) begin_run(book);
+  if (leader && !is_begun(leader, leader_name)) leader = 0, path_for_leader = name;
   target = look_up(name);
   if (target.number == 0) list();
   if (strcmp(target.run, own_run) != 0) {
@@ -204,20 +196,22 @@ static void begin(char *needs) {
   unlock(held);
 }
 
-static void end(int status) {
-  int held = lock();
+/* Answers 0 where that is gone: then the recipe may go on as it would without a capture. */
+static int end(int status) {
+  struct stat book;
+  if (stat(path_of(".capture/run"), &book) < 0 && errno == ENOENT) return 0;
+  int held = lock(), is_there = is_begun(target.number, name);
   if (strcmp(run_of_book(), own_run) != 0) fail(1, "%s is in use by a later make", at);
+  if (!is_there) {
+    unlock(held);
+    return 0;
+  }
   target.status = status;
   keep(target, name);
   append_line(path_of(".capture/run"), "ended %u %d %lld %d", target.number, getpid(), (long long)time(NULL), status);
   if (status != 0) tell_leader("done", text("%d ", status));
   unlock(held);
-}
-
-/* Whether the recipe has removed the directory: then it may go on as it would without a capture. */
-static int is_removed(void) {
-  struct stat book;
-  return stat(path_of(".capture/run"), &book) < 0 && errno == ENOENT;
+  return 1;
 }
 
 /* Where a make was told of this as its shell, with no redo-log-capture in front, the run is that of the first make. */
@@ -273,26 +267,26 @@ void recipe(char **command, int is_of_make) {
 
   name = normal(text("%.*s", (int)(needs - capture), capture));
   up = way_up_from(name);
-  leader = *led_by ? atoi(led_by) : 0;
+  leader = strtoul(led_by, &leader_name, 10);
+  leader_name += *leader_name == ' ';
   path_for_leader = spelled(name, leader_up);
   if (!path_for_leader) leader = 0, path_for_leader = name;
   begin(needs + 3);
 
   unsetenv("CAPTURE");
-  setenv("CAPTURE_LEADER", text("%u", target.number), 1);
+  setenv("CAPTURE_LEADER", text("%u %s", target.number, name), 1);
   setenv("CAPTURE_UP", up, 1);
   int ends[2];
   if (pipe2(ends, O_CLOEXEC) < 0) fail(1, "no pipe: %s", strerror(errno));
   run(command, ends[1]);
   int error = listen_to_command(ends[0], own_run, target.number);
-  if (is_removed()) {
-    note("%s was removed, with what was captured", at);
-  } else {
-    end(status_of_command);
-    errno = error;
-    if (error) cannot_write(log_of(target.number));
-    ask_to_show(target.number, status_of_command, name);
-  }
+  int is_there = end(status_of_command);
+  errno = error;
+  if (!is_there || error == ENOENT)
+    note("%s was removed, with what was captured", is_there ? log_of(target.number) : at);
+  else if (error)
+    cannot_write(log_of(target.number));
+  if (is_there) ask_to_show(target.number, status_of_command, name);
   if (signal_of_command) end_by(signal_of_command);
   exit(status_of_command);
 }

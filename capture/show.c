@@ -50,9 +50,6 @@ int listen_for_recipes(void) {
   return -1;
 }
 
-/* As many as an index may list. */
-enum { MOST_LOGS = 1048575 };
-
 /* How much of each log was shown, by its number; and whose was shown last. */
 static size_t *shown;
 static unsigned shown_count, last_shown;

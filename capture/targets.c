@@ -45,19 +45,48 @@ int is_book_of(const char *path, const char *wanted) {
 /* A file of a target has a first line of this many bytes, which is written over, and then the name. */
 enum { HEAD = 64 };
 
+/* All of the file, or NULL; and the name in it. One that is damaged has none. */
+static char *read_target(struct target *target, const char **name) {
+  size_t size;
+  char *kept = contents(target->file, &size);
+  *name = NULL;
+  if (!kept || size <= HEAD) return kept;
+  *name = kept + HEAD;
+  sscanf(kept, "%u %d %ms", &target->number, &target->status, &target->run);
+  if (target->number > MOST_LOGS) target->number = 0;
+  return kept;
+}
+
+static struct target target_at(const char *file) {
+  return (struct target){0, "none", -1, text("%s/.capture/targets/%s", at, file)};
+}
+
 /* Where names share a hash, the next one is taken that is free. */
 struct target look_up(const char *name) {
   uint64_t hash = 14695981039346656037u;
   for (const char *byte = name; *byte; byte++) hash = (hash ^ (unsigned char)*byte) * 1099511628211u;
   for (;; hash++) {
-    struct target target = {0, "none", -1, text("%s/.capture/targets/%016llx", at, (unsigned long long)hash)};
-    size_t size;
-    char *kept = contents(target.file, &size);
-    if (!kept) return target;
-    if (size < HEAD || strcmp(kept + HEAD, name) != 0) continue;
-    sscanf(kept, "%u %d %ms", &target.number, &target.status, &target.run);
-    return target;
+    struct target target = target_at(text("%016llx", (unsigned long long)hash));
+    const char *found;
+    char *kept = read_target(&target, &found);
+    if (!kept || (found && strcmp(found, name) == 0)) return target;
   }
+}
+
+void each_target(void (*meet)(struct target, const char *name)) {
+  char *path = path_of(".capture/targets");
+  make_directory(path);
+  DIR *targets = opendir(path);
+  if (!targets) cannot_write(path);
+  for (struct dirent *file; (file = readdir(targets));) {
+    if (*file->d_name == '.') continue;
+    struct target target = target_at(file->d_name);
+    const char *name;
+    char *kept = read_target(&target, &name);
+    if (name) meet(target, name);
+    free(kept);
+  }
+  closedir(targets);
 }
 
 void keep(struct target target, const char *name) {
@@ -65,9 +94,41 @@ void keep(struct target target, const char *name) {
   write_over(target.file, text("%-*.*s\n%s", HEAD - 1, HEAD - 1, head, name));
 }
 
+unsigned count_targets(void) {
+  DIR *targets = opendir(path_of(".capture/targets"));
+  unsigned count = 0;
+  if (!targets) return 0;
+  for (struct dirent *file; (file = readdir(targets));) count += *file->d_name != '.';
+  closedir(targets);
+  return count;
+}
+
+void keep_spaces(void) {
+  char *path = path_of(".capture/spaces");
+  if (access(path, F_OK) < 0) write_over(path, "");
+}
+
+void keep_listed(unsigned number, const char *name) {
+  for (const char *space = name; (space = strchr(space, ' ')); space++) {
+    keep_spaces();
+    char *front = text("%.*s", (int)(space - name) + 1, name);
+    struct target known = look_up(front);
+    if (access(known.file, F_OK) < 0) keep(known, front);
+  }
+  struct target target = look_up(name);
+  target.number = number;
+  keep(target, name);
+}
+
+unsigned last_number(void) {
+  char *last = contents(path_of(".capture/last"), NULL);
+  return last ? strtoul(last, NULL, 10) : 0;
+}
+
 void forget_targets(void) {
   char *path = path_of(".capture/targets");
   unlink(path_of(".capture/closed")); /* which has their numbers */
+  unlink(path_of(".capture/last"));
   make_directory(path);
   DIR *targets = opendir(path);
   if (!targets) cannot_write(path);

@@ -120,8 +120,11 @@ def refused_directories(checks, at):
     os.makedirs(os.path.join(folder, "locked/old/.capture"))
     os.chmod(os.path.join(folder, "locked/old"), 0o555)
     os.chmod(os.path.join(folder, "locked"), 0o555)
-    os.makedirs(os.path.join(folder, "open"))
-    os.chmod(os.path.join(folder, "open"), 0o777)
+    os.makedirs(os.path.join(folder, "open/kept/.capture"))
+    write(os.path.join(folder, "open/kept/names"), "1 all\n")
+    os.chmod(os.path.join(folder, "open/kept/names"), 0o444)
+    for path in ("open", "open/kept", "open/kept/.capture"):
+        os.chmod(os.path.join(folder, path), 0o777)
     os.chmod(PREFIX, 0o755)
     nobody = (lambda: os.setuid(65534)) if os.getuid() == 0 else None
 
@@ -132,6 +135,7 @@ def refused_directories(checks, at):
 
     for directory in ("locked/new", "locked/old", "locked/new/deep"):
         checks.expect(f"no leave to write {directory}", answer(directory), (1, text(directory, "Permission denied")))
+    checks.expect("no leave to write a list of names", answer("open/kept"), (1, text("open/kept/names", "Permission denied")))
     checks.expect("nothing was made", os.path.exists(os.path.join(folder, "open/made")), False)
     checks.expect("leave to write another one", (answer("open/new"), os.path.exists(os.path.join(folder, "open/made"))), ((0, ""), True))
 

@@ -1,0 +1,257 @@
+"""Capture directories that people changed by hand, between two builds or in the middle of one: the build is as without a capture,
+and what is captured is right, or told in one line."""
+import os
+import re
+import shutil
+import signal
+import subprocess
+
+from builds import BY_SHELL, TOOL, log_of, make, of_a_terminal, project, ran, shown, wait_for, wait_until, write
+from checks import environment
+
+MARKING = ("--must-close",)
+MAKEFILE = """all: x y d/w ; @echo all $(N) >&2
+x: ; @echo x $(N) >&2; touch x
+y: z a\\ b ; @echo y $(N) >&2; echo made
+z a\\ b: ; @echo $@ $(N) >&2
+d/w: ; @$(MAKE) -s -f below.mk sub; echo w $(N) >&2
+"""
+BELOW = "sub: ; @echo sub $(N) >&2\n"
+# What the first build leaves; x is made by that alone.
+LEFT = "1 all\n2 x\n3 z\n4 a b\n5 y\n6 d/w\n7 sub\n"
+NEW = "1 all\n2 z\n3 a b\n4 y\n5 d/w\n6 sub\n"
+FIRST = "redo    x\nx 1\n"
+TEXT = "redo  all\n{}redo    y\nredo      z\nz 2\nredo      a b\na b 2\ny 2\nredo    d/w\nredo      sub\nsub 2\nw 2\nall 2\n"
+
+
+def read(path):
+    with open(path, encoding="utf-8") as file:
+        return file.read()
+
+
+def names_are(text):
+    """Another list, with the marks that there are."""
+
+    def change(at):
+        marked = set(re.findall(r"^!(\d+) ", read(f"{at}/names"), re.M))
+        os.remove(f"{at}/names")
+        write(f"{at}/names", re.sub(r"^(\d+)(?= )", lambda line: f"!{line[1]}" if line[1] in marked else line[1], text, flags=re.M))
+
+    return change
+
+
+def without(*names):
+    return "".join(line for line in LEFT.splitlines(keepends=True) if line.split(" ", 1)[1].strip() not in names)
+
+
+def removing(*paths):
+    def change(at):
+        for path in paths:
+            (shutil.rmtree if os.path.isdir(f"{at}/{path}") else os.remove)(f"{at}/{path}")
+
+    return change
+
+
+def emptying(path):
+    return lambda at: os.truncate(f"{at}/{path}", 0)
+
+
+def removing_what_is_kept(at):
+    for name in os.listdir(f"{at}/.capture"):
+        removing(f".capture/{name}")(at)
+
+
+def forgetting_a_target(at):
+    folder = f"{at}/.capture/targets"
+    for name in os.listdir(folder):
+        if read(f"{folder}/{name}").endswith("\ny"):
+            os.remove(f"{folder}/{name}")
+
+
+def left_out(number, more=""):
+    return f"FOLDER/capture/names: line {number}: bad line, left out{more}"
+
+
+# A change; what is told; which names there are then; what is shown of x; and whether x, which the second build doesn't make, is
+# still known to be closed.
+CHANGES = {
+    "nothing": (lambda at: None, [], LEFT, FIRST, True),
+    "a line removed": (names_are(without("y")), [], without("y") + "8 y\n", FIRST, True),
+    "a line removed that is made no more": (names_are(without("x")), [], without("x"), "", None),
+    "a line removed of a make below": (names_are(without("sub")), [], without("sub") + "8 sub\n", FIRST, True),
+    "a line removed of a recipe with a make": (names_are(without("d/w")), [], without("d/w") + "8 d/w\n", FIRST, True),
+    "a line removed with a space": (names_are(without("a b")), [], without("a b") + "8 a b\n", FIRST, True),
+    "the line of the run removed": (names_are(without("all")), [], LEFT, FIRST, True),
+    "the last lines removed": (names_are(without("d/w", "sub")), [], without("d/w", "sub") + "8 d/w\n9 sub\n", FIRST, True),
+    "one line left": (names_are("2 x\n"), [], "1 all\n2 x\n8 z\n9 a b\n10 y\n11 d/w\n12 sub\n", FIRST, True),
+    "a log removed": (removing("log.5"), [], LEFT, FIRST, True),
+    "the log of the run removed": (removing("log.1"), [], LEFT, FIRST, True),
+    "names emptied": (names_are(""), [], NEW, "", None),
+    "names removed": (removing("names"), [], NEW, "", None),
+    "another order": (names_are("".join(LEFT.splitlines(keepends=True)[::-1])), [], "".join(LEFT.splitlines(keepends=True)[::-1]), FIRST, True),
+    "two numbers swapped": (names_are(LEFT.replace("2 x\n3 z", "3 x\n2 z")), [], LEFT.replace("2 x\n3 z", "3 x\n2 z"), "redo    x\nz 1\n", False),
+    "another name": (names_are(LEFT.replace(" y", " other")), [], LEFT.replace(" y", " other") + "8 y\n", FIRST, True),
+    "another name of what is made no more": (names_are(LEFT.replace(" x", " other")), [], LEFT.replace(" x", " other"), "", False),
+    "another name of the run": (names_are(LEFT.replace(" all", " other")), [], LEFT, FIRST, True),
+    "the name of the run for another": (names_are(LEFT.replace(" all", " other").replace(" x", " all")), [], without("x"), "", None),
+    "another spelling": (names_are(LEFT.replace(" z", " ./d/..//z")), [], LEFT, FIRST, True),
+    "another number": (names_are(LEFT.replace("5 y", "77 y")), [], LEFT.replace("5 y", "77 y"), FIRST, True),
+    "a large number": (names_are(LEFT.replace("5 y", "999999999 y")), [left_out(5)], without("y") + "8 y\n", FIRST, True),
+    "too large a number": (names_are(LEFT.replace("5 y", "4294967298 y")), [left_out(5)], without("y") + "8 y\n", FIRST, True),
+    "the number 0": (names_are(LEFT.replace("5 y", "0 y")), [left_out(5)], without("y") + "8 y\n", FIRST, True),
+    "a number twice": (names_are(LEFT + "2 other\n"), [left_out(8)], LEFT, FIRST, True),
+    "a name twice": (names_are(LEFT + "40 ./y\n"), [left_out(8)], LEFT, FIRST, True),
+    "no line feed at the end": (names_are(LEFT.rstrip()), [], LEFT, FIRST, True),
+    "half a line": (names_are(LEFT.removesuffix("sub\n")), [left_out(7)], without("sub") + "8 sub\n", FIRST, True),
+    "an empty line": (names_are("\n" + LEFT), [left_out(1)], LEFT, FIRST, True),
+    "other lines": (names_are("smith\njones\n1\n"), [left_out(1, ", and 2 more")], NEW, "", None),
+    "a NUL": (names_are(LEFT.replace("5 y", "5 y\0y")), [left_out(5)], without("y") + "8 y\n", FIRST, True),
+    "no book": (removing(".capture/run"), [], LEFT, FIRST, False),
+    "no last number": (removing(".capture/last"), [], LEFT, FIRST, True),
+    "no last number, and a line removed": (lambda at: (names_are(without("sub"))(at), emptying(".capture/last")(at)), [], without("sub") + "8 sub\n", FIRST, True),
+    "no lock": (removing(".capture/lock"), [], LEFT, FIRST, True),
+    "no list of closed logs": (removing(".capture/closed"), [], LEFT, FIRST, False),
+    "another list of closed logs": (lambda at: write(f"{at}/.capture/closed", "x\n-5\n2\n888888888\n"), [], LEFT, FIRST, True),
+    "no word of spaces": (removing(".capture/spaces"), [], LEFT, FIRST, True),
+    "no targets": (removing(".capture/targets"), [], LEFT, FIRST, True),
+    "no file of a target": (forgetting_a_target, [], LEFT, FIRST, True),
+    "nothing kept": (removing_what_is_kept, [], LEFT, FIRST, False),
+}
+
+
+def built(folder, options, *words):
+    """The status and output of a build; what else it said, in any order; and what redo-log-capture told."""
+    status, out, told = ran(folder, [*options, "make", "-s", *words])
+    lines = [line.replace(folder, "FOLDER") for line in told.splitlines()]
+    own = "redo-log-capture: "
+    return (status, out, sorted(line for line in lines if not line.startswith(own))), [line.removeprefix(own) for line in lines if line.startswith(own)]
+
+
+def placed(folder):
+    write(os.path.join(folder, "below.mk"), BELOW)
+    return project(folder, MAKEFILE)
+
+
+def marked(names, is_closed):
+    """The log of another name isn't known to be closed."""
+    is_open = (" other\n",) if is_closed else (" other\n", " x\n")
+    return "".join(line if line.endswith(is_open) else "!" + line for line in names.splitlines(keepends=True))
+
+
+def between_builds(checks, at):
+    """A build over captures that were changed, and one more."""
+    plain = placed(at("plain"))
+    ran(plain, ["make", "-s", "N=1"])
+    for what, (change, told, names, first, is_closed) in CHANGES.items():
+        for options in (MARKING, ()) if what.startswith("a line") else (MARKING,):
+            folder, name = placed(at(f"{what}{len(options)}")), f"{what}, {options}"
+            checks.expect(f"{name}: before", (make(folder, "-s", "N=1", options=options)[::2], read(f"{folder}/capture/names").replace("!", "")), ((0, ""), LEFT))
+            change(f"{folder}/capture")
+            wanted = built(plain, [], "N=2")[0]
+            silent = (wanted[0], wanted[1], [])
+            checks.expect(f"{name}: make", built(folder, [TOOL, *options], "N=2"), (silent, told))
+            checks.expect(f"{name}: names", read(f"{folder}/capture/names"), marked(names, is_closed) if options else names)
+            checks.expect(f"{name}: shown", shown(folder, "-u", "all"), TEXT.format(first))
+            checks.expect(f"{name}: the next one", built(folder, [TOOL, *options], "N=3"), (silent, []))
+            checks.expect(f"{name}: shown then", shown(folder, "-u", "all"), TEXT.format(first).replace("2\n", "3\n"))
+            checks.expect(f"{name}: files", sorted(set(os.listdir(folder)) - {"capture"}), sorted(os.listdir(plain)))
+
+    folder = placed(at("gone"))
+    make(folder, "-s", "N=1", options=MARKING)
+    os.remove(f"{folder}/capture/log.2")
+    checks.expect("a log removed that is made no more: make", built(folder, [TOOL], "N=2")[1], [])
+    checks.expect("a log removed that is made no more", shown(folder, "-u", "all"), TEXT.format("redo    x\n"))
+    checks.expect("it is missed where logs are marked", (ran(folder, [TOOL, *MARKING, "--finish"]), shown(folder, "all")), ((0, "", ""), (4, "redo-log: x: not closed\n")))
+    names_are(without("x"))(f"{folder}/capture")
+    checks.expect("but not without its line", shown(folder, "-u", "all"), TEXT.format("redo    x\n"))
+
+    folder = placed(at("shell"))
+    make(folder, "-s", "N=1")
+    names_are(without("y") + "smith\n")(f"{folder}/capture")
+    told = f"redo-log-capture: {folder}/capture/names: line 7: bad line, left out\n"
+    checks.expect("by SHELL: make", ran(folder, ["make", "-s", *BY_SHELL, "N=2"])[::2], (0, told))
+    checks.expect("by SHELL", (ran(folder, [TOOL, "--finish"]), shown(folder, "-u", "all")), ((0, "", ""), TEXT.format(FIRST)))
+
+
+def refused(checks, at):
+    """What no capture can be written to is refused before anything is started, and stays as it was."""
+    rows = {
+        "nothing kept of it": (removing(".capture"), "capture/names is there already, and no capture wrote it"),
+        "a file in its place": (lambda at: (removing(".capture")(at), write(f"{at}/.capture", "")), "cannot write capture/.capture: Not a directory"),
+        "names a folder": (lambda at: (removing("names")(at), os.mkdir(f"{at}/names")), "capture/names is no file"),
+        "names a FIFO": (lambda at: (removing("names")(at), os.mkfifo(f"{at}/names")), "capture/names is no file"),
+    }
+    for what, (change, told) in rows.items():
+        folder = placed(at(what))
+        make(folder, "-s", "N=1")
+        change(f"{folder}/capture")
+        before = sorted(os.walk(folder))
+        checks.expect(f"{what}: make", built(folder, ["timeout", "30", TOOL], "N=2"), ((1, "", []), [told]))
+        checks.expect(f"{what}: what is there", sorted(os.walk(folder)), before)
+
+
+MIDDLE = """all: a b t c ; @echo all >&2
+a: ; @echo a >&2
+b: a ; @echo b >&2; $(NOW); echo b again >&2
+t: b ; @echo t >&2; $(MAKE) -s -f below.mk s1 s2; echo t again >&2
+c: t ; @echo c >&2
+"""
+MIDDLE_BELOW = "s1: ; @echo s1 >&2; $(THEN); echo s1 again >&2\ns2: s1 ; @echo s2 >&2\n"
+WHOLE = "redo  all\nredo    a\na\nredo    b\nb\nb again\nredo    t\nredo      s2\nredo        s1\ns1\ns1 again\ns2\nt\nt again\nredo    c\nc\nall\n"
+GONE = "FOLDER/capture was removed, with what was captured"
+LATE = "redo  all\nredo    t\nredo      s2\nredo        s1\ns1\ns1 again\ns2\nt\nt again\nredo    c\nc\nall\n"
+LATER = "redo  all\nredo    c\nc\nredo    s2\ns2\nall\n"
+# What a recipe does; what is told, and shown if that is whole, of one of the run, and of one of a make below. What that is told
+# itself comes into the log of the recipe above it.
+MEANWHILE = {
+    "nothing": (":", [], WHOLE, [], WHOLE),
+    "a line removed": ("sed -i '/ a$/d' capture/names", [], WHOLE, [], WHOLE),
+    "its own line removed": ("sed -i '/ b$/d; / s1$/d' capture/names", [], WHOLE, [], WHOLE),
+    "the line of the run removed": ("sed -i '/ all$/d' capture/names", [], WHOLE, [], WHOLE),
+    "names removed": ("rm capture/names", [], WHOLE, [], WHOLE),
+    "names emptied": (": >capture/names", [], WHOLE, [], WHOLE),
+    "another name": ("sed -i 's/ b$/ other/' capture/names", [], WHOLE, [], WHOLE),
+    "an unended line": ("printf '77 x' >>capture/names", [], WHOLE, [], WHOLE),
+    "a bad line": ("echo bad >>capture/names", [left_out(4)], WHOLE, [left_out(6)], WHOLE),
+    "a number twice": ("echo '2 other' >>capture/names", [left_out(4)], WHOLE, [left_out(6)], WHOLE),
+    "no last number": ("rm capture/.capture/last", [], WHOLE, [], WHOLE),
+    "no list of closed logs": ("rm capture/.capture/closed", [], WHOLE, [], WHOLE),
+    "no targets": ("rm -r capture/.capture/targets", [GONE], None, [GONE], None),
+    "a log removed": ("rm capture/log.2", [], WHOLE.replace("a\na\n", "a\n"), [], WHOLE.replace("a\na\n", "a\n")),
+    "its own log removed": ("rm capture/log.3", ["FOLDER/capture/log.3 was removed, with what was captured"], WHOLE.replace("b\nb\nb again\n", "b\n"), [], WHOLE.replace("b\nb\nb again\n", "b\n")),
+    "nothing kept of it": ("rm -r capture/.capture", [GONE], LATE, [GONE], LATER),
+    "the directory removed": ("rm -r capture", [GONE], LATE, [GONE], LATER),
+}
+
+
+def in_the_middle(checks, at):
+    """A build in whose middle the captures are changed, and one more."""
+    for what, (command, *rows) in MEANWHILE.items():
+        for number, variable in enumerate(("NOW", "THEN")):
+            folder, name = project(at(f"{what}{variable}"), MIDDLE), f"{what}, {variable}"
+            write(os.path.join(folder, "below.mk"), MIDDLE_BELOW)
+            told, text = rows[2 * number : 2 * number + 2]
+            words = {"NOW": ":", "THEN": ":", variable: command.replace("$", "$$")}
+            given = [f"{key}={value}" for key, value in words.items()]
+            checks.expect(f"{name}: make", built(folder, [TOOL, *MARKING], *given), ((0, "", []), told))
+            found = str(shown(folder, "all"))
+            checks.expect(f"{name}: shown", found if text else found.startswith("redo  all\n"), text or True)
+            checks.expect(f"{name}: the next one", built(folder, [TOOL, *MARKING], "NOW=:", "THEN=:"), ((0, "", []), []))
+            checks.expect(f"{name}: shown then", shown(folder, "all"), WHOLE)
+
+    folder = project(at("fails"), "all: ; @echo all >&2; echo bad >>capture/names; exit 3\n")
+    told = ["all (exit 3)", left_out(2), "all failed; to read it: redo-log all", "to read all: redo-log -r all"]
+    checks.expect("one that fails", built(folder, [TOOL])[1], told)
+
+    folder = project(at("killed"), "all: x y\nx: ; @echo x >&2\ny: ; @echo y >&2; touch begun; exec sleep 60\n")
+    build = subprocess.Popen([TOOL, "make", "-s"], cwd=folder, env=environment(), stderr=subprocess.DEVNULL, preexec_fn=of_a_terminal)
+    wait_for(os.path.join(folder, "begun"))
+    wait_until("y has spoken", lambda: log_of(folder, "y") == "y\n")
+    os.killpg(build.pid, signal.SIGKILL)
+    build.wait()
+    write(f"{folder}/capture/names", "1 all\n")
+    checks.expect("a build that was killed, finished", (ran(folder, [TOOL, "--finish"]), read(f"{folder}/capture/names")), ((0, "", ""), "1 all\n2 x\n3 y\n"))
+    checks.expect("it is shown", shown(folder, "all"), "redo  all\nredo    x\nx\nredo    y\ny\n")
+
+
+PARTS = (between_builds, refused, in_the_middle)
