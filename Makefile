@@ -1,5 +1,5 @@
-# make try              builds the program without a proof, in a minute, and runs it on the sample captures
-# make run              proves and builds the program, and runs it on the sample captures
+# make try              builds the program without a proof, in a minute, and runs it on the captures in examples/variants
+# make run              proves and builds the program, and runs it on the captures in sample/
 # make check            everything that a change has to pass
 # make install          proves and builds the program, and installs it below $(PREFIX): its launcher as bin/redo-log, its
 #                       manual page, completions for bash, zsh and fish, and what install-capture does;
@@ -23,7 +23,7 @@ VERSION = $(shell sed -n 's/^const VERSION.*redo-log \([0-9.]*\).*/\1/p' crates/
 
 try:
 	@told=$$(mktemp) && cd crates/redo_log && \
-	if rt try -- --dir '$(CURDIR)/sample' all 2>"$$told"; then \
+	if rt try -- --dir '$(CURDIR)/examples/variants/captured' -r all 2>"$$told"; then \
 	  rm "$$told"; echo 'Nothing of this was proved: make run proves the program first, which takes up to half an hour.'; \
 	else cat "$$told"; rm "$$told"; exit 1; fi
 
