@@ -6,7 +6,7 @@
      run        the book of the last run: which that is, a process and when it began; then what came of each target
      last       the last number that a target got
      closed     the numbers of the logs that are closed, but for those that the run of the book has begun anew
-     left       `names` without marks, as what is known of targets goes by it, below a count of files in targets/
+     left       `names` without marks, as what is known of targets goes by it, below the size of the files in targets/
      spaces     is there once a target with a space in its name is
      targets/   what is known of each target, in a file of its own, so that no line has to go over a list */
 extern const char *at;
@@ -18,8 +18,12 @@ _Noreturn void fail(int status, const char *format, ...);
 /* The line alone. */
 void note(const char *format, ...);
 _Noreturn void cannot_write(const char *path);
+_Noreturn void cannot_read(const char *path);
 /* The status then: that of a command which has failed already, or 1. */
 extern int unwritten;
+/* What a recipe does in place of failing then, or NULL, where that is no full device: people, or recipes, have changed the
+   directory. A line tells that too. */
+extern void (*go_on)(void);
 
 char *text(const char *format, ...);
 char *path_of(const char *file); /* in the capture directory */
@@ -29,8 +33,9 @@ const char *leaf(const char *path);
 /* A word as it has to be written for a shell. */
 char *quoted(const char *word);
 
-/* All of a file, with a NUL behind it; or NULL, if there is none. */
+/* All of a file, with a NUL behind it; or NULL, if there is none. The other one answers NULL too where it can't be read. */
 char *contents(const char *path, size_t *size);
+char *try_contents(const char *path, size_t *size);
 /* Writes all of it, or answers -1. */
 int write_all(int file, const char *bytes, size_t size);
 /* Adds to a file, which is made if only a path is given. What there was no room for is taken off again, and told by -1, or as what
@@ -56,12 +61,16 @@ void hold_standard_files(void);
 int lock(void);
 int try_lock(const char *path);
 void unlock(int held);
+/* Whether an open file is the one that this path leads to. */
+int is_at(int file, const char *path);
 
 /* targets.c: runs, and what is known of targets */
 
 /* A process and when that began, as numbers of processes come again. */
 char *identity(int process);
 int is_running(const char *identity);
+/* Whether a book begins with one, which goes on or has ended. */
+int is_run(const char *book);
 /* The run that the book is of, or an empty string. */
 char *run_of_book(void);
 /* Whether the book at this path is of this run. */
@@ -75,11 +84,14 @@ struct target {
 };
 struct target look_up(const char *name);
 void keep(struct target target, const char *name);
-/* With this number; and what is to be known of a name with spaces. */
+/* With this number; and what is to be known of a name with spaces: each front that a space ends, and that there are some. */
 void keep_listed(unsigned number, const char *name);
+void keep_fronts(const char *name);
 void keep_spaces(void);
 void each_target(void (*meet)(struct target target, const char *name));
-unsigned count_targets(void); /* their files */
+/* Of the file of one, in bytes; and of all files that there are. */
+size_t size_of_target(const char *name);
+size_t size_of_targets(void);
 /* The last number that a target got, or 0 if that isn't known. */
 unsigned last_number(void);
 void forget_targets(void);
@@ -117,9 +129,11 @@ char **words_of(const char *line);
 
 /* pipe.c: what a recipe says */
 
-/* Adds what a command says to the log of a target, until it has ended; and goes on, behind the back of this process, as long as
-   it has left something behind which may say more. Answers what couldn't be written, as an error, or 0. */
-int listen_to_command(int pipe, const char *run, unsigned number);
+/* The log of a target, before its command may remove it. */
+void open_log(const char *run, unsigned number);
+/* Adds what a command says to the log, until it has ended; and goes on, behind the back of this process, as long as it has left
+   something behind which may say more. Answers what couldn't be written, as an error, or 0. */
+int listen_to_command(int pipe);
 
 /* show.c: what a recipe said, shown by the process that runs the build */
 
@@ -146,8 +160,8 @@ void write_closed(void);
 /* As many as may be listed, and the largest number. */
 enum { MOST_LOGS = 1048575 };
 char *normal_form(const char *name);
-struct line { unsigned number; const char *name; size_t place; };
-struct list { struct line *lines; size_t count; char *bytes; };
+struct line { unsigned number; const char *name; size_t row; };
+struct list { struct line *lines; size_t count; char *bytes; size_t size; };
 /* Reads it, with names in normal form. One that is missing is empty. A line that redo-log would refuse is left out, and told. */
 struct list read_list(void);
 /* Lists a target, unless it is; other lines with its number or its name go. That of the run comes first. */
@@ -158,6 +172,8 @@ void take_list(struct list *list);
 void keep_left(const struct list *list, int (*is_of_run)(const struct line *line));
 /* Writes it, if that isn't what is there, with each log marked that is closed, or none. */
 void write_list(struct list *list, int must_close);
+/* One that no line has, and no log. */
+unsigned unused_number(void);
 
 /* recipe.c and finish.c */
 

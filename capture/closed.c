@@ -24,10 +24,11 @@ void set_closed(unsigned number, int is_so) {
 
 static char *list_path(void) { return path_of(".capture/closed"); }
 
+/* Without a book nobody knows what was begun anew. */
 void read_closed(void) {
   char *list = contents(list_path(), NULL), *book = contents(path_of(".capture/run"), NULL), *left;
   unsigned number;
-  if (!list || !book) return;
+  if (!list || !book || !is_run(book)) return;
   for (char *line = strtok_r(list, "\n", &left); line; line = strtok_r(NULL, "\n", &left)) set_closed(atoi(line), 1);
   for (char *line = strtok_r(book, "\n", &left); line; line = strtok_r(NULL, "\n", &left))
     if (sscanf(line, "began %u", &number) == 1) set_closed(number, 0);

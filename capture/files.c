@@ -31,10 +31,30 @@ void fail(int status, const char *format, ...) {
   va_list values;
   va_start(values, format);
   say(format, values);
+  va_end(values);
   exit(status);
 }
 
-void cannot_write(const char *path) { fail(unwritten, "cannot write %s: %s", path, strerror(errno)); }
+void (*go_on)(void);
+
+/* Whether the directory, or a file of it, is gone; or something else stands there, or nobody may write it. */
+static int is_gone(int error) { return error == ENOENT || error == ENOTDIR || error == ESTALE; }
+static int is_changed(int error) {
+  return is_gone(error) || error == EISDIR || error == ELOOP || error == ENXIO || error == EACCES || error == EPERM;
+}
+
+static _Noreturn void cannot(const char *what, const char *path) {
+  int error = errno;
+  if (!go_on || !is_changed(error)) fail(unwritten, "cannot %s %s: %s", what, path, strerror(error));
+  if (is_gone(error)) note("%s was removed, with what was captured", at);
+  else note("cannot %s %s: %s", what, path, strerror(error));
+  go_on();
+  abort();
+}
+
+void cannot_write(const char *path) { cannot("write", path); }
+
+void cannot_read(const char *path) { cannot("read", path); }
 
 static char *printed(const char *format, va_list values) {
   char *result;
@@ -67,23 +87,32 @@ char *quoted(const char *word) {
   return text("%s'", quote);
 }
 
-char *contents(const char *path, size_t *size) {
+char *try_contents(const char *path, size_t *size) {
   int file = open(path, O_RDONLY | O_CLOEXEC);
-  if (file < 0) {
-    if (errno == ENOENT) return NULL;
-    fail(unwritten, "cannot read %s", path);
-  }
-  size_t room = 4096, held = 0;
-  char *bytes = malloc(room);
-  for (ssize_t got = 1; got > 0; held += got) {
-    if (held + 1 == room) bytes = realloc(bytes, room *= 2);
-    if (!bytes) fail(1, "out of memory");
+  if (file < 0) return NULL;
+  size_t room = 0, held = 0;
+  ssize_t got = 1;
+  char *bytes = NULL;
+  while (got > 0) {
+    if (held + 1 >= room) {
+      char *more = realloc(bytes, room = 2 * room + 4096);
+      if (!more) fail(1, "out of memory");
+      bytes = more;
+    }
     got = read(file, bytes + held, room - held - 1);
-    if (got < 0) fail(unwritten, "cannot read %s", path);
+    if (got > 0) held += got;
   }
+  int error = errno;
   close(file);
   bytes[held] = 0;
   if (size) *size = held;
+  errno = error;
+  return got < 0 ? NULL : bytes;
+}
+
+char *contents(const char *path, size_t *size) {
+  char *bytes = try_contents(path, size);
+  if (!bytes && errno != ENOENT) cannot_read(path);
   return bytes;
 }
 
@@ -177,14 +206,21 @@ void hold_standard_files(void) {
     if (fcntl(file, F_GETFD) < 0) open("/dev/null", O_RDWR | O_CLOEXEC);
 }
 
+int is_at(int file, const char *path) {
+  struct stat opened, found;
+  if (fstat(file, &opened) < 0 || stat(path, &found) < 0) return 0;
+  return opened.st_dev == found.st_dev && opened.st_ino == found.st_ino;
+}
+
+/* While it waits the directory may be removed, and made anew: then it is another file. It tries no more than a hundred of them. */
 int try_lock(const char *path) {
-  int file = open(path, O_RDWR | O_CLOEXEC);
-  while (file >= 0 && flock(file, LOCK_EX) < 0) {
-    if (errno == EINTR) continue;
+  for (int left = 100;; left--) {
+    int file = open(path, O_RDWR | O_CLOEXEC), result = -1;
+    while (file >= 0 && (result = flock(file, LOCK_EX)) < 0 && errno == EINTR) continue;
+    if (file < 0 || (result == 0 && (left == 0 || is_at(file, path)))) return file;
     close(file);
-    return -1;
+    if (result < 0) return -1;
   }
-  return file;
 }
 
 int lock(void) {

@@ -1,9 +1,11 @@
 /* What is known only when a run has ended: its own log, what the makes of recipes made, and the closing records. */
 #define _GNU_SOURCE
 #include "capture.h"
+#include <errno.h>
 #include <stdio.h>
 #include <stdlib.h>
 #include <string.h>
+#include <sys/stat.h>
 #include <time.h>
 #include <unistd.h>
 
@@ -125,7 +127,7 @@ static void put_in_order(struct entry *leader) {
   const char *from = log, *end = log + size;
   FILE *stream = open_memstream(&out, &out_size);
   if (!stream) fail(1, "out of memory");
-  for (unsigned i = 0; i < leader->records; i++) from = behind_line(from, end);
+  for (unsigned i = 0; i < leader->records && end - from > 7 && memcmp(from, "@@REDO:", 7) == 0; i++) from = behind_line(from, end);
   fwrite(log, 1, from - log, stream);
   if (leader->led) fwrite(leader->led, 1, leader->led_size, stream);
   while (from < end) {
@@ -146,6 +148,22 @@ static void close_log(const struct entry *target) {
   append_line(log, "%s@@REDO:done:%d:%lld@@ %d %s", is_within_line(log) ? "\n" : "", target->process, target->ended,
               target->status, name);
   set_closed(target->number, 1);
+}
+
+/* The first log that is gone of a recipe that has ended, and how many are. */
+static unsigned first_gone, gone_count;
+
+/* Whether a log is there, or may be made anew: no directory stands in its place. */
+static int is_to_write(const struct entry *target) {
+  struct stat found;
+  int error = stat(log_of(target->number), &found) < 0 ? errno : 0, is_file = !error && S_ISREG(found.st_mode);
+  if (!is_file && target->is_begun && target->status >= 0 && gone_count++ == 0) first_gone = target->number;
+  return is_file || error == ENOENT;
+}
+
+static void tell_gone(void) {
+  if (gone_count == 1) note("%s was removed, with what was captured", log_of(first_gone));
+  if (gone_count > 1) note("%s and %u more were removed, with what was captured", log_of(first_gone), gone_count - 1);
 }
 
 /* Those that failed, of which nothing that they led to did. */
@@ -181,7 +199,7 @@ static struct failures finish_run(const char *run, int status, struct list *list
   char *book = contents(path_of(".capture/run"), NULL);
   mark = mark_of(run);
   read_names(list);
-  read_book(book);
+  if (book) read_book(book);
   list_again(list);
   keep_left(list, is_of_run);
   write_closed(); /* without what was begun anew: no book tells that any more */
@@ -197,10 +215,12 @@ static struct failures finish_run(const char *run, int status, struct list *list
   for (unsigned number = 1; number <= last; number++) {
     struct entry *target = &entries[number];
     if (target->led_stream && fclose(target->led_stream) != 0) fail(1, "out of memory");
+    if (!(target->is_begun || number == 1) || !is_to_write(target)) continue;
     if (target->is_leader) put_in_order(target);
-    if ((target->is_begun || number == 1) && target->status >= 0) close_log(target);
+    if (target->status >= 0) close_log(target);
   }
   write_closed();
+  tell_gone();
   return failures_among(sorted, count);
 }
 

@@ -66,19 +66,32 @@ static _Noreturn void finish_left(const char *directory) {
   exit(0);
 }
 
+/* What has to be a file, if it is there, and what has to be allowed of it; the others are put in place of what there is. */
+static const struct own_file { const char *name; int mode; } files[] = {
+    {"names", R_OK | W_OK}, {".capture/lock", R_OK | W_OK}, {".capture/run", R_OK}, {".capture/last", R_OK | W_OK},
+    {".capture/closed", R_OK}, {".capture/left", F_OK}, {".capture/spaces", F_OK}, {".capture/new", W_OK},
+};
+static const char *const directories[] = {".capture", ".capture/targets"};
+
+static void expect_file(const char *directory, const struct own_file *file) {
+  struct stat found;
+  char *path = path_of(file->name);
+  if (stat(path, &found) < 0 && errno == ENOENT) return;
+  if (faccessat(AT_FDCWD, path, file->mode, AT_EACCESS) < 0)
+    fail(1, "cannot write %s/%s: %s", directory, file->name, strerror(errno));
+  if (!S_ISREG(found.st_mode)) fail(1, "%s/%s is no file", directory, file->name);
+}
+
 /* A capture directory has to be one that can be written, and a new one or one that has captures. */
 static void expect_directory(const char *directory) {
   const char *refusal = refusal_of(at);
-  struct stat names;
   if (refusal) fail(1, "cannot write %s: %s", directory, refusal);
-  char *own = path_of(".capture");
-  int is_listed = access(path_of("names"), F_OK) == 0, is_known = access(own, F_OK) == 0;
-  if (is_listed && !is_known) fail(1, "%s/names is there already, and no capture wrote it", directory);
-  if (is_known) refusal = refusal_of(own);
-  if (refusal) fail(1, "cannot write %s/.capture: %s", directory, refusal);
-  if (is_listed && faccessat(AT_FDCWD, path_of("names"), R_OK | W_OK, AT_EACCESS) < 0)
-    fail(1, "cannot write %s/names: %s", directory, strerror(errno));
-  if (is_listed && (stat(path_of("names"), &names) < 0 || !S_ISREG(names.st_mode))) fail(1, "%s/names is no file", directory);
+  if (access(path_of("names"), F_OK) == 0 && access(path_of(".capture"), F_OK) < 0)
+    fail(1, "%s/names is there already, and no capture wrote it", directory);
+  for (int i = 0; i < 2; i++)
+    if (access(path_of(directories[i]), F_OK) == 0 && (refusal = refusal_of(path_of(directories[i]))))
+      fail(1, "cannot write %s/%s: %s", directory, directories[i], refusal);
+  for (int i = 0; i < 8; i++) expect_file(directory, &files[i]);
 }
 
 /* The command that shows these logs: redo-log looks for `capture` where there are no captures here. */

@@ -38,20 +38,20 @@ static unsigned number_of(const char *line, const char **name) {
 /* The first line that is left out, and how many are. */
 static size_t first_bad, bad_count;
 
-static void leave_out(size_t place) {
-  if (bad_count++ == 0 || place < first_bad) first_bad = place;
+static void leave_out(size_t row) {
+  if (bad_count++ == 0 || row < first_bad) first_bad = row;
 }
 
 static void read_lines(struct list *list, char *names, size_t size) {
-  size_t room = 0, place = 0;
+  size_t room = 0, rows = 0;
   for (char *line = names, *end; line < names + size; line = end + 1) {
-    struct line new = {.place = ++place};
+    struct line new = {.row = ++rows};
     end = memchr(line, '\n', names + size - line);
     if (!end) end = names + size;
     *end = 0;
     new.number = strlen(line) == (size_t)(end - line) ? number_of(line, &new.name) : 0;
     if (new.number == 0) {
-      leave_out(place);
+      leave_out(rows);
       continue;
     }
     new.name = normal_form(new.name);
@@ -61,45 +61,47 @@ static void read_lines(struct list *list, char *names, size_t size) {
   }
 }
 
-static int by_place(const void *left, const void *right) {
+static int by_row(const void *left, const void *right) {
   const struct line *one = left, *other = right;
-  return one->place < other->place ? -1 : one->place > other->place;
+  return one->row < other->row ? -1 : one->row > other->row;
 }
 
 static int by_number(const void *left, const void *right) {
   const struct line *one = left, *other = right;
-  return one->number != other->number ? (one->number < other->number ? -1 : 1) : by_place(one, other);
+  return one->number != other->number ? (one->number < other->number ? -1 : 1) : by_row(one, other);
 }
 
 static int by_name(const void *left, const void *right) {
   int order = strcmp(((const struct line *)left)->name, ((const struct line *)right)->name);
-  return order ? order : by_place(left, right);
+  return order ? order : by_row(left, right);
 }
 
-/* Of lines that are the same by this order, but for their places, the first stays. */
+/* Of lines that are the same by this order, but for where they stand, the first stays. */
 static void leave_out_twice(struct list *list, int (*order)(const void *, const void *)) {
   size_t kept = 0;
   qsort(list->lines, list->count, sizeof *list->lines, order);
   for (size_t i = 0; i < list->count; i++) {
     struct line line = list->lines[i], before = kept > 0 ? list->lines[kept - 1] : (struct line){0, "", 0};
-    before.place = line.place;
-    if (order(&before, &line) == 0) leave_out(line.place);
+    before.row = line.row;
+    if (order(&before, &line) == 0) leave_out(line.row);
     else list->lines[kept++] = line;
   }
   list->count = kept;
 }
 
 struct list read_list(void) {
-  struct list list = {NULL, 0, ""};
-  size_t size;
-  char *path = path_of("names"), *names = contents(path, &size);
+  struct list list = {NULL, 0, "", 0};
+  char *path = path_of("names"), *names = contents(path, &list.size);
   if (!names) return list;
-  list.bytes = text("%s", names);
-  read_lines(&list, names, size);
+  list.bytes = malloc(list.size + 1);
+  if (!list.bytes) fail(1, "out of memory");
+  memcpy(list.bytes, names, list.size + 1);
+  bad_count = 0;
+  read_lines(&list, names, list.size);
   if (list.count > 0) {
     leave_out_twice(&list, by_number);
     leave_out_twice(&list, by_name);
-    qsort(list.lines, list.count, sizeof *list.lines, by_place);
+    qsort(list.lines, list.count, sizeof *list.lines, by_row);
   }
   if (bad_count == 1) note("%s: line %zu: bad line, left out", path, first_bad);
   if (bad_count > 1) note("%s: line %zu: bad line, left out, and %zu more", path, first_bad, bad_count - 1);
@@ -115,9 +117,9 @@ void put_line(struct list *list, unsigned number, const char *name) {
   }
   list->lines = realloc(list->lines, (kept + 1) * sizeof *list->lines);
   if (!list->lines) fail(1, "out of memory");
-  size_t place = number == 1 ? 0 : kept;
-  memmove(list->lines + place + 1, list->lines + place, (kept - place) * sizeof *list->lines);
-  list->lines[place] = (struct line){number, name, 0};
+  size_t front = number == 1 ? 0 : kept;
+  memmove(list->lines + front + 1, list->lines + front, (kept - front) * sizeof *list->lines);
+  list->lines[front] = (struct line){number, name, 0};
   list->count = kept + 1;
 }
 
@@ -136,31 +138,46 @@ static char *written(const struct list *list, int must_close) {
 
 void write_list(struct list *list, int must_close) {
   char *names = written(list, must_close);
-  if (strcmp(list->bytes, names) != 0) replace(path_of("names"), names, strlen(names));
-  list->bytes = names;
+  size_t size = strlen(names);
+  if (size != list->size || memcmp(list->bytes, names, size) != 0) replace(path_of("names"), names, size);
+  list->bytes = names, list->size = size;
 }
 
-/* The list that targets are known to be in accord with, and how many files they have; or NULL. */
-static char *read_left(unsigned *count) {
-  char *left = contents(path_of(".capture/left"), NULL), *names = left ? strchr(left, '\n') : NULL;
-  *count = names ? strtoul(left, NULL, 10) : 0;
+unsigned unused_number(void) {
+  struct list list = read_list();
+  char *used = calloc(MOST_LOGS + 1, 1);
+  if (!used) fail(1, "out of memory");
+  for (size_t i = 0; i < list.count; i++) used[list.lines[i].number] = 1;
+  for (unsigned number = 2; number <= MOST_LOGS; number++)
+    if (!used[number] && access(log_of(number), F_OK) < 0) return number;
+  fail(1, "%s: no number is left", path_of("names"));
+}
+
+/* The list that targets are known to be in accord with, and how many bytes their files have; or NULL. */
+static char *read_left(size_t *size) {
+  char *left = try_contents(path_of(".capture/left"), NULL), *names = left ? strchr(left, '\n') : NULL;
+  *size = names ? strtoul(left, NULL, 10) : 0;
   return names ? names + 1 : NULL;
 }
 
 static void write_left(const char *names) {
-  char *left = text("%u\n%s", count_targets(), names);
+  char *left = text("%zu\n%s", size_of_targets(), names);
   replace(path_of(".capture/left"), left, strlen(left));
 }
 
 void keep_left(const struct list *list, int (*is_of_run)(const struct line *line)) {
-  unsigned count;
-  char *names = written(list, 0), *left = read_left(&count);
-  size_t more = 0, size = left ? strlen(left) : 0;
+  size_t known, more = 0;
+  char *names = written(list, 0), *left = read_left(&known);
+  size_t size = left ? strlen(left) : 0;
   int is_left = left && strncmp(names, left, size) == 0;
   for (char *end = names + strlen(names); is_left && end > names + size; more++)
     for (end--; end > names && end[-1] != '\n'; end--) continue;
-  for (size_t i = 0; is_left && i < more; i++) is_left = is_of_run(&list->lines[list->count - 1 - i]);
-  if (is_left && count_targets() >= count + more) write_left(names);
+  for (size_t i = 0; is_left && i < more; i++) {
+    const struct line *line = &list->lines[list->count - 1 - i];
+    is_left = is_of_run(line);
+    known += size_of_target(line->name);
+  }
+  if (is_left && size_of_targets() >= known) write_left(names);
   else unlink(path_of(".capture/left"));
 }
 
@@ -210,13 +227,14 @@ static void forget_strays(void) {
 }
 
 static void go_by(const struct list *list) {
-  unsigned count;
-  char *names = written(list, 0), *left = read_left(&count);
-  if (left && strcmp(left, names) == 0 && count == count_targets()) return;
+  size_t known;
+  char *names = written(list, 0), *left = read_left(&known);
+  if (left && strcmp(left, names) == 0 && known == size_of_targets()) return;
   each_target(meet);
   forget_strays();
   for (unsigned number = 1; number <= most_wanted; number++)
     if (wanted[number]) keep_listed(number, wanted[number]);
+  for (size_t i = 0; i < list->count; i++) keep_fronts(list->lines[i].name);
   write_left(names);
 }
 
@@ -234,4 +252,5 @@ void take_list(struct list *list) {
   }
   free(wanted);
   free(strays);
+  strays = NULL, stray_count = 0, most_wanted = largest = 0;
 }

@@ -137,9 +137,12 @@ static int is_over(int pipe) {
   return 0;
 }
 
-int listen_to_command(int pipe, const char *run, unsigned number) {
+void open_log(const char *run, unsigned number) {
   own_run = run, log_file = open(log_of(number), O_WRONLY | O_APPEND | O_CLOEXEC), open_error = errno;
   lock_path = path_of(".capture/lock"), book_path = path_of(".capture/run");
+}
+
+int listen_to_command(int pipe) {
   int source = pipe;
   for (enum event event; (event = await(source, held > 0 ? SILENCE : -1)) != ENDED;) {
     ssize_t size = event == READABLE ? take(source) : 1;

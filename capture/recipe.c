@@ -10,6 +10,9 @@
 #include <time.h>
 #include <unistd.h>
 
+/* What make would have run. */
+static char **own_command;
+
 /* The run; the target; and the way `up`, from where its log stands to where the build began. */
 static char *own_run, *name, *up;
 static struct target target;
@@ -65,7 +68,7 @@ static void mention(struct front *front, const char *known) {
   front->count++;
 }
 
-/* Whether a name that is listed goes on like this: `list` keeps each front that a space ends. */
+/* Whether a name that is listed goes on like this: each front of one that a space ends is kept. */
 static int goes_on(const char *known) {
   static int has_spaces = -1;
   if (has_spaces < 0) has_spaces = access(path_of(".capture/spaces"), F_OK) == 0;
@@ -86,12 +89,20 @@ static void mention_needs(struct front *front, const char *needs) {
   }
 }
 
-/* Begins the run, if no other has the directory. No log is begun anew as long as it is marked, or listed as closed. */
+static void forget_run(struct target known, const char *known_as) {
+  if (strcmp(known.run, own_run) != 0) return;
+  known.run = "none", known.status = -1;
+  keep(known, known_as);
+}
+
+/* Begins the run, if no other has the directory. No log is begun anew as long as it is marked, or listed as closed. Where the book
+   is gone, what this run has begun is begun no more. */
 static void begin_run(const char *book) {
   if (!is_running(own_run)) fail(1, "the build that this belongs to has ended");
   if (is_running(book)) fail(1, "%s is in use by another make, process %d", at, atoi(book));
   struct list list = read_list();
   if (list.count == 0) forget_targets();
+  if (!is_run(book)) each_target(forget_run);
   read_closed();
   take_list(&list);
   write_list(&list, 0);
@@ -113,28 +124,29 @@ static void list(void) {
     take_list(&listed);
     last = last_number();
   }
-  target.number = last + 1, target.run = "none";
-  write_over(path_of(".capture/last"), text("%u\n", target.number));
+  target.number = last < MOST_LOGS ? last + 1 : unused_number(), target.run = "none";
+  if (last < MOST_LOGS) write_over(path_of(".capture/last"), text("%u\n", target.number));
   keep_listed(target.number, name);
   char *line = text("%s%u %s\n", is_within_line(names) ? "\n" : "", target.number, name);
   if (try_append(names, line, strlen(line)) < 0) unlink(target.file), cannot_write(names);
 }
 
-/* Writes a record for the leader's log, which stands there until the run has ended. */
+/* Writes a record for the leader's log, which stands there until the run has ended. That of a recipe isn't made anew. */
 static void tell_leader(const char *kind, const char *status) {
   char *log = log_of(leader ? leader : 1);
-  if ((leader ? leader : 1) == target.number) return;
+  if ((leader ? leader : 1) == target.number || (leader && access(log, F_OK) < 0)) return;
   int is_within = is_within_line(log);
   append_line(log, "%s@@REDO:%s:%s%s@@ %s%s", is_within ? "\n" : "", kind, mark_of(own_run), is_within ? ".0" : "", status,
               path_for_leader);
 }
 
-/* What is needed. Where it is much, make wrote it to a file, once for all lines of the recipe. */
+/* What is needed. Where it is much, make wrote it to a file, once for all lines of the recipe: one whose directory was removed
+   behind its first line needs nothing that is known. */
 static char *needs_of(char *given) {
   const char *folder = getenv("CAPTURE_PLACE");
   if (given[0] != '@' || !folder || strncmp(given + 1, folder, strlen(folder)) != 0) return given;
   char *needs = contents(given + 1, NULL);
-  if (!needs) fail(1, "cannot read %s", given + 1);
+  if (!needs) return "";
   unlink(given + 1);
   needs[strcspn(needs, "\n")] = 0;
   return needs;
@@ -196,13 +208,16 @@ static void begin(char *needs) {
   unlock(held);
 }
 
-/* Answers 0 where that is gone: then the recipe may go on as it would without a capture. */
-static int end(int status) {
-  struct stat book;
-  if (stat(path_of(".capture/run"), &book) < 0 && errno == ENOENT) return 0;
-  int held = lock(), is_there = is_begun(target.number, name);
-  if (strcmp(run_of_book(), own_run) != 0) fail(1, "%s is in use by a later make", at);
-  if (!is_there) {
+/* Answers 0 where what was captured is gone. A directory that is removed while this runs is not made anew. */
+static int end(int status, int is_log_gone) {
+  char *path = path_of(".capture/lock");
+  int held = try_lock(path);
+  if (held < 0 && errno == ENOENT) return 0;
+  if (held < 0) cannot_write(path);
+  char *book = run_of_book();
+  int is_own = strcmp(book, own_run) == 0;
+  if (!is_own && is_running(book)) fail(1, "%s is in use by a later make", at);
+  if (!is_own || !is_begun(target.number, name)) {
     unlock(held);
     return 0;
   }
@@ -210,8 +225,10 @@ static int end(int status) {
   keep(target, name);
   append_line(path_of(".capture/run"), "ended %u %d %lld %d", target.number, getpid(), (long long)time(NULL), status);
   if (status != 0) tell_leader("done", text("%d ", status));
+  if (is_log_gone) try_append(log_of(target.number), "", 0); /* for the next line of the recipe, if it can be */
+  int is_there = is_at(held, path);
   unlock(held);
-  return 1;
+  return is_there;
 }
 
 /* Where a make was told of this as its shell, with no redo-log-capture in front, the run is that of the first make. */
@@ -242,17 +259,36 @@ static void set_own_directory(void) {
   else if (kept) unsetenv("PWD");
 }
 
-/* Runs what make would run, with or without a shell; what it says comes through this pipe. */
-static void run(char **command, int pipe) {
+/* The words of what make would run without a shell, or NULL. */
+static char **words_without_shell(char **command) {
   int is_default = strcmp(command[0], "/bin/sh") == 0 && command[1] && command[2] && !command[3];
   int is_plain = is_default && (strcmp(command[1], "-c") == 0 || strcmp(command[1], "-ec") == 0);
-  char **words = is_plain ? words_of(command[2]) : NULL;
+  return is_plain ? words_of(command[2]) : NULL;
+}
+
+/* Runs what make would run, with or without a shell; what it says comes through this pipe. */
+static void run(char **command, int pipe) {
+  char **words = words_without_shell(command);
   int both = getenv("CAPTURE_BOTH") != NULL;
   set_own_directory();
   int error = words ? start(words, pipe, both) : ENOEXEC;
   if (error) error = start(command, pipe, both);
   if (error) cannot_run(command[0], error);
   close(pipe);
+}
+
+/* Becomes what make would run. */
+static _Noreturn void go_without(void) {
+  char **words = words_without_shell(own_command);
+  unsetenv("CAPTURE");
+  set_own_directory();
+  if (words) execvp(words[0], words);
+  become(own_command);
+}
+
+static _Noreturn void end_as_command(void) {
+  if (signal_of_command) end_by(signal_of_command);
+  exit(status_of_command);
 }
 
 void recipe(char **command, int is_of_make) {
@@ -271,7 +307,9 @@ void recipe(char **command, int is_of_make) {
   leader_name += *leader_name == ' ';
   path_for_leader = spelled(name, leader_up);
   if (!path_for_leader) leader = 0, path_for_leader = name;
+  own_command = command, go_on = go_without;
   begin(needs + 3);
+  open_log(own_run, target.number);
 
   unsetenv("CAPTURE");
   setenv("CAPTURE_LEADER", text("%u %s", target.number, name), 1);
@@ -279,14 +317,14 @@ void recipe(char **command, int is_of_make) {
   int ends[2];
   if (pipe2(ends, O_CLOEXEC) < 0) fail(1, "no pipe: %s", strerror(errno));
   run(command, ends[1]);
-  int error = listen_to_command(ends[0], own_run, target.number);
-  int is_there = end(status_of_command);
+  int error = listen_to_command(ends[0]);
+  go_on = end_as_command;
+  int is_there = end(status_of_command, error == ENOENT);
   errno = error;
   if (!is_there || error == ENOENT)
     note("%s was removed, with what was captured", is_there ? log_of(target.number) : at);
   else if (error)
     cannot_write(log_of(target.number));
   if (is_there) ask_to_show(target.number, status_of_command, name);
-  if (signal_of_command) end_by(signal_of_command);
-  exit(status_of_command);
+  end_as_command();
 }

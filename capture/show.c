@@ -80,9 +80,10 @@ static void print_text(FILE *stream, const char *from, const char *end, const ch
 /* What was added to the log since it was shown last, below a line that says whose it is and with what it ended. */
 static void show(unsigned number, int status, const char *name) {
   size_t size = 0, said_size, head_size = 0, *before = shown_of(number);
-  char *said, *log = contents(log_of(number), &size);
+  char *said, *log = try_contents(log_of(number), &size);
   FILE *stream = open_memstream(&said, &said_size);
   if (!stream) fail(1, "out of memory");
+  if (*before > size) *before = 0; /* a log that was begun anew */
   if (status != 0) fprintf(stream, "redo-log-capture: %s (exit %d)\n", name, status);
   else if (number != last_shown) fprintf(stream, "redo-log-capture: %s\n", name);
   if (fflush(stream) == 0) head_size = said_size;

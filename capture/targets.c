@@ -2,21 +2,29 @@
 #define _GNU_SOURCE
 #include "capture.h"
 #include <dirent.h>
+#include <errno.h>
 #include <fcntl.h>
 #include <stdint.h>
 #include <stdio.h>
 #include <stdlib.h>
 #include <string.h>
+#include <sys/stat.h>
 #include <unistd.h>
 
 char *identity(int process) {
-  char *said = contents(text("/proc/%d/stat", process), NULL);
+  char *said = try_contents(text("/proc/%d/stat", process), NULL);
   char *fields = said ? strrchr(said, ')') : NULL;
   unsigned long long began = 0;
   /* The bracket ends the second field, and the time is the 22nd. */
   for (int field = 2; fields && field < 22; field++) fields = strchr(fields + 1, ' ');
   if (fields) began = strtoull(fields, NULL, 10);
   return text("%d-%llu", process, began);
+}
+
+int is_run(const char *book) {
+  int process;
+  unsigned long long began;
+  return sscanf(book, "%d-%llu", &process, &began) == 2 || sscanf(book, "ended %d-%llu", &process, &began) == 2;
 }
 
 int is_running(const char *run) { return strcmp(identity(atoi(run)), run) == 0; }
@@ -45,16 +53,17 @@ int is_book_of(const char *path, const char *wanted) {
 /* A file of a target has a first line of this many bytes, which is written over, and then the name. */
 enum { HEAD = 64 };
 
-/* All of the file, or NULL; and the name in it. One that is damaged has none. */
-static char *read_target(struct target *target, const char **name) {
-  size_t size;
-  char *kept = contents(target->file, &size);
-  *name = NULL;
-  if (!kept || size <= HEAD) return kept;
-  *name = kept + HEAD;
-  sscanf(kept, "%u %d %ms", &target->number, &target->status, &target->run);
+/* Whether there is a file; and all of it. One that is damaged has no name, and neither has a directory in its place. */
+static int read_target(struct target *target, char **kept, const char **name) {
+  size_t size = 0;
+  *kept = try_contents(target->file, &size), *name = NULL;
+  if (!*kept && errno != ENOENT && errno != EISDIR) cannot_read(target->file);
+  if (!*kept) return errno != ENOENT;
+  if (size <= HEAD) return 1;
+  *name = *kept + HEAD;
+  sscanf(*kept, "%u %d %ms", &target->number, &target->status, &target->run);
   if (target->number > MOST_LOGS) target->number = 0;
-  return kept;
+  return 1;
 }
 
 static struct target target_at(const char *file) {
@@ -67,9 +76,9 @@ struct target look_up(const char *name) {
   for (const char *byte = name; *byte; byte++) hash = (hash ^ (unsigned char)*byte) * 1099511628211u;
   for (;; hash++) {
     struct target target = target_at(text("%016llx", (unsigned long long)hash));
+    char *kept;
     const char *found;
-    char *kept = read_target(&target, &found);
-    if (!kept || (found && strcmp(found, name) == 0)) return target;
+    if (!read_target(&target, &kept, &found) || (found && strcmp(found, name) == 0)) return target;
   }
 }
 
@@ -81,9 +90,9 @@ void each_target(void (*meet)(struct target, const char *name)) {
   for (struct dirent *file; (file = readdir(targets));) {
     if (*file->d_name == '.') continue;
     struct target target = target_at(file->d_name);
+    char *kept;
     const char *name;
-    char *kept = read_target(&target, &name);
-    if (name) meet(target, name);
+    if (read_target(&target, &kept, &name) && name) meet(target, name);
     free(kept);
   }
   closedir(targets);
@@ -94,13 +103,17 @@ void keep(struct target target, const char *name) {
   write_over(target.file, text("%-*.*s\n%s", HEAD - 1, HEAD - 1, head, name));
 }
 
-unsigned count_targets(void) {
+size_t size_of_target(const char *name) { return HEAD + strlen(name); }
+
+size_t size_of_targets(void) {
   DIR *targets = opendir(path_of(".capture/targets"));
-  unsigned count = 0;
+  struct stat found;
+  size_t size = 0;
   if (!targets) return 0;
-  for (struct dirent *file; (file = readdir(targets));) count += *file->d_name != '.';
+  for (struct dirent *file; (file = readdir(targets));)
+    if (fstatat(dirfd(targets), file->d_name, &found, 0) == 0 && S_ISREG(found.st_mode)) size += found.st_size;
   closedir(targets);
-  return count;
+  return size;
 }
 
 void keep_spaces(void) {
@@ -108,13 +121,17 @@ void keep_spaces(void) {
   if (access(path, F_OK) < 0) write_over(path, "");
 }
 
-void keep_listed(unsigned number, const char *name) {
+void keep_fronts(const char *name) {
   for (const char *space = name; (space = strchr(space, ' ')); space++) {
     keep_spaces();
     char *front = text("%.*s", (int)(space - name) + 1, name);
     struct target known = look_up(front);
     if (access(known.file, F_OK) < 0) keep(known, front);
   }
+}
+
+void keep_listed(unsigned number, const char *name) {
+  keep_fronts(name);
   struct target target = look_up(name);
   target.number = number;
   keep(target, name);

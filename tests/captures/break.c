@@ -1,10 +1,12 @@
 /* Preloaded into a build: the n-th time that one of its processes called redo-log-capture, or sh as its link, is about to change a
-   file, the whole process group is killed; or from then on nothing can be written, as on a full device. The environment says n, by
-   BREAK_AT, a file that counts, by BREAK_COUNT, and whether the device is full, by BREAK_FULL. */
+   file, the whole process group is killed; or from then on nothing can be written, as on a full device; or, where it is the process
+   of a recipe, a directory is removed. The environment says n, by BREAK_AT, a file that counts, by BREAK_COUNT, whether the device
+   is full, by BREAK_FULL, and the directory, by BREAK_REMOVE. */
 #define _GNU_SOURCE
 #include <dlfcn.h>
 #include <errno.h>
 #include <fcntl.h>
+#include <ftw.h>
 #include <signal.h>
 #include <stdio.h>
 #include <stdlib.h>
@@ -20,7 +22,13 @@ __attribute__((constructor)) static void begin(void) {
     ssize_t size = readlink("/proc/self/exe", program, sizeof program - 1);
     program[size > 0 ? size : 0] = 0;
     is_capture = strstr(program, "/redo-log-capture") != NULL && getenv("BREAK_COUNT") != NULL;
+    is_capture = is_capture && (getenv("BREAK_REMOVE") == NULL || getenv("CAPTURE") != NULL);
     real_write = (__typeof__(real_write))dlsym(RTLD_NEXT, "write");
+}
+
+static int remove_one(const char *path, const struct stat *found, int kind, struct FTW *place) {
+    (void)found, (void)kind, (void)place;
+    return remove(path);
 }
 
 /* Whether it is the n-th time, or a later one. */
@@ -31,6 +39,11 @@ static int is_over(void) {
     close(count);
     errno = error;
     if (counted.st_size < atoi(getenv("BREAK_AT"))) return 0;
+    if (getenv("BREAK_REMOVE") != NULL) {
+        if (counted.st_size == atoi(getenv("BREAK_AT"))) nftw(getenv("BREAK_REMOVE"), remove_one, 16, FTW_DEPTH | FTW_PHYS);
+        errno = error;
+        return 0;
+    }
     if (getenv("BREAK_FULL") == NULL) kill(0, SIGKILL);
     return 1;
 }

@@ -6,8 +6,8 @@ import shutil
 import signal
 import subprocess
 
-from builds import BY_SHELL, TOOL, log_of, make, of_a_terminal, project, ran, shown, wait_for, wait_until, write
-from checks import environment
+from builds import BY_SHELL, TOOL, log_of, make, of_a_terminal, preloaded, project, ran, shown, wait_for, wait_until, write
+from checks import environment, install_capture
 
 MARKING = ("--must-close",)
 MAKEFILE = """all: x y d/w ; @echo all $(N) >&2
@@ -56,16 +56,36 @@ def emptying(path):
     return lambda at: os.truncate(f"{at}/{path}", 0)
 
 
+def writing(path, text):
+    return lambda at: write(f"{at}/{path}", text)
+
+
+def adding(path, text):
+    return lambda at: write(f"{at}/{path}", read(f"{at}/{path}") + text)
+
+
+def folder_for(path):
+    return lambda at: (removing(path)(at), os.mkdir(f"{at}/{path}"))
+
+
+def both(*changes):
+    return lambda at: [change(at) for change in changes]
+
+
 def removing_what_is_kept(at):
     for name in os.listdir(f"{at}/.capture"):
         removing(f".capture/{name}")(at)
 
 
-def forgetting_a_target(at):
-    folder = f"{at}/.capture/targets"
-    for name in os.listdir(folder):
-        if read(f"{folder}/{name}").endswith("\ny"):
-            os.remove(f"{folder}/{name}")
+def of_target(change, name="y"):
+    """The same of the file that tells of a target."""
+
+    def found(at):
+        folder = ".capture/targets"
+        path = next(path for path in os.listdir(f"{at}/{folder}") if read(f"{at}/{folder}/{path}").endswith(f"\n{name}"))
+        change(f"{folder}/{path}")(at)
+
+    return found
 
 
 def left_out(number, more=""):
@@ -97,6 +117,7 @@ CHANGES = {
     "another spelling": (names_are(LEFT.replace(" z", " ./d/..//z")), [], LEFT, FIRST, True),
     "another number": (names_are(LEFT.replace("5 y", "77 y")), [], LEFT.replace("5 y", "77 y"), FIRST, True),
     "a large number": (names_are(LEFT.replace("5 y", "999999999 y")), [left_out(5)], without("y") + "8 y\n", FIRST, True),
+    "the largest number": (names_are(without("sub").replace("5 y", "1048575 y")), [], without("sub").replace("5 y", "1048575 y") + "8 sub\n", FIRST, True),
     "too large a number": (names_are(LEFT.replace("5 y", "4294967298 y")), [left_out(5)], without("y") + "8 y\n", FIRST, True),
     "the number 0": (names_are(LEFT.replace("5 y", "0 y")), [left_out(5)], without("y") + "8 y\n", FIRST, True),
     "a number twice": (names_are(LEFT + "2 other\n"), [left_out(8)], LEFT, FIRST, True),
@@ -105,23 +126,40 @@ CHANGES = {
     "half a line": (names_are(LEFT.removesuffix("sub\n")), [left_out(7)], without("sub") + "8 sub\n", FIRST, True),
     "an empty line": (names_are("\n" + LEFT), [left_out(1)], LEFT, FIRST, True),
     "other lines": (names_are("smith\njones\n1\n"), [left_out(1, ", and 2 more")], NEW, "", None),
+    "a line of zeros": (adding("names", "\0\0\0"), [left_out(8)], LEFT, FIRST, True),
     "a NUL": (names_are(LEFT.replace("5 y", "5 y\0y")), [left_out(5)], without("y") + "8 y\n", FIRST, True),
     "no book": (removing(".capture/run"), [], LEFT, FIRST, False),
+    "an empty book": (emptying(".capture/run"), [], LEFT, FIRST, False),
+    "another book": (writing(".capture/run", "smith\njones\n"), [], LEFT, FIRST, False),
     "no last number": (removing(".capture/last"), [], LEFT, FIRST, True),
-    "no last number, and a line removed": (lambda at: (names_are(without("sub"))(at), emptying(".capture/last")(at)), [], without("sub") + "8 sub\n", FIRST, True),
+    "no last number, and a line removed": (both(names_are(without("sub")), emptying(".capture/last")), [], without("sub") + "8 sub\n", FIRST, True),
+    "another last number": (writing(".capture/last", "smith\n"), [], LEFT, FIRST, True),
     "no lock": (removing(".capture/lock"), [], LEFT, FIRST, True),
     "no list of closed logs": (removing(".capture/closed"), [], LEFT, FIRST, False),
-    "another list of closed logs": (lambda at: write(f"{at}/.capture/closed", "x\n-5\n2\n888888888\n"), [], LEFT, FIRST, True),
+    "an empty list of closed logs": (emptying(".capture/closed"), [], LEFT, FIRST, False),
+    "another list of closed logs": (writing(".capture/closed", "x\n-5\n2\n888888888\n"), [], LEFT, FIRST, True),
+    "no list that was left": (removing(".capture/left"), [], LEFT, FIRST, True),
+    "an empty list that was left": (emptying(".capture/left"), [], LEFT, FIRST, True),
+    "another list that was left, and a line removed": (both(names_are(without("x")), adding(".capture/left", "8 other\n")), [], without("x"), "", None),
     "no word of spaces": (removing(".capture/spaces"), [], LEFT, FIRST, True),
     "no targets": (removing(".capture/targets"), [], LEFT, FIRST, True),
-    "no file of a target": (forgetting_a_target, [], LEFT, FIRST, True),
+    "no file of a target": (of_target(removing), [], LEFT, FIRST, True),
+    "no file of a target that is made no more": (of_target(removing, "x"), [], LEFT, FIRST, True),
+    "no file of the run": (of_target(removing, "all"), [], LEFT, FIRST, True),
+    "an empty file of a target": (of_target(emptying), [], LEFT, FIRST, True),
+    "an empty file of a target that is made no more": (of_target(emptying, "x"), [], LEFT, FIRST, True),
+    "an empty file of the front of a name": (of_target(emptying, "a "), [], LEFT, FIRST, True),
+    "no file of the front of a name": (of_target(removing, "a "), [], LEFT, FIRST, True),
+    "a folder for the file of a target": (of_target(folder_for), [], LEFT, FIRST, True),
+    "a folder beside them": (lambda at: os.mkdir(f"{at}/.capture/targets/more"), [], LEFT, FIRST, True),
     "nothing kept": (removing_what_is_kept, [], LEFT, FIRST, False),
+    "two of them": (both(names_are(without("y", "sub")), removing(".capture/last"), of_target(emptying, "x")), [], without("y", "sub") + "8 y\n9 sub\n", FIRST, True),
 }
 
 
-def built(folder, options, *words):
+def built(folder, command, *words, more=None):
     """The status and output of a build; what else it said, in any order; and what redo-log-capture told."""
-    status, out, told = ran(folder, [*options, "make", "-s", *words])
+    status, out, told = ran(folder, [*command, *(() if "make" in command else ("make", "-s")), *words], more)
     lines = [line.replace(folder, "FOLDER") for line in told.splitlines()]
     own = "redo-log-capture: "
     return (status, out, sorted(line for line in lines if not line.startswith(own))), [line.removeprefix(own) for line in lines if line.startswith(own)]
@@ -177,9 +215,13 @@ def refused(checks, at):
     """What no capture can be written to is refused before anything is started, and stays as it was."""
     rows = {
         "nothing kept of it": (removing(".capture"), "capture/names is there already, and no capture wrote it"),
-        "a file in its place": (lambda at: (removing(".capture")(at), write(f"{at}/.capture", "")), "cannot write capture/.capture: Not a directory"),
-        "names a folder": (lambda at: (removing("names")(at), os.mkdir(f"{at}/names")), "capture/names is no file"),
+        "a file in its place": (both(removing(".capture"), writing(".capture", "")), "cannot write capture/.capture: Not a directory"),
+        "a file for the targets": (both(removing(".capture/targets"), writing(".capture/targets", "")), "cannot write capture/.capture/targets: Not a directory"),
+        "names a folder": (folder_for("names"), "capture/names is no file"),
         "names a FIFO": (lambda at: (removing("names")(at), os.mkfifo(f"{at}/names")), "capture/names is no file"),
+        "names a link to itself": (lambda at: (removing("names")(at), os.symlink("names", f"{at}/names")), "cannot write capture/names: Too many levels of symbolic links"),
+        "the book a FIFO": (lambda at: (removing(".capture/run")(at), os.mkfifo(f"{at}/.capture/run")), "capture/.capture/run is no file"),
+        **{f"a folder for {name}": (folder_for(f".capture/{name}"), f"capture/.capture/{name} is no file") for name in ("lock", "run", "last", "closed", "left")},
     }
     for what, (change, told) in rows.items():
         folder = placed(at(what))
@@ -199,8 +241,14 @@ c: t ; @echo c >&2
 MIDDLE_BELOW = "s1: ; @echo s1 >&2; $(THEN); echo s1 again >&2\ns2: s1 ; @echo s2 >&2\n"
 WHOLE = "redo  all\nredo    a\na\nredo    b\nb\nb again\nredo    t\nredo      s2\nredo        s1\ns1\ns1 again\ns2\nt\nt again\nredo    c\nc\nall\n"
 GONE = "FOLDER/capture was removed, with what was captured"
+LOG_GONE = "FOLDER/capture/log.{} was removed, with what was captured".format
 LATE = "redo  all\nredo    t\nredo      s2\nredo        s1\ns1\ns1 again\ns2\nt\nt again\nredo    c\nc\nall\n"
 LATER = "redo  all\nredo    c\nc\nredo    s2\ns2\nall\n"
+NO_WORDS = (
+    WHOLE.replace("a\na\n", "a\n").replace("b\nb\nb again\n", "b\n"),
+    "redo  all\nredo    a\nredo    b\nredo    t\nredo      s2\nredo        s1\ns2\nredo    c\nc\nall\n",
+)
+SEVERAL_GONE = "FOLDER/capture/log.2 and 1 more were removed, with what was captured"
 # What a recipe does; what is told, and shown if that is whole, of one of the run, and of one of a make below. What that is told
 # itself comes into the log of the recipe above it.
 MEANWHILE = {
@@ -217,8 +265,15 @@ MEANWHILE = {
     "no last number": ("rm capture/.capture/last", [], WHOLE, [], WHOLE),
     "no list of closed logs": ("rm capture/.capture/closed", [], WHOLE, [], WHOLE),
     "no targets": ("rm -r capture/.capture/targets", [GONE], None, [GONE], None),
-    "a log removed": ("rm capture/log.2", [], WHOLE.replace("a\na\n", "a\n"), [], WHOLE.replace("a\na\n", "a\n")),
-    "its own log removed": ("rm capture/log.3", ["FOLDER/capture/log.3 was removed, with what was captured"], WHOLE.replace("b\nb\nb again\n", "b\n"), [], WHOLE.replace("b\nb\nb again\n", "b\n")),
+    "no list that was left": ("rm capture/.capture/left", [], WHOLE, [], WHOLE),
+    "a log removed": ("rm capture/log.2", [LOG_GONE(2)], WHOLE.replace("a\na\n", "a\n"), [LOG_GONE(2)], WHOLE.replace("a\na\n", "a\n")),
+    "its own log removed": ("rm capture/log.3", [LOG_GONE(3)], WHOLE.replace("b\nb\nb again\n", "b\n"), [LOG_GONE(3)], WHOLE.replace("b\nb\nb again\n", "b\n")),
+    "all logs removed": ("rm capture/log.*", [LOG_GONE(3), LOG_GONE(2)], NO_WORDS[0], [LOG_GONE(4), SEVERAL_GONE], NO_WORDS[1]),
+    "the log of the run removed": ("rm capture/log.1", [], WHOLE, [], WHOLE),
+    "the log of the run emptied": (": >capture/log.1", [], WHOLE, [], WHOLE),
+    "no book": ("rm capture/.capture/run", [GONE], LATE, [GONE], LATER),
+    "an empty book": (": >capture/.capture/run", [GONE], LATE, [GONE], LATER),
+    "another book": ("echo smith >capture/.capture/run", [GONE], LATE, [GONE], LATER),
     "nothing kept of it": ("rm -r capture/.capture", [GONE], LATE, [GONE], LATER),
     "the directory removed": ("rm -r capture", [GONE], LATE, [GONE], LATER),
 }
@@ -254,4 +309,108 @@ def in_the_middle(checks, at):
     checks.expect("it is shown", shown(folder, "all"), "redo  all\nredo    x\nx\nredo    y\ny\n")
 
 
-PARTS = (between_builds, refused, in_the_middle)
+def many_needs(checks, at):
+    """A recipe that needs more than may be told in a variable, whose first line removes the directory, and one whose captures are lost."""
+    names = " ".join(f"n{number}" for number in range(40))
+    for change in ("rm -r capture", "rm capture/.capture/run", ": >capture/.capture/run"):
+        folder = project(at(change.replace("/", "")), f"all: {names}\n\t@echo one >&2; {change}\n\t@echo two >&2\n{names}: ; @echo $@ >&2\n")
+        checks.expect(f"{change}, by one of many needs: make", built(folder, [TOOL, *MARKING]), ((0, "", []), [GONE]))
+        checks.expect(f"{change}, by one of many needs", shown(folder, "all"), "redo  all\ntwo\n")
+
+
+def folders_for_logs(checks, at):
+    """A recipe whose log can't be written, as a folder stands there, runs as without a capture."""
+    plain, folder = placed(at("plain")), placed(at("before"))
+    ran(plain, ["make", "-s", "N=1"])
+    make(folder, "-s", "N=1", options=MARKING)
+    folder_for("log.5")(f"{folder}/capture")
+    status, out, _ = built(plain, [], "N=2")[0]
+    told = ["cannot write FOLDER/capture/log.5: Is a directory"]
+    checks.expect("a folder for a log: make", built(folder, [TOOL, *MARKING], "N=2"), ((status, out, ["y 2"]), told))
+    checks.expect("it is told", shown(folder, "all"), (5, "redo-log: y: cannot be read\n"))
+    os.rmdir(f"{folder}/capture/log.5")
+    checks.expect("once it is gone: make", built(folder, [TOOL, *MARKING], "N=3"), ((status, out, []), []))
+    checks.expect("once it is gone", shown(folder, "all"), TEXT.format("").replace("2\n", "3\n"))
+    folder_for("log.1")(f"{folder}/capture")
+    (_, out, lines), told = built(folder, [TOOL, *MARKING], "N=4")
+    checks.expect("a folder for the log of the run", (status, out, lines, set(told)), (*built(plain, [], "N=4")[0], {"cannot write FOLDER/capture/log.1: Is a directory"}))
+
+    folder = project(at("middle"), MIDDLE)
+    write(os.path.join(folder, "below.mk"), MIDDLE_BELOW)
+    answer = built(folder, [TOOL, *MARKING], "NOW=rm capture/log.2 && mkdir capture/log.2", "THEN=:")
+    checks.expect("in the middle: make", answer, ((0, "", []), [LOG_GONE(2)]))
+    checks.expect("in the middle", shown(folder, "all"), (5, "redo-log: a: cannot be read\n"))
+    recipe = "echo x >&2; until grep -q x capture/log.2; do sleep 0.01; done; rm capture/log.2; mkdir capture/log.2; $(MORE) exit 3"
+    folder = project(at("fails"), f"all: x\nx: ; @{recipe}\n")
+    told = ["x (exit 3)", LOG_GONE(2), "x failed; to read it: redo-log x", "to read all: redo-log -r all"]
+    checks.expect("of one that fails", built(folder, [TOOL])[1], told)
+    shutil.rmtree(f"{folder}/capture")
+    checks.expect("of one that fails, and says more", built(folder, [TOOL], "MORE=echo more >&2;")[1], [LOG_GONE(2), *told])
+
+
+REMOVING = """all: a t b\\ c d
+	@echo all >&2
+a: ; @echo out; echo a >&2; touch made
+	@echo a again >&2
+t: a ; @echo t >&2; $(MAKE) -s -f below.mk s1 s2; echo t again >&2
+b\\ c: a ; @echo b c >&2
+d: ; -@echo d >&2; kill -9 $$$$
+.PHONY: all a t d
+"""
+REMOVING_BELOW = "s1: ; @echo s1 >&2\ns2: s1 ; @echo s2 >&2; echo out below\n"
+
+
+def removed_at_any_time(checks, at):
+    """The directory is removed by others in front of each change that a recipe makes there."""
+    library, tool, places = preloaded("break"), install_capture(at("dynamic"), "STATIC="), []
+    for name in ("plain", "new", "again"):
+        places.append(project(at(name), REMOVING))
+        write(os.path.join(places[-1], "below.mk"), REMOVING_BELOW)
+    plain, shows = built(places[0], [])[0], ["d (exit 137)"]
+    for folder in places[1:]:
+        number, count = 0, 1
+        while number < count:
+            number += 1
+            shutil.rmtree(f"{folder}/capture", ignore_errors=True)
+            if folder.endswith("again"):
+                built(folder, [TOOL, *MARKING])
+            more = {"LD_PRELOAD": library, "BREAK_AT": str(number), "BREAK_COUNT": f"{folder}.{number}", "BREAK_REMOVE": f"{folder}/capture"}
+            (status, out, lines), told = built(folder, [tool, *MARKING], more=more)
+            count = os.path.getsize(f"{folder}.{number}")
+            what = f"removed in front of change {number}"
+            checks.expect(f"{what}: make", (status, out, [line for line in lines if line not in plain[2]]), (*plain[:2], []))
+            checks.expect(f"{what}: told", GONE in told, number <= count)
+            checks.expect(f"{what}: the next one", built(folder, [TOOL, *MARKING]), ((*plain[:2], [plain[2][4]]), shows))
+        checks.expect("changes in all", count > 60, True)
+
+
+BESIDE = """NUMBERS = $(shell seq 40)
+all: $(NUMBERS) clean below
+$(NUMBERS): ; @echo $@; echo $@ >&2; sleep 0.00$$(($@ % 5))
+	@echo $@ >&2
+clean: 15 ; @rm -rf capture 2>/dev/null; true
+below: ; @$(MAKE) -s -f below.mk a b c d e f
+"""
+
+
+def removed_beside_others(checks, at):
+    """A recipe removes the directory while others begin, speak and end."""
+    below = "a b c d e f: ; @echo $@; echo $@ >&2; sleep 0.003\n"
+    plain = project(at("plain"), BESIDE)
+    write(os.path.join(plain, "below.mk"), below)
+    status, out, lines = built(plain, ["make", "-s", "-j4"])[0]
+    for number in range(10):
+        folder = project(at(str(number)), BESIDE)
+        write(os.path.join(folder, "below.mk"), below)
+        if number % 2:
+            make(folder, "-s", "-j4", "1", "2", "15")
+        answer, told = built(folder, [TOOL, *MARKING, "make", "-s", "-j4"])
+        checks.expect(f"removed beside others, {number}", (answer[0], sorted(answer[1]), set(answer[2]) <= set(lines), GONE in told), (status, sorted(out), True, True))
+        text = str(shown(folder, "-u", "all"))
+        checks.expect(f"removed beside others, {number}: shown", text.startswith("redo  all\n"), True)
+        blocks = re.findall(r"^redo +(\w+)\n((?:(?!redo  ).*\n)*)", text, re.M)
+        wrong = [block for block in blocks if block[0] != "below" and not re.fullmatch(rf"({block[0]}\n)*(redo-log-capture: .*\n)*", block[1])]
+        checks.expect(f"removed beside others, {number}: each word below its target", wrong, [])
+
+
+PARTS = (between_builds, refused, in_the_middle, many_needs, folders_for_logs, removed_at_any_time, removed_beside_others)

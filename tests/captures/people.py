@@ -120,24 +120,35 @@ def refused_directories(checks, at):
     os.makedirs(os.path.join(folder, "locked/old/.capture"))
     os.chmod(os.path.join(folder, "locked/old"), 0o555)
     os.chmod(os.path.join(folder, "locked"), 0o555)
-    os.makedirs(os.path.join(folder, "open/kept/.capture"))
-    write(os.path.join(folder, "open/kept/names"), "1 all\n")
-    os.chmod(os.path.join(folder, "open/kept/names"), 0o444)
-    for path in ("open", "open/kept", "open/kept/.capture"):
+    kept = {f"open/{number}": name for number, name in enumerate(("names", ".capture/lock", ".capture/last"))}
+    for directory, name in kept.items():
+        os.makedirs(os.path.join(folder, directory, ".capture"))
+        write(os.path.join(folder, directory, name), "1 all\n")
+        os.chmod(os.path.join(folder, directory, name), 0o444)
+    for path in ("open", *kept, *(f"{directory}/.capture" for directory in kept)):
         os.chmod(os.path.join(folder, path), 0o777)
     os.chmod(PREFIX, 0o755)
     nobody = (lambda: os.setuid(65534)) if os.getuid() == 0 else None
 
-    def answer(directory):
-        command = [TOOL, "--dir", directory, "make", "TO=open/made"]
+    def answer(directory, *words):
+        command = [TOOL, "--dir", directory, "make", "TO=open/made", *words]
         done = subprocess.run(command, cwd=folder, env=environment(), capture_output=True, text=True, preexec_fn=nobody)
         return done.returncode, done.stderr
 
     for directory in ("locked/new", "locked/old", "locked/new/deep"):
         checks.expect(f"no leave to write {directory}", answer(directory), (1, text(directory, "Permission denied")))
-    checks.expect("no leave to write a list of names", answer("open/kept"), (1, text("open/kept/names", "Permission denied")))
+    for directory, name in kept.items():
+        checks.expect(f"no leave to write {name}", answer(directory), (1, text(f"{directory}/{name}", "Permission denied")))
     checks.expect("nothing was made", os.path.exists(os.path.join(folder, "open/made")), False)
     checks.expect("leave to write another one", (answer("open/new"), os.path.exists(os.path.join(folder, "open/made"))), ((0, ""), True))
+
+    write(os.path.join(folder, "lost.mk"), "all: x y\nx: ; @chmod -R a-w open/lost\ny: x ; @echo y >&2; touch $(TO) $(TO).too; exit $(Y)\n")
+    for status in (0, 3):
+        told = answer("open/lost", "-f", "lost.mk", f"Y={status}")
+        lines = [line for line in told[1].splitlines() if not line.startswith("redo-log-capture: cannot write ")]
+        checks.expect(f"leave is lost in the middle, {status}", (told[0], lines[0]), (2 if status else 1, "y"))
+        checks.expect(f"what is made then, {status}", os.path.exists(os.path.join(folder, "open/made.too")), True)
+        subprocess.run(["chmod", "-R", "u+w", os.path.join(folder, "open/lost")], check=True)
 
 
 PARTS = (what_failed, below, live, last_words, uncaptured, refused_directories)
