@@ -131,8 +131,8 @@ def ran(program, directory, words, library=""):
 
 
 def compared(checks, program, library, folder, fill, sets):
-    """A directory with the names and numbers of each set. Returns how many times as long as those at random others took, with keys
-    and without."""
+    """A directory with the names and numbers of each set. Returns how many times as long chosen ones took as those at random, with
+    keys and without."""
     name = fill.__name__.replace("_", " ")
     cases = {}
     for by, (names, numbers) in sets.items():
