@@ -56,7 +56,9 @@ pub fn read_words(alloc: Global, words: Vec<String>) -> Result<Job, WordsFault>
 /// the program answers it where it is the only word.
 pub fn help_text(alloc: Global) -> Result<String, AllocError> {
     let mut command = command(alloc)?.version("");
-    command.render_help()
+    let text = command.render_help();
+    drop(command);
+    text
 }
 
 fn command<'a>(alloc: Global) -> Result<Command<'a>, AllocError>
@@ -191,7 +193,7 @@ fn parse<'a>(alloc: Global, words: &'a [String]) -> Result<ArgMatches<'a>, Words
     ensures fault { IfErr result (λ fault. (fault ≡ OutOfMemory) ⊎ (fault_of_words (map string_bytes words.entry.now) ≡ Some fault)) }
 {
     let mut command = command(alloc)?;
-    command
-        .try_get_matches_from_mut(words)
-        .map_err(WordsFault::from)
+    let found = command.try_get_matches_from_mut(words);
+    drop(command);
+    found.map_err(WordsFault::from)
 }

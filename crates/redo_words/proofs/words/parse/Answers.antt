@@ -12,14 +12,14 @@ use Rattle.redo_words.proofs.Sound.{fault_if_err, is_exact, sound_if_ok, taken_i
 use Rattle.redo_words.proofs.words.parse.Goals as goal
 
 -- the faults of the words, by the whole command
-fails : (c : goal.After-drop-command-9) → FailsBy (fault_of redo_log (map string_bytes c.args.words.now)) c.try_get_matches_from_mut.result
+fails : (c : goal.After-map_err) → FailsBy (fault_of redo_log (map string_bytes c.args.words.now)) c.try_get_matches_from_mut-found.result
 fails c =
-    subst (λ (a : App). FailsBy (fault_of a (map string_bytes c.args.words.now)) c.try_get_matches_from_mut.result) c.in_ok-command.ensures
-    (c.try_get_matches_from_mut.ensures.kinds (ap is_simple_and_free c.in_ok-command.ensures ∙ is_exact.1))
+    subst (λ (a : App). FailsBy (fault_of a (map string_bytes c.args.words.now)) c.try_get_matches_from_mut-found.result) c.in_ok-command.ensures
+    (c.try_get_matches_from_mut-found.ensures.kinds (ap is_simple_and_free c.in_ok-command.ensures ∙ is_exact.1))
 
 pub returns-clause-sound : goal.returns-clause-sound
 returns-clause-sound c =
-    let parse = c.try_get_matches_from_mut in
+    let parse = c.try_get_matches_from_mut-found in
     told_if_ok parse.result _ c.map_err.result c.map_err.ensures.cases _
     (sound_if_ok (map string_bytes c.args.words.now) parse.result c.in_ok-command.command parse.new.self _ c.in_ok-command.ensures parse.ensures.after parse.ensures.fails parse.ensures.ok)
 
@@ -27,15 +27,15 @@ pub returns-clause-entries : goal.returns-clause-entries
 returns-clause-entries c =
     let words = map string_bytes c.args.words.now in
     let whole = c.in_ok-command.ensures in
-    told_if_ok c.try_get_matches_from_mut.result _ c.map_err.result c.map_err.ensures.cases _
-    (IfOk-weaker c.try_get_matches_from_mut.result _ (λ m. rows_of (found_of m) ≡ matches_of redo_log words)
-    (λ m ok. (ok.2 (ap is_simple whole ∙ is_exact.0)).0 ∙ ap (λ (a : App). matches_of a words) whole) c.try_get_matches_from_mut.ensures.ok)
+    told_if_ok c.try_get_matches_from_mut-found.result _ c.map_err.result c.map_err.ensures.cases _
+    (IfOk-weaker c.try_get_matches_from_mut-found.result _ (λ m. rows_of (found_of m) ≡ matches_of redo_log words)
+    (λ m ok. (ok.2 (ap is_simple whole ∙ is_exact.0)).0 ∙ ap (λ (a : App). matches_of a words) whole) c.try_get_matches_from_mut-found.ensures.ok)
 
 pub returns-clause-taken : goal.returns-clause-taken
 returns-clause-taken c =
     let words = map string_bytes c.args.words.now in
-    told_if_ok c.try_get_matches_from_mut.result _ c.map_err.result c.map_err.ensures.cases _ (taken_if_ok words c.try_get_matches_from_mut.result (fails c))
+    told_if_ok c.try_get_matches_from_mut-found.result _ c.map_err.result c.map_err.ensures.cases _ (taken_if_ok words c.try_get_matches_from_mut-found.result (fails c))
 
 pub returns-clause-fault : goal.returns-clause-fault
 returns-clause-fault c =
-    fault_if_err (map string_bytes c.args.words.now) c.try_get_matches_from_mut.result _ c.map_err.result c.map_err.ensures.cases (λ e fault is. is) (fails c)
+    fault_if_err (map string_bytes c.args.words.now) c.try_get_matches_from_mut-found.result _ c.map_err.result c.map_err.ensures.cases (λ e fault is. is) (fails c)
