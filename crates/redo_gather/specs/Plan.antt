@@ -1,20 +1,11 @@
 -- The numbers of a plan, and their limits.
-use Rattle.std.specs.Prelude.{ℕ, ◌≤◌, ◌^◌}
+use Rattle.std.specs.Prelude.{ℕ, ◌^◌}
+use Rattle.redo_options.specs.Limits.{AreSenders, IsCapacity, IsWithin}
 
 pub record Numbers : Type 0 where
   pub senders : ℕ
   pub capacity : ℕ
   pub max_bytes : ℕ
-
--- from one number to another
-abbrev pub IsWithin : ℕ → ℕ → ℕ → Type 0
-IsWithin least greatest number = (least ≤ number) × (number ≤ greatest)
-
-abbrev pub AreSenders : ℕ → Type 0
-AreSenders senders = IsWithin 1 64 senders
-
-abbrev pub IsCapacity : ℕ → Type 0
-IsCapacity capacity = IsWithin 1 65536 capacity
 
 -- how many bytes a stream may have
 abbrev pub IsByteLimit : ℕ → Type 0

@@ -169,6 +169,7 @@ impl Collector {
             Holds names (before ++ item ∷ []) self.new.table self.new.refused }
     {
         if self.refused {
+            drop(item);
             return;
         }
         let Ok(()) = store_item(&mut self.table, item) else {

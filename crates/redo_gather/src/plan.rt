@@ -1,5 +1,6 @@
 ghost use Rattle.std.specs.Prelude.{◌≡◌, ◌↔◌, Err, IfOk};
-ghost use Rattle.redo_gather.specs.Plan.{AreSenders, IsCapacity, IsByteLimit};
+ghost use Rattle.redo_options.specs.Limits.{AreSenders, IsCapacity};
+ghost use Rattle.redo_gather.specs.Plan.{IsByteLimit};
 
 use std::marker::Model;
 

@@ -82,11 +82,13 @@ pub fn store_item(table: &mut LogTable, item: Item) -> Result<(), AllocError>
     ensures had_memory { OnOk result (item.what ≢ Fail OutOfMemory) }
 {
     if tells_no_memory(&item.what) {
+        drop(item);
         return Err(AllocError);
     }
     if is_running(table, item.stream) {
-        store_in(table, item.stream, item.what)?;
+        return store_in(table, item.stream, item.what);
     }
+    drop(item);
     Ok(())
 }
 

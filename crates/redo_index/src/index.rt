@@ -20,10 +20,16 @@ const MOST: usize = 1_048_575;
 
 /// The targets of a capture directory: for each its number and its name, in the order in which
 /// they are listed. No number and no name stands in it twice, and it lists at most 1,048,575.
-#[derive(Drop)]
 pub struct Index {
     // The log file of each target, by its name.
     targets: IndexMap<TargetName, LogFile, HashKeys>,
+}
+
+// A derived one would be written out wherever an index is let go, and proved there.
+impl Drop for Index {
+    fn drop(self) {
+        let Index { targets: _targets } = self;
+    }
 }
 
 /// The file that has the log of a target: its number, and whether it has to end with the record that closes the log.

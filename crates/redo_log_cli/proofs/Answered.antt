@@ -7,15 +7,16 @@ use Rattle.redo_gather.specs.Plan.{Numbers}
 use Rattle.redo_gather.specs.Streams.{Told}
 use Rattle.redo_index.specs.declared.listed.Listed.{Listed}
 use Rattle.redo_index.specs.Index.{names_of}
-use Rattle.redo_view.specs.declared.options.Options.{Options}
+use Rattle.redo_options.specs.declared.options.Options.{Options}
 use Rattle.redo_run.specs.declared.run_fault.RunFault.{RunFault}
 use Rattle.redo_run.specs.declared.run_fault.RunFault.TheVariants.{Unknown, Stream as OfStream, OutOfMemory, Write}
-use Rattle.redo_run.specs.Run.{Question, bytes_of_words, question}
+use Rattle.redo_options.specs.Asked.{bytes_of_words}
+use Rattle.redo_run.specs.Run.{Question, question}
 use Rattle.redo_run.specs.RunFault.{IfTold}
 use Rattle.redo_run.specs.Shown.{FailsInText, HasFault, SomeText, WritesAll}
 use Rattle.redo_log_cli.specs.declared.failure.Failure.{Failure}
 use Rattle.redo_log_cli.specs.declared.failure.Failure.TheVariants.{NamesRead, Memory}
-use Rattle.redo_log_cli.specs.Job.{Parts}
+use Rattle.redo_words.specs.Job.{Parts}
 use Rattle.redo_log_cli.specs.NamesFile.{CannotBeRead, most_bytes}
 use Rattle.redo_log_cli.specs.Private.Program.{HasText, IsAnswer, IsFlushedAfter, TellsIndex, asked_by}
 

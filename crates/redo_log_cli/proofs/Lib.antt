@@ -1,7 +1,2 @@
 mod Answered
-mod ErrorLemmas
 mod FileLemmas
-mod Getters
-mod OneKind
-mod Sound
-mod WordsRows

@@ -9,7 +9,7 @@ use Rattle.redo_log_cli.specs.declared.failure.Failure.TheVariants.{Words, Names
 use Rattle.redo_index.specs.declared.index_fault.IndexFault.{IndexFault}
 use Rattle.redo_index.specs.declared.index_fault.IndexFault.TheVariants as index
 use Rattle.redo_run.specs.declared.run_fault.RunFault.TheVariants as run
-use Rattle.redo_log_cli.specs.declared.words_fault.WordsFault.TheVariants as words
+use Rattle.redo_words.specs.declared.words_fault.WordsFault.TheVariants as words
 
 abbrev pub status_of_stream : StreamFault → ℕ
 status_of_stream (stream.BadRecord line) = 4

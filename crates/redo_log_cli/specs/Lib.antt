@@ -1,7 +1,4 @@
 pub mod Capture
-pub mod CommandLine
 pub mod Failure
-pub mod Job
 pub mod NamesFile
 pub mod Private
-pub mod Words

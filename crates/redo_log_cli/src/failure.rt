@@ -2,10 +2,10 @@ ghost use Rattle.std.specs.Prelude.{◌≡◌};
 ghost use Rattle.redo_log_cli.specs.declared.failure.Failure.TheVariants.{Memory};
 ghost use Rattle.redo_log_cli.specs.Failure.{status_of, status_of_stream};
 
-use crate::words_fault::WordsFault;
 use redo_index::IndexFault;
 use redo_line::StreamFault;
 use redo_run::RunFault;
+use redo_words::WordsFault;
 use std::alloc::{AllocError, AllocFailed};
 use thiserror::Error;
 

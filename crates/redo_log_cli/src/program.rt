@@ -14,15 +14,13 @@ ghost use Rattle.redo_log_cli.specs.Private.Program.{IsAnswer, IsFlushedAfter, T
 
 use crate::capture::{Capture, open_capture};
 use crate::failure::{Failure, status};
-use crate::job::Job;
 use crate::names_file::read_names;
 use crate::told::fault_line;
-use crate::words::{help_text, read_words};
-use crate::words_fault::WordsFault;
 use redo_gather::{Free, Plan};
 use redo_index::{Index, read_index_with_keys};
 use redo_line::{Feed, HashKeys, Reading, Writing};
 use redo_run::{RunFault, run};
+use redo_words::{Job, WordsFault, help_text, read_words};
 use std::alloc::{AllocError, Global};
 use std::io::{BufWriter, ErrorKind, Write};
 use std::random::RandomSource;

@@ -1,14 +1,14 @@
 ghost use Rattle.std.specs.Prelude.{◌≡◌, ◌<◌, ◌++◌, IfOk, codes, flat_map, length};
 ghost use Rattle.redo_log_cli.specs.Failure.{IfOfStream, IfOfWord, fault_text, index_text, line_of, of_line, text_of_stream};
 ghost use Rattle.redo_index.specs.Index.{names_of};
-ghost use Rattle.redo_run.specs.Run.{bytes_of_words};
+ghost use Rattle.redo_options.specs.Asked.{bytes_of_words};
 
 use crate::failure::Failure;
-use crate::words_fault::WordsFault;
 use itoa::Buffer;
 use redo_index::{Index, IndexFault};
 use redo_line::StreamFault;
 use redo_run::RunFault;
+use redo_words::WordsFault;
 use std::alloc::{AllocError, Global};
 
 /// The line that the program prints of a failure, with its line feed; there is none for help. A name

@@ -30,13 +30,24 @@ pub struct Log {
 
 /// The logs of a run, numbered from 0 in the order in which their targets were entered. No target has
 /// two logs, and there are at most 1,048,575.
-#[derive(Drop)]
 pub struct LogTable {
     alloc: Global,
     kept: Kept,
     logs: Vec<Log>,
     // By the number of a name, the number of its log. Behind the last place no name has one.
     places: Vec<Option<u32>>,
+}
+
+// A derived one would be written out wherever a table is let go, and proved there.
+impl Drop for LogTable {
+    fn drop(self) {
+        let LogTable {
+            alloc: _,
+            kept: _kept,
+            logs: _logs,
+            places: _places,
+        } = self;
+    }
 }
 
 impl Model for LogTable {

@@ -9,7 +9,8 @@ use Rattle.std.proofs.lemmas.List.Elements.{filter_map-append}
 use Rattle.redo_name.specs.Names.{normal}
 use Rattle.redo_line.proofs.PlaceLemmas.{some_place, first_passes, none_passes}
 use Rattle.redo_view.specs.Expansion.{is_among}
-use Rattle.redo_run.specs.Run.{target_of, unknown_word, targets_named, bytes_of_words}
+use Rattle.redo_options.specs.Asked.{bytes_of_words}
+use Rattle.redo_run.specs.Run.{target_of, unknown_word, targets_named}
 
 module _ (targets : List (List ℕ)) where
   abbrev listed : List ℕ → Option (List ℕ)

@@ -8,7 +8,7 @@ use Rattle.redo_device.specs.Sink.{Taken}
 use Rattle.redo_gather.specs.declared.gather_fault.GatherFault.TheVariants as gather
 use Rattle.redo_run.specs.declared.run_fault.RunFault.{RunFault}
 use Rattle.redo_run.specs.declared.run_fault.RunFault.TheVariants.{Unknown, Stream as OfStream, OutOfMemory, Write}
-use Rattle.redo_run.specs.Run.{Question, bytes_of_words, question}
+use Rattle.redo_run.specs.Run.{Question, question}
 use Rattle.redo_run.specs.RunFault.{IfStreamFault, IfTold, IfUnknown, fault_of_gathering}
 use Rattle.redo_run.specs.Shown.{FailsInText, HasFault, WritesAll, WritesFront}
 
@@ -63,9 +63,6 @@ not_if_told_of_stream is = is
 
 if_none_told : IfTold done (λ fault. ⊥) × IfTold no_memory (λ fault. ⊥) × IfTold unwritten (λ fault. ⊥)
 if_none_told = (tt, tt, tt)
-
-of_words : (a b : Vec ℕ) → (length (bytes_of_words (a ∷ b ∷ [])) ≡ 2) × (bytes_of_words (a ∷ b ∷ []) ≡ a.items ∷ b.items ∷ [])
-of_words a b = (refl, refl)
 
 -- of no target, with these words
 abbrev asks : List (List ℕ) → Question

@@ -1,5 +1,5 @@
 -- The answer of a run.
-use Rattle.std.specs.Prelude.{ℕ, List, Option, None, Some, Result, Ok, Err, is_none, map, option_and_then, position, filter_map, if◌then◌else◌}
+use Rattle.std.specs.Prelude.{ℕ, List, Option, None, Some, Result, Ok, Err, is_none, option_and_then, position, filter_map, if◌then◌else◌}
 use Rattle.std.specs.Option.{option_map}
 use Rattle.std.specs.Global.{Vec}
 use Rattle.redo_line.specs.declared.stream_fault.StreamFault.{StreamFault}
@@ -9,7 +9,8 @@ use Rattle.redo_name.specs.Names.{normal}
 use Rattle.redo_logs.specs.Logs.{Log}
 use Rattle.redo_gather.specs.Plan.{Numbers}
 use Rattle.redo_gather.specs.Streams.{logs_of, fault_among}
-use Rattle.redo_view.specs.declared.options.Options.{Options}
+use Rattle.redo_options.specs.declared.options.Options.{Options}
+use Rattle.redo_options.specs.Asked.{bytes_of_words}
 use Rattle.redo_view.specs.Expansion.{is_among, expansion}
 use Rattle.redo_run.specs.declared.run_fault.RunFault.{RunFault}
 use Rattle.redo_run.specs.declared.run_fault.RunFault.TheVariants as fault
@@ -23,9 +24,6 @@ pub record Question : Type 0 where
   pub max_bytes : ℕ
   pub options : Options
   pub words : List (List ℕ)
-
-abbrev pub bytes_of_words : List (Vec ℕ) → List (List ℕ)
-bytes_of_words words = map (λ word. word.items) words
 
 abbrev pub question : List Listed → Numbers → Options → List (Vec ℕ) → Question
 question index plan options words = record { targets = names_of index; max_bytes = plan.max_bytes; options = options; words = bytes_of_words words }

@@ -10,7 +10,8 @@ ghost use Rattle.redo_view.specs.Written.{WroteAll, WroteFront, WroteUntilFailed
 ghost use Rattle.redo_index.specs.Index.{marks_of, names_of};
 ghost use Rattle.redo_run.specs.declared.run_fault.RunFault.TheVariants.{OutOfMemory, Write};
 ghost use Rattle.redo_run.specs.Private.LookUp.{IsFaultOfWords};
-ghost use Rattle.redo_run.specs.Run.{bytes_of_words, question, target_of, targets_named, unknown_word};
+ghost use Rattle.redo_options.specs.Asked.{bytes_of_words};
+ghost use Rattle.redo_run.specs.Run.{question, target_of, targets_named, unknown_word};
 ghost use Rattle.redo_run.specs.RunFault.{IfStreamFault, IfTold, IfUnknown};
 ghost use Rattle.redo_run.specs.Shown.{FailsInText, HasFault, WritesAll, WritesFront};
 

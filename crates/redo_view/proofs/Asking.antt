@@ -11,7 +11,7 @@ use Rattle.redo_device.specs.Sink.{Taken, Writes, adds}
 use Rattle.redo_device.proofs.WritesLemmas.{adds-adds}
 use Rattle.redo_logs.specs.Logs.{IsTable, Log, targets_of}
 use Rattle.redo_logs.specs.Numbering.{Numbering}
-use Rattle.redo_view.specs.declared.options.Options.{Options}
+use Rattle.redo_options.specs.declared.options.Options.{Options}
 use Rattle.redo_view.specs.declared.step.Seen.{Seen}
 use Rattle.redo_view.specs.declared.viewer.ViewFault.{ViewFault}
 use Rattle.redo_view.specs.declared.viewer.ViewFault.TheVariants.{Unknown, Write, OutOfMemory}

@@ -10,7 +10,7 @@ use Rattle.redo_line.specs.declared.entry.How.TheVariants.{Made, Waiting, Locked
 use Rattle.redo_line.specs.Lines.{line_feed}
 use Rattle.redo_logs.specs.declared.log_state.LogState.TheVariants.{Ended}
 use Rattle.redo_logs.specs.Logs.{Log}
-use Rattle.redo_view.specs.declared.options.Options.{Options}
+use Rattle.redo_options.specs.declared.options.Options.{Options}
 use Rattle.redo_view.specs.Expansion.{is_among, opened_within, opened_log, expanded, expansion}
 use Rattle.redo_view.specs.Text.{entry_text}
 

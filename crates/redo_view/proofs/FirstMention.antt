@@ -4,7 +4,7 @@ use Rattle.std.specs.Prelude.{◌&&◌, not}
 use Rattle.std.proofs.lemmas.Bool.{and_from}
 use Rattle.redo_line.specs.declared.entry.How.{How}
 use Rattle.redo_logs.specs.Logs.{Log, targets_of}
-use Rattle.redo_view.specs.declared.options.Options.{Options}
+use Rattle.redo_options.specs.declared.options.Options.{Options}
 use Rattle.redo_view.specs.Expansion.{Shown, is_among, mentions, mention, opens, opened_log, expanded}
 use Rattle.redo_view.specs.Private.Choices.{opened_if, mentioned_if, unless_opened}
 use Rattle.redo_view.specs.Laws.{MentionedFirst, MentionedAgain, MentionedAlone, AskedFirst, AskedAgain}

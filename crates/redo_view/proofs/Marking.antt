@@ -11,7 +11,7 @@ use Rattle.redo_logs.specs.declared.numbered.NumberedEntry.TheVariants.{Mention,
 use Rattle.redo_logs.specs.declared.entry_ref.EntryRef.TheVariants as other
 use Rattle.redo_logs.specs.Logs.{Log, place_of, targets_of}
 use Rattle.redo_logs.specs.Numbering.{IsNumbered, Numbering, name_at, numbered_seen}
-use Rattle.redo_view.specs.declared.options.Options.{Options}
+use Rattle.redo_options.specs.declared.options.Options.{Options}
 use Rattle.redo_view.specs.declared.step.Seen.{Seen}
 use Rattle.redo_view.specs.Expansion.{Shown, begun, is_among, mentions, with_name}
 use Rattle.redo_view.specs.Private.Shown.{IsSeen, marks_of}

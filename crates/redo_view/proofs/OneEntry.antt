@@ -3,7 +3,7 @@ use Rattle.std.specs.Prelude.{ℕ, ◌&&◌, not, List, [], ◌++◌, Option, No
 use Rattle.redo_line.specs.declared.entry.Entry.{Entry}
 use Rattle.redo_line.specs.declared.entry.Entry.TheVariants.{Text, Mention, Done, Closing, Note}
 use Rattle.redo_logs.specs.Logs.{Log, place_of}
-use Rattle.redo_view.specs.declared.options.Options.{Options}
+use Rattle.redo_options.specs.declared.options.Options.{Options}
 use Rattle.redo_view.specs.Text.{entry_text}
 use Rattle.redo_view.specs.Expansion.{Shown, is_among, with_name, mentions, mention_text}
 

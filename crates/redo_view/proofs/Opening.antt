@@ -7,7 +7,7 @@ use Rattle.std.proofs.lemmas.Cmp.{nat_list_eq_equiv}
 use Rattle.redo_line.specs.declared.entry.Entry.{Entry}
 use Rattle.redo_line.specs.declared.entry.Entry.TheVariants.{Text, Mention, Done, Closing, Note}
 use Rattle.redo_logs.specs.Logs.{Log, targets_of}
-use Rattle.redo_view.specs.declared.options.Options.{Options}
+use Rattle.redo_options.specs.declared.options.Options.{Options}
 use Rattle.redo_view.specs.Expansion.{Opening, Shown, is_among, log_of, mentions, mention, begun, opens, after_entry, after_entries, opened_within, opened_log}
 use Rattle.redo_view.specs.Private.Choices.{opened_if, mentioned_if}
 use Rattle.redo_view.specs.Laws.{GoesOver}

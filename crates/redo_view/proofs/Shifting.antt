@@ -12,7 +12,7 @@ use Rattle.redo_line.specs.declared.entry.Entry.TheVariants.{Text, Mention, Done
 use Rattle.redo_line.specs.declared.entry.How.{How}
 use Rattle.redo_line.proofs.PlaceLemmas.{some_place}
 use Rattle.redo_logs.specs.Logs.{Log, targets_of, place_of, entry_at}
-use Rattle.redo_view.specs.declared.options.Options.{Options}
+use Rattle.redo_options.specs.declared.options.Options.{Options}
 use Rattle.redo_view.specs.Expansion.{Opening, Shown, is_among, with_name, with_text, log_of, mentions, mention_text, mention, begun, opens, after_entry, after_entries, opened_within, opened_log}
 use Rattle.redo_view.specs.Private.Choices.{opened_if, mentioned_if}
 use Rattle.redo_view.specs.Laws.{behind_text}

@@ -16,7 +16,7 @@ use Rattle.redo_logs.specs.declared.numbered.NumberedEntry.TheVariants.{Mention,
 use Rattle.redo_logs.specs.Logs.{Log, entry_at, place_of}
 use Rattle.redo_logs.specs.Numbering.{AreLinesAt, AreTexts, IsNumbered, Numbering, numbered_seen}
 use Rattle.redo_view.specs.declared.log.Frame.{Frame}
-use Rattle.redo_view.specs.declared.options.Options.{Options}
+use Rattle.redo_options.specs.declared.options.Options.{Options}
 use Rattle.redo_view.specs.declared.step.Seen.{Seen}
 use Rattle.redo_view.specs.declared.viewer.ViewFault.{ViewFault}
 use Rattle.redo_view.specs.declared.viewer.ViewFault.TheVariants.{Unknown, Write, OutOfMemory}

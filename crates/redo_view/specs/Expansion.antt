@@ -9,7 +9,7 @@ use Rattle.redo_line.specs.declared.entry.Entry.TheVariants.{Mention}
 use Rattle.redo_line.specs.declared.entry.How.{How}
 use Rattle.redo_line.specs.declared.entry.How.TheVariants.{Unchanged}
 use Rattle.redo_logs.specs.Logs.{Log, targets_of}
-use Rattle.redo_view.specs.declared.options.Options.{Options}
+use Rattle.redo_options.specs.declared.options.Options.{Options}
 use Rattle.redo_view.specs.Text.{redo_line, remark, entry_text}
 
 -- what was shown so far: the targets that were named, those whose logs were opened, in the order in which they were,

@@ -6,7 +6,7 @@ use Rattle.redo_line.specs.declared.entry.Entry.{Entry}
 use Rattle.redo_line.specs.declared.entry.Entry.TheVariants.{Mention}
 use Rattle.redo_line.specs.declared.entry.How.{How}
 use Rattle.redo_logs.specs.Logs.{Log, targets_of}
-use Rattle.redo_view.specs.declared.options.Options.{Options}
+use Rattle.redo_options.specs.declared.options.Options.{Options}
 use Rattle.redo_view.specs.Expansion.{Opening, Shown, is_among, with_text, log_of, mentions, mention, begun}
 use Rattle.redo_view.specs.Expansion.{after_entry, after_entries, opened_log, expanded}
 use Rattle.redo_view.specs.Reached.{mentioned_in, IsReached}

@@ -7,7 +7,7 @@ use Rattle.redo_line.specs.declared.entry.Entry.TheVariants.{Text, Done, Note}
 use Rattle.redo_line.specs.declared.entry.How.{How}
 use Rattle.redo_line.specs.declared.entry.How.TheVariants.{Made, Waiting, Locked, Unlocked, Unchanged}
 use Rattle.redo_line.specs.Lines.{with_line_feed}
-use Rattle.redo_view.specs.declared.options.Options.{Options}
+use Rattle.redo_options.specs.declared.options.Options.{Options}
 
 abbrev pub spaces : ℕ → List ℕ
 spaces count = replicate count 32

@@ -5,7 +5,7 @@ ghost use Rattle.std.specs.List.{IsDistinct};
 ghost use Rattle.redo_line.specs.declared.entry.Entry.{Entry};
 ghost use Rattle.redo_line.specs.declared.entry.How.{How};
 ghost use Rattle.redo_logs.specs.Logs.{Log, targets_of};
-ghost use Rattle.redo_view.specs.declared.options.Options.{Options};
+ghost use Rattle.redo_options.specs.declared.options.Options.{Options};
 ghost use Rattle.redo_view.specs.Expansion.{Opening, is_among, log_of, opened_log};
 ghost use Rattle.redo_view.specs.Laws.{GoesOver, IsOnly, GoesOverLast, GoesOverParts, OnlyAdds, NoneTwice, OnlyReached, AllReached};
 ghost use Rattle.redo_view.specs.Laws.{MentionedFirst, MentionedAgain, MentionedAlone, AskedFirst, AskedAgain};

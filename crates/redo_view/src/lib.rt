@@ -3,7 +3,6 @@
 
 mod laws;
 mod log;
-mod options;
 mod step;
 mod texts;
 mod viewer;
@@ -12,5 +11,5 @@ pub use laws::{
     at_first_mention, each_log_once, entries_in_order, entries_of_a_target, named_once,
     opening_a_log, text_is_added,
 };
-pub use options::Options;
+pub use redo_options::Options;
 pub use viewer::{ViewFault, view};

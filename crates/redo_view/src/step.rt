@@ -7,11 +7,11 @@ ghost use Rattle.redo_view.specs.Private.Shown.{Begins, IsSeen, nothing};
 ghost use Rattle.redo_view.specs.Private.Step.{Fits, IsStep, is_marked, marked};
 ghost use Rattle.redo_view.specs.Private.Viewing.{Keeps, Wrote, own_text, line_of, named_after, opened_by, opened_after};
 
-use crate::options::Options;
 use crate::texts::{write_entry, write_mention, write_target};
 use crate::viewer::{ViewFault, Viewer};
 use redo_line::{Broken, How, Sink};
 use redo_logs::{Numbered, NumberedEntry};
+use redo_options::Options;
 use std::alloc::{AllocError, Global};
 
 /// What was shown so far.

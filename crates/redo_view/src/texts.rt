@@ -7,10 +7,10 @@ ghost use Rattle.redo_view.specs.Private.Step.{StandsAlone};
 ghost use Rattle.redo_view.specs.Text.{spaces, in_six_places, pid_column, indent, redo_line, remark, exit_text, note_text, entry_text};
 ghost use Rattle.redo_view.specs.Private.Remarks.{exit_remark, check_text};
 
-use crate::options::Options;
 use itoa::Buffer;
 use redo_line::{Broken, How, Sink, TargetName, push_all};
 use redo_logs::EntryRef;
+use redo_options::Options;
 
 // What redo lines begin with, up to a depth of 31.
 const INDENT: &[u8] = b"redo                                                                ";

@@ -9,11 +9,11 @@ ghost use Rattle.redo_view.specs.Private.Viewing.{Keeps, ShowsAsked, Wrote};
 ghost use Rattle.redo_view.specs.View.{unknown_among};
 ghost use Rattle.redo_view.specs.Written.{WroteAll, WroteFront, WroteNothing, WroteUntilFailed};
 
-use crate::options::Options;
 use crate::step::Seen;
 use crate::texts::write_target;
 use redo_line::{Broken, Sink, TargetName};
 use redo_logs::{LogTable, Numbered};
+use redo_options::Options;
 use std::alloc::{AllocError, AllocFailed, Global};
 
 /// Why logs aren't shown, or not their whole text.

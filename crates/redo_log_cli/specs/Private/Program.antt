@@ -13,7 +13,7 @@ use Rattle.redo_run.specs.Run.{Question}
 use Rattle.redo_run.specs.Shown.{HasFault, SomeText}
 use Rattle.redo_log_cli.specs.declared.failure.Failure.{Failure}
 use Rattle.redo_log_cli.specs.declared.failure.Failure.TheVariants.{NamesRead, Index, Memory}
-use Rattle.redo_log_cli.specs.Job.{Parts}
+use Rattle.redo_words.specs.Job.{Parts}
 use Rattle.redo_log_cli.specs.NamesFile.{CannotBeRead, most_bytes}
 
 -- What is answered of the file `names` that gives this stream: the index of all its lines; or that it can't be read, or

@@ -2,7 +2,7 @@
 use Rattle.std.specs.Prelude.{ℕ, Bool, List, None, if◌then◌else◌}
 use Rattle.redo_line.specs.declared.entry.How.{How}
 use Rattle.redo_logs.specs.Logs.{Log}
-use Rattle.redo_view.specs.declared.options.Options.{Options}
+use Rattle.redo_options.specs.declared.options.Options.{Options}
 use Rattle.redo_view.specs.Expansion.{Opening, Shown, with_text, after_mention, opened_log}
 use Rattle.redo_view.specs.Text.{redo_line}
 

@@ -3,7 +3,7 @@ use Rattle.std.specs.Prelude.{◌≡◌, ℕ, Bool, List, [], Option, Some, Resu
 use Rattle.redo_device.specs.Sink.{Taken, adds}
 use Rattle.redo_logs.specs.Logs.{place_of, targets_of}
 use Rattle.redo_logs.specs.Numbering.{Numbering}
-use Rattle.redo_view.specs.declared.options.Options.{Options}
+use Rattle.redo_options.specs.declared.options.Options.{Options}
 use Rattle.redo_view.specs.declared.step.Seen.{Seen}
 use Rattle.redo_view.specs.declared.viewer.ViewFault.{ViewFault}
 use Rattle.redo_view.specs.declared.viewer.ViewFault.TheVariants.{Unknown, Write, OutOfMemory}

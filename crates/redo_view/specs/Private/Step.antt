@@ -11,7 +11,7 @@ use Rattle.redo_logs.specs.declared.numbered.NumberedEntry.{NumberedEntry}
 use Rattle.redo_logs.specs.declared.numbered.NumberedEntry.TheVariants.{Mention, Other}
 use Rattle.redo_logs.specs.EntryRef.{entry_seen}
 use Rattle.redo_logs.specs.Numbering.{Numbering, name_at}
-use Rattle.redo_view.specs.declared.options.Options.{Options}
+use Rattle.redo_options.specs.declared.options.Options.{Options}
 use Rattle.redo_view.specs.declared.step.Seen.{Seen}
 use Rattle.redo_view.specs.Text.{redo_line, remark, entry_text}
 use Rattle.redo_view.specs.Expansion.{mentions}

@@ -3,7 +3,8 @@ use Rattle.std.specs.Prelude.{option_map}
 use Rattle.std.proofs.lemmas.List.{take_all}
 use Rattle.redo_index.specs.Index.{names_of}
 use Rattle.redo_run.specs.declared.run_fault.RunFault.TheVariants as fault
-use Rattle.redo_run.specs.Run.{bytes_of_words, targets_named, target_of, unknown_word}
+use Rattle.redo_options.specs.Asked.{bytes_of_words}
+use Rattle.redo_run.specs.Run.{targets_named, target_of, unknown_word}
 use Rattle.redo_run.proofs.Finding.{Found, found_more, found_none}
 use Rattle.redo_run.proofs.running.find_targets.Goals as goal
 

@@ -3,7 +3,8 @@ use Rattle.std.proofs.lemmas.Result.{IfOk-weaker, err_from_is_err_and}
 use Rattle.redo_device.specs.Sink.{adds}
 use Rattle.redo_index.specs.Index.{marks_of, names_of}
 use Rattle.redo_gather.specs.Streams.{told_of}
-use Rattle.redo_run.specs.Run.{bytes_of_words, question}
+use Rattle.redo_options.specs.Asked.{bytes_of_words}
+use Rattle.redo_run.specs.Run.{question}
 use Rattle.redo_run.proofs.Answering.{told_word, told_stream, all_known, some_text}
 use Rattle.redo_run.proofs.running.run.Goals as goal
 

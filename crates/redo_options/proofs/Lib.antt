@@ -1,0 +1,2 @@
+mod AskedRows
+mod LimitsRows

@@ -1,0 +1,5 @@
+mod ErrorLemmas
+mod Getters
+mod OneKind
+mod Sound
+mod WordsRows
