@@ -105,7 +105,7 @@ char *try_contents(const char *path, size_t *size) {
   int error = errno;
   close(file);
   bytes[held] = 0;
-  if (size) *size = held;
+  if (size && got == 0) *size = held;
   errno = error;
   return got < 0 ? NULL : bytes;
 }
