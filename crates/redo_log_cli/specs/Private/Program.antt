@@ -1,5 +1,5 @@
 -- What the program makes of a job, and of the streams that its files give.
-use Rattle.std.specs.Prelude.{◌≡◌, ◌⊎◌, List, Option, None, Result, Ok, Err}
+use Rattle.std.specs.Prelude.{◌≡◌, ◌⊎◌, List, None, Result, Ok, Err}
 use Rattle.redo_line.specs.Fault.{ending_fault}
 use Rattle.redo_device.specs.Feed.{Stream}
 use Rattle.redo_line.specs.Lines.{all_lines}
