@@ -178,21 +178,23 @@ fn send_piece<T: Wait>(
     ensures reads_nothing { IfErr result (λ fault. fault ≢ Read) }
 {
     let mut from = 0;
+    let mut expected = piece.len();
     'runs: while from < piece.len() {
-        let mut run = room_for_run(alloc, piece.len() - from)?;
+        let mut run = room_for_run(alloc, expected.min(piece.len() - from))?;
         let answer = read_run(&mut run, scan, piece, from);
         post_run(rt, alloc, end, stream, run)?;
-        from = answer?;
+        let upto = answer?;
+        expected = upto - from;
+        from = upto;
     }
     Ok(())
 }
 
-// Room for the entries of so many bytes, of which lines are seldom shorter than 16, and of a line that began before.
+// Room for the texts of so many bytes and of a line that began before, and for some entries.
 fn room_for_run(alloc: Global, bytes: usize) -> Result<Entries, AllocError>
     ensures { IfOk result (λ run. run ≡ []) }
 {
-    let entries = MOST_ENTRIES.min(bytes / 16 + 1);
-    Entries::with_room(alloc, entries, bytes.saturating_add(bytes / 16))
+    Entries::with_room(alloc, 64, bytes.saturating_add(bytes / 16))
 }
 
 // Reads on in a piece, until a run is as long as an item may be, or has enough bytes. Answers how far it came.

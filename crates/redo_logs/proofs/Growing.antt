@@ -1,12 +1,12 @@
 -- One log more in a table.
-use Rattle.std.proofs.Common.{◌≡◌, ◌≢◌, ℕ, zero, suc, ◌+◌, ◌-◌, ◌≤◌, ◌<◌, Bool, true, false, cond, eqb, ltb, nat_eq, List, [], ◌∷◌, ◌++◌, Option, None, Some, is_some, length, take, replicate, get_or, slice_set, position, refl, sym, ap, ◌∙◌, subst, arith}
+use Rattle.std.proofs.Common.{◌≡◌, ◌≢◌, ℕ, zero, suc, ◌+◌, ◌-◌, ◌≤◌, ◌<◌, Bool, true, false, cond, eqb, ltb, nat_eq, List, [], ◌∷◌, ◌++◌, Option, None, Some, is_some, length, take, replicate, get_or, slice_get, slice_set, position, refl, sym, ap, ◌∙◌, subst, arith}
 use Rattle.std.specs.Cmp.Lexicographic.{pointwise, same_text}
 use Rattle.std.specs.List.{AllByRecursion, IsDistinct, flat_map, list_any, position_from}
 use Rattle.std.proofs.lemmas.Bool.{ltb-true, ltb-false, eqb-true, eqb-false}
 use Rattle.std.proofs.lemmas.Cmp.{nat_list_eq_equiv}
 use Rattle.std.proofs.lemmas.Iterator.Adapters.{position_from-zero}
 use Rattle.std.proofs.lemmas.List.{length_push, length-map, map_push, take_all, get_or_past, length-set, get_or_append_left, get_or-append_right, get_or-set_same, get_or-set_other}
-use Rattle.std.proofs.lemmas.Option.{same_Some}
+use Rattle.std.proofs.lemmas.Option.{get_or_from_slice_get, same_Some, slice_get_within}
 use Rattle.std.proofs.lemmas.Map.Keys.{IsDistinct-push, apart_from_distinct}
 use Rattle.redo_line.proofs.PlaceLemmas.{some_place, first_passes}
 use Rattle.redo_logs.specs.declared.log_state.LogState.TheVariants.{Running}
@@ -63,6 +63,14 @@ found_name names name number is =
       below = subst (λ n. n < length names) same found.below;
       is = ap (λ n. get_or names n []) (sym same) ∙ sym (same_text name (get_or names found.place []) (sym found.passes));
     }
+
+-- a name that stands at a number is that of this number
+pub name_there : (names : List (List ℕ)) (name other : List ℕ) (number : ℕ) →
+    slice_get names number ≡ Some other → true ≡ pointwise nat_eq other name → IsNamed names number name
+name_there names name other number at is = record {
+  below = slice_get_within names number other at;
+  is = get_or_from_slice_get names number other [] at ∙ same_text other name is;
+}
 
 -- ---- places
 

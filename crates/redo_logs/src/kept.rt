@@ -1,5 +1,5 @@
 //! What the entries of all logs are kept in: their texts, one behind the other, and their names, each once.
-ghost use Rattle.std.specs.Prelude.{◌≡◌, ◌+◌, ◌<◌, ◌≤◌, ◌^◌, ◌++◌, [], ◌∷◌, Some, nat_eq, length, drop, position, slice_get, IfOk};
+ghost use Rattle.std.specs.Prelude.{◌≡◌, ◌+◌, ◌<◌, ◌≤◌, ◌^◌, ◌++◌, [], ◌∷◌, Some, nat_eq, length, drop, position, slice_get, IfOk, IfSome};
 ghost use Rattle.std.specs.List.{AllByRecursion, flat_map};
 ghost use Rattle.std.specs.Cmp.Lexicographic.{pointwise};
 ghost use Rattle.redo_line.specs.Entries.{IsWithin, entries_there};
@@ -121,6 +121,8 @@ pub struct Kept {
     taken: Vec<Vec<u8>>,
     notes: Vec<NoteAt>,
     names: IndexSet<TargetName, HashKeys>,
+    // The number of the name that was looked up last. Records in a row often have one name.
+    last: usize,
 }
 
 impl Model for Kept {
@@ -146,6 +148,7 @@ impl Kept {
             taken: Vec::new(alloc),
             notes: Vec::new(alloc),
             names: IndexSet::with_hasher(alloc, keys),
+            last: 0,
         }
     }
 
@@ -347,6 +350,7 @@ impl Kept {
         ensures is { IfOk result (λ number. IsNamed self.new.names number name) }
     {
         let (number, _) = self.names.insert_full(name)?;
+        self.last = number;
         Ok(number)
     }
 
@@ -357,11 +361,27 @@ impl Kept {
         ensures blocks { (self.new.bytes ≡ self.old.bytes) × (self.new.taken ≡ self.old.taken) }
         ensures is { IfOk result (λ number. IsNamed self.new.names number name.now) }
     {
+        if let Some(number) = self.last_number(name) {
+            return Ok(number);
+        }
         if let Some(number) = self.names.get_index_of(NameBytes { bytes: name }) {
+            self.last = number;
             return Ok(number);
         }
         let name = TargetName::of_normal(alloc, name)?;
         self.number_of(name)
+    }
+
+    // The number of a name, if it is the one that was looked up last.
+    fn last_number(&self, name: &[u8]) -> Option<usize>
+        ensures { IfSome result (λ number. IsNamed self.now.names number name.now) }
+    {
+        let last = self.names.get_index(self.last)?;
+        if last.bytes() == name {
+            Some(self.last)
+        } else {
+            None
+        }
     }
 
     /// The number of a name, if it is among the names. The look-up is by hash.
@@ -481,5 +501,5 @@ impl Kept {
 
 // Whether texts are many, and fill half of their memory at least.
 fn fills_its_memory(texts: &Vec<u8>) -> bool {
-    texts.len() >= 4096 && texts.len() >= texts.capacity() / 2
+    texts.len() >= 1024 && texts.len() >= texts.capacity() / 2
 }

@@ -14,29 +14,29 @@ runs-preserved g c =
     let so_far = c.runs.invariant.1 in
     let run = c.read_run-answer.new.run in
     let entries = so_far.0 ++ run in (
-      c.in_ok-from.ensures.place.1,
+      c.in_ok-upto.ensures.place.1,
       (
         entries,
         lines_posted c.args.stream c.args.end.now c.runs.end c.post_run.new.end so_far.0 run so_far.1 c.in_ok-post_run.ensures.posted,
         λ first read.
-            let now = c.in_ok-from.ensures.read c.args.scan.now (first ++ so_far.0) (so_far.2 first read) in
+            let now = c.in_ok-upto.ensures.read c.args.scan.now (first ++ so_far.0) (so_far.2 first read) in
             (now.0, subst (IsRead c.read_run-answer.new.scan) (append_assoc first so_far.0 run) now.1),
       ),
     )
 
-pub returns-in_err-from-clause-posted : goal.returns-in_err-from-clause-posted
-returns-in_err-from-clause-posted g c =
+pub returns-in_err-upto-clause-posted : goal.returns-in_err-upto-clause-posted
+returns-in_err-upto-clause-posted g c =
     let so_far = c.runs.invariant.1 in
     let run = c.read_run-answer.new.run in
-    let given = err_from_is_err_and c.from_residual-in_err-from.result c.from_residual-in_err-from.ensures.1 in
+    let given = err_from_is_err_and c.from_residual-in_err-upto.result c.from_residual-in_err-upto.ensures.1 in
     rw (given.1, given.2)
     (record {
       entries = so_far.0 ++ run;
       posted = lines_posted c.args.stream c.args.end.now c.runs.end c.post_run.new.end so_far.0 run so_far.1 c.in_ok-post_run.ensures.posted;
       read = λ first read. tt;
       refused = λ first read.
-          subst (λ es. IsRefused c.args.scan.now c.args.piece.now es c.in_err-from.field-0.0) (append_assoc first so_far.0 run)
-          (c.in_err-from.ensures.refused c.args.scan.now (first ++ so_far.0) (so_far.2 first read));
+          subst (λ es. IsRefused c.args.scan.now c.args.piece.now es c.in_err-upto.field-0.0) (append_assoc first so_far.0 run)
+          (c.in_err-upto.ensures.refused c.args.scan.now (first ++ so_far.0) (so_far.2 first read));
     })
 
 pub returns-in_err-run-clause-posted : goal.returns-in_err-run-clause-posted

@@ -1,7 +1,5 @@
-use Rattle.std.proofs.Common.{ap, sym, ◌∙◌, nat_eq}
-use Rattle.std.specs.Prelude.{position}
-use Rattle.std.specs.Cmp.Lexicographic.{pointwise}
-use Rattle.redo_logs.specs.Private.Kept.{Parts}
+use Rattle.std.proofs.Common.{sym, ◌∙◌, subst}
+use Rattle.redo_logs.specs.Private.Kept.{Grows, Parts}
 use Rattle.redo_logs.proofs.Growing.{found_name}
 use Rattle.redo_logs.proofs.Keeping.{grows_none}
 use Rattle.redo_logs.proofs.kept.Kept.number_of_bytes.Goals as goal
@@ -9,10 +7,12 @@ use Rattle.redo_logs.proofs.kept.Kept.number_of_bytes.Goals as goal
 pub returns-in-Some-clause-grows : goal.returns-in-Some-clause-grows
 returns-in-Some-clause-grows c = grows_none _
 
-pub returns-in-Some-clause-is : goal.returns-in-Some-clause-is
-returns-in-Some-clause-is c =
-    found_name c.args.self.now.names c.args.name.now c.in-Some.number
-    (ap (λ (p : Parts). position (pointwise nat_eq c.args.name.now) p.names) (sym c.self.view_is) ∙ sym c.get_index_of.ensures.index ∙ c.in-Some.is)
+pub returns-in-Some-get_index_of-clause-grows : goal.returns-in-Some-get_index_of-clause-grows
+returns-in-Some-get_index_of-clause-grows c = subst (λ (new : Parts). Grows c.args.self.now new) (sym c.self.view_is) (grows_none _)
+
+pub returns-in-Some-get_index_of-clause-is : goal.returns-in-Some-get_index_of-clause-is
+returns-in-Some-get_index_of-clause-is c =
+    found_name c.self.inside.names.keys c.args.name.now c.in-Some-get_index_of.number (sym c.get_index_of.ensures.index ∙ c.in-Some-get_index_of.is)
 
 pub returns-in_err-name-clause-grows : goal.returns-in_err-name-clause-grows
 returns-in_err-name-clause-grows c = grows_none _
