@@ -4,3 +4,4 @@ pub mod Entries
 pub mod Line
 pub mod Progress
 pub mod Record
+pub mod Resolver

@@ -20,6 +20,7 @@ mod near;
 mod parts;
 mod progress;
 mod record;
+mod resolver;
 mod scan;
 mod stream_fault;
 mod texts;

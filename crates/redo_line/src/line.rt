@@ -16,7 +16,8 @@ use crate::line_start::Line;
 use crate::line_text::LineText;
 use crate::parts::split_at_first;
 use crate::record::{Kind, kind_of, read_fields, read_status};
-use redo_name::{NameFault, TargetName, resolve_to};
+use crate::resolver::Resolver;
+use redo_name::{NameFault, TargetName};
 use std::alloc::{AllocError, Global};
 
 // What a record begins with.
@@ -96,25 +97,27 @@ fn read_apart(alloc: Global, target: &TargetName, line: &[u8]) -> Result<Entry, 
     ensures { Reads result (entry_of target.now line.now true) }
 {
     let mut read = Entries::new(alloc);
-    let mut path = Vec::new(alloc);
-    read_record(&mut read, &mut path, target, line)?;
+    let mut names = Resolver::new(alloc, target);
+    read_record(&mut read, &mut names, target, line)?;
     let entry = read.into_entry(alloc)?;
     Ok(entry)
 }
 
 /// Puts what an ended line says in the log of a target behind entries, and answers whether it closes the log. A
-/// refusal leaves them as they were. The path has room for a name.
+/// refusal leaves them as they were.
 pub fn read_into(
     entries: &mut Entries,
-    path: &mut Vec<u8>,
+    names: &mut Resolver,
     target: &TargetName,
     line: Line<'_>,
 ) -> Result<bool, LineFault>
-    requires { HasNoLineFeed (line_bytes line) }
-    ensures { ReadsInto result (entry_of target.now (line_bytes line.entry) true) entries.old entries.new }
+    requires target { names.old.target ≡ target.now }
+    requires no_feed { HasNoLineFeed (line_bytes line) }
+    ensures read { ReadsInto result (entry_of target.now (line_bytes line.entry) true) entries.old entries.new }
+    ensures stays { names.new.target ≡ names.old.target }
 {
     if is_candidate(line.bytes(), true) {
-        return read_record(entries, path, target, line.bytes());
+        return read_record(entries, names, target, line.bytes());
     }
     entries.push_line(line)?;
     Ok(false)
@@ -122,24 +125,26 @@ pub fn read_into(
 
 fn read_record(
     entries: &mut Entries,
-    path: &mut Vec<u8>,
+    names: &mut Resolver,
     target: &TargetName,
     line: &[u8],
 ) -> Result<bool, LineFault>
+    requires target { names.old.target ≡ target.now }
     requires mark { IsTrue (starts_with nat_eq line.now mark) }
     requires no_feed { HasNoLineFeed line.now }
-    ensures { ReadsInto result (entry_of target.now line.now true) entries.old entries.new }
+    ensures read { ReadsInto result (entry_of target.now line.now true) entries.old entries.new }
+    ensures stays { names.new.target ≡ names.old.target }
 {
     let Some(fields) = read_fields(&line[MARK.len()..]) else {
         return Err(LineFault::BadRecord);
     };
     match kind_of(fields.kind) {
         Kind::Mention(how) => {
-            resolve_to(path, Some(target), fields.text)?;
-            entries.push_mention(fields.pid, how, path)?;
+            names.resolve(target, fields.text)?;
+            entries.push_mention(fields.pid, how, names.path())?;
             Ok(false)
         }
-        Kind::Done => read_done(entries, path, target, fields.pid, fields.text),
+        Kind::Done => read_done(entries, names, target, fields.pid, fields.text),
         Kind::Note => {
             entries.push_note(fields.pid, fields.kind, fields.text)?;
             Ok(false)
@@ -149,12 +154,14 @@ fn read_record(
 
 fn read_done(
     entries: &mut Entries,
-    path: &mut Vec<u8>,
+    names: &mut Resolver,
     target: &TargetName,
     pid: u32,
     text: &[u8],
 ) -> Result<bool, LineFault>
-    ensures { ReadsInto result (done_parted target.now pid (parted space text.now)) entries.old entries.new }
+    requires { names.old.target ≡ target.now }
+    ensures read { ReadsInto result (done_parted target.now pid (parted space text.now)) entries.old entries.new }
+    ensures stays { names.new.target ≡ names.old.target }
 {
     let Some((status, name)) = split_at_first(b' ', text) else {
         return Err(LineFault::BadRecord);
@@ -162,12 +169,12 @@ fn read_done(
     let Some(status) = read_status(status) else {
         return Err(LineFault::BadRecord);
     };
-    resolve_to(path, Some(target), name)?;
-    let closes = path.as_slice() == target.bytes();
+    names.resolve(target, name)?;
+    let closes = names.path() == target.bytes();
     if closes {
         entries.push_closing(pid, status)?;
     } else {
-        entries.push_done(pid, status, path)?;
+        entries.push_done(pid, status, names.path())?;
     }
     Ok(closes)
 }

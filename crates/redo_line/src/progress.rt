@@ -13,6 +13,7 @@ use crate::line_start::{Line, LineStart};
 use crate::line_text::LineText;
 use crate::stream_fault::StreamFault;
 use crate::texts::text_lines;
+use crate::resolver::Resolver;
 use redo_name::TargetName;
 use std::alloc::Global;
 use std::marker::Model;
@@ -21,16 +22,16 @@ use std::marker::Model;
 #[derive(Drop)]
 pub struct Progress {
     target: TargetName,
+    names: Resolver,
     max_bytes: u64,
     start: LineStart,
-    // Room for names.
-    path: Vec<u8>,
     taken: u64,
     lines: u64,
     closed: bool,
 }
 
 impl Model for Progress {
+    ghost use Rattle.std.specs.Prelude.{◌≡◌};
     ghost use Rattle.redo_line.specs.Private.Progress as spec;
 
     ghost Value = { spec.Progress };
@@ -43,6 +44,8 @@ impl Model for Progress {
       lines = p.lines;
       closed = p.closed;
     } };
+
+    ghost invariant = { λ p. p.names.target ≡ p.target };
 }
 
 impl Progress {
@@ -52,10 +55,10 @@ impl Progress {
         ensures limit { result.max_bytes ≡ max_bytes }
     {
         Progress {
+            names: Resolver::new(alloc, &target),
             target,
             max_bytes,
             start: LineStart::new(alloc),
-            path: Vec::new(alloc),
             taken: 0,
             lines: 0,
             closed: false,
@@ -147,7 +150,7 @@ impl Progress {
         match self.start.next_line(allowed)? {
             Some((line, upto)) => {
                 let number = self.lines + 1;
-                self.closed = read_entry(entries, &mut self.path, &self.target, line, number)?;
+                self.closed = read_entry(entries, &mut self.names, &self.target, line, number)?;
                 self.taken += upto as u64;
                 self.lines = number;
                 Ok(Some(from + upto))
@@ -210,19 +213,21 @@ fn within(bytes: &[u8], room: u64) -> &[u8]
 
 fn read_entry(
     entries: &mut Entries,
-    path: &mut Vec<u8>,
+    names: &mut Resolver,
     target: &TargetName,
     line: Line<'_>,
     number: u64,
 ) -> Result<bool, StreamFault>
-    requires { HasNoLineFeed (line_bytes line) }
+    requires target { names.old.target ≡ target.now }
+    requires no_feed { HasNoLineFeed (line_bytes line) }
     ensures put { IfOk result (λ closing. IsPut closing (entry_of target.now (line_bytes line.entry) true) entries.old entries.new) }
     ensures fault { IfErr result (λ fault.
         (fault ≡ OutOfMemory) ⊎ ((fault ≡ BadRecord number) × (entry_of target.now (line_bytes line.entry) true ≡ None))) }
     ensures bad { (result ≡ Err (BadRecord number)) ↔ (entry_of target.now (line_bytes line.entry) true ≡ None) }
     ensures err { IfErr result (λ _. entries.new ≡ entries.old) }
+    ensures stays { names.new.target ≡ names.old.target }
 {
-    match read_into(entries, path, target, line) {
+    match read_into(entries, names, target, line) {
         Ok(closes) => Ok(closes),
         Err(LineFault::BadRecord) => Err(StreamFault::BadRecord { line: number }),
         Err(LineFault::OutOfMemory) => Err(StreamFault::OutOfMemory),
