@@ -327,6 +327,22 @@ fn a_refusal_is_answered_to_every_later_call(rt: HostRuntime) -> Result<(), Fail
     Ok(())
 }
 
+#[test]
+fn lines_of_text_are_taken_at_once(rt: HostRuntime) -> Result<(), Fail> {
+    let mut scan = new_scan(rt.alloc(), "all", 100)?;
+    let mut read = Entries::new(rt.alloc());
+    for (from, most, upto) in [(0, 2, 4), (4, 2, 6), (6, 2, 24), (24, 2, 26)] {
+        let piece = b"a\nb\nc\n@@REDO:do:7:1@@ d\ne\n";
+        assert_eq!(rt;
+            scan.step_into(piece, from, most, &mut read).ok(),
+            Some(Some(upto))
+        );
+    }
+    assert_eq!(rt; read.len(), 5);
+    assert_eq!(rt; read.layout().places.len(), 4);
+    Ok(())
+}
+
 fn expect_more(rt: &impl Abort, scan: &mut Scan, piece: &[u8]) {
     assert!(rt; matches!(scan.step(piece, 0), Ok(Step::More)));
 }
