@@ -24,7 +24,7 @@ VERSION = $(shell sed -n 's/^const VERSION.*redo-log \([0-9.]*\).*/\1/p' crates/
 try:
 	@told=$$(mktemp) && cd crates/redo_log && \
 	if rt try -- --dir '$(CURDIR)/examples/variants/captured' -r all 2>"$$told"; then \
-	  rm "$$told"; echo 'Nothing of this was proved: make run proves the program first, which takes some ten minutes on 4 processors.'; \
+	  rm "$$told"; echo 'Nothing of this was proved: make run proves the program first, which takes ten to twelve minutes on 4 processors.'; \
 	else cat "$$told"; rm "$$told"; exit 1; fi
 
 run:
