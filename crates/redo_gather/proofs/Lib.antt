@@ -2,13 +2,13 @@ mod CollectedLemmas
 mod DealingLemmas
 mod EnteredLemmas
 mod EnteringLemmas
+mod GatherFaultRows
 mod GatheredLemmas
 mod GrowthLemmas
 mod InterleavingLemmas
 mod MarkLemmas
 mod OwedLaws
 mod OwedLemmas
-mod PlanRows
 mod PostedLemmas
 mod ReadingLemmas
 mod ReadyLemmas

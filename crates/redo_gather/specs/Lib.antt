@@ -1,7 +1,6 @@
 pub mod GatherFault
 pub mod Laws
 pub mod Owed
-pub mod Plan
 pub mod Private
 pub mod Sending
 pub mod Streams

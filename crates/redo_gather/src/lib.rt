@@ -13,7 +13,6 @@ mod laws;
 mod marking;
 mod one_stream;
 mod plain;
-mod plan;
 mod sender;
 mod sending;
 mod storing;
@@ -25,5 +24,5 @@ pub use laws::{
     items_of_a_share, logs_unless_fault, owed_for_a_share, owed_for_a_stream, streams_told,
 };
 pub use plain::gather_plain;
-pub use plan::{Plan, PlanFault};
+pub use redo_options::{Plan, PlanFault};
 pub use sending::{Share, send};

@@ -3,7 +3,7 @@ use Rattle.std.proofs.Common.{◌≡◌, ◌⊎◌, inl, inr, ℕ, false, List, 
 use Rattle.std.specs.Global.{Vec}
 use Rattle.redo_device.specs.Feed.{Stream, SomeStream}
 use Rattle.redo_device.specs.Sink.{Taken}
-use Rattle.redo_gather.specs.Plan.{Numbers}
+use Rattle.redo_options.specs.Plan.{Numbers}
 use Rattle.redo_gather.specs.Streams.{Told}
 use Rattle.redo_index.specs.declared.listed.Listed.{Listed}
 use Rattle.redo_index.specs.Index.{names_of}

@@ -1,2 +1,3 @@
 mod AskedRows
 mod LimitsRows
+mod PlanRows

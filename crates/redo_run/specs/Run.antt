@@ -7,7 +7,7 @@ use Rattle.redo_device.specs.Feed.{Stream}
 use Rattle.redo_line.specs.Source.{Marked}
 use Rattle.redo_name.specs.Names.{normal}
 use Rattle.redo_logs.specs.Logs.{Log}
-use Rattle.redo_gather.specs.Plan.{Numbers}
+use Rattle.redo_options.specs.Plan.{Numbers}
 use Rattle.redo_gather.specs.Streams.{logs_of, fault_among}
 use Rattle.redo_options.specs.declared.options.Options.{Options}
 use Rattle.redo_options.specs.Asked.{bytes_of_words}

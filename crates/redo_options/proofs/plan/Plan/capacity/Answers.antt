@@ -1,5 +1,5 @@
 use Rattle.std.proofs.Common.{rules}
-use Rattle.redo_gather.proofs.plan.Plan.capacity.Goals as goal
+use Rattle.redo_options.proofs.plan.Plan.capacity.Goals as goal
 
 pub returns-clause-value : goal.returns-clause-value
 returns-clause-value c = search rules

@@ -1,9 +1,6 @@
--- Examples of plans, and of the faults of gatherings, computed.
-use Rattle.std.proofs.Common.{◌≡◌, ℕ, Ok, Err, refl, arith}
-use Rattle.redo_line.specs.declared.stream_fault.StreamFault.TheVariants.{TooLong}
-use Rattle.redo_gather.specs.GatherFault.{IfStreamFault}
-use Rattle.redo_gather.specs.declared.gather_fault.GatherFault.TheVariants as gather
-use Rattle.redo_gather.specs.Plan.{IsPlan, Numbers}
+-- Examples of plans, computed.
+use Rattle.std.proofs.Common.{ℕ, arith}
+use Rattle.redo_options.specs.Plan.{IsPlan, Numbers}
 
 abbrev plan : ℕ → ℕ → ℕ → Numbers
 plan senders capacity max_bytes = record { senders = senders; capacity = capacity; max_bytes = max_bytes }
@@ -31,12 +28,3 @@ no_byte is = let within = is.max_bytes_is.0 in omega (arith, within)
 
 too_many_bytes : IsPlan (plan 1 1 1099511627777) → ⊥
 too_many_bytes is = let within = is.max_bytes_is.1 in omega (arith, within)
-
-of_a_stream : IfStreamFault {A = ℕ} (Err (gather.Stream 3 TooLong)) (λ number fault. (number ≡ 3) × (fault ≡ TooLong))
-of_a_stream = (refl, refl)
-
-not_of_a_stream : IfStreamFault {A = ℕ} (Err (gather.Stream 3 TooLong)) (λ number fault. ⊥) → ⊥
-not_of_a_stream is = is
-
-of_none : IfStreamFault {A = ℕ} (Ok 0) (λ number fault. ⊥) × IfStreamFault {A = ℕ} (Err gather.OutOfMemory) (λ number fault. ⊥)
-of_none = (tt, tt)

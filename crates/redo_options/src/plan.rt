@@ -1,6 +1,6 @@
 ghost use Rattle.std.specs.Prelude.{◌≡◌, ◌↔◌, Err, IfOk};
 ghost use Rattle.redo_options.specs.Limits.{AreSenders, IsCapacity};
-ghost use Rattle.redo_gather.specs.Plan.{IsByteLimit};
+ghost use Rattle.redo_options.specs.Plan.{IsByteLimit};
 
 use std::marker::Model;
 
@@ -32,7 +32,7 @@ pub struct Plan {
 }
 
 impl Model for Plan {
-    ghost use Rattle.redo_gather.specs.Plan.{Numbers, IsPlan};
+    ghost use Rattle.redo_options.specs.Plan.{Numbers, IsPlan};
 
     ghost Value = { Numbers };
 
