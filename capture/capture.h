@@ -33,6 +33,8 @@ const char *leaf(const char *path);
 /* A word as it has to be written for a shell. */
 char *quoted(const char *word);
 
+/* Opens a file, whatever stands there: a pipe's other end is not waited for. */
+int open_file(const char *path, int flags);
 /* All of a file, with a NUL behind it; or NULL, if there is none. The other one answers NULL too where it can't be read. */
 char *contents(const char *path, size_t *size);
 char *try_contents(const char *path, size_t *size);

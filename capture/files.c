@@ -87,8 +87,14 @@ char *quoted(const char *word) {
   return text("%s'", quote);
 }
 
+/* One that another machine has on loan is waited for: that ends. */
+int open_file(const char *path, int flags) {
+  int file = open(path, flags | O_CLOEXEC | O_NONBLOCK, 0666);
+  return file < 0 && errno == EWOULDBLOCK ? open(path, flags | O_CLOEXEC, 0666) : file;
+}
+
 char *try_contents(const char *path, size_t *size) {
-  int file = open(path, O_RDONLY | O_CLOEXEC);
+  int file = open_file(path, O_RDONLY);
   if (file < 0) return NULL;
   size_t room = 0, held = 0;
   ssize_t got = 1;
@@ -137,7 +143,7 @@ int add_to(int file, const char *bytes, size_t size) {
 }
 
 int try_append(const char *path, const char *bytes, size_t size) {
-  int file = open(path, O_WRONLY | O_APPEND | O_CLOEXEC | O_CREAT, 0666);
+  int file = open_file(path, O_WRONLY | O_APPEND | O_CREAT);
   if (file < 0) return -1;
   int result = add_to(file, bytes, size), error = errno;
   close(file);
@@ -159,7 +165,7 @@ void append_line(const char *path, const char *format, ...) {
 
 int is_within_line(const char *path) {
   char last = '\n';
-  int file = open(path, O_RDONLY | O_CLOEXEC);
+  int file = open_file(path, O_RDONLY);
   if (file < 0) return 0;
   off_t size = lseek(file, 0, SEEK_END);
   if (size > 0 && pread(file, &last, 1, size - 1) < 1) last = '\n';
@@ -168,14 +174,14 @@ int is_within_line(const char *path) {
 }
 
 void write_over(const char *path, const char *bytes) {
-  int file = open(path, O_WRONLY | O_CREAT | O_CLOEXEC, 0666);
+  int file = open_file(path, O_WRONLY | O_CREAT);
   if (file < 0 || write_all(file, bytes, strlen(bytes)) < 0) cannot_write(path);
   close(file);
 }
 
 void replace(const char *path, const char *bytes, size_t size) {
   char *new = path_of(".capture/new");
-  int file = open(new, O_WRONLY | O_CREAT | O_TRUNC | O_CLOEXEC, 0666);
+  int file = open_file(new, O_WRONLY | O_CREAT | O_TRUNC);
   if (file < 0 || write_all(file, bytes, size) < 0 || close(file) < 0 || rename(new, path) < 0) cannot_write(path);
 }
 
@@ -215,7 +221,7 @@ int is_at(int file, const char *path) {
 /* While it waits the directory may be removed, and made anew: then it is another file. It tries no more than a hundred of them. */
 int try_lock(const char *path) {
   for (int left = 100;; left--) {
-    int file = open(path, O_RDWR | O_CLOEXEC), result = -1;
+    int file = open_file(path, O_RDWR), result = -1;
     while (file >= 0 && (result = flock(file, LOCK_EX)) < 0 && errno == EINTR) continue;
     if (file < 0 || (result == 0 && (left == 0 || is_at(file, path)))) return file;
     close(file);

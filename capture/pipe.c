@@ -138,7 +138,7 @@ static int is_over(int pipe) {
 }
 
 void open_log(const char *run, unsigned number) {
-  own_run = run, log_file = open(log_of(number), O_WRONLY | O_APPEND | O_CLOEXEC), open_error = errno;
+  own_run = run, log_file = open_file(log_of(number), O_WRONLY | O_APPEND), open_error = errno;
   lock_path = path_of(".capture/lock"), book_path = path_of(".capture/run");
 }
 

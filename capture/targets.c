@@ -31,7 +31,7 @@ int is_running(const char *run) { return strcmp(identity(atoi(run)), run) == 0; 
 
 /* The first line of the book, if there is one. */
 static void read_run(const char *path, char run[64]) {
-  int file = open(path, O_RDONLY | O_CLOEXEC);
+  int file = open_file(path, O_RDONLY);
   ssize_t size = file < 0 ? 0 : pread(file, run, 63, 0);
   if (file >= 0) close(file);
   run[size > 0 ? size : 0] = 0;

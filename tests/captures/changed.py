@@ -68,6 +68,10 @@ def folder_for(path):
     return lambda at: (removing(path)(at), os.mkdir(f"{at}/{path}"))
 
 
+def pipe_for(path):
+    return lambda at: (removing(path)(at), os.mkfifo(f"{at}/{path}"))
+
+
 def both(*changes):
     return lambda at: [change(at) for change in changes]
 
@@ -151,6 +155,8 @@ CHANGES = {
     "an empty file of the front of a name": (of_target(emptying, "a "), [], LEFT, FIRST, True),
     "no file of the front of a name": (of_target(removing, "a "), [], LEFT, FIRST, True),
     "a folder for the file of a target": (of_target(folder_for), [], LEFT, FIRST, True),
+    "a pipe for the file of a target": (of_target(pipe_for), [], LEFT, FIRST, True),
+    "a pipe beside them": (lambda at: os.mkfifo(f"{at}/.capture/targets/more"), [], LEFT, FIRST, True),
     "a folder beside them": (lambda at: os.mkdir(f"{at}/.capture/targets/more"), [], LEFT, FIRST, True),
     "nothing kept": (removing_what_is_kept, [], LEFT, FIRST, False),
     "two of them": (both(names_are(without("y", "sub")), removing(".capture/last"), of_target(emptying, "x")), [], without("y", "sub") + "8 y\n9 sub\n", FIRST, True),
@@ -218,9 +224,9 @@ def refused(checks, at):
         "a file in its place": (both(removing(".capture"), writing(".capture", "")), "cannot write capture/.capture: Not a directory"),
         "a file for the targets": (both(removing(".capture/targets"), writing(".capture/targets", "")), "cannot write capture/.capture/targets: Not a directory"),
         "names a folder": (folder_for("names"), "capture/names is no file"),
-        "names a FIFO": (lambda at: (removing("names")(at), os.mkfifo(f"{at}/names")), "capture/names is no file"),
+        "names a pipe": (pipe_for("names"), "capture/names is no file"),
         "names a link to itself": (lambda at: (removing("names")(at), os.symlink("names", f"{at}/names")), "cannot write capture/names: Too many levels of symbolic links"),
-        "the book a FIFO": (lambda at: (removing(".capture/run")(at), os.mkfifo(f"{at}/.capture/run")), "capture/.capture/run is no file"),
+        "the book a pipe": (pipe_for(".capture/run"), "capture/.capture/run is no file"),
         **{f"a folder for {name}": (folder_for(f".capture/{name}"), f"capture/.capture/{name} is no file") for name in ("lock", "run", "last", "closed", "left")},
     }
     for what, (change, told) in rows.items():
@@ -331,9 +337,12 @@ def folders_for_logs(checks, at):
     os.rmdir(f"{folder}/capture/log.5")
     checks.expect("once it is gone: make", built(folder, [TOOL, *MARKING], "N=3"), ((status, out, []), []))
     checks.expect("once it is gone", shown(folder, "all"), TEXT.format("").replace("2\n", "3\n"))
+    pipe_for("log.5")(f"{folder}/capture")
+    checks.expect("a pipe for a log: make", built(folder, ["timeout", "30", TOOL, *MARKING], "N=4"), ((status, out, []), []))
+    checks.expect("a pipe for a log", shown(folder, "all"), TEXT.format("").replace("2\n", "4\n"))
     folder_for("log.1")(f"{folder}/capture")
-    (_, out, lines), told = built(folder, [TOOL, *MARKING], "N=4")
-    checks.expect("a folder for the log of the run", (status, out, lines, set(told)), (*built(plain, [], "N=4")[0], {"cannot write FOLDER/capture/log.1: Is a directory"}))
+    (_, out, lines), told = built(folder, [TOOL, *MARKING], "N=5")
+    checks.expect("a folder for the log of the run", (status, out, lines, set(told)), (*built(plain, [], "N=5")[0], {"cannot write FOLDER/capture/log.1: Is a directory"}))
 
     folder = project(at("middle"), MIDDLE)
     write(os.path.join(folder, "below.mk"), MIDDLE_BELOW)
