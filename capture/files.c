@@ -87,7 +87,7 @@ char *quoted(const char *word) {
   return text("%s'", quote);
 }
 
-/* One that another machine has on loan is waited for: that ends. */
+/* A lease that another process has on it, as file servers have, is waited for: it ends. */
 int open_file(const char *path, int flags) {
   int file = open(path, flags | O_CLOEXEC | O_NONBLOCK, 0666);
   return file < 0 && errno == EWOULDBLOCK ? open(path, flags | O_CLOEXEC, 0666) : file;
