@@ -105,15 +105,20 @@ char *mark_of(const char *run);
 struct marked { const char *from, *to; };
 struct marked find_marked(const char *from, const char *end, const char *mark);
 
+/* By the variable for standard output and that for standard error a recipe knows where these of its make go if nobody has sent them
+   elsewhere: where those of the run do, or of the recipe that runs the make. A place is that of an open file of a process. */
+extern const char *const usual_place[3];
+void set_usual_place(int output, int file);
+char *place_of(int process, int file);
 /* What all lines of recipes of a run are to know: which it is, where it began, and the capture directory. */
 void set_environment(const char *run, const char *directory);
 
 /* commands.c: a command that is run, and waited for */
 
 _Noreturn void become(char **command);
-/* Starts a command: with standard error, and standard output too if it says so, into a file, if one is given. The error, if it
-   can't be started. */
-int start(char **command, int file, int both);
+/* Starts a command, with its standard output and standard error into these files; -1 leaves one as it is. The error, if it can't be
+   started. */
+int start(char **command, int output, int errors);
 _Noreturn void cannot_run(const char *command, int error);
 /* Waits until the command has ended, there is something to read of a file, or so many milliseconds are over; -1 stands for no
    file, and for any time. */

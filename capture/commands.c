@@ -64,7 +64,7 @@ static void outlast_readers(void) {
 }
 
 /* What comes while the command begins is held back, so that there is a process to hand it on to. */
-int start(char **command, int file, int both) {
+int start(char **command, int output, int errors) {
   sigset_t former;
   hold_signals(&former);
   posix_spawnattr_t attributes;
@@ -73,8 +73,8 @@ int start(char **command, int file, int both) {
   posix_spawnattr_setflags(&attributes, POSIX_SPAWN_SETSIGMASK);
   posix_spawn_file_actions_t actions;
   posix_spawn_file_actions_init(&actions);
-  if (file >= 0) posix_spawn_file_actions_adddup2(&actions, file, 2);
-  if (both) posix_spawn_file_actions_adddup2(&actions, 2, 1);
+  if (output >= 0) posix_spawn_file_actions_adddup2(&actions, output, 1);
+  if (errors >= 0) posix_spawn_file_actions_adddup2(&actions, errors, 2);
   pid_t process;
   int error = posix_spawnp(&process, command[0], &actions, &attributes, command, environ);
   if (!error) {

@@ -152,6 +152,7 @@ static void prepare(const char *directory, int both, const char *shown) {
   if (both) setenv("CAPTURE_BOTH", "yes", 1); else unsetenv("CAPTURE_BOTH");
   if (shown) setenv("CAPTURE_SHOW", shown, 1); else unsetenv("CAPTURE_SHOW");
   set_environment(identity(getpid()), directory);
+  for (int output = 1; output <= 2; output++) set_usual_place(output, output);
   at = getenv("CAPTURE_AT");
   expect_directory(directory);
   make_place();
@@ -160,7 +161,7 @@ static void prepare(const char *directory, int both, const char *shown) {
 
 static _Noreturn void capture(char **command, const char *directory, int both, const char *shown) {
   prepare(directory, both, shown);
-  int listening = shown ? listen_for_recipes() : -1, error = start(command, -1, 0);
+  int listening = shown ? listen_for_recipes() : -1, error = start(command, -1, -1);
   while (!error && await(listening, -1) != ENDED) show_next(listening);
   remove_place();
   if (error) cannot_run(command[0], error);

@@ -266,13 +266,23 @@ static char **words_without_shell(char **command) {
   return is_plain ? words_of(command[2]) : NULL;
 }
 
+/* Whether who started the make has this output of it sent elsewhere, to a file or to who reads it: then it stays so. It goes by
+   the make, as with --output-sync each recipe has files of its own. */
+static int is_sent_elsewhere(int output) {
+  const char *usual = getenv(usual_place[output]);
+  char *found = place_of(getppid(), output);
+  return usual && found && strcmp(found, usual) != 0;
+}
+
 /* Runs what make would run, with or without a shell; what it says comes through this pipe. */
-static void run(char **command, int pipe) {
+static void run(char **command, int pipe, int is_elsewhere) {
   char **words = words_without_shell(command);
-  int both = getenv("CAPTURE_BOTH") != NULL;
+  int errors = is_elsewhere ? -1 : pipe, output = getenv("CAPTURE_BOTH") && !is_sent_elsewhere(1) ? pipe : -1;
+  if (errors >= 0) set_usual_place(2, errors);
+  if (output >= 0) set_usual_place(1, output);
   set_own_directory();
-  int error = words ? start(words, pipe, both) : ENOEXEC;
-  if (error) error = start(command, pipe, both);
+  int error = words ? start(words, output, errors) : ENOEXEC;
+  if (error) error = start(command, output, errors);
   if (error) cannot_run(command[0], error);
   close(pipe);
 }
@@ -316,7 +326,8 @@ void recipe(char **command, int is_of_make) {
   setenv("CAPTURE_UP", up, 1);
   int ends[2];
   if (pipe2(ends, O_CLOEXEC) < 0) fail(1, "no pipe: %s", strerror(errno));
-  run(command, ends[1]);
+  int is_elsewhere = is_sent_elsewhere(2);
+  run(command, ends[1], is_elsewhere);
   int error = listen_to_command(ends[0]);
   go_on = end_as_command;
   int is_there = end(status_of_command, error == ENOENT);
@@ -325,6 +336,6 @@ void recipe(char **command, int is_of_make) {
     note("%s was removed, with what was captured", is_there ? log_of(target.number) : at);
   else if (error)
     cannot_write(log_of(target.number));
-  if (is_there) ask_to_show(target.number, status_of_command, name);
+  if (is_there && !is_elsewhere) ask_to_show(target.number, status_of_command, name);
   end_as_command();
 }

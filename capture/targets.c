@@ -180,6 +180,20 @@ struct marked find_marked(const char *from, const char *end, const char *mark) {
   return (struct marked){end, end};
 }
 
+const char *const usual_place[3] = {NULL, "CAPTURE_OUTPUT", "CAPTURE_ERRORS"};
+
+char *place_of(int process, int file) {
+  struct stat found;
+  if (stat(text("/proc/%d/fd/%d", process, file), &found) < 0) return NULL;
+  return text("%llu:%llu", (unsigned long long)found.st_dev, (unsigned long long)found.st_ino);
+}
+
+void set_usual_place(int output, int file) {
+  char *place = place_of(getpid(), file);
+  if (place) setenv(usual_place[output], place, 1);
+  else unsetenv(usual_place[output]);
+}
+
 void set_environment(const char *run, const char *directory) {
   char *here = getcwd(NULL, 0);
   if (!here) fail(1, "no directory to work in");

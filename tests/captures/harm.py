@@ -240,6 +240,44 @@ def much_is_said(checks, at):
     checks.expect("a line of 20 MB", (text[:20000001] == "x" * 20000000 + "\n", text.count("\n")), (True, 2))
 
 
+# A makefile, in which `below` says one line on standard error and one on standard output, and what it is to leave in a file.
+ELSEWHERE = {
+    "a file": ("$(MAKE) -s below 2>found", "said\n"),
+    "a file that is added to": ("echo more >found; $(MAKE) -s below 2>>found", "more\nsaid\n"),
+    "both to a file": ("$(MAKE) -s below >found 2>&1", "said\nout\n"),
+    "a pipe": ("$(MAKE) -s below 2>&1 | sed 's/^/read: /' >found", "read: said\nread: out\n"),
+    "a shell": ("(exec 2>found; $(MAKE) -s below)", "said\n"),
+    "nowhere": ("$(MAKE) -s below 2>/dev/null >found", "out\n"),
+    "a pipe of a make below": ("$(MAKE) -s through 2>&1 | sed 's/^/read: /' >found", "read: said\nread: out\n"),
+    "a pipe, of one that fails": ("$(MAKE) -s fails 2>/dev/null || echo $$? >found", "2\n"),
+    "a word": ("x=$$($(MAKE) -s below 2>/dev/null); echo got $$x >found", "got out\n"),
+    "a word of both": ("x=$$($(MAKE) -s below 2>&1); echo got $$x >found", "got said out\n"),
+    "a function": (": $(shell $(MAKE) -s below 2>&1 >/dev/null | sed 's/^/read: /' >found)", "read: said\n"),
+}
+
+
+def sent_elsewhere(checks, at):
+    """What makes below say goes where a recipe has it sent, in its order; and what isn't sent elsewhere goes into the logs."""
+    for name, (recipe, found) in ELSEWHERE.items():
+        makefile = f"all: ; @echo begun >&2; {recipe}; echo ended >&2\nbelow: ; @echo said >&2; echo out\nthrough: ; @$(MAKE) -s below\nfails: ; @echo said >&2; exit 3\n"
+        plain = project(at(f"{name}, plain"), makefile)
+        status, out, _ = ran(plain, ["make"])
+        with open(os.path.join(plain, "found"), encoding="utf-8") as file:
+            checks.expect(f"sent to {name}, without a capture", (status, file.read()), (0, found))
+        for options in ((), ("--both",), ("--live",)):
+            folder = project(at(f"{name}{options}"), makefile)
+            told = "redo-log-capture: all\nbegun\nended\n" if "--live" in options else ""
+            checks.expect(f"sent to {name}, {options}: make", make(folder, options=options), (0, "" if "--both" in options else out, told))
+            with open(os.path.join(folder, "found"), encoding="utf-8") as file:
+                checks.expect(f"sent to {name}, {options}", file.read(), found)
+            checks.expect(f"sent to {name}, {options}: the log", [line for line in log_of(folder, "all").splitlines() if not line.startswith("@@REDO")], ["begun", "ended"])
+
+    folder = project(at("script"), "all: ; @echo said >&2; echo out\n")
+    write(os.path.join(folder, "build"), "make -s 2>&1 | tee found\necho behind >&2\n")
+    checks.expect("a script that sends it elsewhere", ran(folder, [TOOL, "--quiet", "sh", "build"]), (0, "said\nout\n", "behind\n"))
+    checks.expect("it is not captured then", shown(folder, "all"), "redo  all\n")
+
+
 def removed(checks, at):
     """A recipe may remove the capture directory; what runs later is captured."""
     makefile = "all: clean x\n\t@echo all >&2\nclean: first\n\t@echo cleaned >&2; rm -rf capture\nfirst x: ; @echo $@ >&2\n"
@@ -271,4 +309,4 @@ def no_leftovers(checks, at):
         checks.expect(f"TMPDIR={place}", ran(folder, [TOOL, "make", "E=1"], {"TMPDIR": place})[2].startswith(told), True)
 
 
-PARTS = (opened_anew, killed_by_signals, as_make_starts_them, many_needs, surroundings, makes_anything, behind_the_build, in_mid_line, much_is_said, removed, no_leftovers)
+PARTS = (opened_anew, killed_by_signals, as_make_starts_them, many_needs, surroundings, makes_anything, behind_the_build, in_mid_line, much_is_said, sent_elsewhere, removed, no_leftovers)
