@@ -152,7 +152,10 @@ static void prepare(const char *directory, int both, const char *shown) {
   if (both) setenv("CAPTURE_BOTH", "yes", 1); else unsetenv("CAPTURE_BOTH");
   if (shown) setenv("CAPTURE_SHOW", shown, 1); else unsetenv("CAPTURE_SHOW");
   set_environment(identity(getpid()), directory);
-  for (int output = 1; output <= 2; output++) set_usual_place(output, output);
+  for (int output = 1; output <= 2; output++) {
+    if (fcntl(output, F_GETFD) & FD_CLOEXEC) unsetenv(usual_place[output]); /* one that was closed */
+    else set_usual_place(output, output);
+  }
   at = getenv("CAPTURE_AT");
   expect_directory(directory);
   make_place();

@@ -274,17 +274,15 @@ static int is_sent_elsewhere(int output) {
   return usual && found && strcmp(found, usual) != 0;
 }
 
-/* Runs what make would run, with or without a shell; what it says comes through this pipe. */
-static void run(char **command, int pipe, int is_elsewhere) {
+/* Runs what make would run, with or without a shell; what it says goes into these, as start has it. */
+static void run(char **command, int output, int errors) {
   char **words = words_without_shell(command);
-  int errors = is_elsewhere ? -1 : pipe, output = getenv("CAPTURE_BOTH") && !is_sent_elsewhere(1) ? pipe : -1;
   if (errors >= 0) set_usual_place(2, errors);
   if (output >= 0) set_usual_place(1, output);
   set_own_directory();
   int error = words ? start(words, output, errors) : ENOEXEC;
   if (error) error = start(command, output, errors);
   if (error) cannot_run(command[0], error);
-  close(pipe);
 }
 
 /* Becomes what make would run. */
@@ -326,8 +324,9 @@ void recipe(char **command, int is_of_make) {
   setenv("CAPTURE_UP", up, 1);
   int ends[2];
   if (pipe2(ends, O_CLOEXEC) < 0) fail(1, "no pipe: %s", strerror(errno));
-  int is_elsewhere = is_sent_elsewhere(2);
-  run(command, ends[1], is_elsewhere);
+  int is_elsewhere = is_of_make && is_sent_elsewhere(2), both = getenv("CAPTURE_BOTH") && !(is_of_make && is_sent_elsewhere(1));
+  run(command, both ? ends[1] : -1, is_elsewhere ? -1 : ends[1]);
+  close(ends[1]);
   int error = listen_to_command(ends[0]);
   go_on = end_as_command;
   int is_there = end(status_of_command, error == ENOENT);
