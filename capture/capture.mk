@@ -6,7 +6,17 @@ capture-recipe := $(dir $(capture-file))recipe
 capture-shell = $(filter sh ash bash dash mksh zsh,$(notdir $(SHELL)))
 capture-flags = $(if $(capture-shell),$(capture-recipe) $(SHELL))
 capture-is-set :=
-GPATH = $(eval GPATH :=)$(eval capture-is-set := yes)$(eval override .SHELLFLAGS = $$(capture-flags) $(value .SHELLFLAGS))
+GPATH = $(eval GPATH :=)$(eval capture-is-set := yes)$(capture-keep-$(flavor .SHELLFLAGS))$(eval override .SHELLFLAGS = $$(capture-flags) $$(capture-kept))
+
+# What the makefile's flags are, to be expanded as often as it says: once, or for each line of a recipe anew.
+define capture-line-feed
+
+
+endef
+capture-kept :=
+capture-keep-undefined :=
+capture-keep-simple = $(eval capture-kept := $$(value .SHELLFLAGS))
+capture-keep-recursive = $(eval define capture-kept$(capture-line-feed)$(value .SHELLFLAGS)$(capture-line-feed)endef)
 
 # The target of a recipe, and what it needs: by a variable, which may have 128 KiB, or where it may be more, by a file.
 export CAPTURE = $@ : $(if $@,$(capture-check))$(if $(wordlist 25,25,$^ $|),$(capture-many),$^ $|)

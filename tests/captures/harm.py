@@ -175,6 +175,22 @@ def surroundings(checks, at):
             checks.expect(f"{what}: all recipes", sum(line.startswith("('words'") for line in sides[0][1]), 6)
 
 
+FLAGS = (
+    ".SHELLFLAGS := -ec", ".SHELLFLAGS := -c 'eval \"$$0\"'", ".SHELLFLAGS = -c 'x=\\#1; eval \"$$0\"'", ".SHELLFLAGS = -$(if $(filter b,$@),e)c",
+    "define .SHELLFLAGS\n-e\n-c\nendef", "export .SHELLFLAGS = -ec", "FLAGS = -u\n.SHELLFLAGS = $(FLAGS) -c\nFLAGS = -e", ".POSIX:", "",
+)  # fmt: skip
+
+
+def flags_of_the_shell(checks, at):
+    """The shell has the flags that a makefile sets, expanded as often as make does it."""
+    for number, line in enumerate(FLAGS):
+        makefile = f"{line}\nall: a b\na: ; @echo said $$- >&2; echo \"a $$-\"\nb: ; @echo \"b $$-\"; false; true\n"
+        status, out, said = ran(project(at(f"plain{number}"), makefile), ["make", "-s"])
+        folder = project(at(f"captured{number}"), makefile)
+        checks.expect(f"flags, {line}: make", make(folder, "-s", options=["--quiet"])[:2], (status, out))
+        checks.expect(f"flags, {line}: the log", log_of(folder, "a").splitlines()[:1], said.splitlines()[:1])
+
+
 def makes_anything(checks, at):
     """A rule that makes anything makes nothing of what a capture has make read; and nothing is told of what that defines."""
     makefile = "%: force ; @echo making $@ >&2\nforce: ;\nMakefile: ;\n"
@@ -309,4 +325,4 @@ def no_leftovers(checks, at):
         checks.expect(f"TMPDIR={place}", ran(folder, [TOOL, "make", "E=1"], {"TMPDIR": place})[2].startswith(told), True)
 
 
-PARTS = (opened_anew, killed_by_signals, as_make_starts_them, many_needs, surroundings, makes_anything, behind_the_build, in_mid_line, much_is_said, sent_elsewhere, removed, no_leftovers)
+PARTS = (opened_anew, killed_by_signals, as_make_starts_them, many_needs, surroundings, flags_of_the_shell, makes_anything, behind_the_build, in_mid_line, much_is_said, sent_elsewhere, removed, no_leftovers)
