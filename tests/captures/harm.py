@@ -319,7 +319,8 @@ def no_leftovers(checks, at):
     wait_for(os.path.join(folder, "begun"))
     checks.expect("it is there until then", len(os.listdir(temporary)), 1)
     os.killpg(build.pid, signal.SIGINT)
-    checks.expect("nothing is left of a build that is interrupted", (build.wait(timeout=30), os.listdir(temporary)), (-signal.SIGINT, []))
+    # make may see that its recipe ended before it sees its own signal: then it ends with 2, as without a capture.
+    checks.expect("nothing is left of a build that is interrupted", (build.wait(timeout=30) in (-signal.SIGINT, 2), os.listdir(temporary)), (True, []))
     for place in ("nowhere", at("with space"), "", at("x" * 120)):
         told = said("all", 1, "said\n")
         checks.expect(f"TMPDIR={place}", ran(folder, [TOOL, "make", "E=1"], {"TMPDIR": place})[2].startswith(told), True)
