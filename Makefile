@@ -15,8 +15,11 @@ ZSH_FUNCTIONS = share/zsh/site-functions
 PACKAGES = out
 TO = $(DESTDIR)$(PREFIX)
 CFLAGS ?= -O2
-# What runs for each line of a recipe begins sooner without shared libraries: where the C library is there so.
+# The launcher starts sooner without shared libraries, if the C library is installed for that.
 STATIC = $(shell echo 'int main(void) { return 0; }' | $(CC) -static -x c -o /dev/null - 2>/dev/null && echo -static)
+# The hook is loaded into make and takes nothing of a C library, so that one file serves all of them.
+HOOK_FLAGS = -std=gnu11 -Wall -Wextra -O2 -fPIC -shared -nostdlib -ffreestanding -fno-stack-protector \
+  -fno-tree-loop-distribute-patterns -fvisibility=hidden -Wl,-z,now
 VERSION = $(shell sed -n 's/^const VERSION.*redo-log \([0-9.]*\).*/\1/p' crates/redo_log/src/main.rt)
 
 .PHONY: try run check build install install-capture deb dist version
@@ -47,8 +50,9 @@ install: build install-capture
 install-capture:
 	install -d '$(TO)/bin' '$(TO)/libexec/redo-log'
 	$(CC) -std=gnu11 -Wall -Wextra -DVERSION='"$(VERSION)"' $(CFLAGS) $(STATIC) $(LDFLAGS) -o '$(TO)/bin/redo-log-capture' capture/*.c
-	ln -sf ../../bin/redo-log-capture '$(TO)/libexec/redo-log/sh'
-	install -D -m 644 -t '$(TO)/share/redo-log' capture/capture.mk capture/recipe
+	$(CC) $(HOOK_FLAGS) -o '$(TO)/libexec/redo-log/capture.so' capture/hook/*.c
+	chmod 755 '$(TO)/bin/redo-log-capture' '$(TO)/libexec/redo-log/capture.so'
+	install -D -m 644 -t '$(TO)/libexec/redo-log' capture/capture.mk
 	install -D -m 644 docs/redo-log-capture.1 '$(TO)/share/man/man1/redo-log-capture.1'
 	install -D -m 644 shell/redo-log-capture.bash '$(TO)/share/bash-completion/completions/redo-log-capture'
 	install -D -m 644 shell/_redo-log-capture '$(TO)/$(ZSH_FUNCTIONS)/_redo-log-capture'

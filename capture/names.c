@@ -1,256 +1,201 @@
-/* `names`, which people may change between two runs: what stands there then is so, and what is kept of targets goes by it. */
+/* `names`, the list of targets. Users may change it between two runs, and during one: what is there then counts. */
 #define _GNU_SOURCE
 #include "capture.h"
-#include <stdio.h>
+#include <dirent.h>
+#include <errno.h>
+#include <fcntl.h>
 #include <stdlib.h>
 #include <string.h>
+#include <sys/stat.h>
 #include <unistd.h>
 
-/* A name in the form in which names are compared: no link is followed. */
-char *normal_form(const char *name) {
-  char *rest = text("%s", name), *path = calloc(strlen(name) + 2, 1), *end = path, *left;
-  int is_absolute = *name == '/';
-  if (!path) fail(1, "out of memory");
-  for (char *part = strtok_r(rest, "/", &left); part; part = strtok_r(NULL, "/", &left)) {
-    if (strcmp(part, ".") == 0) continue;
-    if (strcmp(part, "..") == 0 && (is_absolute || (*path && strcmp(leaf(path), "..") != 0))) {
-      while (end > path && *--end != '/') continue;
-      *end = 0;
-      continue;
-    }
-    if (is_absolute || *path) *end++ = '/';
-    end = stpcpy(end, part);
+/* The list in its order; and who has a number. */
+static struct target **listed, **owners;
+static size_t listed_count, listed_room, owner_room;
+static unsigned last_number;
+
+/* What `names` has, and where lines are appended. */
+static char *written;
+static size_t written_size;
+static int names_file = -1;
+
+static struct target **owner_of(unsigned number) {
+  if (number >= owner_room) {
+    size_t room = 2 * (size_t)number + 16;
+    owners = resize(owners, room * sizeof *owners);
+    memset(owners + owner_room, 0, (room - owner_room) * sizeof *owners);
+    owner_room = room;
   }
-  free(rest);
-  return *path ? path : is_absolute ? "/" : ".";
+  return &owners[number];
 }
 
-/* The number in front of a name, or 0. */
+static void put_line(struct target *target, unsigned number) {
+  listed = make_room(listed, listed_count, &listed_room, sizeof *listed);
+  listed[listed_count++] = target;
+  *owner_of(number) = target;
+  target->number = number;
+}
+
+/* The number of a line and its name, or 0. */
 static unsigned number_of(const char *line, const char **name) {
   char *end;
   line += *line == '!';
   if (*line < '1' || *line > '9') return 0;
   unsigned long number = strtoul(line, &end, 10);
   *name = end + 1;
-  return end - line <= 9 && number <= MOST_LOGS && *end == ' ' && end[1] ? number : 0;
+  return end - line <= 9 && number <= MAX_LOGS && *end == ' ' && end[1] ? number : 0;
 }
 
-/* The first line that is left out, and how many are. */
-static size_t first_bad, bad_count;
-
-static void leave_out(size_t row) {
-  if (bad_count++ == 0 || row < first_bad) first_bad = row;
+/* A number, and a name, is listed once: the first line with it counts. */
+static int take_line(const char *line, size_t size) {
+  const char *name;
+  unsigned number = strlen(line) == size ? number_of(line, &name) : 0;
+  if (number == 0 || *owner_of(number)) return 0;
+  struct target *target = add_target(listed_name(name));
+  if (target->number) return 0;
+  put_line(target, number);
+  return 1;
 }
 
-static void read_lines(struct list *list, char *names, size_t size) {
-  size_t room = 0, rows = 0;
-  for (char *line = names, *end; line < names + size; line = end + 1) {
-    struct line new = {.row = ++rows};
-    end = memchr(line, '\n', names + size - line);
-    if (!end) end = names + size;
+static void forget_list(void) {
+  for (size_t i = 0; i < target_count; i++) targets[i]->number = 0;
+  if (owners) memset(owners, 0, owner_room * sizeof *owners);
+  listed_count = 0;
+}
+
+static void read_lines(void) {
+  size_t row = 0, bad = 0, first_bad = 0;
+  char *names = text("%s", written ? written : "");
+  if (written) names = memcpy(resize(names, written_size + 1), written, written_size + 1);
+  for (char *line = names, *end; line < names + written_size; line = end + 1) {
+    end = memchr(line, '\n', names + written_size - line);
+    if (!end) end = names + written_size;
     *end = 0;
-    new.number = strlen(line) == (size_t)(end - line) ? number_of(line, &new.name) : 0;
-    if (new.number == 0) {
-      leave_out(rows);
-      continue;
-    }
-    new.name = normal_form(new.name);
-    if (list->count == room) list->lines = realloc(list->lines, (room = 2 * room + 64) * sizeof *list->lines);
-    if (!list->lines) fail(1, "out of memory");
-    list->lines[list->count++] = new;
+    row++;
+    if (!take_line(line, end - line) && bad++ == 0) first_bad = row;
   }
+  free(names);
+  if (bad == 1) warn("%s/names: line %zu: bad line, left out", directory_path, first_bad);
+  if (bad > 1) warn("%s/names: line %zu: bad line, left out, and %zu more", directory_path, first_bad, bad - 1);
 }
 
-static int by_row(const void *left, const void *right) {
-  const struct line *one = left, *other = right;
-  return one->row < other->row ? -1 : one->row > other->row;
+/* No new log gets the number of one that is there, also where its line was removed. */
+static void find_last_number(void) {
+  unsigned number;
+  int left;
+  for (size_t i = 0; i < listed_count; i++)
+    if (listed[i]->number > last_number) last_number = listed[i]->number;
+  int place = open_file(".", O_RDONLY | O_DIRECTORY);
+  DIR *files = place < 0 ? NULL : fdopendir(place);
+  for (struct dirent *file; files && (file = readdir(files));)
+    if (sscanf(file->d_name, "log.%u%n", &number, &left) == 1 && !file->d_name[left] && number <= MAX_LOGS && number > last_number)
+      last_number = number;
+  if (files) closedir(files);
 }
 
-static int by_number(const void *left, const void *right) {
-  const struct line *one = left, *other = right;
-  return one->number != other->number ? (one->number < other->number ? -1 : 1) : by_row(one, other);
-}
-
-static int by_name(const void *left, const void *right) {
-  int order = strcmp(((const struct line *)left)->name, ((const struct line *)right)->name);
-  return order ? order : by_row(left, right);
-}
-
-/* Of lines that are the same by this order, but for where they stand, the first stays. */
-static void leave_out_twice(struct list *list, int (*order)(const void *, const void *)) {
+static void put_run_first(void) {
+  if (run_target->number == 1 && *owner_of(1) == run_target) return;
   size_t kept = 0;
-  qsort(list->lines, list->count, sizeof *list->lines, order);
-  for (size_t i = 0; i < list->count; i++) {
-    struct line line = list->lines[i], before = kept > 0 ? list->lines[kept - 1] : (struct line){0, "", 0};
-    before.row = line.row;
-    if (order(&before, &line) == 0) leave_out(line.row);
-    else list->lines[kept++] = line;
+  for (size_t i = 0; i < listed_count; i++) {
+    if (listed[i] == run_target || listed[i]->number == 1) listed[i]->number = 0;
+    else listed[kept++] = listed[i];
   }
-  list->count = kept;
+  listed_count = kept;
+  put_line(run_target, 1);
+  memmove(listed + 1, listed, (listed_count - 1) * sizeof *listed);
+  listed[0] = run_target;
 }
 
-struct list read_list(void) {
-  struct list list = {NULL, 0, "", 0};
-  char *path = path_of("names"), *names = contents(path, &list.size);
-  if (!names) return list;
-  list.bytes = malloc(list.size + 1);
-  if (!list.bytes) fail(1, "out of memory");
-  memcpy(list.bytes, names, list.size + 1);
-  bad_count = 0;
-  read_lines(&list, names, list.size);
-  if (list.count > 0) {
-    leave_out_twice(&list, by_number);
-    leave_out_twice(&list, by_name);
-    qsort(list.lines, list.count, sizeof *list.lines, by_row);
-  }
-  if (bad_count == 1) note("%s: line %zu: bad line, left out", path, first_bad);
-  if (bad_count > 1) note("%s: line %zu: bad line, left out, and %zu more", path, first_bad, bad_count - 1);
-  return list;
+void read_names(void) {
+  free(written);
+  written = file_contents("names", &written_size);
+  if (!written) written_size = 0;
+  forget_list();
+  read_lines();
+  last_number = 1;
+  if (listed_count > 0) find_last_number();
+  put_run_first();
 }
 
-void put_line(struct list *list, unsigned number, const char *name) {
+/* A target that began keeps the number that its log has: what has that number or its name in the list goes. */
+void list_begun(void) {
+  struct target **begun = resize(NULL, (target_count + 1) * sizeof *begun);
+  unsigned *numbers = resize(NULL, (target_count + 1) * sizeof *numbers);
+  size_t count = 0;
+  for (size_t i = 0; i < target_count; i++)
+    if (targets[i]->is_begun && targets[i] != run_target) begun[count] = targets[i], numbers[count++] = targets[i]->number;
+  read_names();
+  for (size_t i = 0; i < count; i++) {
+    struct target **owner = owner_of(numbers[i]);
+    if (*owner == begun[i]) continue;
+    if (*owner) (*owner)->number = 0;
+    begun[i]->number = 0;
+  }
   size_t kept = 0;
-  for (size_t i = 0; i < list->count; i++) {
-    int has_number = list->lines[i].number == number, has_name = strcmp(list->lines[i].name, name) == 0;
-    if (has_number && has_name) return;
-    if (!has_number && !has_name) list->lines[kept++] = list->lines[i];
-  }
-  list->lines = realloc(list->lines, (kept + 1) * sizeof *list->lines);
-  if (!list->lines) fail(1, "out of memory");
-  size_t front = number == 1 ? 0 : kept;
-  memmove(list->lines + front + 1, list->lines + front, (kept - front) * sizeof *list->lines);
-  list->lines[front] = (struct line){number, name, 0};
-  list->count = kept + 1;
+  for (size_t i = 0; i < listed_count; i++)
+    if (listed[i]->number) listed[kept++] = listed[i];
+  listed_count = kept;
+  for (size_t i = 0; i < count; i++)
+    if (!begun[i]->number) put_line(begun[i], numbers[i]);
+  free(begun);
+  free(numbers);
 }
 
-static char *written(const struct list *list, int must_close) {
+int write_names(int marks) {
+  int error = 0;
   char *names;
   size_t size;
-  FILE *stream = open_memstream(&names, &size);
-  if (!stream) fail(1, "out of memory");
-  for (size_t i = 0; i < list->count; i++) {
-    const struct line *line = &list->lines[i];
-    fprintf(stream, "%s%u %s\n", must_close && is_closed(line->number) ? "!" : "", line->number, line->name);
+  FILE *stream = open_memory(&names, &size);
+  for (size_t i = 0; i < listed_count; i++)
+    fprintf(stream, "%s%u %s\n", marks && listed[i]->is_closed ? "!" : "", listed[i]->number, listed[i]->name);
+  close_memory(stream);
+  if (!written || size != written_size || memcmp(written, names, size) != 0) {
+    close_names();
+    error = replace_file("names", names, size);
   }
-  if (fclose(stream) != 0) fail(1, "out of memory");
-  return names;
+  free(written);
+  written = names, written_size = size;
+  return error;
 }
 
-void write_list(struct list *list, int must_close) {
-  char *names = written(list, must_close);
-  size_t size = strlen(names);
-  if (size != list->size || memcmp(list->bytes, names, size) != 0) replace(path_of("names"), names, size);
-  list->bytes = names, list->size = size;
+void close_names(void) {
+  if (names_file >= 0) close(names_file);
+  names_file = -1;
 }
 
-unsigned unused_number(void) {
-  struct list list = read_list();
-  char *used = calloc(MOST_LOGS + 1, 1);
-  if (!used) fail(1, "out of memory");
-  for (size_t i = 0; i < list.count; i++) used[list.lines[i].number] = 1;
-  for (unsigned number = 2; number <= MOST_LOGS; number++)
-    if (!used[number] && access(log_of(number), F_OK) < 0) return number;
-  fail(1, "%s: no number is left", path_of("names"));
+/* The lowest number that no line and no log has. */
+static unsigned unused_number(void) {
+  for (unsigned number = 2; number <= MAX_LOGS; number++)
+    if (!*owner_of(number) && faccessat(directory, log_name(number), F_OK, 0) < 0) return number;
+  return 0;
 }
 
-/* The list that targets are known to be in accord with, and how many bytes their files have; or NULL. */
-static char *read_left(size_t *size) {
-  char *left = try_contents(path_of(".capture/left"), NULL), *names = left ? strchr(left, '\n') : NULL;
-  *size = names ? strtoul(left, NULL, 10) : 0;
-  return names ? names + 1 : NULL;
+/* Whether somebody else has written to `names`, and left a line without its end. */
+static int ends_in_line(const struct stat *found) {
+  char last = '\n';
+  if (found->st_size == 0 || (size_t)found->st_size == written_size) return 0;
+  return pread(names_file, &last, 1, found->st_size - 1) == 1 && last != '\n';
 }
 
-static void write_left(const char *names) {
-  char *left = text("%zu\n%s", size_of_targets(), names);
-  replace(path_of(".capture/left"), left, strlen(left));
+static int append_line(unsigned number, const char *name) {
+  struct stat found;
+  if (names_file >= 0 && (fstat(names_file, &found) < 0 || found.st_nlink == 0)) close_names();
+  if (names_file < 0) names_file = open_file("names", O_RDWR | O_APPEND | O_CREAT);
+  if (names_file < 0 || fstat(names_file, &found) < 0) return -1;
+  char *line = text("%s%u %s\n", ends_in_line(&found) ? "\n" : "", number, name);
+  size_t size = strlen(line);
+  int error = write_all(names_file, line, size);
+  free(line);
+  if (error && ftruncate(names_file, found.st_size) < 0) close_names();
+  written_size = found.st_size + (error ? 0 : size);
+  return error;
 }
 
-void keep_left(const struct list *list, int (*is_of_run)(const struct line *line)) {
-  size_t known, more = 0;
-  char *names = written(list, 0), *left = read_left(&known);
-  size_t size = left ? strlen(left) : 0;
-  int is_left = left && strncmp(names, left, size) == 0;
-  for (char *end = names + strlen(names); is_left && end > names + size; more++)
-    for (end--; end > names && end[-1] != '\n'; end--) continue;
-  for (size_t i = 0; is_left && i < more; i++) {
-    const struct line *line = &list->lines[list->count - 1 - i];
-    is_left = is_of_run(line);
-    known += size_of_target(line->name);
-  }
-  if (is_left && size_of_targets() >= known) write_left(names);
-  else unlink(path_of(".capture/left"));
-}
-
-/* By number: the name that is listed, until the target is met that has both. */
-static const char **wanted;
-static unsigned most_wanted, largest;
-
-/* Targets that aren't listed as they are kept. */
-static struct stray { struct target target; char *name; } *strays;
-static size_t stray_count;
-
-static void want_lines(const struct list *list) {
-  for (size_t i = 0; i < list->count; i++)
-    if (list->lines[i].number > most_wanted) most_wanted = list->lines[i].number;
-  wanted = calloc((size_t)most_wanted + 1, sizeof *wanted);
-  if (!wanted) fail(1, "out of memory");
-  for (size_t i = 0; i < list->count; i++) wanted[list->lines[i].number] = list->lines[i].name;
-}
-
-static void meet(struct target target, const char *name) {
-  if (target.number == 0) return;
-  if (target.number > largest) largest = target.number;
-  const char **listed = target.number <= most_wanted ? &wanted[target.number] : NULL;
-  if (listed && *listed && strcmp(*listed, name) == 0) {
-    *listed = NULL;
-    return;
-  }
-  strays = realloc(strays, (stray_count + 1) * sizeof *strays);
-  if (!strays) fail(1, "out of memory");
-  strays[stray_count++] = (struct stray){target, text("%s", name)};
-}
-
-/* A log that has another name now isn't known to be closed; that is written first, as nothing tells of it once the targets are. */
-static void forget_strays(void) {
-  int is_one_closed = 0;
-  for (size_t i = 0; i < stray_count; i++) {
-    unsigned number = strays[i].target.number;
-    if (number > most_wanted || !wanted[number] || !is_closed(number)) continue;
-    set_closed(number, 0);
-    is_one_closed = 1;
-  }
-  if (is_one_closed) write_closed();
-  for (size_t i = 0; i < stray_count; i++) {
-    strays[i].target.number = 0;
-    keep(strays[i].target, strays[i].name);
-  }
-}
-
-static void go_by(const struct list *list) {
-  size_t known;
-  char *names = written(list, 0), *left = read_left(&known);
-  if (left && strcmp(left, names) == 0 && known == size_of_targets()) return;
-  each_target(meet);
-  forget_strays();
-  for (unsigned number = 1; number <= most_wanted; number++)
-    if (wanted[number]) keep_listed(number, wanted[number]);
-  for (size_t i = 0; i < list->count; i++) keep_fronts(list->lines[i].name);
-  write_left(names);
-}
-
-void take_list(struct list *list) {
-  put_line(list, 1, "all");
-  want_lines(list);
-  go_by(list);
-  for (size_t i = 0; i < list->count; i++)
-    if (strchr(list->lines[i].name, ' ')) keep_spaces();
-  if (most_wanted > largest) largest = most_wanted;
-  unsigned last = last_number();
-  if (last < largest || last > MOST_LOGS) {
-    char *line = text("%u\n", largest);
-    replace(path_of(".capture/last"), line, strlen(line));
-  }
-  free(wanted);
-  free(strays);
-  strays = NULL, stray_count = 0, most_wanted = largest = 0;
+int list_target(struct target *target) {
+  unsigned number = last_number < MAX_LOGS ? last_number + 1 : unused_number();
+  if (number == 0) return -1;
+  if (append_line(number, target->name) < 0) return cannot_write("names"), -1;
+  if (number > last_number) last_number = number;
+  put_line(target, number);
+  return 0;
 }

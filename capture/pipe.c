@@ -1,8 +1,7 @@
-/* What a recipe says. It goes through a pipe, and not right into the log: a file that a recipe opens anew, as /dev/stderr, is cut
-   to nothing. */
+/* What recipes print. It comes through pipes, and goes into the logs by whole lines, so that processes that write at the same time
+   don't mix their lines. */
 #define _GNU_SOURCE
 #include "capture.h"
-#include <dirent.h>
 #include <errno.h>
 #include <fcntl.h>
 #include <poll.h>
@@ -10,152 +9,177 @@
 #include <stdlib.h>
 #include <string.h>
 #include <sys/ioctl.h>
-#include <sys/stat.h>
-#include <time.h>
 #include <unistd.h>
 
-/* In bytes: what is read at once; what is so little that more may be waited for; and the longest front of a line that is kept
-   back. In milliseconds: how long it is kept back where nothing more comes, and how long more is waited for; and what is waited
-   for more at the end, where nothing comes, and in all. */
-enum { PIECE = 65536, LITTLE = 16384, LONGEST = 64 << 20, SILENCE = 200, REST = 1, PAUSE = 20, MOMENT = 100 };
+/* In bytes: what is read at once, and the longest prefix of a line that is kept back. In milliseconds: how long it is kept back if
+   nothing more comes; and what is waited for more of a recipe that failed, if nothing comes, and in all. */
+enum { CHUNK = 65536, MAX_HELD = 64 << 20, SILENCE = 200, PAUSE = 20, PATIENCE = 100 };
 
-/* The log, and what is to be known to add to it. A recipe may remove the directory, and another make a new one of the same run, in
-   which this number is that of another log: so it stays open. */
-static const char *own_run;
-static char *lock_path, *book_path;
-static int log_file, open_error;
+struct pipe {
+  struct source source;
+  struct target *target;
+  char *held; /* the line that isn't whole yet */
+  size_t held_size, held_room;
+  int64_t last_read;
+  struct pipe *next, **link;
+};
 
-/* What was read and isn't in the log yet; whether the log ends with the front of a line; and what couldn't be written. */
-static char first[2 * PIECE], *kept = first;
-static size_t held, room = sizeof first;
-static int is_unended, error;
+static struct pipe *pipes, *closed_pipes;
 
-/* Adds to the log, if that is there still. */
-static int add_to_log(const char *bytes, size_t size) {
-  struct stat found;
-  int is_open = log_file >= 0 && fstat(log_file, &found) == 0;
-  if (is_open && found.st_nlink > 0) return add_to(log_file, bytes, size);
-  errno = is_open ? ENOENT : open_error;
-  return -1;
+struct pipe *watch_pipe(int descriptor, struct target *target) {
+  struct pipe *pipe = resize(NULL, sizeof *pipe);
+  *pipe = (struct pipe){.source = {PIPE, descriptor}, .target = target, .next = pipes, .link = &pipes};
+  fcntl(descriptor, F_SETFL, O_NONBLOCK);
+  if (pipes) pipes->link = &pipe->next;
+  pipes = pipe;
+  watch(&pipe->source);
+  return pipe;
 }
 
-/* The same under the lock, unless another run has the directory. */
-static int add(const char *bytes, size_t size) {
-  int lock = try_lock(lock_path);
-  if (lock < 0) return -1;
-  int result = is_book_of(book_path, own_run) ? add_to_log(bytes, size) : 0, cause = errno;
-  unlock(lock);
-  errno = cause;
-  return result;
+/* Events for it may still be met: so it is freed later. */
+static void close_pipe(struct pipe *pipe) {
+  for (struct line *line = lines; line; line = line->next)
+    if (line->pipe == pipe) line->pipe = NULL;
+  close_source(&pipe->source);
+  *pipe->link = pipe->next;
+  if (pipe->next) pipe->next->link = pipe->link;
+  pipe->next = closed_pipes;
+  closed_pipes = pipe;
 }
 
-/* Takes the front of what is kept to the log. */
-static void put(size_t size) {
-  if (size == 0) return;
-  if (!error && add(kept, size) < 0) error = errno;
-  is_unended = kept[size - 1] != '\n';
-  held -= size;
-  memmove(kept, kept + size, held);
-}
-
-static void make_room(void) {
-  if (room - held >= PIECE) return;
-  char *more = malloc(2 * room);
-  if (!more) {
-    put(held);
-    return;
+void free_closed_pipes(void) {
+  for (struct pipe *next; closed_pipes; closed_pipes = next) {
+    next = closed_pipes->next;
+    free(closed_pipes->held);
+    free(closed_pipes);
   }
-  memcpy(more, kept, held);
-  if (kept != first) free(kept);
-  kept = more, room *= 2;
 }
 
-/* Reads once, and puts whole lines into the log. Answers how many bytes came: none behind the end. */
-static ssize_t take(int pipe) {
+void flush_pipe(struct pipe *pipe) {
+  append_text(pipe->target, pipe->held, pipe->held_size);
+  pipe->held_size = 0;
+}
+
+static void hold(struct pipe *pipe, const char *bytes, size_t size) {
+  if (pipe->held_size + size > pipe->held_room) {
+    size_t room = 2 * (pipe->held_size + size);
+    pipe->held = resize(pipe->held, room);
+    pipe->held_room = room;
+  }
+  memcpy(pipe->held + pipe->held_size, bytes, size);
+  pipe->held_size += size;
+  if (pipe->held_size >= MAX_HELD) flush_pipe(pipe);
+}
+
+static void take(struct pipe *pipe, const char *bytes, size_t size) {
+  const char *feed = memrchr(bytes, '\n', size);
+  size_t whole = feed ? feed + 1 - bytes : 0;
+  pipe->last_read = steady_clock();
+  if (whole > 0 && pipe->held_size > 0) {
+    hold(pipe, bytes, whole);
+    flush_pipe(pipe);
+  } else {
+    append_text(pipe->target, bytes, whole);
+  }
+  if (whole < size) hold(pipe, bytes + whole, size - whole);
+}
+
+/* Reads once. Returns how many bytes came; 0 at the end; -1 if there is nothing now. */
+static ssize_t read_once(struct pipe *pipe) {
+  static char bytes[CHUNK];
   ssize_t size;
-  make_room();
-  while ((size = read(pipe, kept + held, PIECE)) < 0 && errno == EINTR) continue;
-  if (size <= 0) return 0;
-  char *feed = memrchr(kept + held, '\n', size);
-  held += size;
-  if (feed) put(feed + 1 - kept);
-  else if (held >= LONGEST) put(held);
-  return size;
+  while ((size = read(pipe->source.file, bytes, sizeof bytes)) < 0 && errno == EINTR) continue;
+  if (size > 0) take(pipe, bytes, size);
+  return size < 0 && errno != EAGAIN ? 0 : size;
 }
 
-/* Ends what was said last as a line. */
-static void end_what_was_said(void) {
-  put(held);
-  if (!is_unended) return;
-  kept[held++] = '\n';
-  put(held);
+static void end_pipe(struct pipe *pipe) {
+  flush_pipe(pipe);
+  close_pipe(pipe);
 }
 
-static void close_others(int pipe) {
-  DIR *files = opendir("/proc/self/fd");
-  if (!files) return;
-  for (struct dirent *file; (file = readdir(files));) {
-    int number = atoi(file->d_name);
-    if (*file->d_name != '.' && number != pipe && number != log_file && number != dirfd(files)) close(number);
+size_t read_pipe(struct pipe *pipe) {
+  ssize_t size = pipe->source.file < 0 ? -1 : read_once(pipe);
+  if (size == 0) end_pipe(pipe);
+  return size > 0 ? size : 0;
+}
+
+/* No more than is there now: a process that was left behind may write for ever. What it leaves behind may be about to end, as a
+   filter of standard error is. */
+int drain_pipe(struct pipe *pipe, int waits) {
+  int left = 0;
+  ssize_t size = 1;
+  ioctl(pipe->source.file, FIONREAD, &left);
+  for (; left >= 0 && size > 0; left -= size) size = read_once(pipe);
+  for (int64_t end = steady_clock() + PATIENCE; waits && size != 0 && steady_clock() < end;) {
+    struct pollfd more = {pipe->source.file, POLLIN, 0};
+    if (poll(&more, 1, PAUSE) <= 0) break;
+    size = read_once(pipe);
   }
-  closedir(files);
+  if (size == 0) end_pipe(pipe);
+  return size == 0;
 }
 
-/* Listens until nobody has the other end any more. Nothing of the build is held by that, and nobody waits for it. Where it can't
-   even reach the root, it can't reach the log. */
-static _Noreturn void stay_behind(int pipe) {
+int flush_silent_pipes(void) {
+  int64_t time = 0, earliest = -1;
+  for (struct pipe *pipe = pipes; pipe; pipe = pipe->next) {
+    if (pipe->held_size == 0) continue;
+    if (!time) time = steady_clock();
+    int64_t left = pipe->last_read + SILENCE - time;
+    if (left <= 0) flush_pipe(pipe);
+    else if (earliest < 0 || left < earliest) earliest = left;
+  }
+  return earliest;
+}
+
+void flush_pipes(void) {
+  for (struct pipe *pipe = pipes, *next; pipe; pipe = next) {
+    next = pipe->next;
+    if (drain_pipe(pipe, 0)) continue;
+    flush_pipe(pipe);
+  }
+}
+
+void pass_pipes_on(void) {
+  static char bytes[CHUNK];
+  for (struct pipe *pipe = pipes; pipe; pipe = pipe->next) {
+    ssize_t size;
+    if (pipe->held_size > 0) write_all(2, pipe->held, pipe->held_size);
+    pipe->held_size = 0;
+    while ((size = read(pipe->source.file, bytes, sizeof bytes)) > 0) write_all(2, bytes, size);
+  }
+}
+
+/* Reads until nobody can write any more. */
+static void discard(struct pollfd *files, size_t count) {
+  static char bytes[CHUNK];
+  for (size_t open = count; open > 0;) {
+    poll(files, count, -1);
+    for (size_t i = 0; i < count; i++) {
+      if (files[i].fd < 0 || !files[i].revents || read(files[i].fd, bytes, sizeof bytes) != 0) continue;
+      close(files[i].fd);
+      files[i].fd = -1, open--;
+    }
+  }
+}
+
+/* A process that was left behind doesn't notice that the build is over: somebody reads what it prints, until it ends. */
+void read_on_in_background(void) {
+  size_t count = 0;
+  for (struct pipe *pipe = pipes; pipe; pipe = pipe->next) count++;
+  struct pollfd *files = count ? calloc(count, sizeof *files) : NULL, *file = files;
+  if (!files || fork() != 0) return;
   sigset_t all;
   sigfillset(&all);
   sigprocmask(SIG_BLOCK, &all, NULL);
   setsid();
-  if (chdir("/") < 0) error = errno;
-  close_others(pipe);
-  hold_standard_files();
-  while (take(pipe) > 0) continue;
-  end_what_was_said();
+  if (chdir("/") < 0) _exit(0);
+  for (struct pipe *pipe = pipes; pipe; pipe = pipe->next) *file++ = (struct pollfd){pipe->source.file, POLLIN, 0};
+  for (int standard = 0; standard < 3; standard++) close(standard);
+  close_idle_logs();
+  close_directory();
+  close_makes();
+  close_server();
+  discard(files, count);
   _exit(0);
-}
-
-static long milliseconds(void) {
-  struct timespec now;
-  clock_gettime(CLOCK_MONOTONIC, &now);
-  return now.tv_sec * 1000 + now.tv_nsec / 1000000;
-}
-
-/* What came before the command ended is there now. What that left behind is waited for a moment, as it may be about to end: then
-   nobody can say more. */
-static int is_over(int pipe) {
-  int left = 0;
-  ioctl(pipe, FIONREAD, &left);
-  for (ssize_t size; left > 0 && (size = take(pipe)) > 0;) left -= size;
-  for (long end = milliseconds() + MOMENT; milliseconds() < end;) {
-    struct pollfd more = {pipe, POLLIN, 0};
-    int count = poll(&more, 1, PAUSE);
-    if (count == 0) return 0;
-    if (count > 0 && take(pipe) == 0) return 1;
-  }
-  return 0;
-}
-
-void open_log(const char *run, unsigned number) {
-  own_run = run, log_file = open_file(log_of(number), O_WRONLY | O_APPEND), open_error = errno;
-  lock_path = path_of(".capture/lock"), book_path = path_of(".capture/run");
-}
-
-int listen_to_command(int pipe) {
-  int source = pipe;
-  for (enum event event; (event = await(source, held > 0 ? SILENCE : -1)) != ENDED;) {
-    ssize_t size = event == READABLE ? take(source) : 1;
-    if (event == SILENT) put(held);
-    if (size == 0) source = -1;
-    else if (event == READABLE && size < LITTLE && await(-1, REST) == ENDED) break;
-  }
-  int is_left = !is_over(pipe);
-  end_what_was_said();
-  pid_t process = is_left ? fork() : 1;
-  if (process == 0) stay_behind(pipe);
-  while (process < 0 && take(pipe) > 0) continue;
-  if (process < 0) end_what_was_said();
-  close(pipe);
-  return error;
 }

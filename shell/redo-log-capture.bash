@@ -1,17 +1,18 @@
-# Completion of redo-log-capture's words, for bash: its options, directories behind --dir, and a command, whose words are
-# completed as its own where bash-completion is loaded, and else as names of files.
+# Completion for redo-log-capture in bash: its options, a directory after --dir, a file after --summary, and a command. The
+# command's arguments are completed as the command has it if bash-completion is loaded, otherwise as names of files.
 
 _redo_log_capture() {
-  local place
-  for ((place = 1; place < COMP_CWORD; place++)); do
-    case ${COMP_WORDS[place]} in
-      --dir)
-        ((place++))
-        [[ ${COMP_WORDS[place]} == = ]] && ((place++))
+  local index option
+  for ((index = 1; index < COMP_CWORD; index++)); do
+    case ${COMP_WORDS[index]} in
+      --dir | --summary)
+        option=${COMP_WORDS[index]}
+        ((index++))
+        [[ ${COMP_WORDS[index]} == = ]] && ((index++))
         ;;
       --both | --live | --quiet | --must-close | --finish) ;;
       --)
-        ((place++))
+        ((index++))
         break
         ;;
       *) break ;;
@@ -19,17 +20,21 @@ _redo_log_capture() {
   done
 
   COMPREPLY=()
-  if ((place > COMP_CWORD)); then
-    # Captures have no directory but one that they hide.
-    [[ $2 == */ && -d $2.capture ]] || compopt -o dirnames
-  elif ((place < COMP_CWORD)); then
+  if ((index > COMP_CWORD)); then
+    if [[ $option == --summary ]]; then
+      compopt -o default
+    else
+      # A capture directory contains no directory except a hidden one.
+      [[ $2 == */ && -d $2.capture ]] || compopt -o dirnames
+    fi
+  elif ((index < COMP_CWORD)); then
     if declare -F _command_offset >/dev/null; then
-      _command_offset "$place"
+      _command_offset "$index"
     else
       compopt -o default
     fi
   elif [[ $2 == -* ]]; then
-    mapfile -t COMPREPLY < <(compgen -W '--dir --both --live --quiet --must-close --finish -h --help -V --version' -- "$2")
+    mapfile -t COMPREPLY < <(compgen -W '--dir --both --live --quiet --summary --must-close --finish -h --help -V --version' -- "$2")
   else
     mapfile -t COMPREPLY < <(compgen -c -- "$2")
   fi

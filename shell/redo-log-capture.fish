@@ -1,13 +1,36 @@
-# Completion of redo-log-capture's words, for fish: its options, directories behind --dir, and a command with its words.
+# Completion for redo-log-capture in fish: its options, a directory after --dir, a file after --summary, and a command.
 
-complete -c redo-log-capture -x -a '(__fish_complete_subcommand -- --dir)'
-complete -c redo-log-capture -n __fish_no_arguments -l dir -x -a '(__fish_complete_directories (commandline -ct))' \
-    -d 'The capture directory'
-complete -c redo-log-capture -n __fish_no_arguments -l both -d 'Capture standard output too'
-complete -c redo-log-capture -n __fish_no_arguments -l live -d 'Show what each recipe said'
-complete -c redo-log-capture -n __fish_no_arguments -l quiet -d 'Show nothing of what recipes said'
-complete -c redo-log-capture -n __fish_no_arguments -l must-close \
-    -d 'Mark logs that are closed, so that a copy that lost an end is refused'
-complete -c redo-log-capture -n __fish_no_arguments -l finish -d 'Finish the logs of a build that was killed'
-complete -c redo-log-capture -n __fish_no_arguments -s h -l help -d 'Print help'
-complete -c redo-log-capture -n __fish_no_arguments -s V -l version -d 'Print the version'
+function __redo_log_capture_is_before_command -d 'Whether the command line has no command yet'
+    set -l words (commandline -poc)
+    set -e words[1]
+    while set -q words[1]
+        switch $words[1]
+            case --dir --summary
+                set -e words[1]
+                set -q words[1]; or return 0
+            case --
+                return 1
+            case '-*'
+            case '*'
+                return 1
+        end
+        set -e words[1]
+    end
+end
+
+complete -c redo-log-capture -x -a '(__fish_complete_subcommand -- --dir --summary)'
+complete -c redo-log-capture -n __redo_log_capture_is_before_command -l dir -x \
+    -a '(__fish_complete_directories (commandline -ct))' -d 'The capture directory'
+complete -c redo-log-capture -n __redo_log_capture_is_before_command -l both -d 'Capture standard output too'
+complete -c redo-log-capture -n __redo_log_capture_is_before_command -l live \
+    -d 'Print the output of every recipe as soon as it ends'
+complete -c redo-log-capture -n __redo_log_capture_is_before_command -l quiet \
+    -d 'Print no output of recipes; by default, the output of failed recipes is printed'
+complete -c redo-log-capture -n __redo_log_capture_is_before_command -l summary -r -F \
+    -d 'Write a line per target to FILE: status, seconds, log number, name'
+complete -c redo-log-capture -n __redo_log_capture_is_before_command -l must-close \
+    -d 'Mark closed logs: redo-log then rejects a copy in which one is truncated'
+complete -c redo-log-capture -n __redo_log_capture_is_before_command -l finish \
+    -d 'Finish the logs of a build that was killed'
+complete -c redo-log-capture -n __redo_log_capture_is_before_command -s h -l help -d 'Print help'
+complete -c redo-log-capture -n __redo_log_capture_is_before_command -s V -l version -d 'Print version'

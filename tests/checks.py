@@ -8,6 +8,12 @@ TOP = os.path.dirname(os.path.dirname(os.path.abspath(__file__)))
 PROGRAM = os.path.join(TOP, "crates/redo_log/out/redo_log")
 # The program that makes single calls.
 CALLS = os.path.join(TOP, "crates/redo_log_calls/out/redo_log_calls")
+# The dynamic symbols of capture.so: those that make looks up in it, and those that it imports; and the libraries that it needs.
+HOOK = (
+    ["plugin_is_GPL_compatible", "redo_log_capture"],
+    ["dlsym", "gmk_add_function", "gmk_alloc", "gmk_eval", "gmk_expand", "gmk_free"],
+    [],
+)
 
 
 def contents(path):
@@ -31,6 +37,14 @@ def install_capture(prefix, *words):
     """Installs redo-log-capture there, and gives its path."""
     subprocess.run(["make", "-s", "install-capture", f"PREFIX={prefix}", *words], cwd=TOP, env=environment(), check=True)
     return os.path.join(prefix, "bin/redo-log-capture")
+
+
+def dynamic_symbols(path):
+    """The symbols that a shared object defines, those that it imports, and the libraries that it needs."""
+    symbols = subprocess.run(["nm", "-D", path], capture_output=True, text=True).stdout
+    header = subprocess.run(["objdump", "-p", path], capture_output=True, text=True).stdout
+    defined, imported = (sorted(re.findall(rf"^{value} . (.*)", symbols, re.M)) for value in ("[0-9a-f]+", " +"))
+    return defined, imported, re.findall(r"^ +NEEDED +(.*)", header, re.M)
 
 
 class Checks:

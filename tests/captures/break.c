@@ -1,7 +1,6 @@
-/* Preloaded into a build: the n-th time that one of its processes called redo-log-capture, or sh as its link, is about to change a
-   file, the whole process group is killed; or from then on nothing can be written, as on a full device; or, where it is the process
-   of a recipe, a directory is removed. The environment says n, by BREAK_AT, a file that counts, by BREAK_COUNT, whether the device
-   is full, by BREAK_FULL, and the directory, by BREAK_REMOVE. */
+/* Preloaded into a build: before redo-log-capture changes a file for the n-th time, the whole process group is killed; or nothing
+   can be written from then on, as on a full device; or a directory is removed. The environment has n in BREAK_AT, a file that
+   counts in BREAK_COUNT, whether the device is full in BREAK_FULL, and the directory in BREAK_REMOVE. */
 #define _GNU_SOURCE
 #include <dlfcn.h>
 #include <errno.h>
@@ -22,7 +21,6 @@ __attribute__((constructor)) static void begin(void) {
     ssize_t size = readlink("/proc/self/exe", program, sizeof program - 1);
     program[size > 0 ? size : 0] = 0;
     is_capture = strstr(program, "/redo-log-capture") != NULL && getenv("BREAK_COUNT") != NULL;
-    is_capture = is_capture && (getenv("BREAK_REMOVE") == NULL || getenv("CAPTURE") != NULL);
     real_write = (__typeof__(real_write))dlsym(RTLD_NEXT, "write");
 }
 
@@ -40,7 +38,11 @@ static int is_over(void) {
     errno = error;
     if (counted.st_size < atoi(getenv("BREAK_AT"))) return 0;
     if (getenv("BREAK_REMOVE") != NULL) {
-        if (counted.st_size == atoi(getenv("BREAK_AT"))) nftw(getenv("BREAK_REMOVE"), remove_one, 16, FTW_DEPTH | FTW_PHYS);
+        if (counted.st_size == atoi(getenv("BREAK_AT"))) {
+            is_capture = 0;
+            nftw(getenv("BREAK_REMOVE"), remove_one, 16, FTW_DEPTH | FTW_PHYS);
+            is_capture = 1;
+        }
         errno = error;
         return 0;
     }
@@ -59,12 +61,23 @@ ssize_t write(int file, const void *bytes, size_t size) {
     return -1;
 }
 
-int rename(const char *from, const char *to) {
-    if (is_capture && getenv("BREAK_FULL") == NULL) is_over();
-    return renameat(AT_FDCWD, from, AT_FDCWD, to);
+static int (*real_renameat(void))(int, const char *, int, const char *) {
+    return (int (*)(int, const char *, int, const char *))dlsym(RTLD_NEXT, "renameat");
 }
 
-int unlink(const char *path) {
+int renameat(int from_directory, const char *from, int to_directory, const char *to) {
     if (is_capture && getenv("BREAK_FULL") == NULL) is_over();
-    return unlinkat(AT_FDCWD, path, 0);
+    return real_renameat()(from_directory, from, to_directory, to);
+}
+
+int unlinkat(int directory, const char *path, int flags) {
+    int (*real)(int, const char *, int) = (int (*)(int, const char *, int))dlsym(RTLD_NEXT, "unlinkat");
+    if (is_capture && getenv("BREAK_FULL") == NULL) is_over();
+    return real(directory, path, flags);
+}
+
+int ftruncate(int file, off_t size) {
+    int (*real)(int, off_t) = (int (*)(int, off_t))dlsym(RTLD_NEXT, "ftruncate");
+    if (is_capture && getenv("BREAK_FULL") == NULL) is_over();
+    return real(file, size);
 }

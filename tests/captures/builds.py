@@ -13,18 +13,24 @@ from checks import PROGRAM, TOP, environment  # noqa: E402
 PREFIX = tempfile.mkdtemp()
 TOOL = os.path.join(PREFIX, "bin/redo-log-capture")
 ASKING = (signal.SIGHUP, signal.SIGINT, signal.SIGQUIT, signal.SIGTERM)
-BY_SHELL = [f"SHELL={PREFIX}/libexec/redo-log/sh", "CAPTURE=$@ : $^ $|"]
 
 
-def said(name, status, text=""):
-    """What a recipe said that failed, as it is shown."""
-    return f"redo-log-capture: {name} (exit {status})\n{text}"
+def said(name, status, command, text=""):
+    """The block of a failed recipe."""
+    return f"redo-log-capture: {name} (exit {status})\n{command}\n{text}"
 
 
-def failed(*names, words=None):
-    """The lines that tell which targets failed, of which at most ten are named."""
-    what = f"to read it: redo-log {words or names[0]}" if len(names) == 1 else f"to read them: redo-log {words or ' '.join(names)}"
-    return f"redo-log-capture: {', '.join(names)} failed; {what}\nredo-log-capture: to read all: redo-log -r all\n"
+def failed(*names, words=None, printed=()):
+    """The last lines of a failed build: at most ten failed targets, and those that printed something and did not fail."""
+    what = "its log" if len(names) == 1 else "their logs"
+    lines = [f"{', '.join(names)} failed; show {what}: redo-log {words or ' '.join(names)}"]
+    return "".join(f"redo-log-capture: {line}\n" for line in [*lines, *printed_something(*printed), "show all logs: redo-log -r all"])
+
+
+def printed_something(*names):
+    """The line about targets that printed something and did not fail."""
+    what = "target that did not fail" if len(names) == 1 else "targets that did not fail"
+    return [f"{len(names)} {what} printed something: redo-log {' '.join(names)}"] if names else []
 
 
 def quoted(name):
@@ -54,14 +60,23 @@ def ran(folder, command, more=None):
 
 
 def make(folder, *words, options=(), more=None):
-    """The same of a captured make."""
-    return ran(folder, [TOOL, *options, "make", *words], more)
+    """The same of a captured make, without the line about targets that did not fail."""
+    status, out, err = ran(folder, [TOOL, *options, "make", *words], more)
+    return status, out, without_printed(err)
 
 
-def make_by_shell(folder, *words, more=None):
-    """The same of a make that has the shell which captures, finished."""
-    answer = ran(folder, ["make", *BY_SHELL, *words], more)
-    return answer if ran(folder, [TOOL, "--finish"])[0] == 0 else "not finished"
+def text_of(folder, name, at="capture"):
+    """The lines of a target's log that are no records."""
+    return re.sub(r"^@@REDO:.*\n", "", log_of(folder, name, at), flags=re.M)
+
+
+def lines_of_others(err):
+    """The lines of standard error that are not printed by redo-log-capture, without the commands of failed recipes."""
+    return [line for line in re.sub(r"^redo-log-capture: (.* \(exit \d+\)\n)?.*\n", "", err, flags=re.M).splitlines()]
+
+
+def without_printed(err):
+    return re.sub(r"^redo-log-capture: \d+ targets? that did not fail printed something.*\n", "", err, flags=re.M)
 
 
 def shown(folder, *words, at="capture"):

@@ -6,7 +6,7 @@ import shutil
 import signal
 import subprocess
 
-from builds import BY_SHELL, TOOL, log_of, make, of_a_terminal, preloaded, project, ran, shown, wait_for, wait_until, write
+from builds import TOOL, lines_of_others, make, of_a_terminal, preloaded, project, ran, shown, text_of, wait_for, wait_until, without_printed, write
 from checks import environment, install_capture
 
 MARKING = ("--must-close",)
@@ -81,21 +81,12 @@ def removing_what_is_kept(at):
         removing(f".capture/{name}")(at)
 
 
-def of_target(change, name="y"):
-    """The same of the file that tells of a target."""
-
-    def found(at):
-        folder = ".capture/targets"
-        path = next(path for path in os.listdir(f"{at}/{folder}") if read(f"{at}/{folder}/{path}").endswith(f"\n{name}"))
-        change(f"{folder}/{path}")(at)
-
-    return found
-
-
 def left_out(number, more=""):
     return f"FOLDER/capture/names: line {number}: bad line, left out{more}"
 
 
+# The log of x is then what z printed first, and begins with z.
+SWAPPED = TEXT.format("redo    x\nredo      z\nz 2\nz 1\n").replace("redo    y\nredo      z\nz 2\n", "redo    y\n")
 # A change; what is told; which names there are then; what is shown of x; and whether x, which the second build doesn't make, is
 # still known to be closed.
 CHANGES = {
@@ -113,7 +104,7 @@ CHANGES = {
     "names emptied": (names_are(""), [], NEW, "", None),
     "names removed": (removing("names"), [], NEW, "", None),
     "another order": (names_are("".join(LEFT.splitlines(keepends=True)[::-1])), [], "".join(LEFT.splitlines(keepends=True)[::-1]), FIRST, True),
-    "two numbers swapped": (names_are(LEFT.replace("2 x\n3 z", "3 x\n2 z")), [], LEFT.replace("2 x\n3 z", "3 x\n2 z"), "redo    x\nz 1\n", False),
+    "two numbers swapped": (names_are(LEFT.replace("2 x\n3 z", "3 x\n2 z")), [], LEFT.replace("2 x\n3 z", "3 x\n2 z"), SWAPPED, False),
     "another name": (names_are(LEFT.replace(" y", " other")), [], LEFT.replace(" y", " other") + "8 y\n", FIRST, True),
     "another name of what is made no more": (names_are(LEFT.replace(" x", " other")), [], LEFT.replace(" x", " other"), "", False),
     "another name of the run": (names_are(LEFT.replace(" all", " other")), [], LEFT, FIRST, True),
@@ -135,40 +126,25 @@ CHANGES = {
     "no book": (removing(".capture/run"), [], LEFT, FIRST, False),
     "an empty book": (emptying(".capture/run"), [], LEFT, FIRST, False),
     "another book": (writing(".capture/run", "smith\njones\n"), [], LEFT, FIRST, False),
-    "no last number": (removing(".capture/last"), [], LEFT, FIRST, True),
-    "no last number, and a line removed": (both(names_are(without("sub")), emptying(".capture/last")), [], without("sub") + "8 sub\n", FIRST, True),
-    "another last number": (writing(".capture/last", "smith\n"), [], LEFT, FIRST, True),
+    "the last line removed": (names_are(without("sub")), [], without("sub") + "8 sub\n", FIRST, True),
+    "the last line and its log removed": (both(names_are(without("sub")), removing("log.7")), [], LEFT, FIRST, True),
     "no lock": (removing(".capture/lock"), [], LEFT, FIRST, True),
     "no list of closed logs": (removing(".capture/closed"), [], LEFT, FIRST, False),
     "an empty list of closed logs": (emptying(".capture/closed"), [], LEFT, FIRST, False),
-    "another list of closed logs": (writing(".capture/closed", "x\n-5\n2\n888888888\n"), [], LEFT, FIRST, True),
-    "no list that was left": (removing(".capture/left"), [], LEFT, FIRST, True),
-    "an empty list that was left": (emptying(".capture/left"), [], LEFT, FIRST, True),
-    "another list that was left, and a line removed": (both(names_are(without("x")), adding(".capture/left", "8 other\n")), [], without("x"), "", None),
-    "no word of spaces": (removing(".capture/spaces"), [], LEFT, FIRST, True),
-    "no targets": (removing(".capture/targets"), [], LEFT, FIRST, True),
-    "no file of a target": (of_target(removing), [], LEFT, FIRST, True),
-    "no file of a target that is made no more": (of_target(removing, "x"), [], LEFT, FIRST, True),
-    "no file of the run": (of_target(removing, "all"), [], LEFT, FIRST, True),
-    "an empty file of a target": (of_target(emptying), [], LEFT, FIRST, True),
-    "an empty file of a target that is made no more": (of_target(emptying, "x"), [], LEFT, FIRST, True),
-    "an empty file of the front of a name": (of_target(emptying, "a "), [], LEFT, FIRST, True),
-    "no file of the front of a name": (of_target(removing, "a "), [], LEFT, FIRST, True),
-    "a folder for the file of a target": (of_target(folder_for), [], LEFT, FIRST, True),
-    "a pipe for the file of a target": (of_target(pipe_for), [], LEFT, FIRST, True),
-    "a pipe beside them": (lambda at: os.mkfifo(f"{at}/.capture/targets/more"), [], LEFT, FIRST, True),
-    "a folder beside them": (lambda at: os.mkdir(f"{at}/.capture/targets/more"), [], LEFT, FIRST, True),
+    "another list of closed logs": (writing(".capture/closed", "x\n-5 x\n3 x\n2 x\n2\n888888888 y\n"), [], LEFT, FIRST, True),
     "nothing kept": (removing_what_is_kept, [], LEFT, FIRST, False),
-    "two of them": (both(names_are(without("y", "sub")), removing(".capture/last"), of_target(emptying, "x")), [], without("y", "sub") + "8 y\n9 sub\n", FIRST, True),
+    "two of them": (both(names_are(without("y", "sub")), removing(".capture/lock")), [], without("y", "sub") + "8 y\n9 sub\n", FIRST, True),
 }
 
 
 def built(folder, command, *words, more=None):
     """The status and output of a build; what else it said, in any order; and what redo-log-capture told."""
     status, out, told = ran(folder, [*command, *(() if "make" in command else ("make", "-s")), *words], more)
+    told = without_printed(told)
     lines = [line.replace(folder, "FOLDER") for line in told.splitlines()]
     own = "redo-log-capture: "
-    return (status, out, sorted(line for line in lines if not line.startswith(own))), [line.removeprefix(own) for line in lines if line.startswith(own)]
+    others = [line.replace(folder, "FOLDER") for line in lines_of_others(told)]
+    return (status, out, sorted(others)), [line.removeprefix(own) for line in lines if line.startswith(own)]
 
 
 def placed(folder):
@@ -195,9 +171,10 @@ def between_builds(checks, at):
             silent = (wanted[0], wanted[1], [])
             checks.expect(f"{name}: make", built(folder, [TOOL, *options], "N=2"), (silent, told))
             checks.expect(f"{name}: names", read(f"{folder}/capture/names"), marked(names, is_closed) if options else names)
-            checks.expect(f"{name}: shown", shown(folder, "-u", "all"), TEXT.format(first))
+            text = first if first.startswith("redo  all") else TEXT.format(first)
+            checks.expect(f"{name}: shown", shown(folder, "-u", "all"), text)
             checks.expect(f"{name}: the next one", built(folder, [TOOL, *options], "N=3"), (silent, []))
-            checks.expect(f"{name}: shown then", shown(folder, "-u", "all"), TEXT.format(first).replace("2\n", "3\n"))
+            checks.expect(f"{name}: shown then", shown(folder, "-u", "all"), text.replace("2\n", "3\n"))
             checks.expect(f"{name}: files", sorted(set(os.listdir(folder)) - {"capture"}), sorted(os.listdir(plain)))
 
     folder = placed(at("gone"))
@@ -209,25 +186,17 @@ def between_builds(checks, at):
     names_are(without("x"))(f"{folder}/capture")
     checks.expect("but not without its line", shown(folder, "-u", "all"), TEXT.format("redo    x\n"))
 
-    folder = placed(at("shell"))
-    make(folder, "-s", "N=1")
-    names_are(without("y") + "smith\n")(f"{folder}/capture")
-    told = f"redo-log-capture: {folder}/capture/names: line 7: bad line, left out\n"
-    checks.expect("by SHELL: make", ran(folder, ["make", "-s", *BY_SHELL, "N=2"])[::2], (0, told))
-    checks.expect("by SHELL", (ran(folder, [TOOL, "--finish"]), shown(folder, "-u", "all")), ((0, "", ""), TEXT.format(FIRST)))
-
 
 def refused(checks, at):
     """What no capture can be written to is refused before anything is started, and stays as it was."""
     rows = {
-        "nothing kept of it": (removing(".capture"), "capture/names is there already, and no capture wrote it"),
+        "nothing kept of it": (removing(".capture"), "capture is not a capture directory, and not empty; name another one with --dir"),
         "a file in its place": (both(removing(".capture"), writing(".capture", "")), "cannot write capture/.capture: Not a directory"),
-        "a file for the targets": (both(removing(".capture/targets"), writing(".capture/targets", "")), "cannot write capture/.capture/targets: Not a directory"),
-        "names a folder": (folder_for("names"), "capture/names is no file"),
-        "names a pipe": (pipe_for("names"), "capture/names is no file"),
+        "names a folder": (folder_for("names"), "capture/names is not a regular file"),
+        "names a pipe": (pipe_for("names"), "capture/names is not a regular file"),
         "names a link to itself": (lambda at: (removing("names")(at), os.symlink("names", f"{at}/names")), "cannot write capture/names: Too many levels of symbolic links"),
-        "the book a pipe": (pipe_for(".capture/run"), "capture/.capture/run is no file"),
-        **{f"a folder for {name}": (folder_for(f".capture/{name}"), f"capture/.capture/{name} is no file") for name in ("lock", "run", "last", "closed", "left")},
+        "the book a pipe": (pipe_for(".capture/run"), "capture/.capture/run is not a regular file"),
+        **{f"a folder for {name}": (folder_for(f".capture/{name}"), f"capture/.capture/{name} is not a regular file") for name in ("lock", "run", "closed")},
     }
     for what, (change, told) in rows.items():
         folder = placed(at(what))
@@ -246,15 +215,15 @@ c: t ; @echo c >&2
 """
 MIDDLE_BELOW = "s1: ; @echo s1 >&2; $(THEN); echo s1 again >&2\ns2: s1 ; @echo s2 >&2\n"
 WHOLE = "redo  all\nredo    a\na\nredo    b\nb\nb again\nredo    t\nredo      s2\nredo        s1\ns1\ns1 again\ns2\nt\nt again\nredo    c\nc\nall\n"
-GONE = "FOLDER/capture was removed, with what was captured"
-LOG_GONE = "FOLDER/capture/log.{} was removed, with what was captured".format
+GONE = "FOLDER/capture was removed; its captures are lost"
+LOG_GONE = "FOLDER/capture/log.{} was removed; its captures are lost".format
 LATE = "redo  all\nredo    t\nredo      s2\nredo        s1\ns1\ns1 again\ns2\nt\nt again\nredo    c\nc\nall\n"
 LATER = "redo  all\nredo    c\nc\nredo    s2\ns2\nall\n"
 NO_WORDS = (
     WHOLE.replace("a\na\n", "a\n").replace("b\nb\nb again\n", "b\n"),
     "redo  all\nredo    a\nredo    b\nredo    t\nredo      s2\nredo        s1\ns2\nredo    c\nc\nall\n",
 )
-SEVERAL_GONE = "FOLDER/capture/log.2 and 1 more were removed, with what was captured"
+SEVERAL_GONE = "FOLDER/capture/log.2 and {} more were removed; their captures are lost"
 # What a recipe does; what is told, and shown if that is whole, of one of the run, and of one of a make below. What that is told
 # itself comes into the log of the recipe above it.
 MEANWHILE = {
@@ -268,18 +237,15 @@ MEANWHILE = {
     "an unended line": ("printf '77 x' >>capture/names", [], WHOLE, [], WHOLE),
     "a bad line": ("echo bad >>capture/names", [left_out(4)], WHOLE, [left_out(6)], WHOLE),
     "a number twice": ("echo '2 other' >>capture/names", [left_out(4)], WHOLE, [left_out(6)], WHOLE),
-    "no last number": ("rm capture/.capture/last", [], WHOLE, [], WHOLE),
     "no list of closed logs": ("rm capture/.capture/closed", [], WHOLE, [], WHOLE),
-    "no targets": ("rm -r capture/.capture/targets", [GONE], None, [GONE], None),
-    "no list that was left": ("rm capture/.capture/left", [], WHOLE, [], WHOLE),
     "a log removed": ("rm capture/log.2", [LOG_GONE(2)], WHOLE.replace("a\na\n", "a\n"), [LOG_GONE(2)], WHOLE.replace("a\na\n", "a\n")),
     "its own log removed": ("rm capture/log.3", [LOG_GONE(3)], WHOLE.replace("b\nb\nb again\n", "b\n"), [LOG_GONE(3)], WHOLE.replace("b\nb\nb again\n", "b\n")),
-    "all logs removed": ("rm capture/log.*", [LOG_GONE(3), LOG_GONE(2)], NO_WORDS[0], [LOG_GONE(4), SEVERAL_GONE], NO_WORDS[1]),
+    "all logs removed": ("rm capture/log.*", [SEVERAL_GONE.format(1)], NO_WORDS[0], [SEVERAL_GONE.format(3)], NO_WORDS[1]),
     "the log of the run removed": ("rm capture/log.1", [], WHOLE, [], WHOLE),
     "the log of the run emptied": (": >capture/log.1", [], WHOLE, [], WHOLE),
-    "no book": ("rm capture/.capture/run", [GONE], LATE, [GONE], LATER),
-    "an empty book": (": >capture/.capture/run", [GONE], LATE, [GONE], LATER),
-    "another book": ("echo smith >capture/.capture/run", [GONE], LATE, [GONE], LATER),
+    "no journal": ("rm capture/.capture/run", [], WHOLE, [], WHOLE),
+    "an empty journal": (": >capture/.capture/run", [], WHOLE, [], WHOLE),
+    "another journal": ("echo smith >capture/.capture/run", [], WHOLE, [], WHOLE),
     "nothing kept of it": ("rm -r capture/.capture", [GONE], LATE, [GONE], LATER),
     "the directory removed": ("rm -r capture", [GONE], LATE, [GONE], LATER),
 }
@@ -294,20 +260,23 @@ def in_the_middle(checks, at):
             told, text = rows[2 * number : 2 * number + 2]
             words = {"NOW": ":", "THEN": ":", variable: command.replace("$", "$$")}
             given = [f"{key}={value}" for key, value in words.items()]
-            checks.expect(f"{name}: make", built(folder, [TOOL, *MARKING], *given), ((0, "", []), told))
+            (status, out, lines), reports = built(folder, [TOOL, *MARKING], *given)
+            # What those print that ran when the captures were removed is printed then.
+            left = {"b", "b again"} if variable == "NOW" else {"s1", "s1 again", "t", "t again"}
+            checks.expect(f"{name}: make", (status, out, set(lines) <= (left if told == [GONE] else set()), reports), (0, "", True, told))
             found = str(shown(folder, "all"))
             checks.expect(f"{name}: shown", found if text else found.startswith("redo  all\n"), text or True)
             checks.expect(f"{name}: the next one", built(folder, [TOOL, *MARKING], "NOW=:", "THEN=:"), ((0, "", []), []))
             checks.expect(f"{name}: shown then", shown(folder, "all"), WHOLE)
 
     folder = project(at("fails"), "all: ; @echo all >&2; echo bad >>capture/names; exit 3\n")
-    told = ["all (exit 3)", left_out(2), "all failed; to read it: redo-log all", "to read all: redo-log -r all"]
+    told = ["all (exit 3)", left_out(2), "all failed; show its log: redo-log all", "show all logs: redo-log -r all"]
     checks.expect("one that fails", built(folder, [TOOL])[1], told)
 
     folder = project(at("killed"), "all: x y\nx: ; @echo x >&2\ny: ; @echo y >&2; touch begun; exec sleep 60\n")
     build = subprocess.Popen([TOOL, "make", "-s"], cwd=folder, env=environment(), stderr=subprocess.DEVNULL, preexec_fn=of_a_terminal)
     wait_for(os.path.join(folder, "begun"))
-    wait_until("y has spoken", lambda: log_of(folder, "y") == "y\n")
+    wait_until("y has spoken", lambda: text_of(folder, "y") == "y\n")
     os.killpg(build.pid, signal.SIGKILL)
     build.wait()
     write(f"{folder}/capture/names", "1 all\n")
@@ -316,11 +285,12 @@ def in_the_middle(checks, at):
 
 
 def many_needs(checks, at):
-    """A recipe that needs more than may be told in a variable, whose first line removes the directory, and one whose captures are lost."""
+    """A recipe of many prerequisites, whose first line removes the directory."""
     names = " ".join(f"n{number}" for number in range(40))
-    for change in ("rm -r capture", "rm capture/.capture/run", ": >capture/.capture/run"):
+    for change in ("rm -r capture", "rm -r capture/.capture"):
         folder = project(at(change.replace("/", "")), f"all: {names}\n\t@echo one >&2; {change}\n\t@echo two >&2\n{names}: ; @echo $@ >&2\n")
-        checks.expect(f"{change}, by one of many needs: make", built(folder, [TOOL, *MARKING]), ((0, "", []), [GONE]))
+        (status, out, lines), told = built(folder, [TOOL, *MARKING])
+        checks.expect(f"{change}, by one of many needs: make", (status, out, set(lines) <= {"one"}, told), (0, "", True, [GONE]))
         checks.expect(f"{change}, by one of many needs", shown(folder, "all"), "redo  all\ntwo\n")
 
 
@@ -342,7 +312,7 @@ def folders_for_logs(checks, at):
     checks.expect("a pipe for a log", shown(folder, "all"), TEXT.format("").replace("2\n", "4\n"))
     folder_for("log.1")(f"{folder}/capture")
     (_, out, lines), told = built(folder, [TOOL, *MARKING], "N=5")
-    checks.expect("a folder for the log of the run", (status, out, lines, set(told)), (*built(plain, [], "N=5")[0], {"cannot write FOLDER/capture/log.1: Is a directory"}))
+    checks.expect("a folder for the log of the run", (out, lines, set(told)), ("made\n", ["all 5"], {"cannot write FOLDER/capture/log.1: Is a directory"}))
 
     folder = project(at("middle"), MIDDLE)
     write(os.path.join(folder, "below.mk"), MIDDLE_BELOW)
@@ -351,10 +321,10 @@ def folders_for_logs(checks, at):
     checks.expect("in the middle", shown(folder, "all"), (5, "redo-log: a: cannot be read\n"))
     recipe = "echo x >&2; until grep -q x capture/log.2; do sleep 0.01; done; rm capture/log.2; mkdir capture/log.2; $(MORE) exit 3"
     folder = project(at("fails"), f"all: x\nx: ; @{recipe}\n")
-    told = ["x (exit 3)", LOG_GONE(2), "x failed; to read it: redo-log x", "to read all: redo-log -r all"]
+    told = ["x (exit 3)", LOG_GONE(2), "x failed; show its log: redo-log x", "show all logs: redo-log -r all"]
     checks.expect("of one that fails", built(folder, [TOOL])[1], told)
     shutil.rmtree(f"{folder}/capture")
-    checks.expect("of one that fails, and says more", built(folder, [TOOL], "MORE=echo more >&2;")[1], [LOG_GONE(2), *told])
+    checks.expect("of one that fails, and says more", built(folder, [TOOL], "MORE=echo more >&2;")[1], told)
 
 
 REMOVING = """all: a t b\\ c d
@@ -388,9 +358,10 @@ def removed_at_any_time(checks, at):
             count = os.path.getsize(f"{folder}.{number}")
             what = f"removed in front of change {number}"
             checks.expect(f"{what}: make", (status, out, [line for line in lines if line not in plain[2]]), (*plain[:2], []))
-            checks.expect(f"{what}: told", GONE in told, number <= count)
+            # Before the first change nothing was captured.
+            checks.expect(f"{what}: told", GONE in told or number == 1, number <= count or number == 1)
             checks.expect(f"{what}: the next one", built(folder, [TOOL, *MARKING]), ((*plain[:2], [plain[2][4]]), shows))
-        checks.expect("changes in all", count > 60, True)
+        checks.expect("changes in all", count > 40, True)
 
 
 BESIDE = """NUMBERS = $(shell seq 40)

@@ -6,7 +6,7 @@ import signal
 import subprocess
 import sys
 
-from builds import TOOL, log_of, make, of_a_terminal, project, ran, said, shown, wait_for, wait_until, write
+from builds import TOOL, lines_of_others, log_of, make, of_a_terminal, project, ran, said, shown, text_of, wait_for, wait_until, without_printed, write
 from checks import TOP, environment
 
 OPENED = {
@@ -44,7 +44,7 @@ def outcome(folder, command):
     answers = []
     for _ in range(2):
         done = subprocess.run(command, cwd=folder, env=environment(), capture_output=True, text=True, preexec_fn=without_core)
-        lines = sorted(line for line in done.stderr.splitlines() if not line.startswith("redo-log-capture: "))
+        lines = sorted(lines_of_others(done.stderr))
         answers.append((done.returncode, lines, sorted(set(os.listdir(folder)) - {"capture"})))
     return answers
 
@@ -93,7 +93,8 @@ def many_needs(checks, at):
     makefile = f"NAMES = {' '.join(names)}\nall: $(NAMES)\n\t@echo linked $(words $^) >&2\n\t@echo $(words $+) again >&2\n$(filter-out %0007,$(NAMES)): ;\n"
     folder = project(at("many"), makefile + "%0007: ; @echo $@ >&2\n")
     command = ["sh", "-c", 'ulimit -s 4096; exec "$@"', "limit", TOOL, "make", "-j4"]
-    checks.expect("20,000 needs: make", ran(folder, command), (0, "", ""))
+    status, out, told = ran(folder, command)
+    checks.expect("20,000 needs: make", (status, out, without_printed(told)), (0, "", ""))
     made = [name for name in names if name.endswith("0007")]
     text = "redo  all\n" + "".join(f"redo    {name}\n{name}\n" for name in made) + "linked 20000\n20000 again\n"
     checks.expect("20,000 needs", shown(folder, "all"), text)
@@ -188,7 +189,7 @@ def flags_of_the_shell(checks, at):
         status, out, said = ran(project(at(f"plain{number}"), makefile), ["make", "-s"])
         folder = project(at(f"captured{number}"), makefile)
         checks.expect(f"flags, {line}: make", make(folder, "-s", options=["--quiet"])[:2], (status, out))
-        checks.expect(f"flags, {line}: the log", log_of(folder, "a").splitlines()[:1], said.splitlines()[:1])
+        checks.expect(f"flags, {line}: the log", text_of(folder, "a").splitlines()[:1], said.splitlines()[:1])
 
 
 def makes_anything(checks, at):
@@ -205,7 +206,7 @@ def behind_the_build(checks, at):
     """Nothing holds what the capture was given, once the build has ended, and nobody waits for what a recipe leaves behind."""
     folder = project(at("held"), "all: ; @echo said >&2; sleep 60 >/dev/null & echo $$! >pid\n")
     done = subprocess.run([TOOL, "make", "-j2"], cwd=folder, env=environment(), stdin=subprocess.DEVNULL, capture_output=True, text=True, timeout=30)
-    checks.expect("a process that is left behind holds nothing", (done.returncode, done.stdout, done.stderr), (0, "", ""))
+    checks.expect("a process that is left behind holds nothing", (done.returncode, done.stdout, without_printed(done.stderr)), (0, "", ""))
     with open(os.path.join(folder, "pid"), encoding="utf-8") as number:
         os.kill(int(number.read()), signal.SIGKILL)
 
@@ -214,7 +215,7 @@ def behind_the_build(checks, at):
     makefile = f"all: {names}\n\t@until [ $$(grep -l late capture/log.* | wc -l) = {count} ]; do sleep 0.01; done\n"
     folder = project(at("many"), makefile + f"{names}: ; @echo first $@ >&2; {{ sleep 0.$$(($@ % 7)); echo late $@ >&2; }} >/dev/null &\n")
     checks.expect("many are left behind: make", make(folder, "-j8"), (0, "", ""))
-    said = [log_of(folder, str(number)).splitlines()[:2] for number in range(count)]
+    said = [text_of(folder, str(number)).splitlines() for number in range(count)]
     checks.expect("many are left behind", said, [[f"first {number}", f"late {number}"] for number in range(count)])
 
     folder = project(at("goes-on"), "all: ; @{ until [ -e go ]; do sleep 0.01; done; for n in 1 2 3; do echo $$n >&2 || exit; done; touch lived; } >/dev/null & echo all >&2\n")
@@ -230,7 +231,7 @@ def in_mid_line(checks, at):
     folder = project(at("record"), makefile + "sub: ; @echo sub >&2; touch begun; until [ -e go ]; do sleep 0.01; done\n")
     build = subprocess.Popen([TOOL, "make"], cwd=folder, env=environment())
     wait_for(os.path.join(folder, "begun"))
-    wait_until("sub has spoken", lambda: log_of(folder, "sub") == "sub\n")
+    wait_until("sub has spoken", lambda: text_of(folder, "sub") == "sub\n")
     checks.expect("a line that goes on, and a record", shown(folder, "all"), "redo  all\nis it there? \nredo    sub\nsub\n")
     write(os.path.join(folder, "go"), "")
     checks.expect("when it has ended", (build.wait(), shown(folder, "all")), (0, "redo  all\nredo    sub\nsub\nis it there? yes\n"))
@@ -251,9 +252,8 @@ def much_is_said(checks, at):
     checks.expect("much is said: make", make(folder, "-j5", options=["--quiet"]), (0, "", ""))
     for number in range(4):
         text = "".join(f"{number} {i:060}\n" for i in range(50000))
-        checks.expect(f"much is said by {number}", log_of(folder, str(number))[: len(text)] == text, True)
-    text = log_of(folder, "long")
-    checks.expect("a line of 20 MB", (text[:20000001] == "x" * 20000000 + "\n", text.count("\n")), (True, 2))
+        checks.expect(f"much is said by {number}", text_of(folder, str(number)) == text, True)
+    checks.expect("a line of 20 MB", text_of(folder, "long") == "x" * 20000000 + "\n", True)
 
 
 # A makefile, in which `below` says one line on standard error and one on standard output, and what it is to leave in a file.
@@ -286,7 +286,7 @@ def sent_elsewhere(checks, at):
             checks.expect(f"sent to {name}, {options}: make", make(folder, options=options), (0, "" if "--both" in options else out, told))
             with open(os.path.join(folder, "found"), encoding="utf-8") as file:
                 checks.expect(f"sent to {name}, {options}", file.read(), found)
-            checks.expect(f"sent to {name}, {options}: the log", [line for line in log_of(folder, "all").splitlines() if not line.startswith("@@REDO")], ["begun", "ended"])
+            checks.expect(f"sent to {name}, {options}: the log", text_of(folder, "all"), "begun\nended\n")
 
     folder = project(at("script"), "all: ; @echo said >&2; echo out\n")
     write(os.path.join(folder, "build"), "make -s 2>&1 | tee found\necho behind >&2\n")
@@ -298,31 +298,39 @@ def removed(checks, at):
     """A recipe may remove the capture directory; what runs later is captured."""
     makefile = "all: clean x\n\t@echo all >&2\nclean: first\n\t@echo cleaned >&2; rm -rf capture\nfirst x: ; @echo $@ >&2\n"
     folder = project(at("clean"), makefile)
-    told = f"redo-log-capture: {folder}/capture was removed, with what was captured\n"
-    checks.expect("the captures are removed: make", make(folder), (0, "", told))
+    told = f"redo-log-capture: {folder}/capture was removed; its captures are lost\n"
+
+    def made(*words):
+        """What the recipe printed before is lost, or printed, as it was read before or after."""
+        status, out, err = make(folder, *words)
+        return status, out, err.replace("cleaned\n", "")
+
+    checks.expect("the captures are removed: make", made(), (0, "", told))
     checks.expect("what runs later", shown(folder, "all"), "redo  all\nredo    x\nx\nall\n")
-    checks.expect("the last recipe removes them", make(folder, "clean"), (0, "", told + "redo-log-capture: no recipe was captured\n"))
+    checks.expect("the last recipe removes them", made("clean"), (0, "", told + "redo-log-capture: no recipe was captured\n"))
     folder = project(at("fails"), "all: ; @rm -rf capture; kill -9 $$$$\n")
     told = told.replace("clean/", "fails/") + "make: *** [Makefile:1: all] Killed\nredo-log-capture: no recipe was captured\n"
-    checks.expect("and fails", make(folder), (2, "", told))
+    status, out, err = make(folder)
+    checks.expect("and fails", (status, out, err.removeprefix(said("all", 137, "rm -rf capture; kill -9 $$"))), (2, "", told))
 
 
 def no_leftovers(checks, at):
-    """A build's own folder in TMPDIR is gone with it, however it ends; and where there can be none there, it is elsewhere."""
+    """A build leaves nothing in TMPDIR, and needs nothing of it."""
     folder, temporary = project(at("project"), "all: ; @echo said >&2; exit $(E)\nwaits: ; @touch begun; exec sleep 60\n"), at("temporary")
     os.mkdir(temporary)
     more = {"TMPDIR": temporary}
     for words, status in ((["make", "E=0"], 0), (["make", "E=1"], 2), (["nope"], 127), (["--dir", "Makefile", "make"], 1), (["make", "-n"], 0)):
         done = ran(folder, [TOOL, *words], more)
         checks.expect(f"nothing is left of {words}", (done[0], os.listdir(temporary)), (status, []))
-    build = subprocess.Popen([TOOL, "make", "waits"], cwd=folder, env=environment(more), stderr=subprocess.DEVNULL, preexec_fn=of_a_terminal)
-    wait_for(os.path.join(folder, "begun"))
-    checks.expect("it is there until then", len(os.listdir(temporary)), 1)
-    os.killpg(build.pid, signal.SIGINT)
-    # make may see that its recipe ended before it sees its own signal: then it ends with 2, as without a capture.
-    checks.expect("nothing is left of a build that is interrupted", (build.wait(timeout=30) in (-signal.SIGINT, 2), os.listdir(temporary)), (True, []))
+    for kind in (signal.SIGINT, signal.SIGKILL):
+        build = subprocess.Popen([TOOL, "make", "waits"], cwd=folder, env=environment(more), stderr=subprocess.DEVNULL, preexec_fn=of_a_terminal)
+        wait_for(os.path.join(folder, "begun"))
+        os.remove(os.path.join(folder, "begun"))
+        os.killpg(build.pid, kind)
+        # make may see that its recipe ended before it sees its own signal: then it ends with 2, as without a capture.
+        checks.expect(f"nothing is left of a build that gets {kind.name}", (build.wait(timeout=30) in (-kind, 2), os.listdir(temporary)), (True, []))
     for place in ("nowhere", at("with space"), "", at("x" * 120)):
-        told = said("all", 1, "said\n")
+        told = said("all", 1, "echo said >&2; exit 1", "said\n")
         checks.expect(f"TMPDIR={place}", ran(folder, [TOOL, "make", "E=1"], {"TMPDIR": place})[2].startswith(told), True)
 
 

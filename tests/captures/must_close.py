@@ -1,7 +1,6 @@
 """Which logs have to be closed of a build that was captured with --must-close: that `names` marks these and no others, at any
 time, and that a copy which lost the end of one is refused."""
 import contextlib
-import fcntl
 import os
 import re
 import shutil
@@ -9,7 +8,7 @@ import signal
 import subprocess
 import time
 
-from builds import BY_SHELL, TOOL, log_of, make, make_by_shell, of_a_terminal, preloaded, project, ran, shown, wait_for, write
+from builds import TOOL, log_of, make, of_a_terminal, preloaded, project, ran, shown, wait_for, write
 from checks import environment, install_capture
 
 MARKING = ("--must-close",)
@@ -46,7 +45,7 @@ def open_and_marked(folder):
         log = os.path.join(folder, "capture/log." + number.lstrip("!"))
         text = read(log) if os.path.exists(log) else ""
         own = name if name.startswith("/") else os.path.basename(name)
-        record = rf"(.*\n)?@@REDO:done:\d+:\d+@@ \d+ {re.escape(own)}\n"
+        record = rf"(.*\n)?@@REDO:done:\d+:\d+\.\d{{3}}@@ \d+ {re.escape(own)}\n"
         if number.startswith("!") and not re.fullmatch(record, text, re.S):
             found.append(name)
     return found
@@ -62,7 +61,7 @@ def marks(checks, at):
     build = subprocess.Popen([TOOL, *MARKING, "make", "Y=0"], cwd=folder, env=environment())
     checks.expect("with it: make", build.wait(), 0)
     checks.expect("with it", (names_of(folder), shown(folder, "all")), ("!1 all\n!2 x\n!3 z\n!4 y\n", text))
-    checks.expect("the run's own log", re.sub(r":\d+@@", ":T@@", log_of(folder, "all")).endswith(f"@@ 0 y\n@@REDO:done:{build.pid}:T@@ 0 all\n"), True)
+    checks.expect("the run's own log", re.sub(r":\d+\.\d+@@", ":T@@", log_of(folder, "all")).endswith(f"@@ 0 y\n@@REDO:done:{build.pid}:T@@ 0 all\n"), True)
     checks.expect("each log is closed once", [log_of(folder, name).count("@@REDO:done:") for name in ("x", "z")], [1, 1])
     checks.expect("a run that makes nothing: make", make(folder, "-n", "Y=0")[0], 0)
     checks.expect("a run that makes nothing", (names_of(folder), shown(folder, "all")), ("!1 all\n!2 x\n!3 z\n!4 y\n", text))
@@ -72,24 +71,25 @@ def marks(checks, at):
     checks.expect("one that fails: make", make(folder, "-s", "Y=3", options=MARKING)[0], 2)
     checks.expect("one that fails", names_of(folder), "!1 all\n!2 x\n!3 z\n!4 y\n")
     checks.expect("one that fails: its text", shown(folder, "all"), text + "redo    y (exit 3)\n")
-    checks.expect("one that fails: its log", re.sub(r"\d+:\d+@@", "@@", log_of(folder, "y")), "@@REDO:do:@@ z\n@@REDO:done:@@ 0 z\ny\n@@REDO:done:@@ 3 y\n")
-    checks.expect("one that fails: the run's own log", re.search(r":\d+@@ 2 all\n\Z", log_of(folder, "all")) is not None, True)
+    checks.expect("one that fails: its log", re.sub(r"\d+:\d+\.\d+@@", "@@", log_of(folder, "y")), "@@REDO:do:@@ y\n@@REDO:do:@@ z\n@@REDO:done:@@ 0 z\ny\n@@REDO:done:@@ 3 y\n")
+    checks.expect("one that fails: the run's own log", re.search(r":\d+\.\d+@@ 2 all\n\Z", log_of(folder, "all")) is not None, True)
     checks.expect("goes on: make", make(folder, "-k", "Y=3", options=MARKING)[0], 2)
     checks.expect("goes on", names_of(folder), "!1 all\n!2 x\n!3 z\n!4 y\n!5 w\n")
 
     folder = project(at("statuses"), "x: ; @echo x >&2\n")
     for command, status in (("exit 7", 7), ("kill -9 $$", 137), ("exit 0", 0)):
-        checks.expect(f"a status, {command}: make", ran(folder, [TOOL, *MARKING, "sh", "-c", f"make -s; {command}"])[0], status)
-        closed = re.fullmatch(r"@@REDO:do:\d+:\d+@@ x\n@@REDO:done:\d+:\d+@@ 0 x\n@@REDO:done:\d+:\d+@@ (\d+) all\n", log_of(folder, "all"))
+        found = ran(folder, [TOOL, *MARKING, "sh", "-c", f"make -s; {command}"])[0]
+        checks.expect(f"a status, {command}: make", found, status if status < 128 else 128 - status)
+        closed = re.fullmatch(r"@@REDO:do:[\d:.]+@@ x\n@@REDO:done:[\d:.]+@@ 0 x\n@@REDO:done:[\d:.]+@@ (\d+) all\n", log_of(folder, "all"))
         checks.expect(f"a status, {command}", (closed and closed[1], names_of(folder), shown(folder, "all")), (str(status), "!1 all\n!2 x\n", "redo  all\nredo    x\nx\n"))
 
     folder = project(at("own"), "all: x ; @echo all >&2; exit $(A)\nx: ; @echo x >&2\n")
     for status in (0, 3):
         checks.expect(f"a recipe `all`, {status}: make", make(folder, f"A={status}", options=MARKING)[0], 2 if status else 0)
-        log = re.sub(r"\d+:\d+@@", "@@", log_of(folder, "all"))
-        checks.expect(f"a recipe `all`, {status}", (names_of(folder), log), ("!1 all\n!2 x\n", f"@@REDO:do:@@ x\n@@REDO:done:@@ 0 x\nall\n@@REDO:done:@@ {status} all\n"))
+        log = re.sub(r"\d+:\d+\.\d+@@", "@@", log_of(folder, "all"))
+        checks.expect(f"a recipe `all`, {status}", (names_of(folder), log), ("!1 all\n!2 x\n", f"@@REDO:do:@@ all\n@@REDO:do:@@ x\n@@REDO:done:@@ 0 x\nall\n@@REDO:done:@@ {status} all\n"))
     checks.expect("a run of another target: make", make(folder, "x", options=MARKING)[0], 0)
-    log = re.sub(r"\d+:\d+@@", "@@", log_of(folder, "all"))
+    log = re.sub(r"\d+:\d+\.\d+@@", "@@", log_of(folder, "all"))
     checks.expect("a run of another target", (names_of(folder), log), ("!1 all\n!2 x\n", "@@REDO:do:@@ x\n@@REDO:done:@@ 0 x\n@@REDO:done:@@ 0 all\n"))
 
     folder = project(at("below"), "top: lib ; @echo top >&2\n.PHONY: lib\nlib: ; @$(MAKE) -s -C lib a; echo lib >&2\n")
@@ -99,19 +99,12 @@ def marks(checks, at):
     text = "redo  all\nredo    top\nredo      lib\nredo        lib/a\na\nredo        lib/a (exit 3)\nmake[1]: *** [Makefile:1: a] Error 3\nlib\ntop\n"
     checks.expect("makes below: their text", shown(folder, "all", at="o t"), text)
 
-    folder, link = project(at("odd"), "all: ; @$(TAKE)\n"), BY_SHELL[0].removeprefix("SHELL=")
-    script = 'for n in "!x" "!2 y" "a b" "/o/p"; do CAPTURE="$n : " "$0" -c true; done'
+    folder = project(at("odd"), "all: ; @$(TAKE)\n")
+    script = 'for n in "!x" "!2 y" "a b" "/o/p"; do CAPTURE="$n : " "$0" --recipe true; done'
     listed = "1 all\n2 !x\n3 !2 y\n4 a b\n5 /o/p\n"
-    checks.expect("odd names: the run", ran(folder, [TOOL, *MARKING, "sh", "-c", script, link]), (0, "", ""))
+    checks.expect("odd names: the run", ran(folder, [TOOL, *MARKING, "sh", "-c", script, TOOL]), (0, "", ""))
     checks.expect("odd names", (names_of(folder), open_and_marked(folder)), (re.sub("^", "!", listed, flags=re.M).removesuffix("!"), []))
-    checks.expect("odd names: again", (ran(folder, [TOOL, "sh", "-c", script, link])[0], names_of(folder)), (0, listed))
-
-    folder = project(at("shell"), makefile)
-    checks.expect("by SHELL: make", (make_by_shell(folder, "-s", "Y=0"), names_of(folder)), ((0, "", ""), "1 all\n2 x\n3 z\n4 y\n"))
-    checks.expect("by SHELL: marks", (ran(folder, [TOOL, *MARKING, "--finish"]), names_of(folder)), ((0, "", ""), "1 all\n!2 x\n!3 z\n!4 y\n"))
-    checks.expect("by SHELL: the next one", (ran(folder, ["make", "-s", *BY_SHELL, "x"]), names_of(folder)), ((0, "", ""), "1 all\n2 x\n3 z\n4 y\n"))
-    checks.expect("by SHELL: finished with marks", (ran(folder, [TOOL, "--finish", *MARKING]), names_of(folder)), ((0, "", ""), "1 all\n!2 x\n!3 z\n!4 y\n"))
-    checks.expect("by SHELL: the run's own log is open", ("@ 0 all" in log_of(folder, "all"), shown(folder, "all")), (False, "redo  all\nredo    x\nx\n"))
+    checks.expect("odd names: again", (ran(folder, [TOOL, "sh", "-c", script, TOOL])[0], names_of(folder)), (0, listed))
 
 
 # Each target is made where the file of its name isn't there.
@@ -139,7 +132,7 @@ def runs(checks, at):
 
     folder = project(at("list"), STEPWISE)
     make(folder, "N=0")
-    checks.expect("the list of closed logs", read(os.path.join(folder, "capture/.capture/closed")), "1\n2\n3\n")
+    checks.expect("the list of closed logs", read(os.path.join(folder, "capture/.capture/closed")), "1 all\n2 x\n3 y\n")
     os.remove(os.path.join(folder, "capture/.capture/closed"))
     checks.expect("captures of an older version", (ran(folder, [TOOL, "--finish", *MARKING]), names_of(folder)), ((0, "", ""), "1 all\n2 x\n3 y\n"))
     os.remove(os.path.join(folder, "x"))
@@ -159,11 +152,11 @@ def runs(checks, at):
     make(folder, "N=0", options=MARKING)
     os.remove(os.path.join(folder, "capture/names"))
     checks.expect("where the list of names is gone", (make(folder, "v", "N=1", options=MARKING), names_of(folder)), ((0, "", ""), "!1 all\n!2 v\n"))
-    checks.expect("the list of closed logs goes with it", read(os.path.join(folder, "capture/.capture/closed")), "1\n2\n")
+    checks.expect("the list of closed logs goes with it", read(os.path.join(folder, "capture/.capture/closed")), "1 all\n2 v\n")
 
     folder = project(at("removed"), "all: x clean y\nx y: ; @echo $@ >&2\nclean: ; @rm -rf capture\n")
     make(folder, "x", options=MARKING)
-    told = f"redo-log-capture: {folder}/capture was removed, with what was captured\n"
+    told = f"redo-log-capture: {folder}/capture was removed; its captures are lost\n"
     checks.expect("a recipe that removes the captures", (make(folder, options=MARKING), names_of(folder)), ((0, "", told), "!1 all\n!2 y\n"))
 
 
@@ -197,13 +190,6 @@ def killed(checks, at):
         checks.expect(f"the next run, {name}: its text", (shown(place, "all"), open_and_marked(place)), ("redo  all\nredo    z\nz 2\n", []))
 
 
-def locked_copy(folder, to):
-    """A copy in which nothing was changed while it was made."""
-    with open(os.path.join(folder, "capture/.capture/lock"), encoding="utf-8") as lock:
-        fcntl.flock(lock, fcntl.LOCK_EX)
-        return copied(folder, to)
-
-
 def moments(checks, at):
     """Copies that are made while builds run over marked captures, and after: none has an open log that is marked, and all are shown."""
     names = " ".join(f"t{number}" for number in range(24))
@@ -219,15 +205,17 @@ def moments(checks, at):
         has_ended = False
         while not has_ended:
             has_ended = build.poll() is not None
-            # `names` is copied first: once it has no marks the copy needs no lock.
-            place = (locked_copy if count % 2 or "!" in names_of(folder) else copied)(folder, at(str(count)))
+            # A copy is sound if no build began while it was made; `names` is copied first.
+            if not has_ended and "!" in names_of(folder):
+                continue
+            place = copied(folder, at(str(count)))
             count += 1
             unmarked += "!" not in names_of(place)
             checks.expect(f"moment {count}", open_and_marked(place), [])
             checks.expect(f"moment {count}: all or none is marked", names_of(place) in (all_marked, without_marks(all_marked)), True)
             if count % 3 == 0:
                 checks.expect(f"moment {count}: it is shown", str(shown(place, "all")).startswith("redo  all\n"), True)
-            time.sleep(0.007)
+            time.sleep(0.001)
         checks.expect("moments: when it has ended", names_of(folder), all_marked)
     checks.expect("moments: many of them in the middle", unmarked > 40, True)
 
@@ -283,19 +271,22 @@ def broken_off(checks, at):
 
 
 def finish_broken_off(checks, at):
-    """The same of a --finish behind a make that has the shell which captures."""
+    """The same of a --finish after a build that was killed."""
     breaking = Breaking(checks, at)
     number, is_broken = 0, True
     while is_broken:
         number += 1
         what, place = f"a finish that is killed from change {number} on", breaking.placed(str(number))
-        checks.expect(f"{what}: make", ran(place, ["make", "-s", *BY_SHELL, "N=1"]), (0, "", ""))
+        recipe = "all: x v w\nx: ; @echo x $(N) >&2; touch x\nv: x ; @echo v >&2\nw: v ; @kill -9 `cat capture/.capture/lock`\n"
+        write(os.path.join(place, "Makefile"), recipe)
+        build = subprocess.run([TOOL, *MARKING, "make", "-s", "N=1"], cwd=place, env=environment(), stderr=subprocess.DEVNULL)
+        checks.expect(f"{what}: make", build.returncode, -signal.SIGKILL)
         status, is_broken = breaking.run(place, ["--finish"], number, False)
         breaking.expect_right(what, place)
         checks.expect(f"{what}: its status", status, -signal.SIGKILL if is_broken else 0)
         checks.expect(f"{what}: again", ran(place, [TOOL, "--finish", *MARKING]), (0, "", ""))
         breaking.expect_right(f"{what}: again", place)
-    checks.expect("a finish that is whole", (number > 10, names_of(place)), (True, "1 all\n!2 x\n!3 y\n!4 v\n!5 w\n"))
+    checks.expect("a finish that is whole", (number > 8, names_of(place)), (True, "1 all\n!2 x\n!3 y\n!4 v\n5 w\n"))
 
 
 def cut_end(log):
@@ -352,8 +343,8 @@ def many_marks(checks, at):
     make(folder)
     listed = "1 all\n2 x\n" + "".join(f"{number} t{number}\n" for number in range(3, count))
     write(os.path.join(folder, "capture/names"), listed)
-    write(os.path.join(folder, "capture/.capture/closed"), "".join(f"{number}\n" for number in range(1, count) if number != 777))
-    write(os.path.join(folder, "capture/.capture/last"), f"{count - 1}\n")
+    closed = [line for line in listed.splitlines(keepends=True) if not line.startswith("777 ")]
+    write(os.path.join(folder, "capture/.capture/closed"), "".join(closed))
     checks.expect("many marks: make", make(folder, options=MARKING), (0, "", ""))
     marked = "".join(("" if line.startswith("777 ") else "!") + line for line in listed.splitlines(keepends=True))
     checks.expect("many marks", names_of(folder) == marked, True)

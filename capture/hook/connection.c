@@ -1,0 +1,143 @@
+/* The socket to redo-log-capture. */
+#define _GNU_SOURCE
+#include "hook.h"
+#include "syscalls.h"
+#include <errno.h>
+#include <fcntl.h>
+#include <limits.h>
+#include <signal.h>
+#include <sys/socket.h>
+#include <sys/stat.h>
+#include <sys/un.h>
+
+/* make's own descriptors get the numbers that they would have without this one. */
+enum { LOWEST_DESCRIPTOR = 60 };
+
+struct run run;
+static int connection = -1, notes = -1;
+
+int is_connected(void) { return connection >= 0; }
+
+void close_descriptor(int *descriptor) {
+  if (*descriptor >= 0) SYSCALL(close, *descriptor, 0, 0, 0);
+  *descriptor = -1;
+}
+
+uint64_t block_signals(void) {
+  uint64_t all = ~0ul, former = 0;
+  SYSCALL(rt_sigprocmask, SIG_SETMASK, &all, &former, sizeof all);
+  return former;
+}
+
+void restore_signals(uint64_t former) { SYSCALL(rt_sigprocmask, SIG_SETMASK, &former, 0, sizeof former); }
+
+static void disconnect(void) {
+  close_descriptor(&connection);
+  close_descriptor(&notes);
+}
+
+static int send_to(int socket, struct msghdr *message) {
+  long sent;
+  do sent = socket < 0 ? -EPIPE : SYSCALL(sendmsg, socket, message, MSG_NOSIGNAL, 0);
+  while (sent == -EINTR);
+  if (sent < 0) disconnect();
+  return sent < 0 ? -1 : 0;
+}
+
+int send_message(const void *head, size_t head_size, const void *body, size_t body_size, int descriptor) {
+  struct iovec parts[] = {{(void *)head, head_size}, {(void *)body, body_size}};
+  union {
+    struct cmsghdr head;
+    char room[CMSG_SPACE(sizeof(int))];
+  } control;
+  struct msghdr message = {.msg_iov = parts, .msg_iovlen = 2};
+  if (descriptor >= 0) {
+    memset(&control, 0, sizeof control);
+    control.head.cmsg_len = CMSG_LEN(sizeof(int)), control.head.cmsg_level = SOL_SOCKET, control.head.cmsg_type = SCM_RIGHTS;
+    *(int *)CMSG_DATA(&control.head) = descriptor;
+    message.msg_control = &control, message.msg_controllen = sizeof control;
+  }
+  return send_to(connection, &message);
+}
+
+int send_note(const void *head, size_t head_size, const void *body, size_t body_size) {
+  struct iovec parts[] = {{(void *)head, head_size}, {(void *)body, body_size}};
+  struct msghdr message = {.msg_iov = parts, .msg_iovlen = 2};
+  return send_to(notes, &message);
+}
+
+long receive(void *bytes, size_t size) {
+  long received;
+  do received = connection < 0 ? 0 : syscall6(__NR_recvfrom, connection, (long)bytes, size, 0, 0, 0);
+  while (received == -EINTR);
+  if (received <= 0) disconnect();
+  return received <= 0 ? -1 : received;
+}
+
+/* Whether an output of this make is where the run, or the recipe that runs this make, has it. */
+static int is_redirected(int descriptor) {
+  struct stat found;
+  unsigned long *place = run.place[descriptor];
+  if (SYSCALL(fstat, descriptor, &found, 0, 0) < 0) found.st_dev = 0, found.st_ino = 0;
+  if (descriptor == 1) run.own_output[0] = found.st_dev, run.own_output[1] = found.st_ino;
+  return found.st_dev != place[0] || found.st_ino != place[1];
+}
+
+static int moved(int descriptor) {
+  int higher = SYSCALL(fcntl, descriptor, F_DUPFD_CLOEXEC, LOWEST_DESCRIPTOR, 0);
+  if (higher < 0) return descriptor;
+  close_descriptor(&descriptor);
+  return higher;
+}
+
+static int open_socket(const struct sockaddr_un *address, size_t size, unsigned user) {
+  int opened = SYSCALL(socket, AF_UNIX, SOCK_SEQPACKET | SOCK_CLOEXEC, 0, 0);
+  if (opened < 0) return -1;
+  connection = moved(opened);
+  struct ucred listener = {0};
+  unsigned listener_size = sizeof listener;
+  long error = SYSCALL(connect, connection, address, size, 0);
+  if (!error) error = syscall6(__NR_getsockopt, connection, SOL_SOCKET, SO_PEERCRED, (long)&listener, (long)&listener_size, 0);
+  if (error || listener.uid != user) disconnect();
+  return connection < 0 ? -1 : 0;
+}
+
+/* Says which make this is, and gets its number. */
+static int introduce(struct hello *hello) {
+  char directory[PATH_MAX];
+  struct welcome welcome;
+  long size = SYSCALL(getcwd, directory, sizeof directory, 0, 0);
+  if (size <= 0 || directory[0] != '/') size = 1, directory[0] = 0;
+  int ends[2];
+  if (SYSCALL(socketpair, AF_UNIX, SOCK_SEQPACKET | SOCK_CLOEXEC, 0, ends) < 0) return disconnect(), -1;
+  notes = moved(ends[0]);
+  hello->kind = HELLO, hello->pid = own_process, hello->is_redirected = run.is_redirected[2];
+  int error = send_message(hello, sizeof *hello, directory, size, ends[1]);
+  close_descriptor(&ends[1]);
+  if (error || receive(&welcome, sizeof welcome) != sizeof welcome) return disconnect(), -1;
+  run.make = welcome.make, run.shows = welcome.shows, run.captures_output = welcome.captures_output;
+  return 0;
+}
+
+int connect_to_run(const char *variable) {
+  struct sockaddr_un address = {.sun_family = AF_UNIX};
+  struct hello hello = {0};
+  const char *from = variable;
+  size_t size = 0, count = 0;
+  while (from[size] && from[size] != ':') size++;
+  if (size == 0 || size > MAX_SOCKET_NAME || !from[size]) return -1;
+  memcpy(address.sun_path + 1, from, size);
+  for (from += size + 1; count < TOKEN_SIZE && *from && *from != ':'; from++) hello.token[count++] = *from;
+  if (count < TOKEN_SIZE || *from++ != ':') return -1;
+  unsigned user = take_number(&from);
+  if ((size_t)(from - variable) >= sizeof run.address) return -1;
+  memcpy(run.address, variable, from - variable);
+  hello.parent_make = take_number(&from), hello.parent_recipe = take_number(&from);
+  for (int output = 1; output <= 2; output++) {
+    run.place[output][0] = take_number(&from), run.place[output][1] = take_number(&from);
+    run.is_redirected[output] = is_redirected(output);
+  }
+  run.variable = variable, run.directory = from;
+  if (open_socket(&address, offsetof(struct sockaddr_un, sun_path) + 1 + size, user) < 0) return -1;
+  return introduce(&hello);
+}

@@ -1,0 +1,71 @@
+/* What the C library would have: strings, memory and the time. */
+#include "hook.h"
+#include "syscalls.h"
+#include <sys/mman.h>
+#include <time.h>
+
+/* The compiler may call these for what it copies and clears. */
+void *memcpy(void *to, const void *from, size_t size) {
+  char *bytes = to;
+  for (size_t i = 0; i < size; i++) bytes[i] = ((const char *)from)[i];
+  return to;
+}
+
+void *memset(void *to, int byte, size_t size) {
+  char *bytes = to;
+  for (size_t i = 0; i < size; i++) bytes[i] = byte;
+  return to;
+}
+
+size_t length_of(const char *string) {
+  size_t length = 0;
+  while (string[length]) length++;
+  return length;
+}
+
+int has_prefix(const char *string, const char *prefix) {
+  while (*prefix && *string == *prefix) string++, prefix++;
+  return !*prefix;
+}
+
+int is_equal(const char *left, const char *right) { return has_prefix(left, right) && !left[length_of(right)]; }
+
+char *put_string(char *to, const char *string) {
+  while (*string) *to++ = *string++;
+  *to = 0;
+  return to;
+}
+
+char *put_number(char *to, unsigned long number, char end) {
+  char digits[24];
+  int count = 0;
+  do digits[count++] = '0' + number % 10;
+  while (number /= 10);
+  while (count > 0) *to++ = digits[--count];
+  *to++ = end;
+  *to = 0;
+  return to;
+}
+
+unsigned long take_number(const char **from) {
+  unsigned long number = 0;
+  while (**from >= '0' && **from <= '9') number = number * 10 + (*(*from)++ - '0');
+  if (**from) (*from)++;
+  return number;
+}
+
+char *reserve(struct buffer *buffer, size_t size) {
+  if (size <= buffer->size) return buffer->bytes;
+  size_t larger = (size + size / 2 + 65535) & ~(size_t)65535;
+  long mapped = syscall6(__NR_mmap, 0, larger, PROT_READ | PROT_WRITE, MAP_PRIVATE | MAP_ANONYMOUS, -1, 0);
+  if (mapped < 0 && mapped > -4096) return NULL;
+  if (buffer->bytes) SYSCALL(munmap, buffer->bytes, buffer->size, 0, 0);
+  buffer->bytes = (char *)mapped, buffer->size = larger;
+  return buffer->bytes;
+}
+
+int64_t now(void) {
+  struct timespec time = {0, 0};
+  SYSCALL(clock_gettime, CLOCK_REALTIME, &time, 0, 0);
+  return (int64_t)time.tv_sec * 1000 + time.tv_nsec / 1000000;
+}

@@ -1,0 +1,34 @@
+/* What make tells of a recipe before it runs. */
+#include "hook.h"
+
+extern char *gmk_alloc(unsigned size) __attribute__((weak));
+
+static uint32_t count;
+
+/* Sends all of the target and its prerequisites, in as many messages as it takes. */
+static int send_names(const char *target, const char *prerequisites) {
+  struct names names = {NAMES};
+  struct recipe recipe = {RECIPE, count + 1};
+  size_t size = length_of(target) + 1, left = length_of(prerequisites);
+  for (; size > 0; target += size < MAX_BODY ? size : MAX_BODY, size -= size < MAX_BODY ? size : MAX_BODY)
+    if (send_note(&names, sizeof names, target, size < MAX_BODY ? size : MAX_BODY) < 0) return -1;
+  for (; left > MAX_BODY; prerequisites += MAX_BODY, left -= MAX_BODY)
+    if (send_note(&names, sizeof names, prerequisites, MAX_BODY) < 0) return -1;
+  return send_note(&recipe, sizeof recipe, prerequisites, left);
+}
+
+/* make expands this as it puts together the environment of the recipe's lines, where the number then is the value of a variable. */
+char *announce_recipe(const char *function, unsigned argument_count, char **arguments) {
+  (void)function;
+  char *number = gmk_alloc(24);
+  if (!number) return NULL;
+  *number = 0;
+  if (argument_count < 2 || !*arguments[0]) return number;
+  uint64_t former = block_signals();
+  if (is_connected() && send_names(arguments[0], arguments[1]) == 0) {
+    char *end = put_number(number, ++count, 0);
+    (void)end;
+  }
+  restore_signals(former);
+  return number;
+}

@@ -1,0 +1,914 @@
+"""That a build goes on as without a capture, whatever fails or lies: system calls in make and in redo-log-capture, memory,
+descriptors, and what calls itself a make. What recipes print is then in a log or on standard error: no line is lost."""
+import array
+import contextlib
+import glob
+import itertools
+import os
+import random
+import re
+import select
+import shutil
+import signal
+import socket
+import struct
+import subprocess
+import tempfile
+import time
+from collections import Counter
+from concurrent.futures import ThreadPoolExecutor
+
+from builds import TOOL, preloaded, project, shown, wait_for, wait_until, write
+from checks import environment, install_capture
+
+# What takes so many seconds hangs: these builds take a fraction of one, where nothing else runs.
+MOST = 60
+# So many runs that went wrong tell enough of a part that has thousands: it ends then.
+ENOUGH = 5
+# Of the n-th times that something may fail the first are all tried, and then one of so many.
+ALL_OF, ONE_OF = 60, 7
+
+# A build that prints each line once in each make. E is the status with which some of its recipes fail.
+BUILD = r"""
+TOLD := $(shell echo function said >&2)
+all: x y sub lines $(if $(filter-out 0,$E),nothing)
+	@echo all said >&2; echo all >all
+x y: ; @echo $@ said >&2; echo $@ printed; echo $@ >$@; [ $@ = x ] || exit $E
+sub: ; @echo sub begins >&2; $(TRACED) $(MAKE) -s -k below beside >sub; code=$$?; echo sub ends >&2; exit $$code
+below beside: ; @echo $@ said >&2; echo $@ printed; echo $@ >$@; [ $@ = beside ] || exit $E
+lines:
+	@for n in 1 2 3; do echo $@ said $$n >&2; done; for n in '$@ said' ' 4\n'; do printf "$$n" >&2; done
+	touch $@
+	@echo $@ said more >&2
+nothing: ; no-such-command $@
+"""
+# What is added to the command, and the status with which recipes fail.
+WAYS = (((), 3), (("--both",), 3), ((), 0), (("--quiet",), 3), (("--live",), 3), (("--live", "--both"), 0))
+
+
+def sampled(numbers, way=0):
+    """Some of these numbers; fewer in other ways than the first."""
+    numbers = [number for number in numbers if number <= ALL_OF or number % ONE_OF == 0]
+    return numbers[way % 4 :: 4] if way else numbers
+
+
+def ended(folder, command, more=None, inherited=()):
+    """The status, standard output and standard error of a command; what hangs is killed, with its group."""
+    begun, words = time.monotonic(), ["timeout", "-s", "KILL", str(MOST), *command]
+    with tempfile.TemporaryFile() as out, tempfile.TemporaryFile() as err:
+        done = subprocess.run(words, cwd=folder, env=environment(more), stdin=subprocess.DEVNULL, stdout=out, stderr=err, pass_fds=inherited)
+        status = done.returncode if time.monotonic() - begun < MOST else "hangs"
+        texts = [os.pread(file.fileno(), os.fstat(file.fileno()).st_size, 0).decode(errors="replace") for file in (out, err)]
+    return status, *texts
+
+
+def files_of(folder):
+    """What a build has made, but for the captures and what a test has put there."""
+    found = {}
+    for name in sorted(set(os.listdir(folder)) - {"Makefile", "capture", "trace", "summary", "go", "stay"}):
+        with open(os.path.join(folder, name), "rb") as file:
+            found[name] = file.read()
+    return found
+
+
+def built(folder, command, more=None):
+    """What a build comes to: its status, both outputs, and the files that it made."""
+    return (*ended(folder, command, more), files_of(folder))
+
+
+def plain_builds(at, makefile, statuses, words):
+    """What the same build comes to without a capture, by the status with which its recipes fail."""
+    return {status: built(project(at(f"plain{status}"), makefile), ["make", *words, f"E={status}"]) for status in statuses}
+
+
+def texts_of(folder):
+    """The lines of all logs that are no records."""
+    lines, at = Counter(), os.path.join(folder, "capture")
+    for name in os.listdir(at) if os.path.isdir(at) else ():
+        if name.startswith("log."):
+            with open(os.path.join(at, name), encoding="utf-8", errors="replace") as log:
+                lines.update(line for line in log.read().split("\n") if line and not line.startswith("@@REDO:"))
+    return lines
+
+
+def lines_of(text):
+    return Counter(line for line in text.split("\n") if line)
+
+
+def without_heads(text):
+    """Standard error without what is told of a capture, and the two lines above what a failed recipe printed."""
+    text = re.sub(r"^redo-log-capture: \S+ \(exit \d+\)\n.*\n", "", text, flags=re.M)
+    return lines_of(re.sub(r"^(redo-log-capture: |.*/capture\.mk:).*\n", "", text, flags=re.M))
+
+
+def faults_of(plain, captured, folder, options=(), may_be_1=False):
+    """What a captured build did otherwise than a plain one, given what both came to."""
+    status, out, err, files = plain
+    found_status, found_out, found_err, found_files = captured
+    found, logs = [], texts_of(folder)
+    if found_status != status and not (may_be_1 and (status, found_status) == (0, 1)):
+        found.append(f"status {found_status}, not {status}")
+    if found_files != files:
+        found.append(f"files {sorted(found_files)}, not {sorted(files)}")
+    if "--both" not in options and lines_of(found_out) != lines_of(out):
+        found.append(f"standard output {found_out!r}, not {out!r}")
+    wanted, printed = lines_of(err), without_heads(found_err)
+    if "--both" in options:
+        wanted, printed = wanted + lines_of(out), printed + lines_of(found_out)
+    if wanted - printed - logs:
+        found.append(f"lost {sorted(wanted - printed - logs)}")
+    if logs - wanted or printed - wanted:
+        found.append(f"logs have {sorted(logs - wanted)}, and the outputs {sorted(printed - wanted)}, which nothing printed")
+    if os.path.exists(os.path.join(folder, "capture/names")) and not isinstance(shown(folder, "all"), str):
+        found.append(f"redo-log refuses the captures: {shown(folder, 'all')}")
+    return [*found, *found_err.splitlines()[-3:]] if found else []
+
+
+def all_right(checks, what, run, items):
+    """Does runs side by side; each gives a name, and what went wrong, or None if it was none. Returns how many there were."""
+    results, wrong = [], []
+
+    def one(item):
+        if len(wrong) < ENOUGH:
+            name, found = run(item)
+            results.append(found)
+            if found:
+                wrong.append((name, found))
+
+    with ThreadPoolExecutor(os.cpu_count()) as pool:
+        list(pool.map(one, items))
+    checks.passed += results.count([])
+    for name, found in wrong:
+        checks.expect(f"{what}, {name}", "; ".join(found), "")
+    return len(results) - results.count(None)
+
+
+def has_strace(what):
+    if shutil.which("strace"):
+        return True
+    print(f"captures: {what} is left out: there is no strace")
+    return False
+
+
+# The system calls of the hook, and the errors that each comes to; make and the dynamic loader have some of them too.
+HOOK_CALLS = {
+    "socket": ("EMFILE",), "connect": ("ECONNREFUSED", "EAGAIN", "EINTR"), "getsockopt": ("ENOPROTOOPT",), "socketpair": ("EMFILE",),
+    "sendmsg": ("EPIPE", "ENOBUFS", "EINTR", "ETOOMANYREFS"), "recvfrom": ("ECONNRESET", "EINTR"), "fcntl": ("EMFILE",),
+    "pipe2": ("EMFILE",), "getcwd": ("ENOENT",), "mmap": ("ENOMEM",), "mprotect": ("ENOMEM", "EACCES"), "fstat": ("EIO",),
+    "clock_gettime": ("EINVAL",),
+}  # fmt: skip
+# Those that nothing else makes in a build.
+OWN_CALLS = {"socket": 2, "connect": 2, "getsockopt": 2, "socketpair": 2, "sendmsg": 40, "recvfrom": 15}
+
+
+def places_in_hook(trace):
+    """Of a trace with addresses: by system call, which of its calls, counted from 1, the hook made."""
+    start = end = 0
+    descriptor, counts, places = None, Counter(), {}
+    for address, call, rest in re.findall(r"^\[(\w+)\] (\w+)\((.*)", trace, re.M):
+        counts[call] += 1
+        if call == "openat" and '/capture.so"' in rest:
+            descriptor = rest.rsplit(" ", 1)[1]
+        mapped = re.match(rf"NULL, (\d+), \w+, [\w|]+, {descriptor}, 0\) = (0x\w+)$", rest) if call == "mmap" and not start else None
+        if mapped:
+            start, end = int(mapped[2], 16), int(mapped[2], 16) + int(mapped[1])
+        if start <= int(address, 16) < end:
+            places.setdefault(call, []).append(counts[call])
+    return places
+
+
+def failing_hook(checks, at):
+    """Each system call of the hook fails, in the make and in one below it; and those that are the hook's alone in all processes of
+    a build with two jobs."""
+    if not has_strace("failing_hook"):
+        return
+    plain = plain_builds(at, BUILD, (0, 3), ["-k"])
+
+    def traced(name, where, way, words):
+        options, status = WAYS[way]
+        folder = project(at(name), BUILD)
+        command, tracer = ["make", "-k", f"E={status}"], ["strace", "-qq", "-i", "-o", "trace", *words]
+        if where == "all":
+            command = [*tracer, "-f", *command, "-j2"]
+        else:
+            command = [*tracer, *command] if where == "first" else [*command, f"TRACED={' '.join(tracer)}"]
+        outcome = built(folder, [TOOL, *options, *command])
+        with open(os.path.join(folder, "trace"), encoding="utf-8") as trace:
+            return folder, outcome, trace.read()
+
+    def run(item):
+        name = " ".join(map(str, item))
+        where, way, call, error, number = item
+        folder, outcome, trace = traced(name, where, way, ["-e", f"trace={call}", "-e", f"inject={call}:error={error}:when={number}"])
+        if "(INJECTED)" not in trace:
+            return name, None if where == "all" else ["the call did not come"]
+        found = faults_of(plain[WAYS[way][1]], outcome, folder, WAYS[way][0])
+        if not found:
+            shutil.rmtree(folder)
+        return name, found
+
+    items, met = [], set()
+    for where in ("first", "below"):
+        for way in range(len(WAYS)):
+            places = places_in_hook(traced(f"{where}{way}", where, way, [])[2])
+            met |= set(places)
+            for call, errors in HOOK_CALLS.items():
+                items += [(where, way, call, error, number) for error in errors for number in sampled(places.get(call, ()), way)]
+    for call, count in OWN_CALLS.items():
+        items += [("all", number % len(WAYS), call, error, number) for error in HOOK_CALLS[call] for number in range(1, count + 1)]
+    # Where the import slots of make are never read-only the hook makes no use of mprotect.
+    checks.expect("failing_hook: calls of the hook that did not come", sorted(set(HOOK_CALLS) - met - {"mprotect"}), [])
+    all_right(checks, "failing_hook", run, items)
+
+
+# Those of redo-log-capture, and errors that the kernel has for them; what closes a file, or reads a pipe, doesn't fail.
+SERVER_CALLS = {
+    "accept4": ("EMFILE", "ECONNABORTED", "EINTR"), "recvmsg": ("ECONNRESET", "EINTR", "ENOMEM"), "sendto": ("EPIPE", "EAGAIN"),
+    "epoll_ctl": ("ENOMEM", "ENOSPC"), "epoll_wait": ("EINTR",), "openat": ("EMFILE", "EACCES", "ENOSPC"), "write": ("ENOSPC", "EINTR"),
+    "ftruncate": ("EIO",), "pwrite64": ("ENOSPC",), "pread64": ("EIO",), "renameat": ("EROFS",), "mkdir": ("ENOSPC",), "unlinkat": ("EACCES",),
+    "flock": ("ENOLCK",), "newfstatat": ("EIO",), "ioctl": ("EINVAL",), "read": ("EINTR",), "clone": ("EAGAIN",), "pipe2": ("EMFILE",),
+    "getdents64": ("EIO",), "socket": ("EMFILE",), "bind": ("EADDRINUSE",), "listen": ("EADDRINUSE",), "signalfd4": ("EMFILE",),
+    "epoll_create1": ("EMFILE",), "getrandom": ("ENOSYS",), "poll": ("EINTR",),
+}  # fmt: skip
+STARTS = ("clone", "clone3", "fork", "vfork")
+
+
+def is_refused(outcome):
+    """Whether the command was not started, and a line tells why."""
+    status, out, err, files = outcome
+    return status in (1, 126) and out == "" and not files and re.fullmatch(r"redo-log-capture: .*\n", err)
+
+
+def failing_server(checks, at):
+    """Each system call of redo-log-capture fails. Before the command is started it may end."""
+    if not has_strace("failing_server"):
+        return
+    plain = plain_builds(at, BUILD, (0, 3), ["-k"])
+
+    def traced(name, way, words):
+        options, status = WAYS[way]
+        folder = project(at(name), BUILD)
+        outcome = built(folder, ["strace", "-qq", "-o", "trace", *words, TOOL, "--summary", "summary", *options, "make", "-k", f"E={status}"])
+        with open(os.path.join(folder, "trace"), encoding="utf-8") as trace:
+            return folder, outcome, re.findall(r"^(\w+)\((.*)", trace.read(), re.M)
+
+    def run(item):
+        name = " ".join(map(str, item))
+        way, call, error, number = item
+        folder, outcome, calls = traced(name, way, ["-e", f"trace=?{',?'.join(STARTS)},{call}", "-e", f"inject={call}:error={error}:when={number}"])
+        failed = next((place for place, (_, rest) in enumerate(calls) if rest.endswith("(INJECTED)")), None)
+        if failed is None:
+            return name, None
+        started = next((place for place, (call, rest) in enumerate(calls) if call in STARTS and " = -1 " not in rest), len(calls))
+        found = [] if failed < started and is_refused(outcome) else faults_of(plain[WAYS[way][1]], outcome, folder, WAYS[way][0], may_be_1=True)
+        if calls[failed][0] == "write" and calls[failed][1].startswith("2, "):
+            found = [fault for fault in found if not fault.startswith("lost")]
+        if not found:
+            shutil.rmtree(folder)
+        return name, found
+
+    items = []
+    for way in range(len(WAYS)):
+        counts = Counter(call for call, _ in traced(f"counted{way}", way, [])[2])
+        for call, errors in SERVER_CALLS.items():
+            items += [(way, call, error, number) for error in errors for number in sampled(range(1, counts[call] + 1), way)]
+    all_right(checks, "failing_server", run, items)
+
+
+def refused_memory(checks, at):
+    """Each request for memory of redo-log-capture is refused, alone and with all later ones."""
+    tool, library = install_capture(at("dynamic"), "STATIC="), preloaded("memory")
+    plain = plain_builds(at, BUILD, (0, 3), ["-k"])
+
+    def run(item):
+        name = " ".join(map(str, item))
+        way, number, what = item
+        options, status = WAYS[way]
+        folder = project(at(name), BUILD)
+        more = {"LD_PRELOAD": library, "REFUSE_AT": str(number), "REFUSE_TOLD": f"{folder}/trace", **({"REFUSE_ALL": "yes"} if what == "all" else {})}
+        outcome = built(folder, [tool, "--summary", "summary", *options, "make", "-k", f"E={status}"], more)
+        if not os.path.exists(os.path.join(folder, "trace")):
+            return name, None
+        found = [] if is_refused(outcome) else faults_of(plain[status], outcome, folder, options, may_be_1=True)
+        if not found:
+            shutil.rmtree(folder)
+        return name, found
+
+    first, count = 1, 1
+    while count and not checks.failed:
+        numbers = sampled(range(first, first + 64))
+        count = all_right(checks, "refused_memory", run, [((number + len(what)) % len(WAYS), number, what) for number in numbers for what in ("one", "all")])
+        first += 64
+
+
+# Recipes that all run at once: each waits until all have begun. Every tenth of them runs a make below it, with another such recipe.
+# Whoever runs it holds the pipe `go` open.
+AT_ONCE = r"""
+N := $(shell seq $(COUNT))
+all: $(N:%=t%)
+	@echo all said >&2
+t%0: ; @echo $@ begins >&2; $(MAKE) -s s$@; code=$$?; echo $@ ends >&2; exit $$code
+t% s%: ; @for n in 1 2 3; do echo $@ said $$n >&2; done; echo $@ printed; $(LEAVE); echo >>begun; $(WAIT); echo $@ said more >&2; $(FAIL)
+WAIT = [ `wc -l <begun` -lt $(COUNT) ] || for n in $(N); do echo; done >go; read x <go
+FAIL = [ $(@:%7=) ] || exit $E
+LEAVE = :
+"""
+# A make that runs another, and so on.
+DEEP = "all: ; @echo $D begins >&2; [ $D = 1 ] || $(MAKE) -s --no-print-directory D=$$(($D - 1)); echo $D ends >&2\n"
+
+
+def with_pipes(folder, names, run):
+    """Runs something while these named pipes of a folder are there, and held open; and gives their descriptors to it."""
+    for name in names:
+        os.mkfifo(os.path.join(folder, name))
+    held = [os.open(os.path.join(folder, name), os.O_RDWR) for name in names]
+    try:
+        return run(*held)
+    finally:
+        for descriptor in held:
+            os.close(descriptor)
+
+
+def few_descriptors(checks, at):
+    """At most 32 or 64 open files, or a few more or less, with a build that runs 50 recipes at once, or makes below makes."""
+
+    def run(item):
+        name = " ".join(map(str, item))
+        limit, makefile, *words = item
+
+        def limited(name, command):
+            folder = project(at(name), makefile)
+            shell = f'ulimit -S -n {limit}; ulimit -H -n {limit}; exec "$@"'
+            return folder, with_pipes(folder, ["go"], lambda _: built(folder, ["sh", "-c", shell, "limited", *command, "make", "-s", *words]))
+
+        name = " ".join(map(str, (limit, *words)))
+        plain = limited(f"{name} plain", [])[1]
+        folder, outcome = limited(name, [TOOL])
+        found = faults_of(plain, outcome, folder)
+        told = [line for line in outcome[2].splitlines() if "open files" in line]
+        return name, [*found, *told] if found or len(told) > 1 else []
+
+    items = [(limit, DEEP, "D=30") for limit in (32, *range(60, 67))]
+    items += [(limit, AT_ONCE, "-j60", "COUNT=50", *words) for limit in (32, 33, 34, 64, 65, 66) for words in (("E=0",), ("-k", "E=3"))]
+    all_right(checks, "few_descriptors", run, items)
+
+
+def still_there(pipe):
+    """Waits until all processes have ended that inherited the other end of a pipe, and closes it. Kills those that go on, and
+    returns how many these are."""
+    if select.select([pipe], [], [], MOST / 4)[0]:
+        os.close(pipe)
+        return 0
+    number, left = os.fstat(pipe).st_ino, 0
+    for descriptor in glob.glob("/proc/[0-9]*/fd/*"):
+        process = int(descriptor.split("/")[2])
+        with contextlib.suppress(OSError):
+            if process != os.getpid() and os.stat(descriptor).st_ino == number and os.readlink(descriptor) == f"pipe:[{number}]":
+                os.kill(process, signal.SIGKILL)
+                left += 1
+    os.close(pipe)
+    return left
+
+
+def many_processes(checks, at):
+    """300 recipes at once, each of which leaves a process behind; and recipes that start hundreds of processes."""
+    forks = "all: f1 f2 f3 f4\nf%: ; @n=0; while [ $$n -lt 700 ]; do (exit 0) & n=$$((n + 1)); done; wait; echo $@ said >&2\n"
+    folder = project(at("forks"), forks)
+    status, out, _ = ended(folder, [TOOL, "make", "-s", "-j4"])
+    checks.expect("many_processes: thousands", (status, out, texts_of(folder)), (0, "", Counter(f"f{n} said" for n in range(1, 5))))
+
+    folder = project(at("left"), AT_ONCE)
+    there, ends = os.pipe()
+    leave = "{ read x <stay; echo late >&2; } >/dev/null & :"
+
+    def run(_, stay):
+        outcome = ended(folder, [TOOL, "make", "-s", "-j400", "COUNT=300", "E=0", f"LEAVE={leave}"], inherited=[ends])
+        os.close(ends)
+        os.set_blocking(there, False)
+        # No end is there yet: the processes that were left behind have the pipe too.
+        with contextlib.suppress(BlockingIOError):
+            checks.expect("many_processes: what was left behind goes on", os.read(there, 1), None)
+        os.write(stay, b"\n" * 300)
+        checks.expect("many_processes: processes that do not end", still_there(there), 0)
+        return outcome
+
+    status, out, err = with_pipes(folder, ["go", "stay"], run)
+    wanted = Counter({"all said": 1})
+    for n in range(1, 301):
+        name = f"t{n}" if n % 10 else f"st{n}"
+        wanted += Counter([*(f"{name} said {k}" for k in (1, 2, 3, "more")), *([] if n % 10 else [f"t{n} begins", f"t{n} ends"])])
+    checks.expect("many_processes: 300 at once", (status, len(out.splitlines()), texts_of(folder) - wanted, wanted - texts_of(folder)), (0, 300, Counter(), Counter()))
+    checks.expect("many_processes: 300 at once, standard error", [line for line in err.splitlines() if not line.startswith("redo-log-capture: ")], [])
+
+
+def at_once_killed(checks, at):
+    """A recipe that prints a line, and then kills its make: the line is in its log."""
+    first = "all: ; @echo said >&2; kill -9 $$PPID\n"
+    below = "all: ; @echo begins >&2; $(MAKE) -s below; echo ends >&2\nbelow: ; @echo said >&2; kill -9 $$PPID\n"
+
+    def run(item):
+        makefile, words, number = item
+        folder = project(at(f"{len(makefile)}{words}{number}"), makefile)
+        status = ended(folder, [TOOL, *words, "make"])[0]
+        found = texts_of(folder)
+        # make may say of the one below it that it was killed, and so may the shell.
+        right = (found["said"], status) == (1, -9) if makefile == first else (found["begins"], found["said"], found["ends"], status) == (1, 1, 1, 0)
+        if right:
+            shutil.rmtree(folder)
+        return f"{item}", [] if right else [f"status {status}", str(found)]
+
+    items = [(makefile, words, number) for makefile in (first, below) for words in ((), ("--live",)) for number in range(50)]
+    all_right(checks, "at_once_killed", run, items)
+
+
+# Messages as capture/protocol.h has them.
+ORDINARY = 1700000000000
+
+
+def hello(token, directory=b"/\0", parent=(0, 0), process=4242, is_redirected=0):
+    return struct.pack("@c32sIIib0I", b"H", token, *parent, process, is_redirected) + directory
+
+
+def names(part):
+    return b"N" + part
+
+
+def recipe(number, part=b""):
+    return struct.pack("@cI", b"R", number) + part
+
+
+def line(number, command=b"/bin/sh\0-c\0true\0", time=ORDINARY):
+    return struct.pack("@cIq", b"L", number, time) + command
+
+
+def started(process):
+    return struct.pack("@ci", b"S", process)
+
+
+def failed(time=ORDINARY):
+    return struct.pack("@cq", b"F", time)
+
+
+def gone(process, status=0, time=ORDINARY, asks=0):
+    return struct.pack("@cbiiq", b"E", asks, process, status, time)
+
+
+class Liar:
+    """A captured command that waits, and then runs an honest make; and what talks to redo-log-capture as its makes would."""
+
+    HONEST = "all: h1 h2\n\t@echo all said >&2\nh1 h2: ; @echo $@ said >&2\n" + "".join(f"during: d{n}\nd{n}: ; @for n in 1 2 3; do echo $@ said $$n >&2; done\n" for n in range(60))
+    COMMAND = "echo $CAPTURE_RUN >new; mv new variable; {} read line <go; make -s all"
+
+    def __init__(self, folder, tool, before=""):
+        self.folder, self.open, self.kept = project(folder, self.HONEST), [], []
+        os.mkfifo(os.path.join(folder, "go"))
+        self.go = os.open(os.path.join(folder, "go"), os.O_RDWR)
+        with open(os.path.join(folder, "told"), "wb") as told:
+            command = [tool, "--summary", "summary", "sh", "-c", self.COMMAND.format(before)]
+            self.ends, inherited = os.pipe()
+            settings = {"stdin": subprocess.DEVNULL, "stdout": told, "stderr": told, "pass_fds": [inherited], "start_new_session": True}
+            self.server = subprocess.Popen(command, cwd=folder, env=environment({"ASAN_OPTIONS": "detect_leaks=0"}), **settings)
+            os.close(inherited)
+        wait_for(os.path.join(folder, "variable"))
+        with open(os.path.join(folder, "variable"), encoding="utf-8") as variable:
+            self.address, token = variable.read().split(":")[:2]
+        self.token = token.encode()
+        self.first_descriptors = self.descriptors()
+
+    def hold(self, held):
+        self.open.append(held)
+        return held
+
+    def connect(self):
+        connection = self.hold(socket.socket(socket.AF_UNIX, socket.SOCK_SEQPACKET))
+        connection.settimeout(MOST / 2)
+        connection.connect("\0" + self.address)
+        return connection
+
+    def pair(self):
+        ends = socket.socketpair(socket.AF_UNIX, socket.SOCK_SEQPACKET)
+        for end in ends:
+            self.hold(end).settimeout(MOST / 2)
+        return ends
+
+    def make(self, **more):
+        """The two sockets of a new make, and its number, which is 0 if it was refused."""
+        connection, (notes, other) = self.connect(), self.pair()
+        self.send(connection, hello(self.token, **{"directory": self.folder.encode() + b"\0", **more}), other.fileno())
+        other.close()
+        welcome = self.answer(connection, 8)
+        return connection, notes, struct.unpack("@I", welcome[:4])[0] if len(welcome) == 8 else 0
+
+    def begin(self, name, text=b"", process=77, command=b"/bin/sh\0-c\0true\0", time=ORDINARY, **more):
+        """A make with one recipe, of which a line runs that has printed something."""
+        connection, notes, _ = self.make(**more)
+        for start in range(0, len(name), 50000):
+            self.send(notes, names(name[start : start + 50000]))
+        self.send(notes, recipe(1))
+        there, end = os.pipe()
+        self.send(connection, line(1, command, time), there)
+        os.close(there)
+        self.answer(connection)
+        self.send(notes, started(process))
+        with contextlib.suppress(BrokenPipeError):
+            os.write(end, text)
+        os.close(end)
+        return connection, notes
+
+    def send(self, connection, message, *descriptors):
+        with contextlib.suppress(BrokenPipeError, ConnectionError):
+            rights = [(socket.SOL_SOCKET, socket.SCM_RIGHTS, array.array("i", descriptors))] if descriptors else []
+            return connection.sendmsg([message], rights, socket.MSG_NOSIGNAL)
+        return None
+
+    def answer(self, connection, size=1):
+        """The answer to a message, which is empty where the connection was ended. It raises an error if there is none."""
+        with contextlib.suppress(ConnectionError):
+            return connection.recv(size)
+        return b""
+
+    def memory(self):
+        """The most that redo-log-capture had, in kB."""
+        with open(f"/proc/{self.server.pid}/status", encoding="utf-8") as state:
+            return max(map(int, re.findall(r"^VmHWM:\s+(\d+)", state.read(), re.M)), default=0)
+
+    def descriptors(self):
+        return len(os.listdir(f"/proc/{self.server.pid}/fd"))
+
+    def used(self):
+        with open(f"/proc/{self.server.pid}/stat", encoding="utf-8") as state:
+            return state.read().rsplit(")", 1)[1].split()[11:13]
+
+    def becomes_idle(self):
+        """Waits until redo-log-capture waits."""
+        for _ in range(20 * MOST):
+            used = self.used()
+            time.sleep(0.05)
+            if used == self.used():
+                return
+        raise TimeoutError("it goes on though it has nothing to do")
+
+    def close(self):
+        for held in self.open:
+            held.close()
+        self.open = []
+
+    def end(self):
+        """Lets the honest make run, and gives the status of redo-log-capture, what it told, and how many processes are left."""
+        os.write(self.go, b"\n")
+        try:
+            status = self.server.wait(timeout=MOST)
+        except subprocess.TimeoutExpired:
+            status = "hangs"
+            os.killpg(self.server.pid, signal.SIGKILL)
+            self.server.wait()
+        self.close()
+        for held in self.kept:
+            held.close()
+        os.close(self.go)
+        left = still_there(self.ends)
+        with open(os.path.join(self.folder, "told"), encoding="utf-8", errors="replace") as told:
+            return status, told.read(), left
+
+
+def each_kind(token):
+    return [hello(token, b"/tmp\0"), names(b"x\0y"), recipe(1, b"x\0y z"), line(1), started(5), failed(), gone(5, 256, asks=1)]
+
+
+def cut(liar):
+    for message in each_kind(liar.token):
+        for size in range(len(message)):
+            for socket_number in (0, 1):
+                make = liar.make()
+                liar.send(make[1], recipe(1, b"x\0y z"))
+                liar.send(make[socket_number], message[:size])
+                liar.close()
+            connection = liar.connect()
+            liar.send(connection, message[:size], connection.fileno())
+
+
+def longer(liar):
+    for message in each_kind(liar.token):
+        for more in (1, 4096, 66000, 200000):
+            for socket_number in (0, 1):
+                with contextlib.suppress(OSError):
+                    liar.send(liar.make()[socket_number], message + b"\0" * more)
+                liar.close()
+
+
+def wrong_token(liar):
+    for token in (b"\0" * 32, liar.token[:-1] + b"x", liar.token[::-1]):
+        connection, (_, other) = liar.connect(), liar.pair()
+        liar.send(connection, hello(token), other.fileno())
+        if liar.answer(connection, 8):
+            raise ValueError("a wrong token is taken")
+
+
+def wrong_order(liar):
+    kinds = each_kind(liar.token)
+    for first, second in itertools.product(kinds, kinds):
+        connection = liar.connect()
+        liar.send(connection, first)
+        liar.send(connection, second)
+        for sockets in itertools.product((0, 1), (0, 1)):
+            make = liar.make()
+            for socket_number, message in zip(sockets, (first, second)):
+                liar.send(make[socket_number], message)
+        liar.close()
+
+
+def two_lines(liar):
+    for number in (1, 2):
+        connection, notes, _ = liar.make()
+        for n in range(1, number + 1):
+            liar.send(notes, recipe(n, b"x%d\0" % n))
+        for n in (1, number, 1, number):
+            liar.send(connection, line(n))
+            liar.answer(connection)
+
+
+NUMBERS = (0, 1, 2, 3, 2**16, 2**31 - 1, 2**31, 2**32 - 1)
+SIGNED = (0, 1, -1, -5, 2**31 - 1, -(2**31))
+TIMES = (0, -1, 2**63 - 1, -(2**63))
+
+
+def numbers_of_recipes(liar):
+    for number in NUMBERS:
+        connection, notes, _ = liar.make()
+        liar.send(notes, recipe(number, b"x\0"))
+        liar.send(connection, line(number))
+        liar.answer(connection)
+        liar.send(notes, started(5))
+        liar.send(notes, recipe(number + 1 & 2**32 - 1, b"y\0"))
+        liar.send(notes, failed())
+
+
+def numbers_of_parents(liar):
+    for parent in itertools.product(NUMBERS, NUMBERS):
+        connection, _ = liar.begin(b"x%d.%d\0" % parent, parent=parent)
+        liar.send(connection, gone(77, asks=1))
+        liar.answer(connection)
+        liar.close()
+
+
+def numbers_of_processes(liar):
+    for process, other in itertools.product(SIGNED, SIGNED):
+        connection, notes = liar.begin(b"p%d.%d\0" % (process, other), b"said\n", process=process)
+        liar.send(connection, gone(other, 256, asks=1))
+        liar.answer(connection)
+        liar.send(notes, gone(process))
+        liar.send(notes, gone(process))
+        _, notes, _ = liar.make(process=process)
+        liar.send(notes, recipe(1, b"f%d\0" % process))
+        liar.send(notes, failed())
+        liar.close()
+
+
+def times_and_states(liar):
+    for begun, ended in itertools.product(TIMES, TIMES):
+        connection, notes = liar.begin(b"t%d.%d\0" % (begun, ended), b"said\n", time=begun)
+        liar.send(notes, gone(77, 0, ended))
+        connection, notes, _ = liar.make()
+        liar.send(notes, recipe(1, b"f%d.%d\0" % (begun, ended)))
+        liar.send(notes, failed(begun))
+        liar.send(notes, failed(ended))
+    for state in (*SIGNED, 127, 128, 255, 256, 0xFFFF):
+        connection, _ = liar.begin(b"s%d\0" % state, b"said\n")
+        liar.send(connection, gone(77, state, asks=1))
+        liar.answer(connection)
+    liar.close()
+
+
+ODD_NAMES = (
+    b"", b"\0", b"x", b"x\0y\0z\0", b" \0", b"a\nb\0", b"\n\0", b"..\0", b"../../../../../../..\0", b"/\0", b"/etc/passwd\0", b"//x/./../y\0", b"a\rb\x01\xff\0",
+    b"@@REDO:done:1:1.000@@ 0 x\0", b"x" * 1000000 + b"\0", b"/" * 100000 + b"\0", b"../" * 30000 + b"\0", b"x/" * 30000 + b"\0", b" " * 20000 + b"y\0", b"a " * 20000 + b"y\0",
+)  # fmt: skip
+ODD_DIRECTORIES = (b"\0", b"a/b\0", b"/a\nb\0", b"/a\n3 h1\0", b"/" * 4000 + b"\0", b"/x" * 30000 + b"\0", b"/..\0", b"/a\0b\0", b"/no end", b"/a " * 4000 + b"\0")
+
+
+def odd_names(liar):
+    for name in ODD_NAMES:
+        connection, notes = liar.begin(name, b"said\n")
+        liar.send(connection, gone(77, 256, asks=1))
+        liar.answer(connection)
+        liar.send(notes, recipe(2, b"top\0" + name.replace(b"\0", b" ")[:50000]))
+        liar.send(connection, line(2))
+        liar.answer(connection)
+    for directory in ODD_DIRECTORIES:
+        connection, notes = liar.begin(b"y\0", b"said\n", directory=directory)
+        liar.send(connection, gone(77, 256, asks=1))
+        liar.answer(connection)
+
+
+def odd_descriptors(liar):
+    """What can't be waited for, what can't be read, what is no pipe, and what never ends."""
+    fifo, listening, (there, end), terminal, poller = os.path.join(liar.folder, "fifo"), socket.socket(), os.pipe(), os.openpty(), select.epoll()
+    os.mkfifo(fifo)
+    listening.listen()
+    sockets = [socket.socketpair(socket.AF_UNIX, kind) for kind in (socket.SOCK_STREAM, socket.SOCK_DGRAM, socket.SOCK_SEQPACKET)]
+    files = {path: os.open(path, flags) for path, flags in (
+        ("/", os.O_RDONLY), ("/dev", os.O_PATH), ("/dev/null", os.O_RDWR), ("/dev/zero", os.O_RDONLY), ("/proc/self/mounts", os.O_RDONLY), (fifo, os.O_RDWR),
+    )}  # fmt: skip
+    passed = [end, terminal[0], poller.fileno(), listening.fileno(), *(ends[0].fileno() for ends in sockets), *files.values()]
+    for place, descriptor in enumerate(passed):
+        connection = liar.connect()
+        liar.send(connection, hello(liar.token), descriptor)
+        liar.answer(connection, 8)
+        connection, notes, _ = liar.make()
+        liar.send(notes, names(b"odd%d\0" % place), descriptor)
+        liar.send(notes, recipe(1))
+        liar.send(connection, line(1), descriptor)
+        liar.answer(connection)
+        liar.send(notes, started(5), descriptor)
+        liar.send(connection, gone(5, 256, asks=1), descriptor)
+        liar.answer(connection)
+    for descriptor in (there, end, *terminal, *files.values()):
+        os.close(descriptor)
+    for held in (poller, listening, *itertools.chain(*sockets)):
+        held.close()
+
+
+def many_descriptors(liar):
+    for count in (2, 3, 10, 253):
+        for _ in range(20):
+            connection, (_, other) = liar.connect(), liar.pair()
+            liar.send(connection, hello(liar.token), *[other.fileno()] * count)
+            liar.answer(connection, 8)
+            liar.send(connection, gone(1, asks=1), *[other.fileno()] * count)
+            liar.answer(connection)
+            liar.close()
+
+
+def kept_descriptors(liar):
+    """Whoever passes the descriptors keeps them, so that nothing closes them for redo-log-capture."""
+    connection, (notes, other) = liar.connect(), liar.pair()
+    liar.kept += [os.fdopen(os.dup(other.fileno()), "rb", 0)]
+    liar.send(connection, hello(liar.token), other.fileno())
+    liar.answer(connection, 8)
+    liar.close()
+    connection, notes, _ = liar.make()
+    liar.send(notes, recipe(1, b"x\0"))
+    there, end = os.pipe()
+    liar.kept.append(os.fdopen(there, "rb", 0))
+    liar.send(connection, line(1), there)
+    liar.answer(connection)
+    liar.send(notes, started(5))
+    os.close(end)
+    liar.send(connection, gone(5, asks=1))
+    liar.answer(connection)
+    liar.make()
+
+
+def parents_that_never_start(liar):
+    connection, notes, number = liar.make()
+    liar.send(notes, recipe(1, b"parent\0"))
+    liar.send(connection, line(1))
+    liar.answer(connection)
+    for child in range(31):
+        below, _ = liar.begin(b"child%d\0" % child, parent=(number, 1))
+        liar.send(below, gone(77, asks=1))
+        liar.answer(below)
+
+
+def parents_in_a_circle(liar):
+    for count in (1, 2, 3):
+        first = liar.make()[2] + 1
+        makes = [liar.make(parent=(first + (n + 1) % count, 1)) for n in range(count)]
+        for n, (connection, notes, number) in enumerate(makes):
+            liar.send(notes, recipe(1, b"circle%d.%d\0circle%d.%d other" % (count, n, count, (n + 1) % count)))
+            liar.send(connection, line(1))
+            liar.answer(connection)
+        for process in range(100):
+            for _, notes, _ in makes:
+                liar.send(notes, started(process))
+        for connection, _, _ in makes:
+            liar.send(connection, gone(0, asks=1))
+            liar.answer(connection)
+
+
+def never_listens(liar):
+    connection = liar.make()[0]
+    for _ in range(2000):
+        if liar.send(connection, gone(1, asks=1)) is None:
+            return
+
+
+def many_connections(liar):
+    for _ in range(150):
+        liar.connect()
+
+
+def no_line_feed(liar):
+    connection, notes, _ = liar.make()
+    liar.send(notes, recipe(1, b"x\0"))
+    there, end = os.pipe()
+    liar.send(connection, line(1), there)
+    os.close(there)
+    liar.answer(connection)
+    liar.send(notes, started(5))
+    os.set_blocking(end, False)
+    for _ in range(2000):
+        if not select.select([], [end], [], MOST / 2)[1]:
+            raise TimeoutError("a pipe is not read")
+        os.write(end, b"x" * 50000)
+    os.close(end)
+
+
+def too_many_names(liar):
+    notes = liar.make()[1]
+    for _ in range(6000):
+        if liar.send(notes, names(b"x" * 59000)) is None:
+            return
+    raise ValueError("names of any size are taken")
+
+
+def at_random(liar, seed=1):
+    """Messages at random, of which most are almost right."""
+    chance = random.Random(seed)
+    makes = [liar.make() for _ in range(8)]
+    some = [b"r%d\0" % n for n in range(20)] + [b"", b"\0", b"a b c\0x y\0", b"../r\0", b"x\ny\0"]
+
+    def message():
+        kind = chance.choice("HNRRRLLLLSSSFEEEE")
+        number, process, time = chance.choice((1, 1, 1, 2, 3, *NUMBERS)), chance.choice((5, 5, 5, 6, 7, *SIGNED)), chance.choice((ORDINARY, ORDINARY, *TIMES))
+        made = {
+            "H": lambda: hello(liar.token, chance.choice((b"/\0", b"x", b"", liar.folder.encode() + b"\0")), process=process), "N": lambda: names(chance.choice(some)),
+            "R": lambda: recipe(number, chance.choice(some)), "L": lambda: line(number, chance.choice((b"", b"sh", b"sh\0-c\0x\0", b"\0" * 100)), time),
+            "S": lambda: started(process), "F": lambda: failed(time), "E": lambda: gone(process, chance.choice((0, 0, 1, 9, 256, -1)), time, chance.choice((0, 1, 7, -1))),
+        }[kind]()  # fmt: skip
+        for _ in range(chance.choice((0, 0, 0, 0, 0, 1, 3))):
+            place = chance.randrange(len(made))
+            made = chance.choice((made[:place], made + made[place:], made[:place] + bytes([chance.randrange(256)]) + made[place + 1 :])) or b"x"
+        return made[:60000]
+
+    for _ in range(3000):
+        place = chance.randrange(len(makes))
+        if chance.random() < 0.05:
+            makes[place][0].close()
+            makes[place][1].close()
+            makes[place] = liar.make()
+        connection, notes, _ = makes[place]
+        there, end = os.pipe()
+        passed = chance.choice(((), (), (there,), (there,), (there,), (there, there), (end,), (connection.fileno(),)))
+        liar.send(chance.choice((connection, notes)), message(), *passed)
+        os.close(there)
+        with contextlib.suppress(BrokenPipeError):
+            os.write(end, b"said at random\n" * chance.choice((0, 1, 1000)))
+        os.close(end)
+        connection.setblocking(False)
+        with contextlib.suppress(OSError):
+            connection.recv(64)
+        connection.settimeout(MOST / 2)
+
+
+LIES = (
+    cut, longer, wrong_token, wrong_order, two_lines, numbers_of_recipes, numbers_of_parents, numbers_of_processes, times_and_states, odd_names, odd_descriptors,
+    many_descriptors, kept_descriptors, parents_that_never_start, parents_in_a_circle, never_listens, many_connections, no_line_feed, too_many_names, at_random,
+)  # fmt: skip
+
+
+def lying_make(checks, at):
+    """What calls itself a make sends what no make would: redo-log-capture goes on, and what an honest make prints is in its logs."""
+    sanitized = install_capture(at("sanitized"), "STATIC=", "CFLAGS=-O1 -fsanitize=address,undefined -fno-sanitize-recover=all -static-libasan -static-libubsan")
+
+    def run(item):
+        lie, is_sanitized = item
+        name, found = f"{lie.__name__}{', sanitized' if is_sanitized else ''}", []
+        if lie == too_many_names and is_sanitized:
+            return name, None
+        is_beside, begun = lie == at_random, time.monotonic()
+        liar = Liar(at(name), sanitized if is_sanitized else TOOL, "until [ -e enough ]; do make -s -j3 during || exit 1; done;" if is_beside else "")
+        try:
+            lie(liar)
+            if liar.make()[2] == 0:
+                raise ValueError("no make is taken any more")
+            if time.monotonic() - begun > MOST:
+                raise TimeoutError("it hangs")
+            write(os.path.join(liar.folder, "enough"), "")
+            if not is_beside:
+                liar.becomes_idle()
+            memory = liar.memory()
+            if not is_sanitized and memory > (350000 if lie in (too_many_names, no_line_feed) else 100000):
+                found.append(f"it has {memory} kB of memory")
+            liar.close()
+            if not is_beside:
+                wait_until("descriptors are closed", lambda: liar.descriptors() <= liar.first_descriptors + 40)
+        except (OSError, ValueError, TimeoutError) as error:
+            found.append(f"{type(error).__name__}: {error}")
+        status, told, left = liar.end()
+        if status != 0 or "Sanitizer" in told or "runtime error" in told:
+            found += [f"status {status}", *re.findall(r".*(?:SUMMARY|runtime error).*", told)[:2], told[-200:]]
+        if left:
+            found.append(f"{left} processes are left")
+        honest = {"h1": ["h1 said"], "h2": ["h2 said"], **{f"d{n}": [f"d{n} said {k}" for k in (1, 2, 3)] for n in range(60) if is_beside}}
+        wanted = "".join("".join(f"{line}\n" for line in [f"redo  {target}", *lines]) for target, lines in honest.items())
+        if shown(liar.folder, *honest) != wanted:
+            found.append(f"honest logs: {shown(liar.folder, *honest)}"[:300])
+        if not found:
+            shutil.rmtree(liar.folder)
+        return name, found
+
+    all_right(checks, "lying_make", run, [(lie, is_sanitized) for lie in LIES for is_sanitized in (False, True)])
+
+
+PARTS = (failing_hook, failing_server, lying_make, many_processes, few_descriptors, refused_memory, at_once_killed)
