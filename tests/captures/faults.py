@@ -65,7 +65,7 @@ def ended(folder, command, more=None, inherited=()):
 def files_of(folder):
     """What a build has made, but for the captures and what a test has put there."""
     found = {}
-    for name in sorted(set(os.listdir(folder)) - {"Makefile", "capture", "trace", "summary", "go", "stay"}):
+    for name in sorted(set(os.listdir(folder)) - {"Makefile", "capture", "trace", "summary", "go", "stay", "fifo"}):
         with open(os.path.join(folder, name), "rb") as file:
             found[name] = file.read()
     return found
@@ -560,7 +560,7 @@ class Liar:
             status = self.server.wait(timeout=MOST)
         except subprocess.TimeoutExpired:
             status = "hangs"
-            os.killpg(self.server.pid, signal.SIGKILL)
+            self.server.kill()
             self.server.wait()
         self.close()
         for held in self.kept:
@@ -822,43 +822,50 @@ def too_many_names(liar):
     raise ValueError("names of any size are taken")
 
 
-def at_random(liar, seed=1):
-    """Messages at random, of which most are almost right."""
-    chance = random.Random(seed)
-    makes = [liar.make() for _ in range(8)]
+def almost_right(chance, token, latest):
+    """A message of a make, of which some recipes were told, that is often right."""
     some = [b"r%d\0" % n for n in range(20)] + [b"", b"\0", b"a b c\0x y\0", b"../r\0", b"x\ny\0"]
+    number, time = chance.choice((latest, latest, latest, 1, *NUMBERS)), chance.choice((ORDINARY, ORDINARY, *TIMES))
+    process = chance.choice((5, 5, 5, 5, 6, 7, *SIGNED))
+    kinds = (
+        (1, lambda: hello(token, chance.choice((b"/\0", b"x", b"")), process=process)), (2, lambda: names(chance.choice(some))),
+        (5, lambda: recipe(chance.choice((latest + 1,) * 9 + NUMBERS), chance.choice(some))), (9, lambda: started(process)), (3, lambda: failed(time)),
+        (9, lambda: line(number, chance.choice((b"", b"sh", b"sh\0-c\0x\0", b"\0" * 100)), time)),
+        (9, lambda: gone(process, chance.choice((0, 0, 1, 9, 256, -1)), time, chance.choice((0, 1, 7, -1)))),
+    )  # fmt: skip
+    message = chance.choices([made for _, made in kinds], [weight for weight, _ in kinds])[0]()
+    if chance.random() < 0.1:
+        place = chance.randrange(len(message))
+        message = chance.choice((message[:place], message + message[place:], message[:place] + bytes([chance.randrange(256)]) + message[place + 1 :]))
+    return message
 
-    def message():
-        kind = chance.choice("HNRRRLLLLSSSFEEEE")
-        number, process, time = chance.choice((1, 1, 1, 2, 3, *NUMBERS)), chance.choice((5, 5, 5, 6, 7, *SIGNED)), chance.choice((ORDINARY, ORDINARY, *TIMES))
-        made = {
-            "H": lambda: hello(liar.token, chance.choice((b"/\0", b"x", b"", liar.folder.encode() + b"\0")), process=process), "N": lambda: names(chance.choice(some)),
-            "R": lambda: recipe(number, chance.choice(some)), "L": lambda: line(number, chance.choice((b"", b"sh", b"sh\0-c\0x\0", b"\0" * 100)), time),
-            "S": lambda: started(process), "F": lambda: failed(time), "E": lambda: gone(process, chance.choice((0, 0, 1, 9, 256, -1)), time, chance.choice((0, 1, 7, -1))),
-        }[kind]()  # fmt: skip
-        for _ in range(chance.choice((0, 0, 0, 0, 0, 1, 3))):
-            place = chance.randrange(len(made))
-            made = chance.choice((made[:place], made + made[place:], made[:place] + bytes([chance.randrange(256)]) + made[place + 1 :])) or b"x"
-        return made[:60000]
 
-    for _ in range(3000):
-        place = chance.randrange(len(makes))
-        if chance.random() < 0.05:
-            makes[place][0].close()
-            makes[place][1].close()
-            makes[place] = liar.make()
-        connection, notes, _ = makes[place]
+def at_random(liar):
+    """Messages at random, of several makes."""
+    chance, makes = random.Random(7), {}
+    for _ in range(4000):
+        place = chance.randrange(8)
+        if place not in makes:
+            makes[place] = [*liar.make()[:2], 0]
+        connection, notes, latest = makes[place]
         there, end = os.pipe()
-        passed = chance.choice(((), (), (there,), (there,), (there,), (there, there), (end,), (connection.fileno(),)))
-        liar.send(chance.choice((connection, notes)), message(), *passed)
+        passed = chance.choice(((), (there,), (there,), (there,), (there, there), (end,), (connection.fileno(),)))
+        message = almost_right(chance, liar.token, latest)
+        is_note = message[:1] in (b"N", b"R", b"S", b"F") or (message[:1] == b"E" and message[1:2] == b"\0")
+        is_sent = liar.send(connection if is_note == (chance.random() < 0.02) else notes, message, *(passed if message[:1] == b"L" else ()))
+        makes[place][2] += message[:1] == b"R"
         os.close(there)
         with contextlib.suppress(BrokenPipeError):
             os.write(end, b"said at random\n" * chance.choice((0, 1, 1000)))
         os.close(end)
         connection.setblocking(False)
-        with contextlib.suppress(OSError):
-            connection.recv(64)
+        with contextlib.suppress(BlockingIOError):
+            is_sent = is_sent and liar.answer(connection, 64)
         connection.settimeout(MOST / 2)
+        if not is_sent or chance.random() < 0.01:
+            connection.close()
+            notes.close()
+            del makes[place]
 
 
 LIES = (
@@ -877,7 +884,7 @@ def lying_make(checks, at):
         if lie == too_many_names and is_sanitized:
             return name, None
         is_beside, begun = lie == at_random, time.monotonic()
-        liar = Liar(at(name), sanitized if is_sanitized else TOOL, "until [ -e enough ]; do make -s -j3 during || exit 1; done;" if is_beside else "")
+        liar = Liar(at(name), sanitized if is_sanitized else TOOL, "until [ -e enough ]; do make -s -j3 during || exit 1; echo >>rounds; done;" if is_beside else "")
         try:
             lie(liar)
             if liar.make()[2] == 0:
@@ -897,10 +904,11 @@ def lying_make(checks, at):
             found.append(f"{type(error).__name__}: {error}")
         status, told, left = liar.end()
         if status != 0 or "Sanitizer" in told or "runtime error" in told:
-            found += [f"status {status}", *re.findall(r".*(?:SUMMARY|runtime error).*", told)[:2], told[-200:]]
+            found += [f"status {status}", *[line for line in told.splitlines() if "SUMMARY" in line or "runtime error" in line][:2], told[-200:]]
         if left:
             found.append(f"{left} processes are left")
-        honest = {"h1": ["h1 said"], "h2": ["h2 said"], **{f"d{n}": [f"d{n} said {k}" for k in (1, 2, 3)] for n in range(60) if is_beside}}
+        rounds = len(files_of(liar.folder).get("rounds", b""))
+        honest = {"h1": ["h1 said"], "h2": ["h2 said"], **{f"d{n}": [f"d{n} said {k}" for k in (1, 2, 3)] * rounds for n in range(60) if is_beside}}
         wanted = "".join("".join(f"{line}\n" for line in [f"redo  {target}", *lines]) for target, lines in honest.items())
         if shown(liar.folder, *honest) != wanted:
             found.append(f"honest logs: {shown(liar.folder, *honest)}"[:300])

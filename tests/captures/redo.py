@@ -323,7 +323,13 @@ def logs(checks, at):
     checks.expect("much from several at once", shown(folder, "-r", "all") == text, True)
 
 
-COUNTED = "echo + >>{0}/count; sleep 0.04; echo - >>{0}/count\n"
+# Unless the file `serial` is there, each of them waits until another one has begun, at most half a minute.
+COUNTED = """echo + >>{0}/count
+n=0
+until [ -e {0}/serial ] || [ "$(grep -c + {0}/count)" -ge 2 ] || [ $n -ge 3000 ]; do n=$((n + 1)); sleep 0.01; done
+sleep 0.04
+echo - >>{0}/count
+"""
 
 
 def most_at_once(folder):
@@ -341,13 +347,23 @@ def jobs(checks, at):
     folder = project(at("jobs"), all_do=f"redo-ifchange {groups}\n", Makefile="all: ; +@redo\nalone: ; @redo\n")
     write(os.path.join(folder, "default.do"), "redo-ifchange $1.1.leaf $1.2.leaf $1.3.leaf &\nredo-ifchange $1.4.leaf; wait\n")
     write(os.path.join(folder, "default.leaf.do"), COUNTED.format(folder))
+
+    def expect_jobs(most):
+        """How many may run at the same time: one, or more."""
+        if most == 1:
+            write(os.path.join(folder, "serial"), "")
+        elif os.path.exists(os.path.join(folder, "serial")):
+            os.remove(os.path.join(folder, "serial"))
+
     for words, most in (([], 1), (["-j3"], 3), (["-j64"], 8)):
+        expect_jobs(most)
         checks.expect(f"jobs {words}: redo", redo(folder, *words), (0, "", ""))
         found = most_at_once(folder)
         checks.expect(f"jobs {words}", (found[0] <= most, found[0] > 1, found[1]), (True, most > 1, 8))
         touch(os.path.join(folder, "default.leaf.do"))
 
     def below_make(what, most, command=("make", "-s", "-j3", "all"), **more):
+        expect_jobs(most)
         done = subprocess.run(command, cwd=folder, env=settings(more.pop("flags", None)), capture_output=True, text=True, **more)
         checks.expect(f"{what}: make", (done.returncode, done.stderr), (0, ""))
         found = most_at_once(folder)
