@@ -14,6 +14,8 @@
 
 /* Prints a line on standard error, after the program's name. */
 void warn(const char *format, ...) __attribute__((format(printf, 1, 2)));
+/* The same, unless the last one was this. */
+void warn_once(const char *message);
 /* Prints a line, and exits. */
 _Noreturn void die(int status, const char *format, ...) __attribute__((format(printf, 2, 3)));
 /* What is called if memory can't be allocated, or NULL, for die. It doesn't return. */
@@ -190,6 +192,7 @@ struct source {
 /* pipe.c: what recipes print */
 
 struct pipe;
+/* Takes over the descriptor. Returns NULL, and closes it, if it is none that can be waited for. */
 struct pipe *watch_pipe(int descriptor, struct target *target);
 /* Reads what is there; if it is to be shown, also what comes in a moment. Returns 1, and closes it, if nobody can write to it any
    more. */
@@ -236,6 +239,7 @@ void start_target(struct target *target, const char *directory, const char *prer
 
 /* make.c: the makes of a build, and what they report */
 
+/* Returns NULL if it can't be waited for. */
 struct make *accept_make(int descriptor);
 /* Takes a message of it, if there is one; or the notes that there are. */
 void hear_make(struct make *make);
@@ -251,7 +255,8 @@ void show_line(const struct line *line, int status);
 
 /* server.c: the loop that serves the build */
 
-void watch(struct source *source);
+/* Returns -1 if it can't be waited for, or there is no memory for that. */
+int watch(struct source *source);
 void close_source(struct source *source);
 /* Listens for makes; and what they are to know. */
 void listen_for_makes(void);

@@ -3,22 +3,35 @@
 #include "capture.h"
 #include "protocol.h"
 #include <errno.h>
+#include <fcntl.h>
 #include <limits.h>
 #include <poll.h>
 #include <stdlib.h>
 #include <string.h>
 #include <sys/socket.h>
+#include <sys/stat.h>
 #include <unistd.h>
 
-/* What a make may send of one recipe, in bytes; and how long a make may take from the announcement of a line to its start, in
+/* What a make may send of one recipe, and the longest name of a target, in bytes; and how long a make may take from the announcement of a line to its start, in
    milliseconds, if others wait for that. */
-enum { MAX_NAMES = 256 << 20, MAX_START = 2000 };
+enum { MAX_NAMES = 256 << 20, MAX_NAME = 4096, MAX_START = 2000 };
+/* In milliseconds since 1970: the year 5138. */
+#define MAX_TIME ((int64_t)100000000000000)
 
 /* Until its first line begins a recipe has its names, as they were sent. */
 struct recipe_entry {
   char *names;
   size_t size;
   struct target *target;
+};
+
+/* A line that make is about to start. */
+struct announcement {
+  int is_set, descriptor;
+  uint32_t recipe;
+  int64_t time;
+  struct target *target;
+  struct command command;
 };
 
 struct make {
@@ -32,13 +45,7 @@ struct make {
   char *names; /* of the recipe that is being sent */
   size_t names_size;
   uint32_t latest; /* the recipe of which a line may begin next */
-  struct {
-    int is_set, descriptor;
-    uint32_t recipe;
-    int64_t time;
-    struct target *target;
-    struct command command;
-  } announced;
+  struct announcement announced;
 };
 
 static struct make **makes;
@@ -48,8 +55,8 @@ struct make *accept_make(int descriptor) {
   makes = make_room(makes, make_count, &makes_room, sizeof *makes);
   struct make *make = resize(NULL, sizeof *make);
   *make = (struct make){.source = {MAKE, descriptor}, .notes = {NOTES, -1}, .number = make_count + 1, .announced = {.descriptor = -1}};
+  if (watch(&make->source) < 0) return free(make), NULL;
   makes[make_count++] = make;
-  watch(&make->source);
   return make;
 }
 
@@ -73,14 +80,18 @@ static struct target *parent_target(struct make *make) {
   return recipe && recipe->target && recipe->target->is_begun ? recipe->target : NULL;
 }
 
-/* Its make may be about to report that it has started. */
+static void start_recipe(struct make *make, struct recipe_entry *recipe, pid_t process);
+
+/* The log of the parent has its own records first. Its make may be about to report the process; if that takes long, nobody waits. */
 static void await_parent(struct make *make) {
   struct make *parent;
-  if (!parent_recipe(make, &parent)) return;
-  while (parent->notes.file >= 0 && parent->announced.is_set && parent->announced.recipe == make->parent_recipe) {
-    struct pollfd note = {parent->notes.file, POLLIN, 0};
-    if (poll(&note, 1, MAX_START) <= 0) break;
+  struct recipe_entry *recipe = parent_recipe(make, &parent);
+  struct pollfd note = {recipe ? parent->notes.file : -1, POLLIN, 0};
+  while (recipe && recipe->target && recipe->target->is_begun && !recipe->target->is_started) {
+    if (note.fd < 0 || poll(&note, 1, MAX_START) <= 0) return start_recipe(parent, recipe, parent->process);
     hear_notes(parent);
+    note.fd = parent->notes.file;
+    recipe = recipe_of(parent, make->parent_recipe); /* more of them may have come */
   }
 }
 
@@ -88,10 +99,7 @@ static void await_parent(struct make *make) {
 static struct target nobody = {.name = "", .log = -1, .status = -1};
 
 static struct target *target_of(struct make *make, struct recipe_entry *recipe) {
-  if (!recipe->target && recipe->names) {
-    recipe->target = add_target(normal_name(make->directory, recipe->names, strlen(recipe->names)));
-    if (recipe->target == run_target) recipe->target->number = 1;
-  }
+  if (!recipe->target && recipe->names) recipe->target = add_target(normal_name(make->directory, recipe->names, strlen(recipe->names)));
   return recipe->target;
 }
 
@@ -108,12 +116,14 @@ static void start_recipe(struct make *make, struct recipe_entry *recipe, pid_t p
   struct target *target = recipe->target;
   size_t name_size = recipe->names ? strlen(recipe->names) : 0;
   const char *prerequisites = recipe->names && name_size < recipe->size ? recipe->names + name_size + 1 : "";
+  char *names = recipe->names;
+  recipe->names = NULL;
   if (target && target->is_begun && !target->is_started) {
+    target->is_started = 1;
     await_parent(make);
     start_target(target, make->directory, prerequisites, process);
   }
-  free(recipe->names);
-  recipe->names = NULL;
+  free(names);
 }
 
 static void forget_announcement(struct make *make) {
@@ -122,11 +132,12 @@ static void forget_announcement(struct make *make) {
 
 /* The line that was announced has a process now: that of its make, if nobody reports another one. */
 static void start_line(struct make *make, pid_t process) {
-  if (!make->announced.is_set) return;
-  check_presence();
-  start_recipe(make, recipe_of(make, make->announced.recipe), process);
-  begin_line(make, make->announced.target, make->announced.command, make->announced.time, process, make->announced.descriptor);
+  struct announcement announced = make->announced;
+  if (!announced.is_set) return;
   forget_announcement(make);
+  check_presence();
+  start_recipe(make, recipe_of(make, announced.recipe), process);
+  begin_line(make, announced.target, announced.command, announced.time, process, announced.descriptor);
 }
 
 void end_make(struct make *make) {
@@ -147,16 +158,20 @@ void close_makes(void) {
   }
 }
 
+/* A time that makes no sense is that of this moment, and a process 0. */
+static int64_t sensible_time(int64_t time) { return time >= 0 && time < MAX_TIME ? time : wall_clock(); }
+static pid_t sensible_process(pid_t process) { return process > 0 ? process : 0; }
+
 static int take_hello(struct make *make, const char *message, size_t size, int *notes) {
   struct hello hello;
   if (make->directory || *notes < 0 || size <= sizeof hello || message[size - 1] != 0) return -1;
   memcpy(&hello, message, sizeof hello);
   if (!is_token(hello.token)) return -1;
-  make->parent_make = hello.parent_make, make->parent_recipe = hello.parent_recipe, make->process = hello.pid;
+  make->parent_make = hello.parent_make, make->parent_recipe = hello.parent_recipe, make->process = sensible_process(hello.pid);
   make->is_redirected = hello.is_redirected;
   make->directory = text("%s", message + sizeof hello);
   make->notes.file = *notes, *notes = -1;
-  watch(&make->notes);
+  if (watch(&make->notes) < 0) return -1;
   struct welcome welcome = {make->number, shows, captures_output};
   return answer(make, &welcome, sizeof welcome);
 }
@@ -183,33 +198,37 @@ static int take_recipe(struct make *make, const char *message, size_t size) {
   return 0;
 }
 
-static void warn_once(const char *what) {
-  static const char *last;
-  if (last != what) warn("%s", what);
-  last = what;
+/* Whether this is the reading end of a pipe. */
+static int is_pipe(int descriptor) {
+  struct stat found;
+  return descriptor >= 0 && fstat(descriptor, &found) == 0 && S_ISFIFO(found.st_mode) &&
+         (fcntl(descriptor, F_GETFL) & O_ACCMODE) == O_RDONLY;
 }
 
 /* Whether its pipe is to be read. Of a target whose name has a line feed no record can tell. */
-static int can_capture(struct recipe_entry *recipe, int is_lost) {
+static int can_capture(struct make *make, struct recipe_entry *recipe, int is_lost) {
   if (!recipe || open_directory() < 0) return 0;
   if (is_lost) warn_once("too many open files: what some recipes print is not captured");
-  if (recipe->names && strchr(recipe->names, '\n')) return warn_once("a target whose name has a line feed is not captured"), 0;
-  return 1;
+  const char *name = recipe->names ? normal_name(make->directory, recipe->names, strlen(recipe->names)) : "";
+  if (strlen(name) <= MAX_NAME && !strchr(name, '\n')) return 1;
+  warn_once("a target whose name is longer than 4096 bytes, or has a line feed, is not captured");
+  return 0;
 }
 
 static int take_line(struct make *make, const char *message, size_t size, int *descriptor, int is_lost) {
   struct line_message line;
   if (size < sizeof line || make->announced.is_set) return -1;
   memcpy(&line, message, sizeof line);
+  line.time = sensible_time(line.time);
   size -= sizeof line;
   check_presence();
   struct recipe_entry *recipe = recipe_of(make, line.recipe);
-  if (!can_capture(recipe, is_lost)) return answer(make, "\0", 1);
+  if (!can_capture(make, recipe, is_lost)) return answer(make, "\0", 1);
   struct command command = {memcpy(resize(NULL, size), message + sizeof line, size), size};
   make->latest = make->announced.recipe = line.recipe, make->announced.time = line.time;
   make->announced.target = begin_recipe(make, recipe, line.time);
-  make->announced.command = command, make->announced.descriptor = *descriptor, make->announced.is_set = 1;
-  *descriptor = -1;
+  make->announced.command = command, make->announced.is_set = 1;
+  if (is_pipe(*descriptor)) make->announced.descriptor = *descriptor, *descriptor = -1;
   rest();
   return answer(make, make->announced.descriptor >= 0 ? "\1" : "\0", 1);
 }
@@ -218,7 +237,7 @@ static int take_start(struct make *make, const char *message, size_t size) {
   struct started started;
   if (size < sizeof started) return -1;
   memcpy(&started, message, sizeof started);
-  start_line(make, started.pid);
+  start_line(make, sensible_process(started.pid));
   return 0;
 }
 
@@ -226,11 +245,12 @@ static int take_failure(struct make *make, const char *message, size_t size) {
   struct failed failed;
   if (size < sizeof failed) return -1;
   memcpy(&failed, message, sizeof failed);
+  failed.time = sensible_time(failed.time);
   struct recipe_entry *recipe = recipe_of(make, make->latest);
   if (make->announced.descriptor >= 0) close(make->announced.descriptor);
   free(make->announced.command.bytes);
   forget_announcement(make);
-  if (!can_capture(recipe, 0)) return 0;
+  if (!can_capture(make, recipe, 0)) return 0;
   struct target *target = begin_recipe(make, recipe, failed.time);
   start_recipe(make, recipe, make->process);
   fail_line(target, make->process, failed.time);
@@ -241,7 +261,7 @@ static int take_end(struct make *make, const char *message, size_t size) {
   struct ended ended;
   if (size < sizeof ended) return -1;
   memcpy(&ended, message, sizeof ended);
-  end_line(make, ended.pid, ended.status, ended.time, ended.asks && !make->is_redirected);
+  end_line(make, ended.pid, ended.status, sensible_time(ended.time), ended.asks && !make->is_redirected);
   return ended.asks ? answer(make, "", 1) : 0;
 }
 
@@ -290,6 +310,18 @@ void hear_notes(struct make *make) {
   }
 }
 
+/* A message passes one descriptor; more of them are closed. */
+static int take_descriptor(struct msghdr *message) {
+  int descriptors[2], taken = -1;
+  struct cmsghdr *head = CMSG_FIRSTHDR(message);
+  if (!head || head->cmsg_level != SOL_SOCKET || head->cmsg_type != SCM_RIGHTS) return -1;
+  size_t count = (head->cmsg_len - CMSG_LEN(0)) / sizeof(int);
+  memcpy(descriptors, CMSG_DATA(head), count < 2 ? count * sizeof(int) : sizeof descriptors);
+  if (count > 0) taken = descriptors[0];
+  if (count > 1) close(descriptors[1]);
+  return taken;
+}
+
 void hear_make(struct make *make) {
   union {
     struct cmsghdr head;
@@ -301,10 +333,7 @@ void hear_make(struct make *make) {
   if (make->source.file < 0) return;
   ssize_t size = receive(make->source.file, &message);
   if (size == 0) return;
-  int descriptor = -1, error = size < 0 ? -1 : 0;
-  struct cmsghdr *head = size > 0 ? CMSG_FIRSTHDR(&message) : NULL;
-  if (head && head->cmsg_level == SOL_SOCKET && head->cmsg_type == SCM_RIGHTS && head->cmsg_len >= CMSG_LEN(sizeof(int)))
-    memcpy(&descriptor, CMSG_DATA(head), sizeof descriptor);
+  int descriptor = size > 0 ? take_descriptor(&message) : -1, error = size < 0 ? -1 : 0;
   if (!error && is_out_of_memory) error = refuse_message(make, bytes);
   else if (!error) error = take_message(make, bytes, size, &descriptor, message.msg_flags & MSG_CTRUNC);
   if (descriptor >= 0) close(descriptor);

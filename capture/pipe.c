@@ -29,10 +29,13 @@ static struct pipe *pipes, *closed_pipes;
 struct pipe *watch_pipe(int descriptor, struct target *target) {
   struct pipe *pipe = resize(NULL, sizeof *pipe);
   *pipe = (struct pipe){.source = {PIPE, descriptor}, .target = target, .next = pipes, .link = &pipes};
-  fcntl(descriptor, F_SETFL, O_NONBLOCK);
+  if (fcntl(descriptor, F_SETFL, O_NONBLOCK) < 0 || watch(&pipe->source) < 0) {
+    close(descriptor);
+    free(pipe);
+    return NULL;
+  }
   if (pipes) pipes->link = &pipe->next;
   pipes = pipe;
-  watch(&pipe->source);
   return pipe;
 }
 

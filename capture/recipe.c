@@ -63,7 +63,6 @@ void start_target(struct target *target, const char *directory, const char *prer
   char *records, *needed;
   size_t records_size, needed_size;
   struct head head = {target, open_memory(&records, &records_size), open_memory(&needed, &needed_size), process, target->began};
-  target->is_started = 1;
   fprintf(head.records, "@@REDO:do:%d:%s@@ %s\n", (int)process, time_text(target->began), own_name(target->name));
   mention_prerequisites(&head, directory, prerequisites);
   close_memory(head.records);

@@ -83,7 +83,8 @@ static void report_failed(const struct group *failed) {
 static void report_stop(const char *command, const struct group *running) {
   int is_killed = !stop_signal || command_signal == SIGKILL;
   int kind = is_killed ? command_signal : stop_signal;
-  const char *what = is_killed ? text("%s was ended by %s", base_name(command), signal_name(kind)) : text("interrupted by %s", signal_name(kind));
+  const char *what = is_killed ? text("%s was ended by %s", base_name(command), signal_name(kind))
+                               : text("interrupted by %s", signal_name(kind));
   char *list = list_of(running, name_and_duration);
   if (running->count == 0) warn("%s", what);
   else if (running->count > MAX_NAMED) warn("%s; running: %s", what, list);

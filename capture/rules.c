@@ -94,6 +94,6 @@ char *find_rules(void) {
   temporary = make_temporary();
   if (temporary) atexit(remove_rules);
   char *link = temporary ? text("%s/link", temporary) : NULL;
-  if (!link || symlink(place, link) < 0) die(1, "cannot make a temporary directory, which make needs to read %s: %s", rules, strerror(errno));
+  if (!link || symlink(place, link) < 0) die(1, "cannot make a temporary directory, needed for %s: %s", rules, strerror(errno));
   return text("%s/capture.mk", link);
 }

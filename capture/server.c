@@ -20,16 +20,15 @@ enum { LITTLE = 16384, REST = 2, MAX_EVENTS = 64 };
 int is_out_of_memory;
 
 /* What may be looked at later has a poller of its own, which the other one polls, unless it rests. */
-static int poller = -1, later_poller = -1;
+static int poller = -1, later_poller = -1, spare = -1;
 static struct source signals = {SIGNALS, -1}, listener = {LISTENER, -1}, later = {LATER, -1};
 static int64_t rest_end;
 static char token[TOKEN_SIZE + 1], socket_name[MAX_SOCKET_NAME];
 static jmp_buf without_memory;
 
-void watch(struct source *source) {
+int watch(struct source *source) {
   struct epoll_event event = {.events = EPOLLIN, .data.ptr = source};
-  int own = source->kind > LATER ? later_poller : poller;
-  if (epoll_ctl(own, EPOLL_CTL_ADD, source->file, &event) < 0) die(1, "cannot wait for the build: %s", strerror(errno));
+  return epoll_ctl(source->kind > LATER ? later_poller : poller, EPOLL_CTL_ADD, source->file, &event);
 }
 
 /* Closing it alone isn't enough: whoever passed it may have passed it twice. */
@@ -52,12 +51,9 @@ void listen_for_makes(void) {
   socklen_t size = offsetof(struct sockaddr_un, sun_path) + 1 + strlen(socket_name);
   poller = epoll_create1(EPOLL_CLOEXEC), later.file = later_poller = epoll_create1(EPOLL_CLOEXEC);
   listener.file = socket(AF_UNIX, SOCK_SEQPACKET | SOCK_CLOEXEC | SOCK_NONBLOCK, 0);
-  signals.file = signal_descriptor();
-  if (poller < 0 || later_poller < 0 || bind(listener.file, (struct sockaddr *)&address, size) < 0 || listen(listener.file, 1024) < 0)
-    die(1, "cannot listen for makes: %s", strerror(errno));
-  watch(&signals);
-  watch(&listener);
-  watch(&later);
+  signals.file = signal_descriptor(), spare = open("/", O_RDONLY | O_CLOEXEC);
+  if (bind(listener.file, (struct sockaddr *)&address, size) < 0 || listen(listener.file, 1024) < 0 || watch(&signals) < 0 ||
+      watch(&listener) < 0 || watch(&later) < 0) die(1, "cannot listen for makes: %s", strerror(errno));
 }
 
 /* Where an output goes; 0.0 if it was closed when this program began. */
@@ -94,11 +90,21 @@ static void serve_later(void) {
   if (size > 0 && size < LITTLE) rest();
 }
 
+/* A make that can't be taken must not wait: without files, one that is kept for this takes its connection, and ends it. */
+static void refuse_make(void) {
+  close(spare);
+  int file = accept4(listener.file, NULL, NULL, SOCK_CLOEXEC);
+  if (file >= 0) close(file);
+  spare = open("/", O_RDONLY | O_CLOEXEC);
+  warn_once("too many open files: what some recipes print is not captured");
+}
+
 static void accept_makes(void) {
   for (int file; (file = accept4(listener.file, NULL, NULL, SOCK_CLOEXEC)) >= 0;) {
     if (is_out_of_memory) close(file);
-    else accept_make(file);
+    else if (!accept_make(file)) close(file);
   }
+  if (errno == EMFILE || errno == ENFILE) refuse_make();
 }
 
 static void serve_source(struct source *source) {
@@ -144,7 +150,7 @@ void serve_command(void) {
 }
 
 void close_server(void) {
-  int files[] = {poller, later_poller, signals.file, listener.file};
-  for (int i = 0; i < 4; i++)
+  int files[] = {poller, later_poller, signals.file, listener.file, spare};
+  for (int i = 0; i < 5; i++)
     if (files[i] >= 0) close(files[i]);
 }

@@ -6,6 +6,9 @@
 struct target **targets, *run_target;
 size_t target_count;
 
+/* Of the spaces in a name. */
+enum { MAX_PREFIXES = 32 };
+
 static size_t target_room, bucket_count;
 static struct target **buckets;
 
@@ -37,7 +40,8 @@ static void add_buckets(void) {
 
 /* What a name with spaces begins with, up to one of them, is a target of its own, which no log has. */
 static void add_prefixes(const char *name) {
-  for (const char *space = name; (space = strchr(space, ' ')); space++) {
+  int count = 0;
+  for (const char *space = name; (space = strchr(space, ' ')) && count < MAX_PREFIXES; space++, count++) {
     if (!space[1]) continue;
     char *prefix = text("%.*s", (int)(space - name) + 1, name);
     add_target(prefix);

@@ -30,6 +30,12 @@ void warn(const char *format, ...) {
   va_end(values);
 }
 
+void warn_once(const char *message) {
+  static const char *last;
+  if (last != message) warn("%s", message);
+  last = message;
+}
+
 void die(int status, const char *format, ...) {
   va_list values;
   va_start(values, format);

@@ -6,7 +6,8 @@
 #include <spawn.h>
 #include <sys/stat.h>
 
-typedef int spawn_function(pid_t *, const char *, const posix_spawn_file_actions_t *, const posix_spawnattr_t *, char *const *, char *const *);
+typedef int spawn_function(pid_t *, const char *, const posix_spawn_file_actions_t *, const posix_spawnattr_t *, char *const *,
+                           char *const *);
 typedef int actions_function(posix_spawn_file_actions_t *);
 typedef int adddup2_function(posix_spawn_file_actions_t *, int, int);
 #define ORIGINAL(number, type) ((type *)imports[number].original)

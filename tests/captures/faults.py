@@ -37,11 +37,15 @@ x y: ; @echo $@ said >&2; echo $@ printed; echo $@ >$@; [ $@ = x ] || exit $E
 sub: ; @echo sub begins >&2; $(TRACED) $(MAKE) -s -k below beside >sub; code=$$?; echo sub ends >&2; exit $$code
 below beside: ; @echo $@ said >&2; echo $@ printed; echo $@ >$@; [ $@ = beside ] || exit $E
 lines:
-	@for n in 1 2 3; do echo $@ said $$n >&2; done; for n in '$@ said' ' 4\n'; do printf "$$n" >&2; done
+	@for n in 1 2 3; do echo $@ said $$n >&2; done; for n in $(PIECES); do printf "$$n" >&2; done
 	touch $@
 	@echo $@ said more >&2
 nothing: ; no-such-command $@
+earlier: ; @echo earlier said >&2
+PIECES = 'lines said' ' 4\n'
 """
+# Without a capture other recipes may print between two pieces of a line.
+WITH_JOBS = ("-j2", "PIECES='lines said 4\\n'")
 # What is added to the command, and the status with which recipes fail.
 WAYS = (((), 3), (("--both",), 3), ((), 0), (("--quiet",), 3), (("--live",), 3), (("--live", "--both"), 0))
 
@@ -49,7 +53,7 @@ WAYS = (((), 3), (("--both",), 3), ((), 0), (("--quiet",), 3), (("--live",), 3),
 def sampled(numbers, way=0):
     """Some of these numbers; fewer in other ways than the first."""
     numbers = [number for number in numbers if number <= ALL_OF or number % ONE_OF == 0]
-    return numbers[way % 4 :: 4] if way else numbers
+    return numbers[way % 6 :: 6] if way else numbers
 
 
 def ended(folder, command, more=None, inherited=()):
@@ -63,11 +67,11 @@ def ended(folder, command, more=None, inherited=()):
 
 
 def files_of(folder):
-    """What a build has made, but for the captures and what a test has put there."""
+    """The lines of all files that a build has made, but for the captures and what a test has put there."""
     found = {}
     for name in sorted(set(os.listdir(folder)) - {"Makefile", "capture", "trace", "summary", "go", "stay", "fifo"}):
         with open(os.path.join(folder, name), "rb") as file:
-            found[name] = file.read()
+            found[name] = sorted(file.readlines())
     return found
 
 
@@ -76,19 +80,31 @@ def built(folder, command, more=None):
     return (*ended(folder, command, more), files_of(folder))
 
 
-def plain_builds(at, makefile, statuses, words):
-    """What the same build comes to without a capture, by the status with which its recipes fail."""
-    return {status: built(project(at(f"plain{status}"), makefile), ["make", *words, f"E={status}"]) for status in statuses}
+def plain_builds(at):
+    """What the build comes to without a capture, by the status with which its recipes fail."""
+    return {status: built(project(at(f"plain{status}"), BUILD), ["make", "-k", f"E={status}"]) for status in (0, 3)}
+
+
+def captured_before(at):
+    """Gives folders for the build that have captures of an earlier one, of another target."""
+    earlier = project(at("earlier"), BUILD)
+    ended(earlier, [TOOL, "make", "earlier"])
+
+    def folder(name):
+        shutil.copytree(os.path.join(earlier, "capture"), os.path.join(at(name), "capture"))
+        return project(at(name), BUILD)
+
+    return folder
 
 
 def texts_of(folder):
-    """The lines of all logs that are no records."""
+    """The lines of all logs that are no records, or have one behind something else."""
     lines, at = Counter(), os.path.join(folder, "capture")
     for name in os.listdir(at) if os.path.isdir(at) else ():
         if name.startswith("log."):
-            with open(os.path.join(at, name), encoding="utf-8", errors="replace") as log:
-                lines.update(line for line in log.read().split("\n") if line and not line.startswith("@@REDO:"))
-    return lines
+            with open(os.path.join(at, name), encoding="utf-8", errors="replace", newline="\n") as log:
+                lines.update(line for line in log.read().split("\n") if line and not re.match(r"@@REDO:((?!\S@@REDO:).)*$", line))
+    return Counter({line: count for line, count in lines.items() if "/capture.mk:" not in line})
 
 
 def lines_of(text):
@@ -101,27 +117,33 @@ def without_heads(text):
     return lines_of(re.sub(r"^(redo-log-capture: |.*/capture\.mk:).*\n", "", text, flags=re.M))
 
 
-def faults_of(plain, captured, folder, options=(), may_be_1=False):
+def faults_of(plain, captured, folder, options=(), may_be_1=False, may_lose=False):
     """What a captured build did otherwise than a plain one, given what both came to."""
     status, out, err, files = plain
     found_status, found_out, found_err, found_files = captured
     found, logs = [], texts_of(folder)
+    logs.pop("earlier said", None)
     if found_status != status and not (may_be_1 and (status, found_status) == (0, 1)):
         found.append(f"status {found_status}, not {status}")
     if found_files != files:
-        found.append(f"files {sorted(found_files)}, not {sorted(files)}")
+        found.append(f"files {found_files}, not {files}")
     if "--both" not in options and lines_of(found_out) != lines_of(out):
         found.append(f"standard output {found_out!r}, not {out!r}")
     wanted, printed = lines_of(err), without_heads(found_err)
     if "--both" in options:
         wanted, printed = wanted + lines_of(out), printed + lines_of(found_out)
-    if wanted - printed - logs:
+    if wanted - printed - logs and not may_lose:
         found.append(f"lost {sorted(wanted - printed - logs)}")
     if logs - wanted or printed - wanted:
         found.append(f"logs have {sorted(logs - wanted)}, and the outputs {sorted(printed - wanted)}, which nothing printed")
     if os.path.exists(os.path.join(folder, "capture/names")) and not isinstance(shown(folder, "all"), str):
         found.append(f"redo-log refuses the captures: {shown(folder, 'all')}")
     return [*found, *found_err.splitlines()[-3:]] if found else []
+
+
+def without_earlier(folder):
+    """A sentence if the captures of an earlier build are not shown any more."""
+    return [] if shown(folder, "earlier") == "redo  earlier\nearlier said\n" else ["earlier captures are lost"]
 
 
 def all_right(checks, what, run, items):
@@ -144,9 +166,9 @@ def all_right(checks, what, run, items):
 
 
 def has_strace(what):
-    if shutil.which("strace"):
+    if shutil.which("strace") and subprocess.run(["strace", "-o", "/dev/null", "true"], stderr=subprocess.DEVNULL).returncode == 0:
         return True
-    print(f"captures: {what} is left out: there is no strace")
+    print(f"captures: {what} is left out: no strace, or no process may be traced")
     return False
 
 
@@ -161,20 +183,19 @@ HOOK_CALLS = {
 OWN_CALLS = {"socket": 2, "connect": 2, "getsockopt": 2, "socketpair": 2, "sendmsg": 40, "recvfrom": 15}
 
 
-def places_in_hook(trace):
-    """Of a trace with addresses: by system call, which of its calls, counted from 1, the hook made."""
+def calls_of_hook(trace):
+    """Of a trace with addresses: the system calls of the hook, each with the number of calls of this name up to it, and the line."""
     start = end = 0
-    descriptor, counts, places = None, Counter(), {}
+    descriptor, counts = None, Counter()
     for address, call, rest in re.findall(r"^\[(\w+)\] (\w+)\((.*)", trace, re.M):
         counts[call] += 1
-        if call == "openat" and '/capture.so"' in rest:
+        if call in ("open", "openat") and '/capture.so"' in rest:
             descriptor = rest.rsplit(" ", 1)[1]
         mapped = re.match(rf"NULL, (\d+), \w+, [\w|]+, {descriptor}, 0\) = (0x\w+)$", rest) if call == "mmap" and not start else None
         if mapped:
             start, end = int(mapped[2], 16), int(mapped[2], 16) + int(mapped[1])
         if start <= int(address, 16) < end:
-            places.setdefault(call, []).append(counts[call])
-    return places
+            yield call, counts[call], rest
 
 
 def failing_hook(checks, at):
@@ -182,14 +203,14 @@ def failing_hook(checks, at):
     a build with two jobs."""
     if not has_strace("failing_hook"):
         return
-    plain = plain_builds(at, BUILD, (0, 3), ["-k"])
+    plain = plain_builds(at)
 
     def traced(name, where, way, words):
         options, status = WAYS[way]
         folder = project(at(name), BUILD)
         command, tracer = ["make", "-k", f"E={status}"], ["strace", "-qq", "-i", "-o", "trace", *words]
         if where == "all":
-            command = [*tracer, "-f", *command, "-j2"]
+            command = [*tracer, "-f", *command, *WITH_JOBS]
         else:
             command = [*tracer, *command] if where == "first" else [*command, f"TRACED={' '.join(tracer)}"]
         outcome = built(folder, [TOOL, *options, *command])
@@ -199,9 +220,10 @@ def failing_hook(checks, at):
     def run(item):
         name = " ".join(map(str, item))
         where, way, call, error, number = item
-        folder, outcome, trace = traced(name, where, way, ["-e", f"trace={call}", "-e", f"inject={call}:error={error}:when={number}"])
-        if "(INJECTED)" not in trace:
-            return name, None if where == "all" else ["the call did not come"]
+        folder, outcome, trace = traced(name, where, way, ["-e", f"trace={'' if where == 'all' else '?open,openat,mmap,'}{call}", "-e", f"inject={call}:error={error}:when={number}"])
+        # Where the numbers differ from one run to the next the call may be one of make's own.
+        if "(INJECTED)" not in (trace if where == "all" else "".join(rest for _, _, rest in calls_of_hook(trace))):
+            return name, None
         found = faults_of(plain[WAYS[way][1]], outcome, folder, WAYS[way][0])
         if not found:
             shutil.rmtree(folder)
@@ -210,15 +232,17 @@ def failing_hook(checks, at):
     items, met = [], set()
     for where in ("first", "below"):
         for way in range(len(WAYS)):
-            places = places_in_hook(traced(f"{where}{way}", where, way, [])[2])
-            met |= set(places)
+            calls = list(calls_of_hook(traced(f"{where}{way}", where, way, [])[2]))
+            met |= {call for call, _, _ in calls}
             for call, errors in HOOK_CALLS.items():
-                items += [(where, way, call, error, number) for error in errors for number in sampled(places.get(call, ()), way)]
+                numbers = sampled([number for name, number, _ in calls if name == call], way)
+                items += [(where, way, call, error, number) for error in errors for number in numbers]
     for call, count in OWN_CALLS.items():
         items += [("all", number % len(WAYS), call, error, number) for error in HOOK_CALLS[call] for number in range(1, count + 1)]
     # Where the import slots of make are never read-only the hook makes no use of mprotect.
     checks.expect("failing_hook: calls of the hook that did not come", sorted(set(HOOK_CALLS) - met - {"mprotect"}), [])
-    all_right(checks, "failing_hook", run, items)
+    count = all_right(checks, "failing_hook", run, items)
+    checks.expect("failing_hook: most of the calls came", count > len(items) / 2 or checks.failed > 0, True)
 
 
 # Those of redo-log-capture, and errors that the kernel has for them; what closes a file, or reads a pipe, doesn't fail.
@@ -230,6 +254,8 @@ SERVER_CALLS = {
     "getdents64": ("EIO",), "socket": ("EMFILE",), "bind": ("EADDRINUSE",), "listen": ("EADDRINUSE",), "signalfd4": ("EMFILE",),
     "epoll_create1": ("EMFILE",), "getrandom": ("ENOSYS",), "poll": ("EINTR",),
 }  # fmt: skip
+# Those that may fail from some time on, until the end.
+LASTING = ("recvmsg", "sendto", "epoll_ctl", "openat", "ftruncate", "pread64", "renameat", "mkdir", "unlinkat", "newfstatat", "getdents64")
 STARTS = ("clone", "clone3", "fork", "vfork")
 
 
@@ -243,11 +269,11 @@ def failing_server(checks, at):
     """Each system call of redo-log-capture fails. Before the command is started it may end."""
     if not has_strace("failing_server"):
         return
-    plain = plain_builds(at, BUILD, (0, 3), ["-k"])
+    plain, captured = plain_builds(at), captured_before(at)
 
     def traced(name, way, words):
         options, status = WAYS[way]
-        folder = project(at(name), BUILD)
+        folder = captured(name)
         outcome = built(folder, ["strace", "-qq", "-o", "trace", *words, TOOL, "--summary", "summary", *options, "make", "-k", f"E={status}"])
         with open(os.path.join(folder, "trace"), encoding="utf-8") as trace:
             return folder, outcome, re.findall(r"^(\w+)\((.*)", trace.read(), re.M)
@@ -260,9 +286,10 @@ def failing_server(checks, at):
         if failed is None:
             return name, None
         started = next((place for place, (call, rest) in enumerate(calls) if call in STARTS and " = -1 " not in rest), len(calls))
-        found = [] if failed < started and is_refused(outcome) else faults_of(plain[WAYS[way][1]], outcome, folder, WAYS[way][0], may_be_1=True)
-        if calls[failed][0] == "write" and calls[failed][1].startswith("2, "):
-            found = [fault for fault in found if not fault.startswith("lost")]
+        found = without_earlier(folder)
+        if failed > started or not is_refused(outcome):
+            options, status = WAYS[way]
+            found += faults_of(plain[status], outcome, folder, options, may_be_1=True, may_lose=call == "write" and calls[failed][1].startswith("2, "))
         if not found:
             shutil.rmtree(folder)
         return name, found
@@ -272,33 +299,65 @@ def failing_server(checks, at):
         counts = Counter(call for call, _ in traced(f"counted{way}", way, [])[2])
         for call, errors in SERVER_CALLS.items():
             items += [(way, call, error, number) for error in errors for number in sampled(range(1, counts[call] + 1), way)]
+            if call in LASTING:
+                items += [(way, call, errors[0], f"{number}+") for number in range(1 + way, counts[call] + 1, 2 * len(WAYS))]
     all_right(checks, "failing_server", run, items)
 
 
 def refused_memory(checks, at):
     """Each request for memory of redo-log-capture is refused, alone and with all later ones."""
     tool, library = install_capture(at("dynamic"), "STATIC="), preloaded("memory")
-    plain = plain_builds(at, BUILD, (0, 3), ["-k"])
+    plain, captured = plain_builds(at), captured_before(at)
 
     def run(item):
         name = " ".join(map(str, item))
         way, number, what = item
         options, status = WAYS[way]
-        folder = project(at(name), BUILD)
+        folder = captured(name)
         more = {"LD_PRELOAD": library, "REFUSE_AT": str(number), "REFUSE_TOLD": f"{folder}/trace", **({"REFUSE_ALL": "yes"} if what == "all" else {})}
         outcome = built(folder, [tool, "--summary", "summary", *options, "make", "-k", f"E={status}"], more)
         if not os.path.exists(os.path.join(folder, "trace")):
             return name, None
-        found = [] if is_refused(outcome) else faults_of(plain[status], outcome, folder, options, may_be_1=True)
+        found = without_earlier(folder)
+        if not is_refused(outcome):
+            found += faults_of(plain[status], outcome, folder, options, may_be_1=True)
         if not found:
             shutil.rmtree(folder)
         return name, found
 
-    first, count = 1, 1
-    while count and not checks.failed:
+    first, count, failed = 1, 1, checks.failed
+    while count and checks.failed == failed:
         numbers = sampled(range(first, first + 64))
         count = all_right(checks, "refused_memory", run, [((number + len(what)) % len(WAYS), number, what) for number in numbers for what in ("one", "all")])
         first += 64
+    checks.expect("refused_memory: requests", count > 0 or first > 200, True)
+    little_memory(checks, at, tool)
+
+
+# A line of 3 MB, which is held in memory until it ends.
+LONG = "all: long ; @echo all said >&2\nlong: ; @head -c 3000000 /dev/zero | tr '\\0' x >&2; echo ' is said' >&2; echo printed\n"
+
+
+def little_memory(checks, at, tool):
+    """A limit of memory that is little more than what the build itself takes, all of which is printed somewhere."""
+
+    def limited(name, limit, command):
+        folder = project(at(name), LONG)
+        outcome = built(folder, ["sh", "-c", f'ulimit -v {limit}; exec "$@"', "limited", *command, "make", "-s"])
+        printed = "\n".join([*texts_of(folder), outcome[2]])
+        return outcome[:2], sum(map(len, re.findall("x{50,}", printed))), printed.count("all said"), outcome[2][-200:]
+
+    least = next((limit for limit in range(2000, 20000, 250) if limited(f"least{limit}", limit, [])[:3] == ((0, "printed\n"), 3000000, 1)), None)
+    checks.expect("refused_memory: a build that takes little", least is not None, True)
+
+    def run(item):
+        more, program = item
+        outcome, size, said, err = limited(" ".join(map(str, (more, program == tool))), least + more, [program])
+        right = outcome in ((0, "printed\n"), (1, "printed\n")) and (size, said) == (3000000, 1)
+        is_never_begun = outcome == (1, "") and size == said == 0
+        return f"{more} kB more", [] if right or is_never_begun else [str((outcome, size, said)), err]
+
+    all_right(checks, "refused_memory, a limit", run, [(more, program) for more in (1000, 1500, 2000, 3000, 4000, 6000, 9000) for program in (TOOL, tool)])
 
 
 # Recipes that all run at once: each waits until all have begun. Every tenth of them runs a make below it, with another such recipe.
@@ -759,15 +818,18 @@ def kept_descriptors(liar):
     liar.make()
 
 
-def parents_that_never_start(liar):
+def parents_that_start_late(liar):
     connection, notes, number = liar.make()
     liar.send(notes, recipe(1, b"parent\0"))
     liar.send(connection, line(1))
     liar.answer(connection)
     for child in range(31):
-        below, _ = liar.begin(b"child%d\0" % child, parent=(number, 1))
+        below, _ = liar.begin(b"child%d\0" % child, b"said\n", parent=(number, 1))
         liar.send(below, gone(77, asks=1))
         liar.answer(below)
+    liar.send(notes, started(5))
+    liar.send(connection, gone(5, 256, asks=1))
+    liar.answer(connection)
 
 
 def parents_in_a_circle(liar):
@@ -870,7 +932,7 @@ def at_random(liar):
 
 LIES = (
     cut, longer, wrong_token, wrong_order, two_lines, numbers_of_recipes, numbers_of_parents, numbers_of_processes, times_and_states, odd_names, odd_descriptors,
-    many_descriptors, kept_descriptors, parents_that_never_start, parents_in_a_circle, never_listens, many_connections, no_line_feed, too_many_names, at_random,
+    many_descriptors, kept_descriptors, parents_that_start_late, parents_in_a_circle, never_listens, many_connections, no_line_feed, too_many_names, at_random,
 )  # fmt: skip
 
 
@@ -907,11 +969,14 @@ def lying_make(checks, at):
             found += [f"status {status}", *[line for line in told.splitlines() if "SUMMARY" in line or "runtime error" in line][:2], told[-200:]]
         if left:
             found.append(f"{left} processes are left")
-        rounds = len(files_of(liar.folder).get("rounds", b""))
+        rounds = len(files_of(liar.folder).get("rounds", ()))
         honest = {"h1": ["h1 said"], "h2": ["h2 said"], **{f"d{n}": [f"d{n} said {k}" for k in (1, 2, 3)] * rounds for n in range(60) if is_beside}}
         wanted = "".join("".join(f"{line}\n" for line in [f"redo  {target}", *lines]) for target, lines in honest.items())
         if shown(liar.folder, *honest) != wanted:
             found.append(f"honest logs: {shown(liar.folder, *honest)}"[:300])
+        odd = [line for line in texts_of(liar.folder) if not re.fullmatch(r"(\w+ )?said( \d)?|said at random|x+", line)]
+        if odd:
+            found.append(f"logs have {odd}, which nothing printed"[:300])
         if not found:
             shutil.rmtree(liar.folder)
         return name, found
