@@ -107,10 +107,10 @@ struct target **sorted_targets(size_t *count);
 
 enum { MAX_LOGS = 1048575 };
 /* Reads the list: which log each target has. A line that redo-log would reject is left out, with a message. Targets that are not
-   listed any more lose their number. */
-void read_names(void);
+   listed any more lose their number. Returns -1 if it is there and can't be read. */
+int read_names(void);
 /* Lists what this run has begun, if somebody took it off the list; and the target of the run. */
-void list_begun(void);
+int list_begun(void);
 /* Writes the list, if it isn't what is there; with a mark on each log that is closed, if `marks` is set. Returns -1 if it can't. */
 int write_names(int marks);
 /* Gives a target a number, and appends its line to the list. Returns -1 if it can't. */
@@ -192,8 +192,10 @@ struct source {
 /* pipe.c: what recipes print */
 
 struct pipe;
-/* Takes over the descriptor. Returns NULL, and closes it, if it is none that can be waited for. */
-struct pipe *watch_pipe(int descriptor, struct target *target);
+/* Takes over the descriptor. Nothing is read before it is started. */
+struct pipe *make_pipe(int descriptor, struct target *target);
+void start_pipe(struct pipe *pipe, struct target *target);
+void close_pipe(struct pipe *pipe);
 /* Reads what is there; if it is to be shown, also what comes in a moment. Returns 1, and closes it, if nobody can write to it any
    more. */
 int drain_pipe(struct pipe *pipe, int waits);
@@ -227,8 +229,8 @@ struct line {
   struct line *next;
 };
 extern struct line *lines; /* that run */
-/* Takes over the command, and the reading end of its pipe, unless that is -1. */
-void begin_line(struct make *make, struct target *target, struct command command, int64_t time, pid_t process, int descriptor);
+/* Takes over the command, and its pipe, if it has one. */
+void begin_line(struct make *make, struct target *target, struct command command, int64_t time, pid_t process, struct pipe *pipe);
 void end_line(struct make *make, pid_t process, int status, int64_t time, int is_shown);
 /* A line that make couldn't start. */
 void fail_line(struct target *target, pid_t process, int64_t time);
@@ -247,6 +249,8 @@ void hear_notes(struct make *make);
 struct make *make_of_notes(struct source *notes);
 void end_make(struct make *make);
 void close_makes(void);
+/* Once there is no memory: those that wait for an answer get one. */
+void answer_all(void);
 
 /* show.c: what is printed on standard error while the build runs */
 
@@ -269,6 +273,8 @@ void serve_command(void);
 void close_server(void);
 /* Then nothing is captured any more, and the build goes on. */
 extern int is_out_of_memory;
+/* Takes a step. Returns -1 if there is no memory for it. */
+int try_step(void (*step)(void));
 
 /* command.c: the command, and signals */
 

@@ -94,9 +94,10 @@ char *file_contents(const char *name, size_t *size) {
 static int is_gone(void) {
   struct stat opened, found;
   char *path = text("%s/.capture/lock", directory_path);
-  int is_there = stat(path, &found) == 0 && fstat(lock, &opened) == 0 && found.st_dev == opened.st_dev && found.st_ino == opened.st_ino;
+  int error = stat(path, &found) < 0 ? errno : 0;
   free(path);
-  return !is_there;
+  if (error) return error == ENOENT || error == ENOTDIR || error == ESTALE;
+  return fstat(lock, &opened) == 0 && (found.st_dev != opened.st_dev || found.st_ino != opened.st_ino);
 }
 
 /* Of a full device one line says enough, and of a directory that is gone check_presence. What somebody put in place of a file is no
@@ -128,10 +129,12 @@ static int make_directories(void) {
     *slash = 0;
     mkdir(path, 0777); /* if this fails, the last one does */
   }
-  if (mkdir(path, 0777) < 0 && errno != EEXIST) warn("cannot write %s: %s", path, strerror(errno)), failed_writes++;
+  lock_error = mkdir(path, 0777) < 0 && errno != EEXIST ? errno : 0;
+  if (lock_error && lock_error != ENOENT) warn("cannot write %s: %s", path, strerror(lock_error)), failed_writes++;
   free(path);
-  directory = open(directory_path, O_RDONLY | O_DIRECTORY | O_CLOEXEC);
-  if (directory < 0) return -1;
+  if (!lock_error) directory = open(directory_path, O_RDONLY | O_DIRECTORY | O_CLOEXEC);
+  if (!lock_error && directory < 0) lock_error = errno;
+  if (lock_error) return -1;
   int ignored = is_new ? open_file(".gitignore", O_WRONLY | O_CREAT | O_EXCL) : -1;
   if (ignored >= 0) write_all(ignored, "*\n", 2), close(ignored);
   return 0;
@@ -170,7 +173,7 @@ static int drop(void) {
 /* Nothing of an earlier run is changed unless all of this can be written. */
 static int begin_run(void) {
   run_target = add_target("all");
-  read_names();
+  if (read_names() < 0) return -1;
   read_closed();
   run_target->is_closed = 0;
   if (write_names(0) < 0 || write_closed() < 0 || begin_journal() < 0) return -1;
@@ -181,9 +184,9 @@ static int begin_run(void) {
 int open_directory(void) {
   if (state != CLOSED) return state == OPEN ? 0 : -1;
   int owner = make_directories() < 0 ? 0 : take_lock();
-  if (lock < 0 && directory >= 0 && lock_error == ENOENT) { /* somebody has removed it again */
+  if (lock < 0 && lock_error == ENOENT) { /* somebody has removed it again: the next line tries again */
     close_directory();
-    owner = make_directories() < 0 ? 0 : take_lock();
+    return -1;
   }
   if (lock < 0 && directory >= 0) errno = lock_error, cannot_write(".capture/lock");
   if (owner > 0) warn("%s is in use by another build, process %d: this build is not captured", directory_name, owner);
@@ -201,7 +204,7 @@ void open_unfinished(void) {
   if (owner > 0) die(1, "%s is in use by another build, process %d", directory_name, owner);
   state = OPEN;
   run_target = add_target("all");
-  read_names();
+  if (read_names() < 0) exit(1);
   read_closed();
 }
 

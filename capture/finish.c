@@ -106,7 +106,7 @@ static void end_run(int status) {
 static void finish_run(int status) {
   size_t count;
   close_idle_logs();
-  list_begun();
+  if (list_begun() < 0) return;
   /* The list of closed logs, without those that were begun again, since the journal no longer has these; and the end of the journal,
      so that no log is closed twice. */
   if (write_names(0) < 0 || write_closed() < 0 || end_journal() < 0) return;

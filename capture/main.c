@@ -87,6 +87,16 @@ static int is_within_run(void) {
   return run && strcmp(run, directory_path) == 0;
 }
 
+static const char *command_name;
+
+static void end_run(void) {
+  check_presence();
+  if (is_captured()) finish(command_status, must_close);
+  check_presence();
+  report(command_name, is_quiet);
+  if (summary) write_summary(summary);
+}
+
 static _Noreturn void capture(char **command, const char *name) {
   set_directory(name);
   if (is_within_run()) run_command(command);
@@ -98,11 +108,9 @@ static _Noreturn void capture(char **command, const char *name) {
   start_command(command);
   serve_command();
   remove_rules();
-  check_presence();
-  if (is_captured() && !is_out_of_memory) finish(command_status, must_close);
-  check_presence();
-  report(command[0], is_quiet);
-  if (summary) write_summary(summary);
+  command_name = command[0];
+  if (is_out_of_memory || try_step(end_run) < 0)
+    warn("out of memory: finish the captures with redo-log-capture --dir %s --finish", directory_name);
   close_directory();
   read_on_in_background();
   exit_as_command();

@@ -27,7 +27,8 @@ struct recipe_entry {
 
 /* A line that make is about to start. */
 struct announcement {
-  int is_set, descriptor;
+  int is_set;
+  struct pipe *pipe;
   uint32_t recipe;
   int64_t time;
   struct target *target;
@@ -39,7 +40,7 @@ struct make {
   uint32_t number, parent_make, parent_recipe;
   pid_t process;
   char *directory; /* NULL until it has introduced itself */
-  int is_redirected;
+  int is_redirected, is_waiting; /* is_waiting: for an answer */
   struct recipe_entry *recipes; /* the first one is never used */
   size_t recipe_count, recipe_room;
   char *names; /* of the recipe that is being sent */
@@ -54,7 +55,7 @@ static size_t make_count, makes_room;
 struct make *accept_make(int descriptor) {
   makes = make_room(makes, make_count, &makes_room, sizeof *makes);
   struct make *make = resize(NULL, sizeof *make);
-  *make = (struct make){.source = {MAKE, descriptor}, .notes = {NOTES, -1}, .number = make_count + 1, .announced = {.descriptor = -1}};
+  *make = (struct make){.source = {MAKE, descriptor}, .notes = {NOTES, -1}, .number = make_count + 1};
   if (watch(&make->source) < 0) return free(make), NULL;
   makes[make_count++] = make;
   return make;
@@ -65,6 +66,7 @@ static struct recipe_entry *recipe_of(struct make *make, uint32_t number) {
 }
 
 static int answer(struct make *make, const void *bytes, size_t size) {
+  make->is_waiting = 0;
   return send(make->source.file, bytes, size, MSG_NOSIGNAL | MSG_DONTWAIT) < 0 ? -1 : 0;
 }
 
@@ -127,7 +129,7 @@ static void start_recipe(struct make *make, struct recipe_entry *recipe, pid_t p
 }
 
 static void forget_announcement(struct make *make) {
-  make->announced.is_set = 0, make->announced.descriptor = -1, make->announced.command.bytes = NULL;
+  make->announced = (struct announcement){.is_set = 0};
 }
 
 /* The line that was announced has a process now: that of its make, if nobody reports another one. */
@@ -137,12 +139,13 @@ static void start_line(struct make *make, pid_t process) {
   forget_announcement(make);
   check_presence();
   start_recipe(make, recipe_of(make, announced.recipe), process);
-  begin_line(make, announced.target, announced.command, announced.time, process, announced.descriptor);
+  begin_line(make, announced.target, announced.command, announced.time, process, announced.pipe);
 }
 
 void end_make(struct make *make) {
   close_source(&make->source);
   close_source(&make->notes);
+  if (is_out_of_memory) return;
   start_line(make, make->process);
   for (size_t i = 1; i < make->recipe_count; i++) free(make->recipes[i].names), make->recipes[i].names = NULL;
   free(make->names);
@@ -169,9 +172,9 @@ static int take_hello(struct make *make, const char *message, size_t size, int *
   if (!is_token(hello.token)) return -1;
   make->parent_make = hello.parent_make, make->parent_recipe = hello.parent_recipe, make->process = sensible_process(hello.pid);
   make->is_redirected = hello.is_redirected;
-  make->directory = text("%s", message + sizeof hello);
   make->notes.file = *notes, *notes = -1;
   if (watch(&make->notes) < 0) return -1;
+  make->directory = text("%s", message + sizeof hello);
   struct welcome welcome = {make->number, shows, captures_output};
   return answer(make, &welcome, sizeof welcome);
 }
@@ -228,9 +231,9 @@ static int take_line(struct make *make, const char *message, size_t size, int *d
   make->latest = make->announced.recipe = line.recipe, make->announced.time = line.time;
   make->announced.target = begin_recipe(make, recipe, line.time);
   make->announced.command = command, make->announced.is_set = 1;
-  if (is_pipe(*descriptor)) make->announced.descriptor = *descriptor, *descriptor = -1;
+  if (is_pipe(*descriptor)) make->announced.pipe = make_pipe(*descriptor, &nobody), *descriptor = -1;
   rest();
-  return answer(make, make->announced.descriptor >= 0 ? "\1" : "\0", 1);
+  return answer(make, make->announced.pipe ? "\1" : "\0", 1);
 }
 
 static int take_start(struct make *make, const char *message, size_t size) {
@@ -247,7 +250,7 @@ static int take_failure(struct make *make, const char *message, size_t size) {
   memcpy(&failed, message, sizeof failed);
   failed.time = sensible_time(failed.time);
   struct recipe_entry *recipe = recipe_of(make, make->latest);
-  if (make->announced.descriptor >= 0) close(make->announced.descriptor);
+  if (make->announced.pipe) close_pipe(make->announced.pipe);
   free(make->announced.command.bytes);
   forget_announcement(make);
   if (!can_capture(make, recipe, 0)) return 0;
@@ -266,6 +269,7 @@ static int take_end(struct make *make, const char *message, size_t size) {
 }
 
 static int take_message(struct make *make, const char *message, size_t size, int *descriptor, int is_lost) {
+  make->is_waiting = 1;
   if (message[0] == HELLO) return take_hello(make, message, size, descriptor);
   if (!make->directory) return -1;
   if (message[0] == LINE) return take_line(make, message, size, descriptor, is_lost);
@@ -288,6 +292,13 @@ static int refuse_message(struct make *make, const char *message) {
   if (message[0] == HELLO) return -1;
   pass_pipes_on();
   return answer(make, "\0", 1);
+}
+
+void answer_all(void) {
+  pass_pipes_on();
+  for (size_t i = 0; i < make_count; i++)
+    if (makes[i]->is_waiting && makes[i]->source.file >= 0 && (!makes[i]->directory || answer(makes[i], "\0", 1) < 0))
+      close_source(&makes[i]->source);
 }
 
 /* Returns the size of a message, 0 if there is none now, or -1 if its sender is gone. */

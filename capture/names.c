@@ -106,25 +106,27 @@ static void put_run_first(void) {
   listed[0] = run_target;
 }
 
-void read_names(void) {
+int read_names(void) {
   free(written);
   written = file_contents("names", &written_size);
+  if (!written && errno != ENOENT) return cannot_write("names"), -1;
   if (!written) written_size = 0;
   forget_list();
   read_lines();
   last_number = 1;
   if (listed_count > 0) find_last_number();
   put_run_first();
+  return 0;
 }
 
 /* A target that began keeps the number that its log has: what has that number or its name in the list goes. */
-void list_begun(void) {
+int list_begun(void) {
   struct target **begun = resize(NULL, (target_count + 1) * sizeof *begun);
   unsigned *numbers = resize(NULL, (target_count + 1) * sizeof *numbers);
   size_t count = 0;
   for (size_t i = 0; i < target_count; i++)
     if (targets[i]->is_begun && targets[i] != run_target) begun[count] = targets[i], numbers[count++] = targets[i]->number;
-  read_names();
+  if (read_names() < 0) return -1;
   for (size_t i = 0; i < count; i++) {
     struct target **owner = owner_of(numbers[i]);
     if (*owner == begun[i]) continue;
@@ -139,6 +141,7 @@ void list_begun(void) {
     if (!begun[i]->number) put_line(begun[i], numbers[i]);
   free(begun);
   free(numbers);
+  return 0;
 }
 
 int write_names(int marks) {

@@ -26,21 +26,22 @@ struct pipe {
 
 static struct pipe *pipes, *closed_pipes;
 
-struct pipe *watch_pipe(int descriptor, struct target *target) {
+struct pipe *make_pipe(int descriptor, struct target *target) {
   struct pipe *pipe = resize(NULL, sizeof *pipe);
   *pipe = (struct pipe){.source = {PIPE, descriptor}, .target = target, .next = pipes, .link = &pipes};
-  if (fcntl(descriptor, F_SETFL, O_NONBLOCK) < 0 || watch(&pipe->source) < 0) {
-    close(descriptor);
-    free(pipe);
-    return NULL;
-  }
+  fcntl(descriptor, F_SETFL, O_NONBLOCK);
   if (pipes) pipes->link = &pipe->next;
   pipes = pipe;
   return pipe;
 }
 
+void start_pipe(struct pipe *pipe, struct target *target) {
+  pipe->target = target;
+  watch(&pipe->source);
+}
+
 /* Events for it may still be met: so it is freed later. */
-static void close_pipe(struct pipe *pipe) {
+void close_pipe(struct pipe *pipe) {
   for (struct line *line = lines; line; line = line->next)
     if (line->pipe == pipe) line->pipe = NULL;
   close_source(&pipe->source);
@@ -66,8 +67,12 @@ void flush_pipe(struct pipe *pipe) {
 static void hold(struct pipe *pipe, const char *bytes, size_t size) {
   if (pipe->held_size + size > pipe->held_room) {
     size_t room = 2 * (pipe->held_size + size);
-    pipe->held = resize(pipe->held, room);
-    pipe->held_room = room;
+    char *larger = realloc(pipe->held, room);
+    if (!larger) { /* then it is written before it is whole */
+      flush_pipe(pipe);
+      return append_text(pipe->target, bytes, size);
+    }
+    pipe->held = larger, pipe->held_room = room;
   }
   memcpy(pipe->held + pipe->held_size, bytes, size);
   pipe->held_size += size;
@@ -147,9 +152,11 @@ void pass_pipes_on(void) {
   static char bytes[CHUNK];
   for (struct pipe *pipe = pipes; pipe; pipe = pipe->next) {
     ssize_t size;
+    watch(&pipe->source); /* unless it is */
     if (pipe->held_size > 0) write_all(2, pipe->held, pipe->held_size);
     pipe->held_size = 0;
     while ((size = read(pipe->source.file, bytes, sizeof bytes)) > 0) write_all(2, bytes, size);
+    if (size == 0) close_source(&pipe->source);
   }
 }
 

@@ -76,15 +76,15 @@ void start_target(struct target *target, const char *directory, const char *prer
   free(needed);
 }
 
-void begin_line(struct make *make, struct target *target, struct command command, int64_t time, pid_t process, int descriptor) {
+void begin_line(struct make *make, struct target *target, struct command command, int64_t time, pid_t process, struct pipe *pipe) {
   struct line *line = resize(NULL, sizeof *line);
-  *line = (struct line){make, process, target, NULL, command, time, lines};
+  *line = (struct line){make, process, target, pipe, command, time, lines};
   lines = line;
   target->running++;
   if (target->is_begun && target->process != process && target->status >= 0)
     write_journal("line %u %d\n", target->number, (int)process);
   target->process = process, target->status = -1;
-  if (descriptor >= 0) line->pipe = watch_pipe(descriptor, target);
+  if (pipe) start_pipe(pipe, target);
 }
 
 static int shell_status(int status) { return WIFSIGNALED(status) ? 128 + WTERMSIG(status) : WEXITSTATUS(status); }

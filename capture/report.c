@@ -120,7 +120,6 @@ static void sort_out(struct group *failed, struct group *running, struct group *
 
 void report(const char *command, int is_quiet) {
   struct group failed = {.count = 0}, running = {.count = 0}, texts = {.count = 0};
-  if (is_out_of_memory) return warn("out of memory: finish the captures with redo-log-capture --dir %s --finish", directory_name);
   if (!is_captured()) return report_uncaptured();
   sort_out(&failed, &running, &texts);
   int is_stopped = command_status != 0 && (stop_signal || command_signal);

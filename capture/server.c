@@ -20,7 +20,7 @@ enum { LITTLE = 16384, REST = 2, MAX_EVENTS = 64 };
 int is_out_of_memory;
 
 /* What may be looked at later has a poller of its own, which the other one polls, unless it rests. */
-static int poller = -1, later_poller = -1, spare = -1;
+static int poller = -1, later_poller = -1, spare = -1, accepted = -1;
 static struct source signals = {SIGNALS, -1}, listener = {LISTENER, -1}, later = {LATER, -1};
 static int64_t rest_end;
 static char token[TOKEN_SIZE + 1], socket_name[MAX_SOCKET_NAME];
@@ -101,8 +101,9 @@ static void refuse_make(void) {
 
 static void accept_makes(void) {
   for (int file; (file = accept4(listener.file, NULL, NULL, SOCK_CLOEXEC)) >= 0;) {
-    if (is_out_of_memory) close(file);
-    else if (!accept_make(file)) close(file);
+    accepted = file;
+    if (is_out_of_memory || !accept_make(file)) close(file);
+    accepted = -1;
   }
   if (errno == EMFILE || errno == ENFILE) refuse_make();
 }
@@ -136,15 +137,28 @@ static void give_up(void) {
   longjmp(without_memory, 1);
 }
 
-void serve_command(void) {
+int try_step(void (*step)(void)) {
   on_no_memory = give_up;
-  if (setjmp(without_memory)) warn("out of memory: the rest of this build is not captured");
+  if (setjmp(without_memory)) return -1;
+  step();
+  on_no_memory = NULL;
+  return 0;
+}
+
+static void serve_all(void) {
   while (!take_signals()) serve(-1);
+}
+
+void serve_command(void) {
+  if (try_step(serve_all) < 0) {
+    warn("out of memory: the rest of this build is not captured");
+    if (accepted >= 0) close(accepted);
+    answer_all();
+    serve_all();
+  }
   set_rest(0);
   while (serve(0) > 0) continue;
-  if (is_out_of_memory) pass_pipes_on();
-  else flush_pipes();
-  on_no_memory = NULL;
+  if (is_out_of_memory || try_step(flush_pipes) < 0) pass_pipes_on();
   close(listener.file);
   listener.file = -1;
 }

@@ -2,7 +2,6 @@
 #define _GNU_SOURCE
 #include "hook.h"
 #include "syscalls.h"
-#include <errno.h>
 #include <spawn.h>
 #include <sys/stat.h>
 
@@ -56,7 +55,6 @@ int hooked_spawn(pid_t *process, const char *path, const posix_spawn_file_action
   /* make since 4.4 puts together the environment of $(shell ..) as that of a recipe, of which capture.mk has taken what it needs. */
   int is_bare = recipe < 0 && is_connected() && !has_variable(environment, RUN_VARIABLE "=");
   if (recipe >= 0 || is_bare) own = environment_for(environment, recipe, pipe_end);
-  if (recipe >= 0 && !own) return ENOMEM;
   pid_t child;
   int error = ORIGINAL(POSIX_SPAWN, spawn_function)(&child, path, actions, attributes, command, own ? own : environment);
   if (error) return error;
