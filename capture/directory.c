@@ -16,7 +16,7 @@ int directory = -1, failed_writes;
 
 /* DROPPED: another run has it, or it can't be written. */
 static enum { CLOSED, OPEN, DROPPED } state;
-static int lock = -1, lock_error;
+static int lock = -1, lock_error, last_error;
 
 void set_directory(const char *name) {
   directory_name = name;
@@ -103,9 +103,11 @@ static int is_gone(void) {
 /* Of a full device one line says enough, and of a directory that is gone check_presence. What somebody put in place of a file is no
    failure of this program. */
 void cannot_write(const char *name) {
-  static int last_error;
   int error = errno, is_general = error == ENOSPC || error == EDQUOT || error == EFBIG || error == EIO || error == EROFS;
-  if (state == OPEN && is_gone()) return;
+  if (state == OPEN && (error == ENOENT || is_gone())) { /* somebody is about to remove it */
+    last_error = ENOENT;
+    return;
+  }
   failed_writes += error != EISDIR && error != ELOOP && error != ENXIO;
   if (error != last_error || !is_general) warn("cannot write %s/%s: %s", directory_path, name, strerror(error));
   last_error = error;
@@ -194,7 +196,10 @@ int open_directory(void) {
   state = OPEN;
   if (begin_run() == 0) return 0;
   check_presence();
-  return state == CLOSED ? -1 : drop();
+  if (state == OPEN && last_error != ENOENT) return drop();
+  close_directory(); /* the next line tries again */
+  state = CLOSED;
+  return -1;
 }
 
 void open_unfinished(void) {
