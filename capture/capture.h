@@ -249,7 +249,7 @@ void hear_notes(struct make *make);
 struct make *make_of_notes(struct source *notes);
 void end_make(struct make *make);
 void close_makes(void);
-/* Once there is no memory: those that wait for an answer get one. */
+/* Once there is no memory: those that wait for a reply get one. */
 void answer_all(void);
 
 /* show.c: what is printed on standard error while the build runs */
@@ -266,7 +266,7 @@ void close_source(struct source *source);
 void listen_for_makes(void);
 char *run_variable(void);
 int is_token(const char *bytes);
-/* What waits for no answer may come a little later. */
+/* What waits for no reply may be read a little later. */
 void rest(void);
 /* Serves the build until the command has ended. */
 void serve_command(void);

@@ -90,7 +90,7 @@ void end_line_of(struct target *target) {
   if (target->is_mid_line && target->is_begun) append_text(target, "\n", 1);
 }
 
-/* Whether the last byte is that of such a record: then the next one needs no line feed before it, even in the middle of a line. */
+/* Whether the last byte is that of such a record: then the next record needs no line feed before it, even in the middle of a line. */
 static int ends_with_mention(const struct target *target) {
   return target->mention_count > 0 && target->mentions[target->mention_count - 1].end == target->size;
 }

@@ -132,7 +132,7 @@ static void forget_announcement(struct make *make) {
   make->announced = (struct announcement){.is_set = 0};
 }
 
-/* The line that was announced has a process now: that of its make, if nobody reports another one. */
+/* The announced line has a process now: its make's own, if nobody reports another one. */
 static void start_line(struct make *make, pid_t process) {
   struct announcement announced = make->announced;
   if (!announced.is_set) return;
@@ -161,7 +161,7 @@ void close_makes(void) {
   }
 }
 
-/* A time that makes no sense is that of this moment, and a process 0. */
+/* A time that makes no sense becomes the current time, and such a process 0. */
 static int64_t sensible_time(int64_t time) { return time >= 0 && time < MAX_TIME ? time : wall_clock(); }
 static pid_t sensible_process(pid_t process) { return process > 0 ? process : 0; }
 
@@ -287,7 +287,7 @@ static int take_note(struct make *make, const char *note, size_t size) {
   }
 }
 
-/* Without memory nothing more is captured; but a make that waits for an answer gets one. */
+/* Without memory nothing more is captured; but a make that waits for a reply gets one. */
 static int refuse_message(struct make *make, const char *message) {
   if (message[0] == HELLO) return -1;
   pass_pipes_on();

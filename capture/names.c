@@ -9,7 +9,7 @@
 #include <sys/stat.h>
 #include <unistd.h>
 
-/* The list in its order; and who has a number. */
+/* The list in its order; and the target of each number. */
 static struct target **listed, **owners;
 static size_t listed_count, listed_room, owner_room;
 static unsigned last_number;
@@ -79,7 +79,7 @@ static void read_lines(void) {
   if (bad > 1) warn("%s/names: line %zu: bad line, left out, and %zu more", directory_path, first_bad, bad - 1);
 }
 
-/* No new log gets the number of one that is there, also where its line was removed. */
+/* No new log gets the number of one that is there, even if its line was removed. */
 static void find_last_number(void) {
   unsigned number;
   int left;

@@ -1,7 +1,7 @@
 /* What the hook in a make and redo-log-capture send each other: one SOCK_SEQPACKET packet per message, in the machine's own byte
    order, since both are built together. The same messages come from `redo-log-capture --recipe`.
 
-   A make has two sockets. What has to be answered comes through the first one. Everything else comes through the second one, which
+   A make has two sockets. What needs a reply comes through the first one. Everything else comes through the second one, which
    the first message passes: redo-log-capture may look there some milliseconds later, and always does before it takes a message of
    the first one. So a short line of a recipe wakes it up once. */
 #include <stdint.h>
@@ -20,13 +20,13 @@ enum {
 };
 
 enum message_kind {
-  HELLO = 'H',   /* struct hello, and the directory of the make; passes the second socket; answered by struct welcome */
+  HELLO = 'H',   /* struct hello, and the directory of the make; passes the second socket; reply: struct welcome */
   NAMES = 'N',   /* struct names, and a part of what the next RECIPE has */
   RECIPE = 'R',  /* struct recipe, and the rest of its target, a NUL, and its prerequisites with spaces between them */
-  LINE = 'L',    /* struct line_message, and the command; passes the reading end of a pipe; answered by a byte, 1 if the pipe is read */
+  LINE = 'L',    /* struct line_message, and the command; passes the reading end of a pipe; reply: a byte, 1 if the pipe is read */
   STARTED = 'S', /* struct started: the line that was announced last runs */
   FAILED = 'F',  /* struct failed: make could not start a line */
-  ENDED = 'E',   /* struct ended: a child of make ended; answered by a byte if `asks` is set */
+  ENDED = 'E',   /* struct ended: a child of make ended; reply: a byte, if `asks` is set */
 };
 
 enum { SHOW_NOTHING, SHOW_FAILED, SHOW_ALL };

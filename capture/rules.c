@@ -38,7 +38,7 @@ static void remove_directory(const char *path) {
   free(link);
 }
 
-/* Those of runs that were killed: nobody holds their lock. */
+/* Removes the directories of runs that were killed: nobody holds their lock. */
 static void remove_leftovers(const char *parent) {
   DIR *files = opendir(parent);
   struct stat found;

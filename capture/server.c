@@ -13,7 +13,7 @@
 #include <fcntl.h>
 #include <unistd.h>
 
-/* What waits for no answer is looked at some milliseconds later, once a line has been announced, or little was read, in bytes: so
+/* What waits for no reply is read some milliseconds later, once a line has been announced, or little was read, in bytes: so
    a short line, and a recipe that prints a little at a time, wake this process up less often. */
 enum { LITTLE = 16384, REST = 2, MAX_EVENTS = 64 };
 

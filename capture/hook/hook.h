@@ -34,7 +34,7 @@ int64_t now(void);
 
 /* connection.c: the socket to redo-log-capture */
 
-/* What CAPTURE_RUN says, and what redo-log-capture answered. */
+/* What CAPTURE_RUN says, and the reply of redo-log-capture. */
 struct run {
   char address[MAX_SOCKET_NAME + TOKEN_SIZE + 40]; /* the socket, the token and the user, with a colon behind each */
   const char *variable, *directory; /* the value of CAPTURE_RUN, and its last part */
@@ -48,13 +48,13 @@ extern struct run run;
 /* Connects, as CAPTURE_RUN says. Returns -1 if nobody listens. */
 int connect_to_run(const char *variable);
 int is_connected(void);
-/* Sends a message that is answered, or a note that isn't. Its body may be empty; a message may pass a descriptor. Returns -1, and
+/* Sends a message that gets a reply, or a note that gets none. Its body may be empty; a message may pass a descriptor. Returns -1, and
    disconnects, if it can't. */
 int send_message(const void *head, size_t head_size, const void *body, size_t body_size, int descriptor);
 int send_note(const void *head, size_t head_size, const void *body, size_t body_size);
-/* Waits for the answer to a message. Returns its size, or -1, and disconnects. */
+/* Waits for the reply to a message. Returns its size, or -1, and disconnects. */
 long receive(void *bytes, size_t size);
-/* Signals are blocked from a message to its answer: a signal handler of make's may send messages too. */
+/* Signals are blocked from a message to its reply: a signal handler of make's may send messages too. */
 uint64_t block_signals(void);
 void restore_signals(uint64_t former);
 void close_descriptor(int *descriptor);
@@ -72,11 +72,11 @@ void report_start(pid_t process);
 void report_failure(void);
 /* Whether a variable of the environment begins so. */
 int has_variable(char *const *environment, const char *prefix);
-/* The environment that a recipe sees: without what make was told, and with what its sub-makes need. With -1 as the recipe, that of
-   another child. Returns NULL if there is no memory. */
+/* The environment of a recipe: without the variables of the capture, and with those that its sub-makes need. With -1 as the recipe,
+   the environment of another child. Returns NULL if there is no memory. */
 char **environment_for(char *const *environment, long recipe, int pipe);
 
-/* spawn.c, exec.c, wait.c: what make calls in place of the C library */
+/* spawn.c, exec.c, wait.c: what make calls instead of the C library */
 struct import {
   const char *name;
   void *replacement, *original;

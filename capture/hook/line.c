@@ -5,7 +5,7 @@
 #include <fcntl.h>
 #include <sys/stat.h>
 
-/* What redo-log-capture is told of a command; the rest of a longer one is cut off. */
+/* How much of a command is sent, in bytes; the rest is cut off. */
 enum { MAX_COMMAND = 16000 };
 
 int has_variable(char *const *environment, const char *prefix) {
@@ -23,7 +23,7 @@ long recipe_of(char *const *environment) {
   return -1;
 }
 
-/* The words of a command, each with a NUL behind it. */
+/* The words of a command, each followed by a NUL. */
 static size_t join_words(char *const *command, char words[MAX_COMMAND]) {
   size_t size = 0;
   for (; *command && size < MAX_COMMAND; command++)

@@ -13,7 +13,7 @@ extern void gmk_add_function(const char *name, char *(*function)(const char *, u
 
 const char *rules_path;
 
-/* Of make 4.3 and later; or of earlier ones. A child of fork, which doesn't share make's memory, would answer in its place. */
+/* Of make 4.3 and later; or of earlier ones. A child of fork, which doesn't share make's memory, would get its replies. */
 static int can_lead(void) {
   int spawns = is_imported(POSIX_SPAWN) && is_imported(ACTIONS_INIT) && is_imported(ACTIONS_ADDDUP2) && is_imported(ACTIONS_DESTROY);
   int forks = is_imported(VFORK) && is_imported(EXECVP);

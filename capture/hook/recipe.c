@@ -1,4 +1,4 @@
-/* What make tells of a recipe before it runs. */
+/* What make reports of a recipe before it runs. */
 #include "hook.h"
 
 extern char *gmk_alloc(unsigned size) __attribute__((weak));

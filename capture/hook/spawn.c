@@ -11,7 +11,7 @@ typedef int actions_function(posix_spawn_file_actions_t *);
 typedef int adddup2_function(posix_spawn_file_actions_t *, int, int);
 #define ORIGINAL(number, type) ((type *)imports[number].original)
 
-/* Of the child that is about to be started. That of $(shell ..) has a pipe of make's as standard output, which no recipe has. */
+/* Of the child that is about to be started. The child of $(shell ..) has a pipe of make's as standard output, which no recipe has. */
 static int is_started, is_shell_function, is_announced, pipe_end = -1;
 
 int hooked_actions_init(posix_spawn_file_actions_t *actions) {
@@ -52,7 +52,7 @@ int hooked_spawn(pid_t *process, const char *path, const posix_spawn_file_action
   long recipe = recipe_of(environment);
   char **own = NULL;
   if (recipe > 0 && is_connected() && actions && !is_shell_function) announce(recipe, command, actions);
-  /* make since 4.4 puts together the environment of $(shell ..) as that of a recipe, of which capture.mk has taken what it needs. */
+  /* make since 4.4 builds the environment of $(shell ..) from its variables, of which capture.mk has taken what it needs. */
   int is_bare = recipe < 0 && is_connected() && !has_variable(environment, RUN_VARIABLE "=");
   if (recipe >= 0 || is_bare) own = environment_for(environment, recipe, pipe_end);
   pid_t child;
