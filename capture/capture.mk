@@ -1,5 +1,5 @@
-# Each make of a captured build reads this file first, since MAKEFILES names it. It loads capture.so, which has the make tell
-# redo-log-capture of its recipes, and then leaves everything as the makefiles would find it without a capture.
+# Each make of a captured build reads this file first, because MAKEFILES names it. It loads the hook, capture.so, which reports the
+# recipes to the server. Then it resets what it has set, before make reads the makefiles of the build.
 ifneq ($(filter load,$(.FEATURES)),)
 -load $(dir $(lastword $(MAKEFILE_LIST)))capture.so(redo_log_capture)
 endif
@@ -8,10 +8,10 @@ ifeq ($(origin MAKE_RESTARTS),undefined)
 $(warning recipes are not captured: this make cannot load $(dir $(lastword $(MAKEFILE_LIST)))capture.so)
 endif
 else ifeq ($(redo-log-loaded),yes)
-# make expands the value once for each recipe. The variable is that of a pattern, and so none of $(.VARIABLES).
+# make expands the value once for each recipe. $(.VARIABLES) doesn't list the variable, because it is pattern-specific.
 %: export redo-log-capture = $(redo-log-recipe $(if $%,$@($%),$@),$^ $|)
 endif
-# A rule that matches anything doesn't remake this file.
+# Keeps a match-anything rule of the build from remaking this file.
 $(lastword $(MAKEFILE_LIST)): ;
 ifneq ($(filter undefine,$(.FEATURES)),)
 undefine redo-log-loaded

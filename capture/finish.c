@@ -1,4 +1,5 @@
-/* What is known only when the run has ended: its own log, what the sub-makes of recipes made, and the closing records. */
+/* Records that are written when the run has ended: its own log, the targets that the sub-makes of recipes made, and the closing
+   records. */
 #define _GNU_SOURCE
 #include "capture.h"
 #include <errno.h>
@@ -8,10 +9,10 @@
 #include <sys/stat.h>
 #include <unistd.h>
 
-/* The first log that is gone of a recipe that has ended, and how many are. */
+/* The lowest number of a log that is gone although its recipe has ended, and the number of such logs. */
 static unsigned first_lost, lost_count;
 
-static void note_lost(const struct target *target) {
+static void count_lost(const struct target *target) {
   if (lost_count++ == 0 || target->number < first_lost) first_lost = target->number;
 }
 
@@ -20,44 +21,47 @@ static void report_lost(void) {
   if (lost_count > 1) warn("%s/log.%u and %u more were removed; their captures are lost", directory_path, first_lost, lost_count - 1);
 }
 
-/* The record of a target that no other log mentions, for the log of its parent. */
-static void add_to_parent(const struct target *target) {
+/* Adds the target's records to the log of its parent, unless a log mentions the target as a prerequisite. */
+static void add_child_records(const struct target *target) {
   struct target *parent = parent_of(target);
-  char *path = parent == target || target->is_mentioned ? NULL : name_within(target->name, parent->name);
+  char *path = parent == target || target->is_mentioned ? NULL : name_in_log(target->name, parent->name);
   if (!path) return;
-  if (!parent->children_stream) parent->children_stream = open_memory(&parent->children, &parent->children_size);
-  fprintf(parent->children_stream, "@@REDO:do:%d:%s@@ %s\n", (int)parent->process, time_text(target->began), path);
+  if (!parent->child_records_stream)
+    parent->child_records_stream = xopen_memstream(&parent->child_records, &parent->child_records_size);
+  fprintf(parent->child_records_stream, "@@REDO:do:%d:%s@@ %s\n", (int)parent->process, format_time(target->start_time), path);
   if (target->status >= 0)
-    fprintf(parent->children_stream, "@@REDO:done:%d:%s@@ %d %s\n", (int)parent->process, time_text(target->ended), target->status, path);
+    fprintf(parent->child_records_stream, "@@REDO:done:%d:%s@@ %d %s\n", (int)parent->process, format_time(target->end_time),
+            target->status, path);
   free(path);
 }
 
-/* Whether these bytes of a log are such a record: somebody may have changed the log. */
-static int is_mention(const char *log, size_t size, const struct range *range) {
+/* Whether these bytes of a log are still a provisional record. Somebody may have changed the log. */
+static int is_mention_record(const char *log, size_t size, const struct range *range) {
   if (range->end > (off_t)size || log[range->end - 1] != '\n') return 0;
   const char *start = log + range->start;
   start += *start == '\n';
   return log + range->end - start > 7 && memcmp(start, "@@REDO:", 7) == 0;
 }
 
-/* Writes a log again: the records at its start, those of what its recipe made, and what it printed. Returns -1 if it can't. */
-static int put_in_order(struct target *target, const char *log, size_t size) {
-  char *ordered;
-  size_t ordered_size, from = target->head_size <= (off_t)size ? target->head_size : 0;
-  FILE *stream = open_memory(&ordered, &ordered_size);
+/* Rewrites a log: the records at its start, the records of the targets that sub-makes of its recipe made, and the text. Drops the
+   provisional records. Returns -1 on failure. */
+static int rewrite_log(struct target *target, const char *log, size_t size) {
+  char *rewritten;
+  size_t rewritten_size, from = target->header_size <= (off_t)size ? target->header_size : 0;
+  FILE *stream = xopen_memstream(&rewritten, &rewritten_size);
   fwrite(log, 1, from, stream);
-  if (target->children) fwrite(target->children, 1, target->children_size, stream);
+  if (target->child_records) fwrite(target->child_records, 1, target->child_records_size, stream);
   for (size_t i = 0; i < target->mention_count; i++) {
     const struct range *range = &target->mentions[i];
-    if (range->start < (off_t)from || !is_mention(log, size, range)) continue;
+    if (range->start < (off_t)from || !is_mention_record(log, size, range)) continue;
     fwrite(log + from, 1, range->start - from, stream);
     from = range->end;
   }
   fwrite(log + from, 1, size - from, stream);
-  close_memory(stream);
+  xclose_memstream(stream);
   close_log(target);
-  int error = replace_file(log_name(target->number), ordered, ordered_size);
-  free(ordered);
+  int error = replace_file(log_file_name(target->number), rewritten, rewritten_size);
+  free(rewritten);
   return error;
 }
 
@@ -65,31 +69,34 @@ static void add_closing_record(struct target *target) {
   struct stat found = {.st_size = 0};
   char last = '\n';
   if (open_log(target) < 0) return;
-  if (fstat(target->log, &found) == 0 && found.st_size > 0 && pread(target->log, &last, 1, found.st_size - 1) < 1) last = '\n';
-  char *record = text("%s@@REDO:done:%d:%s@@ %d %s\n", last == '\n' ? "" : "\n", (int)target->process, time_text(target->ended),
-                      target->status, own_name(target->name));
-  target->is_closed = write_all(target->log, record, strlen(record)) == 0;
-  if (!target->is_closed) cannot_write(log_name(target->number));
-  if (!target->is_closed && ftruncate(target->log, found.st_size) < 0) target->is_unwritable = 1;
+  if (fstat(target->log_fd, &found) == 0 && found.st_size > 0 && pread(target->log_fd, &last, 1, found.st_size - 1) < 1)
+    last = '\n';
+  char *record = xasprintf("%s@@REDO:done:%d:%s@@ %d %s\n", last == '\n' ? "" : "\n", (int)target->process,
+                           format_time(target->end_time), target->status, name_in_own_log(target->name));
+  target->is_closed = write_all(target->log_fd, record, strlen(record)) == 0;
+  if (!target->is_closed) report_write_error(log_file_name(target->number));
+  if (!target->is_closed && ftruncate(target->log_fd, found.st_size) < 0) target->is_unwritable = 1;
   close_log(target);
   free(record);
 }
 
-/* A log that was removed gets its closing record, unless something else is in its place. */
+/* Puts a log in order and closes it. A log that was removed is created again, unless something else is in its place. */
 static void finish_log(struct target *target) {
   struct stat found;
-  int has_ended = target->is_begun && target->status >= 0;
-  if (target->children_stream) close_memory(target->children_stream);
-  target->children_stream = NULL;
+  int has_ended = target->is_in_run && target->status >= 0;
+  if (target->child_records_stream) xclose_memstream(target->child_records_stream);
+  target->child_records_stream = NULL;
   if (target->is_unwritable) return;
-  int error = fstatat(directory, log_name(target->number), &found, 0) < 0 ? errno : 0, is_file = !error && S_ISREG(found.st_mode);
-  if (has_ended && (!is_file || target->is_log_lost)) note_lost(target);
+  int error = fstatat(directory_fd, log_file_name(target->number), &found, 0) < 0 ? errno : 0,
+      is_file = !error && S_ISREG(found.st_mode);
+  if (has_ended && (!is_file || target->is_log_lost)) count_lost(target);
   if (!is_file && error != ENOENT) return;
-  if (error || target->is_log_lost) target->head_size = target->mention_count = 0;
-  if (target->children || target->mention_count > 0) {
+  if (error || target->is_log_lost) target->header_size = target->mention_count = 0;
+  if (target->child_records || target->mention_count > 0) {
     size_t size = 0;
-    char *log = error ? NULL : file_contents(log_name(target->number), &size);
-    error = put_in_order(target, log ? log : "", size);
+    char *log = error ? xasprintf("%s", "") : read_file(log_file_name(target->number), &size);
+    if (!log) return report_write_error(log_file_name(target->number));
+    error = rewrite_log(target, log, size);
     free(log);
     if (error) return;
   }
@@ -97,31 +104,31 @@ static void finish_log(struct target *target) {
   else close_log(target);
 }
 
-/* The log of the run ends as the run does, if no recipe has it. */
-static void end_run(int status) {
-  if (run_target->is_begun) return;
-  run_target->process = getpid(), run_target->ended = wall_clock(), run_target->status = status;
+/* Gives the log of the run the status of the run, unless a recipe makes `all`. */
+static void end_run_log(int status) {
+  if (run_target->is_in_run) return;
+  run_target->process = getpid(), run_target->end_time = wall_clock_ms(), run_target->status = status;
 }
 
 static void finish_run(int status) {
   size_t count;
-  close_idle_logs();
-  if (list_begun() < 0) return;
-  /* The list of closed logs, without those that were begun again, since the journal no longer has these; and the end of the journal,
-     so that no log is closed twice. */
-  if (write_names(0) < 0 || write_closed() < 0 || end_journal() < 0) return;
-  end_run(status);
+  close_all_logs();
+  if (relist_targets() < 0) return;
+  /* Before the journal ends, the list of closed logs must lose those that were begun again, because the journal no longer names
+     them afterwards. Before any log is closed, the journal must end, so that no log is closed twice. */
+  if (write_index(0) < 0 || write_closed() < 0 || end_journal() < 0) return;
+  end_run_log(status);
   struct target **sorted = sorted_targets(&count);
-  for (size_t i = 0; i < count; i++) add_to_parent(sorted[i]);
+  for (size_t i = 0; i < count; i++) add_child_records(sorted[i]);
   for (size_t i = 0; i < count; i++) finish_log(sorted[i]);
-  if (!run_target->is_begun) finish_log(run_target);
+  if (!run_target->is_in_run) finish_log(run_target);
   write_closed();
   report_lost();
   free(sorted);
 }
 
-/* Of a run that was finished before, only marks are left to do. */
+/* If the run was finished before, only the must-close flags are left to write. */
 void finish(int status, int must_close) {
   if (read_journal_state() != FINISHED || status >= 0) finish_run(status);
-  if (must_close) write_names(1);
+  if (must_close) write_index(1);
 }

@@ -1,5 +1,5 @@
-/* What recipes print. It comes through pipes, and goes into the logs by whole lines, so that processes that write at the same time
-   don't mix their lines. */
+/* The output of recipes. It arrives through pipes, and is written to the logs in whole lines, so that processes that write at the
+   same time don't mix their lines. */
 #define _GNU_SOURCE
 #include "capture.h"
 #include <errno.h>
@@ -11,23 +11,24 @@
 #include <sys/ioctl.h>
 #include <unistd.h>
 
-/* In bytes: what is read at once, and the longest prefix of a line that is kept back. In milliseconds: how long it is kept back if
-   nothing more comes; and what is waited for more of a recipe that failed, if nothing comes, and in all. */
-enum { CHUNK = 65536, MAX_HELD = 64 << 20, SILENCE = 200, PAUSE = 20, PATIENCE = 100 };
+/* In bytes: CHUNK, the most that is read at once, and MAX_HELD, the longest unended line that is held back. In milliseconds:
+   SILENCE, how long an unended line is held back if nothing follows; and how long to wait for more output of a failed recipe:
+   PAUSE, if nothing arrives, and PATIENCE, in all. */
+enum { CHUNK = 65536, MAX_HELD = 64 << 20, FLUSH_MS = 200, POLL_MS = 20, DRAIN_MS = 100 };
 
 struct pipe {
   struct source source;
   struct target *target;
-  char *held; /* the line that isn't whole yet */
-  size_t held_size, held_room;
+  char *held; /* the unended line */
+  size_t held_size, held_capacity;
   int64_t last_read;
   struct pipe *next, **link;
 };
 
 static struct pipe *pipes, *closed_pipes;
 
-struct pipe *make_pipe(int descriptor, struct target *target) {
-  struct pipe *pipe = resize(NULL, sizeof *pipe);
+struct pipe *new_pipe(int descriptor, struct target *target) {
+  struct pipe *pipe = xrealloc(NULL, sizeof *pipe);
   *pipe = (struct pipe){.source = {PIPE, descriptor}, .target = target, .next = pipes, .link = &pipes};
   fcntl(descriptor, F_SETFL, O_NONBLOCK);
   if (pipes) pipes->link = &pipe->next;
@@ -37,10 +38,10 @@ struct pipe *make_pipe(int descriptor, struct target *target) {
 
 void start_pipe(struct pipe *pipe, struct target *target) {
   pipe->target = target;
-  watch(&pipe->source);
+  watch_source(&pipe->source);
 }
 
-/* Events for it may still be met: so it is freed later. */
+/* The pipe is freed later, because the loop may still have an event for it. */
 void close_pipe(struct pipe *pipe) {
   for (struct line *line = lines; line; line = line->next)
     if (line->pipe == pipe) line->pipe = NULL;
@@ -64,40 +65,40 @@ void flush_pipe(struct pipe *pipe) {
   pipe->held_size = 0;
 }
 
-static void hold(struct pipe *pipe, const char *bytes, size_t size) {
-  if (pipe->held_size + size > pipe->held_room) {
-    size_t room = 2 * (pipe->held_size + size);
-    char *larger = realloc(pipe->held, room);
-    if (!larger) { /* then it is written before it is whole */
+static void hold_back(struct pipe *pipe, const char *bytes, size_t size) {
+  if (pipe->held_size + size > pipe->held_capacity) {
+    size_t capacity = 2 * (pipe->held_size + size);
+    char *larger = realloc(pipe->held, capacity);
+    if (!larger) { /* out of memory: write the unended line */
       flush_pipe(pipe);
       return append_text(pipe->target, bytes, size);
     }
-    pipe->held = larger, pipe->held_room = room;
+    pipe->held = larger, pipe->held_capacity = capacity;
   }
   memcpy(pipe->held + pipe->held_size, bytes, size);
   pipe->held_size += size;
   if (pipe->held_size >= MAX_HELD) flush_pipe(pipe);
 }
 
-static void take(struct pipe *pipe, const char *bytes, size_t size) {
-  const char *feed = memrchr(bytes, '\n', size);
-  size_t whole = feed ? feed + 1 - bytes : 0;
-  pipe->last_read = steady_clock();
-  if (whole > 0 && pipe->held_size > 0) {
-    hold(pipe, bytes, whole);
+static void add_output(struct pipe *pipe, const char *bytes, size_t size) {
+  const char *newline = memrchr(bytes, '\n', size);
+  size_t complete = newline ? newline + 1 - bytes : 0;
+  pipe->last_read = monotonic_ms();
+  if (complete > 0 && pipe->held_size > 0) {
+    hold_back(pipe, bytes, complete);
     flush_pipe(pipe);
   } else {
-    append_text(pipe->target, bytes, whole);
+    append_text(pipe->target, bytes, complete);
   }
-  if (whole < size) hold(pipe, bytes + whole, size - whole);
+  if (complete < size) hold_back(pipe, bytes + complete, size - complete);
 }
 
-/* Reads once. Returns how many bytes came; 0 at the end; -1 if there is nothing now. */
+/* Reads once. Returns the number of bytes; 0 at the end of input; -1 if there is nothing now. */
 static ssize_t read_once(struct pipe *pipe) {
   static char bytes[CHUNK];
   ssize_t size;
-  while ((size = read(pipe->source.file, bytes, sizeof bytes)) < 0 && errno == EINTR) continue;
-  if (size > 0) take(pipe, bytes, size);
+  while ((size = read(pipe->source.fd, bytes, sizeof bytes)) < 0 && errno == EINTR) continue;
+  if (size > 0) add_output(pipe, bytes, size);
   return size < 0 && errno != EAGAIN ? 0 : size;
 }
 
@@ -107,33 +108,37 @@ static void end_pipe(struct pipe *pipe) {
 }
 
 size_t read_pipe(struct pipe *pipe) {
-  ssize_t size = pipe->source.file < 0 ? -1 : read_once(pipe);
+  ssize_t size = pipe->source.fd < 0 ? -1 : read_once(pipe);
   if (size == 0) end_pipe(pipe);
   return size > 0 ? size : 0;
 }
 
-/* No more than is there now: a process that was left behind may write for ever. What it leaves behind may be about to end, as a
-   filter of standard error is. */
-int drain_pipe(struct pipe *pipe, int waits) {
-  int left = 0;
+/* Returns the number of bytes that a pipe contains now. */
+static int waiting_bytes(const struct pipe *pipe) {
+  int size = 0;
+  return ioctl(pipe->source.fd, FIONREAD, &size) < 0 ? 0 : size;
+}
+
+/* Reads no more than the pipe contains now, because a background process may write forever. With `waits_for_more`, a background
+   process that is about to end, such as a filter of standard error, gets the time to do so. */
+int drain_pipe(struct pipe *pipe, int waits_for_more) {
   ssize_t size = 1;
-  ioctl(pipe->source.file, FIONREAD, &left);
-  for (; left >= 0 && size > 0; left -= size) size = read_once(pipe);
-  for (int64_t end = steady_clock() + PATIENCE; waits && size != 0 && steady_clock() < end;) {
-    struct pollfd more = {pipe->source.file, POLLIN, 0};
-    if (poll(&more, 1, PAUSE) <= 0) break;
+  for (int left = waiting_bytes(pipe); left >= 0 && size > 0; left -= size) size = read_once(pipe);
+  for (int64_t end = monotonic_ms() + DRAIN_MS; waits_for_more && size != 0 && monotonic_ms() < end;) {
+    struct pollfd more = {pipe->source.fd, POLLIN, 0};
+    if (poll(&more, 1, POLL_MS) <= 0) break;
     size = read_once(pipe);
   }
   if (size == 0) end_pipe(pipe);
   return size == 0;
 }
 
-int flush_silent_pipes(void) {
+int flush_idle_pipes(void) {
   int64_t time = 0, earliest = -1;
   for (struct pipe *pipe = pipes; pipe; pipe = pipe->next) {
     if (pipe->held_size == 0) continue;
-    if (!time) time = steady_clock();
-    int64_t left = pipe->last_read + SILENCE - time;
+    if (!time) time = monotonic_ms();
+    int64_t left = pipe->last_read + FLUSH_MS - time;
     if (left <= 0) flush_pipe(pipe);
     else if (earliest < 0 || left < earliest) earliest = left;
   }
@@ -148,20 +153,23 @@ void flush_pipes(void) {
   }
 }
 
-void pass_pipes_on(void) {
+void forward_pipes(void) {
   static char bytes[CHUNK];
   for (struct pipe *pipe = pipes; pipe; pipe = pipe->next) {
-    ssize_t size;
-    watch(&pipe->source); /* unless it is */
+    ssize_t size = 1;
+    watch_source(&pipe->source); /* fails if the loop waits for it already */
     if (pipe->held_size > 0) write_all(2, pipe->held, pipe->held_size);
     pipe->held_size = 0;
-    while ((size = read(pipe->source.file, bytes, sizeof bytes)) > 0) write_all(2, bytes, size);
+    for (int left = waiting_bytes(pipe); left >= 0 && size > 0; left -= size) {
+      size = read(pipe->source.fd, bytes, sizeof bytes);
+      if (size > 0) write_all(2, bytes, size);
+    }
     if (size == 0) close_source(&pipe->source);
   }
 }
 
-/* Reads until nobody can write any more. */
-static void discard(struct pollfd *files, size_t count) {
+/* Reads and discards until no process can write any more. */
+static void discard_until_closed(struct pollfd *files, size_t count) {
   static char bytes[CHUNK];
   for (size_t open = count; open > 0;) {
     poll(files, count, -1);
@@ -173,8 +181,8 @@ static void discard(struct pollfd *files, size_t count) {
   }
 }
 
-/* A process that was left behind doesn't notice that the build is over: somebody reads what it prints, until it ends. */
-void read_on_in_background(void) {
+/* Starts a process that reads what background processes print until they end, so that they get no SIGPIPE after the build. */
+void drain_in_background(void) {
   size_t count = 0;
   for (struct pipe *pipe = pipes; pipe; pipe = pipe->next) count++;
   struct pollfd *files = count ? calloc(count, sizeof *files) : NULL, *file = files;
@@ -184,12 +192,12 @@ void read_on_in_background(void) {
   sigprocmask(SIG_BLOCK, &all, NULL);
   setsid();
   if (chdir("/") < 0) _exit(0);
-  for (struct pipe *pipe = pipes; pipe; pipe = pipe->next) *file++ = (struct pollfd){pipe->source.file, POLLIN, 0};
+  for (struct pipe *pipe = pipes; pipe; pipe = pipe->next) *file++ = (struct pollfd){pipe->source.fd, POLLIN, 0};
   for (int standard = 0; standard < 3; standard++) close(standard);
-  close_idle_logs();
+  close_all_logs();
   close_directory();
   close_makes();
   close_server();
-  discard(files, count);
+  discard_until_closed(files, count);
   _exit(0);
 }

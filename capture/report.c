@@ -1,4 +1,4 @@
-/* The last lines that are printed, and the summary for other programs. */
+/* The last lines that are printed, and the summary file. */
 #define _GNU_SOURCE
 #include "capture.h"
 #include "protocol.h"
@@ -10,143 +10,144 @@
 #include <sys/stat.h>
 #include <unistd.h>
 
-/* As many are named in a line. */
+/* The maximum number of targets that a line names. */
 enum { MAX_NAMED = 10 };
 
 /* The targets that a line is about. */
-struct group {
+struct target_group {
   struct target *targets[MAX_NAMED];
   size_t count;
 };
 
-static void add(struct group *group, struct target *target) {
+static void add_to_group(struct target_group *group, struct target *target) {
   if (group->count < MAX_NAMED) group->targets[group->count] = target;
   group->count++;
 }
 
-static size_t named(const struct group *group) { return group->count < MAX_NAMED ? group->count : MAX_NAMED; }
+static size_t named_count(const struct target_group *group) { return group->count < MAX_NAMED ? group->count : MAX_NAMED; }
 
-/* The command that shows these logs. redo-log looks in `capture` if nothing is captured in the current directory itself. */
-static char *show_command(const char *options, const struct group *group) {
+/* Returns the command that shows these logs. redo-log finds `capture` without --dir if the current directory has no `names`. */
+static char *show_command(const char *options, const struct target_group *group) {
   int is_found = strcmp(directory_name, "capture") == 0 && access("names", F_OK) < 0, has_dash = 0;
-  char *command, *directory_word = quoted(directory_name);
+  char *command, *directory_word = shell_quote(directory_name);
   size_t size;
-  FILE *stream = open_memory(&command, &size);
+  FILE *stream = xopen_memstream(&command, &size);
   fprintf(stream, "redo-log%s", options);
   if (!is_found) fprintf(stream, " --dir %s", directory_word);
-  for (size_t i = 0; i < named(group); i++) has_dash |= group->targets[i]->name[0] == '-';
+  for (size_t i = 0; i < named_count(group); i++) has_dash |= group->targets[i]->name[0] == '-';
   if (has_dash) fprintf(stream, " --");
-  for (size_t i = 0; i < named(group); i++) {
-    char *name = quoted(group->targets[i]->name);
+  for (size_t i = 0; i < named_count(group); i++) {
+    char *name = shell_quote(group->targets[i]->name);
     fprintf(stream, " %s", name);
     free(name);
   }
-  close_memory(stream);
+  xclose_memstream(stream);
   free(directory_word);
   return command;
 }
 
-/* The names, or how many there are besides those. */
-static char *list_of(const struct group *group, char *(*item)(const struct target *)) {
+/* Returns the first MAX_NAMED items of a group as text, and the number of further ones. */
+static char *format_list(const struct target_group *group, char *(*item)(const struct target *)) {
   char *list;
   size_t size;
-  FILE *stream = open_memory(&list, &size);
-  for (size_t i = 0; i < named(group); i++) {
+  FILE *stream = xopen_memstream(&list, &size);
+  for (size_t i = 0; i < named_count(group); i++) {
     char *one = item(group->targets[i]);
     fprintf(stream, "%s%s", i ? ", " : "", one);
     free(one);
   }
   if (group->count > MAX_NAMED) fprintf(stream, " and %zu more", group->count - MAX_NAMED);
-  close_memory(stream);
+  xclose_memstream(stream);
   return list;
 }
 
-static char *name_of(const struct target *target) { return text("%s", target->name); }
+static char *copy_name(const struct target *target) { return xasprintf("%s", target->name); }
 
 static char *name_and_duration(const struct target *target) {
-  int64_t end = stop_time ? stop_time : wall_clock(), ran = end > target->began ? end - target->began : 0;
-  return text("%s (%lld.%d s)", target->name, (long long)(ran / 1000), (int)(ran % 1000 / 100));
+  int64_t end = stop_time ? stop_time : wall_clock_ms(), duration = end > target->start_time ? end - target->start_time : 0;
+  return xasprintf("%s (%lld.%d s)", target->name, (long long)(duration / 1000), (int)(duration % 1000 / 100));
 }
 
 static char *show_all_command(void) {
-  struct group all = {{run_target}, 1};
+  struct target_group all = {{run_target}, 1};
   return show_command(" -r", &all);
 }
 
-static void report_failed(const struct group *failed) {
-  char *list = list_of(failed, name_of);
+static void report_failed(const struct target_group *failed) {
+  char *list = format_list(failed, copy_name);
   if (failed->count > MAX_NAMED) warn("%s failed", list);
   else warn("%s failed; show %s: %s", list, failed->count > 1 ? "their logs" : "its log", show_command("", failed));
 }
 
-/* What ended the build early, and what ran then. */
-static void report_stop(const char *command, const struct group *running) {
+/* Prints what ended the build early, and what ran at that time. */
+static void report_interruption(const char *command, const struct target_group *running) {
   int is_killed = !stop_signal || command_signal == SIGKILL;
   int kind = is_killed ? command_signal : stop_signal;
-  const char *what = is_killed ? text("%s was ended by %s", base_name(command), signal_name(kind))
-                               : text("interrupted by %s", signal_name(kind));
-  char *list = list_of(running, name_and_duration);
+  const char *what = is_killed ? xasprintf("%s was ended by %s", base_name(command), signal_name(kind))
+                               : xasprintf("interrupted by %s", signal_name(kind));
+  char *list = format_list(running, name_and_duration);
   if (running->count == 0) warn("%s", what);
   else if (running->count > MAX_NAMED) warn("%s; running: %s", what, list);
   else warn("%s; running: %s; show %s: %s", what, list, running->count > 1 ? "their logs" : "its log", show_command("", running));
 }
 
-static void report_texts(const struct group *texts) {
+static void report_printed(const struct target_group *texts) {
   const char *what = texts->count == 1 ? "target that did not fail" : "targets that did not fail";
   char *command = texts->count > MAX_NAMED ? show_all_command() : show_command("", texts);
   if (texts->count > 0) warn("%zu %s printed something: %s", texts->count, what, command);
 }
 
 static void report_uncaptured(void) {
-  char *names = text("%s/names", directory_path);
+  char *names = xasprintf("%s/names", directory_path);
   if (access(names, F_OK) < 0) warn("no recipe was captured");
   else if (command_status != 0) warn("no recipe was captured; %s has an earlier build", directory_name);
   free(names);
 }
 
-/* Those that failed, of which no target that they are parents of has; those that ran when the build was stopped; and those that
-   printed something. */
-static void sort_out(struct group *failed, struct group *running, struct group *texts) {
+/* Finds the targets that failed, except parents of a failed target; the targets that ran when a signal stopped the build; and the
+   targets that did not fail and printed something. */
+static void group_targets(struct target_group *failed, struct target_group *running, struct target_group *texts) {
   size_t count;
   struct target **sorted = sorted_targets(&count);
   for (size_t i = 0; i < count; i++) {
     struct target *target = sorted[i];
-    if (target->is_interrupted || target->status < 0) add(running, target);
-    else if (target->status > 0 && !target->has_failed_child) add(failed, target);
-    else if (target->status == 0 && target->has_text) add(texts, target);
+    if (target->is_interrupted || target->status < 0) add_to_group(running, target);
+    else if (target->status > 0 && !target->has_failed_child) add_to_group(failed, target);
+    else if (target->status == 0 && target->has_text) add_to_group(texts, target);
   }
   free(sorted);
 }
 
 void report(const char *command, int is_quiet) {
-  struct group failed = {.count = 0}, running = {.count = 0}, texts = {.count = 0};
-  if (!is_captured()) return report_uncaptured();
-  sort_out(&failed, &running, &texts);
+  struct target_group failed = {.count = 0}, running = {.count = 0}, texts = {.count = 0};
+  if (!is_capturing()) return report_uncaptured();
+  group_targets(&failed, &running, &texts);
   int is_stopped = command_status != 0 && (stop_signal || command_signal);
-  if (is_stopped) report_stop(command, &running);
+  if (is_stopped) report_interruption(command, &running);
   if (command_status != 0 && failed.count > 0) report_failed(&failed);
-  if (shows == SHOW_FAILED && !is_quiet && !captures_output) report_texts(&texts);
+  if (show_mode == SHOW_FAILED && !is_quiet && !captures_output) report_printed(&texts);
   if (command_status != 0 && failed.count == 0 && !is_stopped) warn("no recipe failed; see %s's own message", base_name(command));
   if (command_status != 0) warn("show all logs: %s", show_all_command());
 }
 
-static void write_row(FILE *stream, const struct target *target) {
-  int64_t end = target->status >= 0 && target->ended ? target->ended : wall_clock(), took = end > target->began ? end - target->began : 0;
+static void write_summary_line(FILE *stream, const struct target *target) {
+  int64_t end = target->status >= 0 && target->end_time ? target->end_time : wall_clock_ms(),
+          duration = end > target->start_time ? end - target->start_time : 0;
   if (target->status >= 0) fprintf(stream, "%d", target->status);
   else fprintf(stream, "-");
-  fprintf(stream, " %lld.%03d %u %s\n", (long long)(took / 1000), (int)(took % 1000), target->number, target->name);
+  fprintf(stream, " %lld.%03d %u %s\n", (long long)(duration / 1000), (int)(duration % 1000), target->number, target->name);
 }
 
-/* A file is replaced in one step; what is none, as a pipe or a device, is written to. */
+/* Replaces a regular file atomically; writes to anything else, such as a pipe or a device. */
 void write_summary(const char *path) {
   struct stat found;
   int is_replaced = lstat(path, &found) < 0 || S_ISREG(found.st_mode);
-  char *rows, *written_path = is_replaced ? text("%s.new", path) : text("%s", path);
+  char *rows, *written_path = is_replaced ? xasprintf("%s.new", path) : xasprintf("%s", path);
   size_t size, count = 0;
-  FILE *stream = open_memory(&rows, &size);
-  struct target **sorted = is_captured() ? sorted_targets(&count) : NULL;
-  for (size_t i = 0; i < count; i++) write_row(stream, sorted[i]);
-  close_memory(stream);
+  FILE *stream = xopen_memstream(&rows, &size);
+  struct target **sorted = is_capturing() ? sorted_targets(&count) : NULL;
+  for (size_t i = 0; i < count; i++) write_summary_line(stream, sorted[i]);
+  xclose_memstream(stream);
   int file = open(written_path, O_WRONLY | O_CREAT | O_TRUNC | O_CLOEXEC, 0666);
   int is_written = file >= 0 && write_all(file, rows, size) == 0;
   if (file >= 0 && close(file) < 0) is_written = 0;

@@ -13,116 +13,119 @@
 #include <fcntl.h>
 #include <unistd.h>
 
-/* What waits for no reply is read some milliseconds later, once a line has been announced, or little was read, in bytes: so
-   a short line, and a recipe that prints a little at a time, wake this process up less often. */
-enum { LITTLE = 16384, REST = 2, MAX_EVENTS = 64 };
+/* Once a line was announced, or fewer than LITTLE bytes were read, messages that need no reply, and pipes, are read REST
+   milliseconds later. So short lines, and recipes that print a little at a time, wake the server less often. */
+enum { SMALL_READ = 16384, DEFER_MS = 2, MAX_EVENTS = 64 };
 
 int is_out_of_memory;
 
-/* What may be looked at later has a poller of its own, which the other one polls, unless it rests. */
-static int poller = -1, later_poller = -1, spare = -1, accepted = -1;
-static struct source signals = {SIGNALS, -1}, listener = {LISTENER, -1}, later = {LATER, -1};
-static int64_t rest_end;
+/* Sources that may be read later belong to deferred_poller. The other poller polls it, except during a rest. */
+static int poller = -1, deferred_poller = -1, spare_fd = -1, accepted_fd = -1;
+static struct source signals = {SIGNALS, -1}, listener = {LISTENER, -1}, deferred = {DEFERRED, -1};
+static int64_t defer_until;
 static char token[TOKEN_SIZE + 1], socket_name[MAX_SOCKET_NAME];
-static jmp_buf without_memory;
+static jmp_buf oom_jump;
 
-int watch(struct source *source) {
+int watch_source(struct source *source) {
   struct epoll_event event = {.events = EPOLLIN, .data.ptr = source};
-  return epoll_ctl(source->kind > LATER ? later_poller : poller, EPOLL_CTL_ADD, source->file, &event);
+  return epoll_ctl(source->kind > DEFERRED ? deferred_poller : poller, EPOLL_CTL_ADD, source->fd, &event);
 }
 
-/* Closing it alone isn't enough: whoever passed it may have passed it twice. */
+/* Closing a descriptor doesn't end its events if its sender has passed it twice. */
 void close_source(struct source *source) {
-  if (source->file < 0) return;
-  epoll_ctl(source->kind > LATER ? later_poller : poller, EPOLL_CTL_DEL, source->file, NULL);
-  close(source->file);
-  source->file = -1;
+  if (source->fd < 0) return;
+  epoll_ctl(source->kind > DEFERRED ? deferred_poller : poller, EPOLL_CTL_DEL, source->fd, NULL);
+  close(source->fd);
+  source->fd = -1;
 }
 
-int is_token(const char *bytes) { return memcmp(bytes, token, TOKEN_SIZE) == 0; }
+int is_run_token(const char *bytes) { return memcmp(bytes, token, TOKEN_SIZE) == 0; }
 
 void listen_for_makes(void) {
   struct sockaddr_un address = {.sun_family = AF_UNIX};
   char suffix[17];
-  random_digits(token, TOKEN_SIZE);
-  random_digits(suffix, 16);
+  random_hex(token, TOKEN_SIZE);
+  random_hex(suffix, 16);
   snprintf(socket_name, sizeof socket_name, "redo-log-capture.%d.%s", (int)getpid(), suffix);
   strcpy(address.sun_path + 1, socket_name);
   socklen_t size = offsetof(struct sockaddr_un, sun_path) + 1 + strlen(socket_name);
-  poller = epoll_create1(EPOLL_CLOEXEC), later.file = later_poller = epoll_create1(EPOLL_CLOEXEC);
-  listener.file = socket(AF_UNIX, SOCK_SEQPACKET | SOCK_CLOEXEC | SOCK_NONBLOCK, 0);
-  signals.file = signal_descriptor(), spare = open("/", O_RDONLY | O_CLOEXEC);
-  if (bind(listener.file, (struct sockaddr *)&address, size) < 0 || listen(listener.file, 1024) < 0 || watch(&signals) < 0 ||
-      watch(&listener) < 0 || watch(&later) < 0) die(1, "cannot listen for makes: %s", strerror(errno));
+  poller = epoll_create1(EPOLL_CLOEXEC), deferred.fd = deferred_poller = epoll_create1(EPOLL_CLOEXEC);
+  listener.fd = socket(AF_UNIX, SOCK_SEQPACKET | SOCK_CLOEXEC | SOCK_NONBLOCK, 0);
+  signals.fd = open_signal_fd(), spare_fd = open("/", O_RDONLY | O_CLOEXEC);
+  if (bind(listener.fd, (struct sockaddr *)&address, size) < 0 || listen(listener.fd, 1024) < 0 || watch_source(&signals) < 0 ||
+      watch_source(&listener) < 0 || watch_source(&deferred) < 0)
+    die(1, "cannot listen for makes: %s", strerror(errno));
 }
 
-/* Where an output goes; 0.0 if it was closed when this program began. */
-static char *place_of(int descriptor) {
+/* Returns device and inode of an output; 0.0 if it was closed when this program began. */
+static char *file_identity(int descriptor) {
   struct stat found;
-  if ((fcntl(descriptor, F_GETFD) & FD_CLOEXEC) || fstat(descriptor, &found) < 0) return text("0.0");
-  return text("%lu.%lu", (unsigned long)found.st_dev, (unsigned long)found.st_ino);
+  if ((fcntl(descriptor, F_GETFD) & FD_CLOEXEC) || fstat(descriptor, &found) < 0) return xasprintf("0.0");
+  return xasprintf("%lu.%lu", (unsigned long)found.st_dev, (unsigned long)found.st_ino);
 }
 
-char *run_variable(void) {
-  return text("%s:%s:%u:0.0:%s:%s:%s", socket_name, token, (unsigned)geteuid(), place_of(1), place_of(2), directory_path);
+char *format_run_variable(void) {
+  return xasprintf("%s:%s:%u:0.0:%s:%s:%s", socket_name, token, (unsigned)geteuid(), file_identity(1), file_identity(2),
+                   directory_path);
 }
 
-static void set_rest(int64_t end) {
-  struct epoll_event event = {.events = end ? 0 : EPOLLIN, .data.ptr = &later};
-  if (!rest_end != !end) epoll_ctl(poller, EPOLL_CTL_MOD, later_poller, &event);
-  rest_end = end;
+static void set_defer_until(int64_t end) {
+  struct epoll_event event = {.events = end ? 0 : EPOLLIN, .data.ptr = &deferred};
+  if (!defer_until != !end) epoll_ctl(poller, EPOLL_CTL_MOD, deferred_poller, &event);
+  defer_until = end;
 }
 
-void rest(void) {
-  if (!rest_end) set_rest(steady_clock() + REST);
+void defer_reading(void) {
+  if (!defer_until) set_defer_until(monotonic_ms() + DEFER_MS);
 }
 
-static void serve_later(void) {
+static void serve_deferred(void) {
   struct epoll_event events[MAX_EVENTS];
-  int count = epoll_wait(later_poller, events, MAX_EVENTS, 0);
+  int count = epoll_wait(deferred_poller, events, MAX_EVENTS, 0);
   size_t size = 0;
-  if (is_out_of_memory) pass_pipes_on();
+  if (is_out_of_memory) forward_pipes();
   for (int i = 0; i < count; i++) {
     struct source *source = events[i].data.ptr;
     if (source->kind == PIPE) size += read_pipe((struct pipe *)source);
-    else if (source->file >= 0) hear_notes(make_of_notes(source));
+    else if (source->fd >= 0) receive_notes(make_from_notes(source));
   }
-  if (size > 0 && size < LITTLE) rest();
+  if (size > 0 && size < SMALL_READ) defer_reading();
 }
 
-/* A make that can't be taken must not wait: without files, one that is kept for this takes its connection, and ends it. */
-static void refuse_make(void) {
-  close(spare);
-  int file = accept4(listener.file, NULL, NULL, SOCK_CLOEXEC);
+/* If there are too many open files, closes a spare one, and uses its descriptor to accept a connection and close it. So no make
+   waits for a connection. */
+static void reject_make(void) {
+  close(spare_fd);
+  int file = accept4(listener.fd, NULL, NULL, SOCK_CLOEXEC);
   if (file >= 0) close(file);
-  spare = open("/", O_RDONLY | O_CLOEXEC);
+  spare_fd = open("/", O_RDONLY | O_CLOEXEC);
   warn_once("too many open files: what some recipes print is not captured");
 }
 
 static void accept_makes(void) {
-  for (int file; (file = accept4(listener.file, NULL, NULL, SOCK_CLOEXEC)) >= 0;) {
-    accepted = file;
+  for (int file; (file = accept4(listener.fd, NULL, NULL, SOCK_CLOEXEC)) >= 0;) {
+    accepted_fd = file;
     if (is_out_of_memory || !accept_make(file)) close(file);
-    accepted = -1;
+    accepted_fd = -1;
   }
-  if (errno == EMFILE || errno == ENFILE) refuse_make();
+  if (errno == EMFILE || errno == ENFILE) reject_make();
 }
 
 static void serve_source(struct source *source) {
-  if (source->kind == SIGNALS) take_signals();
+  if (source->kind == SIGNALS) handle_signals();
   if (source->kind == LISTENER) accept_makes();
-  if (source->kind == LATER) serve_later();
-  if (source->kind == MAKE && source->file >= 0) hear_make((struct make *)source);
+  if (source->kind == DEFERRED) serve_deferred();
+  if (source->kind == MAKE && source->fd >= 0) receive_from_make((struct make *)source);
 }
 
-/* Until something comes, at most so many milliseconds. Returns how many sources had something. */
-static int serve(int most) {
+/* Waits for events, at most `max_wait` milliseconds or forever if that is -1, and handles them. Returns their number. */
+static int serve(int max_wait) {
   struct epoll_event events[MAX_EVENTS];
-  int silence = is_out_of_memory ? -1 : flush_silent_pipes(), timeout = most;
-  if (silence >= 0 && (timeout < 0 || silence < timeout)) timeout = silence;
-  if (rest_end) {
-    int64_t left = rest_end - steady_clock();
-    if (left <= 0) set_rest(0);
+  int flush_wait = is_out_of_memory ? -1 : flush_idle_pipes(), timeout = max_wait;
+  if (flush_wait >= 0 && (timeout < 0 || flush_wait < timeout)) timeout = flush_wait;
+  if (defer_until) {
+    int64_t left = defer_until - monotonic_ms();
+    if (left <= 0) set_defer_until(0);
     else if (timeout < 0 || left < timeout) timeout = left;
   }
   int count = epoll_wait(poller, events, MAX_EVENTS, timeout);
@@ -131,40 +134,52 @@ static int serve(int most) {
   return count;
 }
 
-static void give_up(void) {
-  on_no_memory = NULL;
+static void abandon_step(void) {
+  oom_handler = NULL;
   is_out_of_memory = 1;
-  longjmp(without_memory, 1);
+  longjmp(oom_jump, 1);
 }
 
 int try_step(void (*step)(void)) {
-  on_no_memory = give_up;
-  if (setjmp(without_memory)) return -1;
+  oom_handler = abandon_step;
+  if (setjmp(oom_jump)) return -1;
   step();
-  on_no_memory = NULL;
+  oom_handler = NULL;
   return 0;
 }
 
-static void serve_all(void) {
-  while (!take_signals()) serve(-1);
+static void serve_until_end(void) {
+  while (!handle_signals()) serve(-1);
+}
+
+/* Handles the messages that makes sent before they ended. Doesn't read pipes, because a background process may write forever. */
+static void serve_what_is_left(void) {
+  set_defer_until(INT64_MAX);
+  while (serve(0) > 0) continue;
+}
+
+/* Performs a step. If memory runs out, performs it again without captures: what recipes print is then passed on. */
+static void serve_step(void (*step)(void)) {
+  if (!is_out_of_memory) {
+    if (try_step(step) == 0) return;
+    warn("out of memory: the rest of this build is not captured");
+    if (accepted_fd >= 0) close(accepted_fd);
+    accepted_fd = -1;
+    reply_to_all();
+  }
+  step();
 }
 
 void serve_command(void) {
-  if (try_step(serve_all) < 0) {
-    warn("out of memory: the rest of this build is not captured");
-    if (accepted >= 0) close(accepted);
-    answer_all();
-    serve_all();
-  }
-  set_rest(0);
-  while (serve(0) > 0) continue;
-  if (is_out_of_memory || try_step(flush_pipes) < 0) pass_pipes_on();
-  close(listener.file);
-  listener.file = -1;
+  serve_step(serve_until_end);
+  serve_step(serve_what_is_left);
+  if (is_out_of_memory || try_step(flush_pipes) < 0) forward_pipes();
+  close(listener.fd);
+  listener.fd = -1;
 }
 
 void close_server(void) {
-  int files[] = {poller, later_poller, signals.file, listener.file, spare};
+  int files[] = {poller, deferred_poller, signals.fd, listener.fd, spare_fd};
   for (int i = 0; i < 5; i++)
     if (files[i] >= 0) close(files[i]);
 }

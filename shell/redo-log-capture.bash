@@ -1,5 +1,5 @@
 # Completion for redo-log-capture in bash: its options, a directory after --dir, a file after --summary, and a command. The
-# command's arguments are completed as the command has it if bash-completion is loaded, otherwise as names of files.
+# command's arguments are completed by the command's own completion if bash-completion is loaded, otherwise as file names.
 
 _redo_log_capture() {
   local index option

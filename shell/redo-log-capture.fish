@@ -23,13 +23,13 @@ complete -c redo-log-capture -n __redo_log_capture_is_before_command -l dir -x \
     -a '(__fish_complete_directories (commandline -ct))' -d 'The capture directory'
 complete -c redo-log-capture -n __redo_log_capture_is_before_command -l both -d 'Capture standard output too'
 complete -c redo-log-capture -n __redo_log_capture_is_before_command -l live \
-    -d 'Print the output of every recipe as soon as it ends'
+    -d 'Print the output of every recipe, whenever a line of it ends'
 complete -c redo-log-capture -n __redo_log_capture_is_before_command -l quiet \
     -d 'Print no output of recipes; by default, the output of failed recipes is printed'
 complete -c redo-log-capture -n __redo_log_capture_is_before_command -l summary -r -F \
     -d 'Write a line per target to FILE: status, seconds, log number, name'
 complete -c redo-log-capture -n __redo_log_capture_is_before_command -l must-close \
-    -d 'Mark closed logs: redo-log then rejects a copy in which one is truncated'
+    -d 'Set the must-close flag of closed logs: redo-log then rejects truncated copies of them'
 complete -c redo-log-capture -n __redo_log_capture_is_before_command -l finish \
     -d 'Finish the logs of a build that was killed'
 complete -c redo-log-capture -n __redo_log_capture_is_before_command -s h -l help -d 'Print help'

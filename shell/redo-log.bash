@@ -1,7 +1,7 @@
-# Completion of redo-log's words, for bash since 4.4: its options, directories behind --dir, and the names that the
-# directory lists. A name that begins with a dash is offered only behind --.
+# Completion for redo-log in bash 4.4 or newer: its options, directories after --dir, and the names that the directory
+# lists. A name that begins with a dash is offered only after --.
 
-# Cuts a line into `words` as bash reads them, but expands nothing; `quote` is the one that is open at its end.
+# Splits a line into `words` as bash does, but expands nothing. Sets `quote` to the quote that is open at the end of the line.
 _redo_log_words() {
   local line=$1 i
   words=('') quote=
@@ -20,10 +20,10 @@ _redo_log_words() {
   done
 }
 
-# Writes the names of $dir/names that begin with `typed`, without their beginning `start`, as they have to be written
-# where `quote` is open. Readline takes that quote, where it stands first or last, for the one that it opened or has
-# to close. Of more than a thousand it writes some that have no more in common than all: so it doesn't take long, and
-# what all have in common is completed as ever.
+# Prints the names in $dir/names that begin with `typed`, without their prefix `start`, escaped for the open quote `quote`. If
+# a printed name begins or ends with that quote, it gets another one there, because Readline takes it for the quote that it opened
+# or must close. If more than a thousand names match, this prints only some of them, with the same common prefix as all. So it is
+# fast, and the common prefix is still completed.
 _redo_log_names() {
   [[ -f $dir/names ]] || return
   LC_ALL=C typed=$typed start=$start quote=$quote option=$option awk '
@@ -74,16 +74,16 @@ _redo_log() {
         ;;
     esac
   done
-  # Where no directory is said, and there are no captures here, redo-log takes those of `capture`.
+  # The default of the installed redo-log.
   [[ -z $dir && ! -e names && -e capture/names ]] && dir=capture
   dir=${dir:-.}
-  # What is replaced is $2, the end of what was typed: it begins behind an open quote, or a character as `:`.
+  # Readline replaces only $2, the end of the typed text: it begins after an open quote, or after a character such as `:`.
   _redo_log_words "${line:0:${#line}-${#2}}"
   start=${words[-1]}
 
   COMPREPLY=()
   case $option:$typed in
-    # Captures have no directory but one that they hide.
+    # A capture directory contains no directory except a hidden one.
     --dir:* | :--dir=*) [[ $typed == */ && -d ${typed#--dir=}.capture ]] || compopt -o dirnames ;;
     --senders:* | --capacity:*) ;;
     :-*)

@@ -1,9 +1,9 @@
-# Completion of redo-log's words, for fish: its options, directories behind --dir, and the names that the directory
-# lists. A name that begins with a dash is offered only behind --, and one with a tab not at all: fish takes what
-# stands behind a tab for a description.
+# Completion for redo-log in fish: its options, directories after --dir, and the names that the directory lists. A name that
+# begins with a dash is offered only after --. A name that has a tab or begins with a tilde is not offered: fish takes the text
+# after a tab as a description.
 
-# Of more than a thousand names it writes some that have no more in common than all: so it doesn't take long, and what
-# all have in common is completed as ever.
+# If more than a thousand names match, this prints only some of them, with the same common prefix as all. So it is fast, and the
+# common prefix is still completed.
 function __redo_log_names
     set -l option
     set -l directory
@@ -21,7 +21,7 @@ function __redo_log_names
             end
         end
     end
-    # Where no directory is said, and there are no captures here, redo-log takes those of `capture`.
+    # The default of the installed redo-log.
     if test -z "$directory"
         set directory .
         if not test -e names; and test -e capture/names
@@ -29,7 +29,7 @@ function __redo_log_names
         end
     end
     test -f "$directory/names"; or return
-    # The last word, whose quote may be open.
+    # The word at the cursor. Its quote may still be open.
     set -l word (commandline -ct)
     set -l typed (string unescape -- $word; or string unescape -- "$word'"; or string unescape -- "$word\"")
     LC_ALL=C typed=$typed option=$option awk '
@@ -51,11 +51,12 @@ end
 complete -c redo-log -f -k -a '(__redo_log_names)'
 complete -c redo-log -s r -l recursive -d 'Show the logs of mentioned targets too, each at its first mention'
 complete -c redo-log -s u -l unchanged -d 'Show targets that needed no rebuild too'
-complete -c redo-log -l no-details -d 'Leave out the text lines of logs'
-complete -c redo-log -l debug-locks -d 'Show messages on waiting and locking'
-complete -c redo-log -l debug-pids -d 'Show in front of each redo line the pid of its record'
-complete -c redo-log -l dir -x -a '(__fish_complete_directories (commandline -ct))' -d 'The capture directory'
-complete -c redo-log -l senders -x -d 'How many senders read logs, 1 to 64'
-complete -c redo-log -l capacity -x -d 'How many items may wait, 1 to 65536'
+complete -c redo-log -l no-details -d 'Omit the text lines of logs'
+complete -c redo-log -l debug-locks -d 'Show messages about waiting and locking'
+complete -c redo-log -l debug-pids -d 'Begin each redo line with the pid of its record'
+complete -c redo-log -l dir -x -a '(__fish_complete_directories (commandline -ct))' \
+    -d 'The capture directory: `names`, and a `log.NUMBER` for each line of it'
+complete -c redo-log -l senders -x -d 'The number of threads that read logs, 1 to 64'
+complete -c redo-log -l capacity -x -d 'The capacity of the mailbox, 1 to 65536 items of up to 1024 lines each'
 complete -c redo-log -s h -l help -d 'Print help'
-complete -c redo-log -s V -l version -d 'Print the version'
+complete -c redo-log -s V -l version -d 'Print version'

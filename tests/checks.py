@@ -1,4 +1,4 @@
-"""What the tests of the built programs share: where they are, and a count of what was as expected."""
+"""What the tests of the built programs share: paths, and a count of expectations that held."""
 import os
 import re
 import subprocess
@@ -6,9 +6,9 @@ import sys
 
 TOP = os.path.dirname(os.path.dirname(os.path.abspath(__file__)))
 PROGRAM = os.path.join(TOP, "crates/redo_log/out/redo_log")
-# The program that makes single calls.
-CALLS = os.path.join(TOP, "crates/redo_log_calls/out/redo_log_calls")
-# The dynamic symbols of capture.so: those that make looks up in it, and those that it imports; and the libraries that it needs.
+# The program that makes single calls of the libraries.
+DRIVER = os.path.join(TOP, "crates/redo_log_driver/out/redo_log_driver")
+# The dynamic symbols of capture.so: those that make looks up, those that it imports, and the libraries that it needs.
 HOOK = (
     ["plugin_is_GPL_compatible", "redo_log_capture"],
     ["dlsym", "gmk_add_function", "gmk_alloc", "gmk_eval", "gmk_expand", "gmk_free"],
@@ -23,18 +23,18 @@ def contents(path):
 
 
 def version():
-    """That of the program, as its source says it."""
+    """The version of the program, from its source."""
     return re.search(r'^const VERSION: &str = "redo-log (\d+\.\d+\.\d+)\\n";$', contents("crates/redo_log/src/main.rt"), re.M)[1]
 
 
 def environment(more=None):
-    """That of this process, without what a make that runs it has set."""
+    """The environment of this process without the variables of a make that runs it."""
     kept = {name: value for name, value in os.environ.items() if not name.startswith(("MAKE", "MFLAGS", "CAPTURE"))}
     return {**kept, "LC_ALL": "C.UTF-8", **(more or {})}
 
 
 def install_capture(prefix, *words):
-    """Installs redo-log-capture there, and gives its path."""
+    """Installs redo-log-capture below a prefix and returns its path."""
     subprocess.run(["make", "-s", "install-capture", f"PREFIX={prefix}", *words], cwd=TOP, env=environment(), check=True)
     return os.path.join(prefix, "bin/redo-log-capture")
 
@@ -60,6 +60,6 @@ class Checks:
             print(f"{name}: {str(found)[:600]}, not {str(wanted)[:600]}")
 
     def end(self, name):
-        """Prints the count and ends the process, with 1 if something was not as expected."""
+        """Prints the count and exits, with status 1 if an expectation failed."""
         print(f"{name}: {self.passed} passed, {self.failed} failed")
         sys.exit(self.failed > 0)

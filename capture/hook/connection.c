@@ -1,4 +1,4 @@
-/* The socket to redo-log-capture. */
+/* The sockets to the server. */
 #define _GNU_SOURCE
 #include "hook.h"
 #include "syscalls.h"
@@ -10,8 +10,8 @@
 #include <sys/stat.h>
 #include <sys/un.h>
 
-/* make's own descriptors get the numbers that they would have without this one. */
-enum { LOWEST_DESCRIPTOR = 60 };
+/* The hook's descriptors are not lower than this, so that make's own get the numbers that they would have without the hook. */
+enum { MIN_DESCRIPTOR = 60 };
 
 struct run run;
 static int connection = -1, notes = -1;
@@ -74,17 +74,17 @@ long receive(void *bytes, size_t size) {
   return received <= 0 ? -1 : received;
 }
 
-/* Whether an output of this make is where the run, or the recipe that runs this make, has it. */
+/* Whether an output of this make is redirected: it is not the output of the run, or of the recipe that runs this make. */
 static int is_redirected(int descriptor) {
   struct stat found;
-  unsigned long *place = run.place[descriptor];
+  unsigned long *expected = run.output_identity[descriptor];
   if (SYSCALL(fstat, descriptor, &found, 0, 0) < 0) found.st_dev = 0, found.st_ino = 0;
   if (descriptor == 1) run.own_output[0] = found.st_dev, run.own_output[1] = found.st_ino;
-  return found.st_dev != place[0] || found.st_ino != place[1];
+  return found.st_dev != expected[0] || found.st_ino != expected[1];
 }
 
-static int moved(int descriptor) {
-  int higher = SYSCALL(fcntl, descriptor, F_DUPFD_CLOEXEC, LOWEST_DESCRIPTOR, 0);
+static int move_descriptor(int descriptor) {
+  int higher = SYSCALL(fcntl, descriptor, F_DUPFD_CLOEXEC, MIN_DESCRIPTOR, 0);
   if (higher < 0) return descriptor;
   close_descriptor(&descriptor);
   return higher;
@@ -93,7 +93,7 @@ static int moved(int descriptor) {
 static int open_socket(const struct sockaddr_un *address, size_t size, unsigned user) {
   int opened = SYSCALL(socket, AF_UNIX, SOCK_SEQPACKET | SOCK_CLOEXEC, 0, 0);
   if (opened < 0) return -1;
-  connection = moved(opened);
+  connection = move_descriptor(opened);
   struct ucred listener = {0};
   unsigned listener_size = sizeof listener;
   long error = SYSCALL(connect, connection, address, size, 0);
@@ -102,20 +102,20 @@ static int open_socket(const struct sockaddr_un *address, size_t size, unsigned 
   return connection < 0 ? -1 : 0;
 }
 
-/* Says which make this is, and gets its number. */
-static int introduce(struct hello *hello) {
+/* Sends HELLO, and stores the server's reply. */
+static int send_hello(struct hello *hello) {
   char directory[PATH_MAX];
   struct welcome welcome;
   long size = SYSCALL(getcwd, directory, sizeof directory, 0, 0);
   if (size <= 0 || directory[0] != '/') size = 1, directory[0] = 0;
-  int ends[2];
-  if (SYSCALL(socketpair, AF_UNIX, SOCK_SEQPACKET | SOCK_CLOEXEC, 0, ends) < 0) return disconnect(), -1;
-  notes = moved(ends[0]);
-  hello->kind = HELLO, hello->pid = own_process, hello->is_redirected = run.is_redirected[2];
-  int error = send_message(hello, sizeof *hello, directory, size, ends[1]);
-  close_descriptor(&ends[1]);
+  int pair[2];
+  if (SYSCALL(socketpair, AF_UNIX, SOCK_SEQPACKET | SOCK_CLOEXEC, 0, pair) < 0) return disconnect(), -1;
+  notes = move_descriptor(pair[0]);
+  hello->kind = HELLO, hello->pid = make_pid, hello->is_redirected = run.is_redirected[2];
+  int error = send_message(hello, sizeof *hello, directory, size, pair[1]);
+  close_descriptor(&pair[1]);
   if (error || receive(&welcome, sizeof welcome) != sizeof welcome) return disconnect(), -1;
-  run.make = welcome.make, run.shows = welcome.shows, run.captures_output = welcome.captures_output;
+  run.make = welcome.make, run.show_mode = welcome.show_mode, run.captures_output = welcome.captures_output;
   return 0;
 }
 
@@ -129,15 +129,15 @@ int connect_to_run(const char *variable) {
   memcpy(address.sun_path + 1, from, size);
   for (from += size + 1; count < TOKEN_SIZE && *from && *from != ':'; from++) hello.token[count++] = *from;
   if (count < TOKEN_SIZE || *from++ != ':') return -1;
-  unsigned user = take_number(&from);
+  unsigned user = parse_number(&from);
   if ((size_t)(from - variable) >= sizeof run.address) return -1;
   memcpy(run.address, variable, from - variable);
-  hello.parent_make = take_number(&from), hello.parent_recipe = take_number(&from);
+  hello.parent_make = parse_number(&from), hello.parent_recipe = parse_number(&from);
   for (int output = 1; output <= 2; output++) {
-    run.place[output][0] = take_number(&from), run.place[output][1] = take_number(&from);
+    run.output_identity[output][0] = parse_number(&from), run.output_identity[output][1] = parse_number(&from);
     run.is_redirected[output] = is_redirected(output);
   }
   run.variable = variable, run.directory = from;
   if (open_socket(&address, offsetof(struct sockaddr_un, sun_path) + 1 + size, user) < 0) return -1;
-  return introduce(&hello);
+  return send_hello(&hello);
 }

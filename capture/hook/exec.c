@@ -1,5 +1,5 @@
-/* make starts a child by vfork and execvp, before 4.3, or if it was built so: this runs in the child, which shares make's memory
-   until it has become another program. */
+/* Before version 4.3, or if it was built so, make starts a child by vfork and execvp. The code below runs in the child,
+   which shares make's memory until it executes another program. */
 #define _GNU_SOURCE
 #include "hook.h"
 #include "syscalls.h"
@@ -7,16 +7,16 @@
 
 typedef int execvp_function(const char *, char *const *);
 
-pid_t own_process;
+pid_t make_pid;
 
-pid_t process_id(void) { return SYSCALL(getpid, 0, 0, 0, 0); }
+pid_t current_pid(void) { return SYSCALL(getpid, 0, 0, 0, 0); }
 
-static void lead_outputs(int pipe) {
+static void redirect_outputs(int pipe) {
   if (!run.is_redirected[2]) SYSCALL(dup3, pipe, 2, 0, 0);
   if (run.captures_output && !run.is_redirected[1]) SYSCALL(dup3, pipe, 1, 0, 0);
 }
 
-/* Whether this is the child of $(shell ..): a pipe is its standard output, which isn't that of make itself. */
+/* Whether this is the child of $(shell ..): its standard output is a pipe, and not make's own standard output. */
 static int is_shell_function(void) {
   struct stat found;
   if (SYSCALL(fstat, 1, &found, 0, 0) < 0 || !S_ISFIFO(found.st_mode)) return 0;
@@ -25,15 +25,15 @@ static int is_shell_function(void) {
 
 int hooked_execvp(const char *file, char *const *command) {
   execvp_function *original = (execvp_function *)imports[EXECVP].original;
-  char ***environment = function_named("environ");
-  int is_child = environment && process_id() != own_process;
-  long recipe = is_child ? recipe_of(*environment) : -1;
+  char ***environment = find_function("environ");
+  int is_child = environment && current_pid() != make_pid;
+  long recipe = is_child ? recipe_number_of(*environment) : -1;
   if (recipe > 0 && is_shell_function()) recipe = 0;
   if (!is_child || (recipe < 0 && (!is_connected() || has_variable(*environment, RUN_VARIABLE "=")))) return original(file, command);
   int pipe = recipe > 0 && is_connected() ? announce_line(recipe, command) : -1;
-  char **own = environment_for(*environment, recipe, pipe);
-  if (own) *environment = own;
-  if (recipe > 0 && is_connected()) report_start(process_id());
-  if (pipe >= 0) lead_outputs(pipe);
+  char **child_environment = build_environment(*environment, recipe, pipe);
+  if (child_environment) *environment = child_environment;
+  if (recipe > 0 && is_connected()) report_start(current_pid());
+  if (pipe >= 0) redirect_outputs(pipe);
   return original(file, command);
 }

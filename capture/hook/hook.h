@@ -1,9 +1,9 @@
-/* The hook: a shared object that each make of a captured build loads, so that redo-log-capture learns of every line of a recipe and
-   gets its standard error.
+/* The hook: a shared object that each make of a captured build loads. It reports each line of a recipe to the server, and gives
+   the line a pipe to the server as standard error.
 
-   It replaces the functions of the C library by which make starts and reaps children with its own, which call the originals. It
-   runs inside make, some of it in a signal handler: so it allocates nothing by malloc, and leaves errno alone. It imports only what
-   make itself has or imports (gmk_*, dlsym), so that one file serves every glibc and musl. Whatever fails here, the build goes on
+   It replaces the functions of the C library by which make starts and reaps children. Its own functions call the originals. It
+   runs inside make, partly in a signal handler, so it doesn't call malloc and leaves errno alone. It imports only what make itself
+   has or imports (gmk_*, dlsym), so that one file works with every glibc and musl. If anything fails here, the build goes on
    without being captured. */
 #include "../protocol.h"
 #include <stddef.h>
@@ -12,49 +12,49 @@
 
 #define EXPORTED __attribute__((visibility("default")))
 
-/* memory.c: what the C library would have */
+/* memory.c: replacements for the C library */
 
-size_t length_of(const char *string);
-int is_equal(const char *left, const char *right);
+size_t string_length(const char *string);
+int strings_equal(const char *left, const char *right);
 /* Whether a string begins with a prefix. */
 int has_prefix(const char *string, const char *prefix);
-/* Copies a string, or a number in digits, and returns its end, where a NUL is. */
-char *put_string(char *to, const char *string);
-char *put_number(char *to, unsigned long number, char end);
-/* Reads a number, and moves behind the byte that follows it. */
-unsigned long take_number(const char **from);
-/* Memory that grows; its content is lost then. Returns NULL if there is none. */
+/* Write a string, or the digits of a number and the byte `end`, and a NUL. Return the position of the NUL. */
+char *append_string(char *to, const char *string);
+char *append_number(char *to, unsigned long number, char end);
+/* Reads a number, and moves past the byte that follows it. */
+unsigned long parse_number(const char **from);
+/* A buffer that reserve enlarges, which loses its content. reserve returns NULL if memory can't be allocated. */
 struct buffer {
   char *bytes;
   size_t size;
 };
-char *reserve(struct buffer *buffer, size_t size);
+char *grow_buffer(struct buffer *buffer, size_t size);
 /* Milliseconds since 1970. */
-int64_t now(void);
+int64_t wall_clock_ms(void);
 
-/* connection.c: the socket to redo-log-capture */
+/* connection.c: the sockets to the server */
 
-/* What CAPTURE_RUN says, and the reply of redo-log-capture. */
+/* The parts of CAPTURE_RUN, and the server's reply. */
 struct run {
-  char address[MAX_SOCKET_NAME + TOKEN_SIZE + 40]; /* the socket, the token and the user, with a colon behind each */
+  char address[MAX_SOCKET_NAME + TOKEN_SIZE + 40]; /* the socket, the token and the user, each followed by a colon */
   const char *variable, *directory; /* the value of CAPTURE_RUN, and its last part */
-  unsigned long place[3][2]; /* by descriptor: where output goes unless somebody redirects it; device and inode */
+  unsigned long output_identity[3][2]; /* by descriptor: device and inode of the file to which output goes if nobody redirects it */
   int is_redirected[3];      /* by descriptor */
-  unsigned long own_output[2]; /* of make itself: device and inode of its standard output */
+  unsigned long own_output[2]; /* device and inode of make's own standard output */
   uint32_t make;
-  int shows, captures_output;
+  int show_mode, captures_output;
 };
 extern struct run run;
-/* Connects, as CAPTURE_RUN says. Returns -1 if nobody listens. */
+/* Connects to the server that CAPTURE_RUN names. Returns -1 on failure. */
 int connect_to_run(const char *variable);
 int is_connected(void);
-/* Sends a message that gets a reply, or a note that gets none. Its body may be empty; a message may pass a descriptor. Returns -1, and
-   disconnects, if it can't. */
+/* send_message sends a message that gets a reply, and may pass a descriptor; send_note sends one that gets none. The body may be
+   empty. On failure they disconnect and return -1. */
 int send_message(const void *head, size_t head_size, const void *body, size_t body_size, int descriptor);
 int send_note(const void *head, size_t head_size, const void *body, size_t body_size);
-/* Waits for the reply to a message. Returns its size, or -1, and disconnects. */
+/* Waits for the reply to a message, and returns its size. On failure disconnects and returns -1. */
 long receive(void *bytes, size_t size);
-/* Signals are blocked from a message to its reply: a signal handler of make's may send messages too. */
+/* Signals are blocked from a message to its reply, because make's signal handlers may send messages too. */
 uint64_t block_signals(void);
 void restore_signals(uint64_t former);
 void close_descriptor(int *descriptor);
@@ -64,17 +64,17 @@ char *announce_recipe(const char *function, unsigned count, char **arguments);
 
 /* line.c: a line of a recipe, up to its start */
 
-/* The number of the recipe, if this is the environment of a line of a recipe; otherwise 0 or -1. */
-long recipe_of(char *const *environment);
-/* Announces the line, and passes the pipe that it is to write to. Returns the writing end, or -1 if it keeps its own outputs. */
+/* Returns the number of the recipe if this is the environment of a line of a recipe; otherwise 0 or -1. */
+long recipe_number_of(char *const *environment);
+/* Announces a line and passes the read end of its pipe. Returns the write end, or -1 if the line keeps its own outputs. */
 int announce_line(uint32_t recipe, char *const *command);
 void report_start(pid_t process);
 void report_failure(void);
-/* Whether a variable of the environment begins so. */
+/* Whether a variable of the environment begins with `prefix`. */
 int has_variable(char *const *environment, const char *prefix);
-/* The environment of a recipe: without the variables of the capture, and with those that its sub-makes need. With -1 as the recipe,
-   the environment of another child. Returns NULL if there is no memory. */
-char **environment_for(char *const *environment, long recipe, int pipe);
+/* Returns the environment of a recipe: without the variables of the capture, and with those that its sub-makes need. If `recipe`
+   is -1, it is the environment of another child. Returns NULL if memory can't be allocated. */
+char **build_environment(char *const *environment, long recipe, int pipe);
 
 /* spawn.c, exec.c, wait.c: what make calls instead of the C library */
 struct import {
@@ -94,19 +94,19 @@ pid_t hooked_wait(int *status);
 pid_t hooked_waitpid(pid_t process, int *status, int options);
 pid_t hooked_wait3(int *status, int options, void *usage);
 pid_t hooked_wait4(pid_t process, int *status, int options, void *usage);
-/* The process that loaded the hook: children of vfork are others. */
-extern pid_t own_process;
-pid_t process_id(void);
+/* The process that loaded the hook. A child of vfork has another number. */
+extern pid_t make_pid;
+pid_t current_pid(void);
 
 /* imports.c: the import slots of make's own program */
 
-/* Whether make imports this one. */
+/* Whether make imports this function. */
 int is_imported(enum import_number number);
-/* Looks which of them make imports; and then has them lead to the hook. Returns -1 if that can't be done. */
+/* find_imports finds which functions make imports, and replace_imports replaces them. They return -1 if that isn't possible. */
 int find_imports(void);
 int replace_imports(void);
-/* Of the C library, by name; or NULL. */
-void *function_named(const char *name);
+/* Returns a function of the C library by its name, or NULL. */
+void *find_function(const char *name);
 
 /* load.c */
-extern const char *rules_path;
+extern const char *capture_mk_path;

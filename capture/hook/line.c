@@ -5,7 +5,7 @@
 #include <fcntl.h>
 #include <sys/stat.h>
 
-/* How much of a command is sent, in bytes; the rest is cut off. */
+/* The maximum number of bytes of a command that is sent. A longer command is truncated. */
 enum { MAX_COMMAND = 16000 };
 
 int has_variable(char *const *environment, const char *prefix) {
@@ -14,16 +14,16 @@ int has_variable(char *const *environment, const char *prefix) {
   return 0;
 }
 
-long recipe_of(char *const *environment) {
+long recipe_number_of(char *const *environment) {
   for (; environment && *environment; environment++) {
     if (!has_prefix(*environment, RECIPE_VARIABLE "=")) continue;
     const char *number = *environment + sizeof RECIPE_VARIABLE;
-    return take_number(&number);
+    return parse_number(&number);
   }
   return -1;
 }
 
-/* The words of a command, each followed by a NUL. */
+/* Joins the arguments of a command, each followed by a NUL. */
 static size_t join_words(char *const *command, char words[MAX_COMMAND]) {
   size_t size = 0;
   for (; *command && size < MAX_COMMAND; command++)
@@ -34,17 +34,18 @@ static size_t join_words(char *const *command, char words[MAX_COMMAND]) {
 
 int announce_line(uint32_t recipe, char *const *command) {
   static char words[MAX_COMMAND];
-  struct line_message line = {LINE, recipe, now()};
-  int ends[2] = {-1, -1};
-  char is_taken = 0;
+  struct line_message line = {LINE, recipe, wall_clock_ms()};
+  int pair[2] = {-1, -1};
+  char is_captured = 0;
   int writes = !run.is_redirected[2] || (run.captures_output && !run.is_redirected[1]);
-  if (writes && SYSCALL(pipe2, ends, O_CLOEXEC, 0, 0) < 0) ends[0] = ends[1] = -1;
+  if (writes && SYSCALL(pipe2, pair, O_CLOEXEC, 0, 0) < 0) pair[0] = pair[1] = -1;
   uint64_t former = block_signals();
-  if (send_message(&line, sizeof line, words, join_words(command, words), ends[0]) < 0 || receive(&is_taken, 1) != 1) is_taken = 0;
+  if (send_message(&line, sizeof line, words, join_words(command, words), pair[0]) < 0 || receive(&is_captured, 1) != 1)
+    is_captured = 0;
   restore_signals(former);
-  close_descriptor(&ends[0]);
-  if (!is_taken) close_descriptor(&ends[1]);
-  return ends[1];
+  close_descriptor(&pair[0]);
+  if (!is_captured) close_descriptor(&pair[1]);
+  return pair[1];
 }
 
 void report_start(pid_t process) {
@@ -55,53 +56,55 @@ void report_start(pid_t process) {
 }
 
 void report_failure(void) {
-  struct failed failed = {FAILED, now()};
+  struct failed failed = {FAILED, wall_clock_ms()};
   uint64_t former = block_signals();
   send_note(&failed, sizeof failed, NULL, 0);
   restore_signals(former);
 }
 
-/* CAPTURE_RUN for the sub-makes of a recipe, or for a child that is none, as of $(shell ..): that has what make itself has. One whose
-   output was redirected goes on with that. */
-static char *put_run(char *to, long recipe, int pipe) {
-  if (recipe < 0) return put_string(put_string(to, RUN_VARIABLE "="), run.variable) + 1;
+/* Writes CAPTURE_RUN for the sub-makes of a recipe. A child that is no recipe, such as the one of $(shell ..), gets the value of
+   make itself. An output that is redirected counts as redirected in sub-makes too. */
+static char *append_run_variable(char *to, long recipe, int pipe) {
+  if (recipe < 0) return append_string(append_string(to, RUN_VARIABLE "="), run.variable) + 1;
   struct stat found = {0};
   if (pipe >= 0) SYSCALL(fstat, pipe, &found, 0, 0);
-  to = put_string(put_string(to, RUN_VARIABLE "="), run.address);
-  to = put_number(to, run.make, '.'), to = put_number(to, recipe, ':');
+  to = append_string(append_string(to, RUN_VARIABLE "="), run.address);
+  to = append_number(to, run.make, '.'), to = append_number(to, recipe, ':');
   for (int output = 1; output <= 2; output++) {
     int is_piped = pipe >= 0 && !run.is_redirected[output] && (output == 2 || run.captures_output);
     int is_lost = !is_piped && run.is_redirected[output];
-    to = put_number(to, is_piped ? found.st_dev : is_lost ? 0 : run.place[output][0], '.');
-    to = put_number(to, is_piped ? found.st_ino : is_lost ? 1 : run.place[output][1], ':');
+    to = append_number(to, is_piped ? found.st_dev : is_lost ? 0 : run.output_identity[output][0], '.');
+    to = append_number(to, is_piped ? found.st_ino : is_lost ? 1 : run.output_identity[output][1], ':');
   }
-  return put_string(to, run.directory) + 1;
+  return append_string(to, run.directory) + 1;
 }
 
-static int is_own_variable(const char *variable) {
+static int is_capture_variable(const char *variable) {
   return has_prefix(variable, RECIPE_VARIABLE "=") || has_prefix(variable, RUN_VARIABLE "=") || has_prefix(variable, "MAKEFILES=");
 }
 
-/* MAKEFILES for the sub-makes of a recipe: the rules that load the hook, and those that it would have otherwise. */
-static void put_makefiles(char *to, const char *others) {
-  to = put_string(put_string(to, "MAKEFILES="), rules_path);
-  if (*others && !has_prefix(others, rules_path)) put_string(put_string(to, " "), others);
+/* Writes MAKEFILES for the sub-makes of a recipe: capture.mk, and the value that it would have otherwise. */
+static void append_makefiles(char *to, const char *other_makefiles) {
+  to = append_string(append_string(to, "MAKEFILES="), capture_mk_path);
+  if (*other_makefiles && !has_prefix(other_makefiles, capture_mk_path)) append_string(append_string(to, " "), other_makefiles);
 }
 
-char **environment_for(char *const *environment, long recipe, int pipe) {
+char **build_environment(char *const *environment, long recipe, int pipe) {
   static struct buffer list, values;
-  size_t count = 0, kept = 0, size = sizeof run.address + length_of(run.variable) + length_of(rules_path) + 300;
-  const char *others = "";
+  size_t count = 0, variable_count = 0,
+         size = sizeof run.address + string_length(run.variable) + string_length(capture_mk_path) + 300;
+  const char *other_makefiles = "";
   for (; environment[count]; count++)
-    if (has_prefix(environment[count], "MAKEFILES=")) others = environment[count] + sizeof "MAKEFILES";
-  char **variables = (char **)reserve(&list, (count + 3) * sizeof *variables), *to = reserve(&values, size + length_of(others));
+    if (has_prefix(environment[count], "MAKEFILES=")) other_makefiles = environment[count] + sizeof "MAKEFILES";
+  char **variables = (char **)grow_buffer(&list, (count + 3) * sizeof *variables),
+       *to = grow_buffer(&values, size + string_length(other_makefiles));
   if (!variables || !to) return NULL;
   for (size_t i = 0; i < count; i++)
-    if (!is_own_variable(environment[i])) variables[kept++] = environment[i];
-  variables[kept++] = to;
-  to = put_run(to, recipe, pipe);
-  variables[kept++] = to;
-  put_makefiles(to, others);
-  variables[kept] = NULL;
+    if (!is_capture_variable(environment[i])) variables[variable_count++] = environment[i];
+  variables[variable_count++] = to;
+  to = append_run_variable(to, recipe, pipe);
+  variables[variable_count++] = to;
+  append_makefiles(to, other_makefiles);
+  variables[variable_count] = NULL;
   return variables;
 }

@@ -1,28 +1,29 @@
-/* What capture.mk has make load. */
+/* The function that make calls when it has loaded the hook. */
 #include "hook.h"
 
 EXPORTED int plugin_is_GPL_compatible;
 
-/* make's own, as gnumake.h declares them. */
-extern void gmk_eval(const char *buffer, const void *place) __attribute__((weak));
+/* Functions of make, as gnumake.h declares them. */
+extern void gmk_eval(const char *buffer, const void *location) __attribute__((weak));
 extern char *gmk_expand(const char *string) __attribute__((weak));
 extern void gmk_free(char *string) __attribute__((weak));
 extern char *gmk_alloc(unsigned size) __attribute__((weak));
-extern void gmk_add_function(const char *name, char *(*function)(const char *, unsigned, char **), unsigned least, unsigned most,
-                             unsigned flags) __attribute__((weak));
+extern void gmk_add_function(const char *name, char *(*function)(const char *, unsigned, char **), unsigned min_arguments,
+                             unsigned max_arguments, unsigned flags) __attribute__((weak));
 
-const char *rules_path;
+const char *capture_mk_path;
 
-/* Of make 4.3 and later; or of earlier ones. A child of fork, which doesn't share make's memory, would get its replies. */
-static int can_lead(void) {
+/* Whether make has the functions that are needed: posix_spawn, as since 4.3, or vfork. With fork nothing could be captured,
+   because the child would get make's replies and doesn't share its memory. */
+static int can_hook(void) {
   int spawns = is_imported(POSIX_SPAWN) && is_imported(ACTIONS_INIT) && is_imported(ACTIONS_ADDDUP2) && is_imported(ACTIONS_DESTROY);
   int forks = is_imported(VFORK) && is_imported(EXECVP);
   int waits = is_imported(WAIT) || is_imported(WAITPID) || is_imported(WAIT3) || is_imported(WAIT4);
   return (spawns || forks) && waits && gmk_eval && gmk_expand && gmk_free && gmk_alloc && gmk_add_function;
 }
 
-/* With -n, -q or -t make runs few recipes, and the captures stay as they were. */
-static int runs_no_recipes(void) {
+/* With -n, -q or -t, make runs few recipes, and the captures stay as they were. */
+static int is_dry_run(void) {
   char *flags = gmk_expand("$(MAKEFLAGS)");
   int found = 0;
   for (const char *flag = flags; flag && *flags != '-' && *flag && *flag != ' '; flag++)
@@ -31,8 +32,8 @@ static int runs_no_recipes(void) {
   return found;
 }
 
-static char *copy_of(struct buffer *buffer, const char *string, char end) {
-  char *copy = reserve(buffer, length_of(string) + 1);
+static char *copy_until(struct buffer *buffer, const char *string, char end) {
+  char *copy = grow_buffer(buffer, string_length(string) + 1);
   size_t size = 0;
   if (!copy) return NULL;
   for (; string[size] && string[size] != end; size++) copy[size] = string[size];
@@ -40,22 +41,23 @@ static char *copy_of(struct buffer *buffer, const char *string, char end) {
   return copy;
 }
 
-/* make calls this. It returns -1, so that make doesn't want to remake the object; redo-log-loaded says what came of it: `yes`,
-   `no` if nothing is to be captured, or nothing if this make can't be led. */
-EXPORTED int redo_log_capture(const void *place) {
+/* Called by make. Returns -1, so that make doesn't try to remake the shared object. Sets redo-log-loaded to `yes`, or to `no` if
+   nothing is to be captured; leaves it undefined if this make can't be captured. */
+EXPORTED int redo_log_capture(const void *location) {
   static struct buffer rules, environment;
-  if (is_connected() || find_imports() < 0 || !can_lead()) return -1;
-  char *(*variable_named)(const char *) = function_named("getenv");
-  const char *makefiles = variable_named ? variable_named("MAKEFILES") : NULL, *own = makefiles ? variable_named(RUN_VARIABLE) : NULL;
-  own_process = process_id();
-  rules_path = makefiles ? copy_of(&rules, makefiles, ' ') : NULL;
-  own = own ? copy_of(&environment, own, 0) : NULL;
-  if (!own || !rules_path || runs_no_recipes() || connect_to_run(own) < 0) {
-    gmk_eval("redo-log-loaded := no", place);
+  if (is_connected() || find_imports() < 0 || !can_hook()) return -1;
+  char *(*getenv_function)(const char *) = find_function("getenv");
+  const char *makefiles = getenv_function ? getenv_function("MAKEFILES") : NULL,
+             *run_variable = makefiles ? getenv_function(RUN_VARIABLE) : NULL;
+  make_pid = current_pid();
+  capture_mk_path = makefiles ? copy_until(&rules, makefiles, ' ') : NULL;
+  run_variable = run_variable ? copy_until(&environment, run_variable, 0) : NULL;
+  if (!run_variable || !capture_mk_path || is_dry_run() || connect_to_run(run_variable) < 0) {
+    gmk_eval("redo-log-loaded := no", location);
     return -1;
   }
   if (replace_imports() < 0) return -1;
   gmk_add_function("redo-log-recipe", announce_recipe, 2, 2, 0);
-  gmk_eval("redo-log-loaded := yes", place);
+  gmk_eval("redo-log-loaded := yes", location);
   return -1;
 }

@@ -1,10 +1,10 @@
-/* What the C library would have: strings, memory and the time. */
+/* Replacements for the C library: strings, memory and the time. */
 #include "hook.h"
 #include "syscalls.h"
 #include <sys/mman.h>
 #include <time.h>
 
-/* The compiler may call these for what it copies and clears. */
+/* The compiler may call these to copy and clear memory. */
 void *memcpy(void *to, const void *from, size_t size) {
   char *bytes = to;
   for (size_t i = 0; i < size; i++) bytes[i] = ((const char *)from)[i];
@@ -17,7 +17,7 @@ void *memset(void *to, int byte, size_t size) {
   return to;
 }
 
-size_t length_of(const char *string) {
+size_t string_length(const char *string) {
   size_t length = 0;
   while (string[length]) length++;
   return length;
@@ -28,15 +28,15 @@ int has_prefix(const char *string, const char *prefix) {
   return !*prefix;
 }
 
-int is_equal(const char *left, const char *right) { return has_prefix(left, right) && !left[length_of(right)]; }
+int strings_equal(const char *left, const char *right) { return has_prefix(left, right) && !left[string_length(right)]; }
 
-char *put_string(char *to, const char *string) {
+char *append_string(char *to, const char *string) {
   while (*string) *to++ = *string++;
   *to = 0;
   return to;
 }
 
-char *put_number(char *to, unsigned long number, char end) {
+char *append_number(char *to, unsigned long number, char end) {
   char digits[24];
   int count = 0;
   do digits[count++] = '0' + number % 10;
@@ -47,14 +47,14 @@ char *put_number(char *to, unsigned long number, char end) {
   return to;
 }
 
-unsigned long take_number(const char **from) {
+unsigned long parse_number(const char **from) {
   unsigned long number = 0;
   while (**from >= '0' && **from <= '9') number = number * 10 + (*(*from)++ - '0');
   if (**from) (*from)++;
   return number;
 }
 
-char *reserve(struct buffer *buffer, size_t size) {
+char *grow_buffer(struct buffer *buffer, size_t size) {
   if (size <= buffer->size) return buffer->bytes;
   size_t larger = (size + size / 2 + 65535) & ~(size_t)65535;
   long mapped = syscall6(__NR_mmap, 0, larger, PROT_READ | PROT_WRITE, MAP_PRIVATE | MAP_ANONYMOUS, -1, 0);
@@ -64,7 +64,7 @@ char *reserve(struct buffer *buffer, size_t size) {
   return buffer->bytes;
 }
 
-int64_t now(void) {
+int64_t wall_clock_ms(void) {
   struct timespec time = {0, 0};
   SYSCALL(clock_gettime, CLOCK_REALTIME, &time, 0, 0);
   return (int64_t)time.tv_sec * 1000 + time.tv_nsec / 1000000;

@@ -1,15 +1,15 @@
-/* What make reports of a recipe before it runs. */
+/* The announcement of a recipe before it runs. */
 #include "hook.h"
 
 extern char *gmk_alloc(unsigned size) __attribute__((weak));
 
-static uint32_t count;
+static uint32_t recipe_count;
 
-/* Sends all of the target and its prerequisites, in as many messages as it takes. */
+/* Sends the target and its prerequisites, in several messages if necessary. */
 static int send_names(const char *target, const char *prerequisites) {
   struct names names = {NAMES};
-  struct recipe recipe = {RECIPE, count + 1};
-  size_t size = length_of(target) + 1, left = length_of(prerequisites);
+  struct recipe recipe = {RECIPE, recipe_count + 1};
+  size_t size = string_length(target) + 1, left = string_length(prerequisites);
   for (; size > 0; target += size < MAX_BODY ? size : MAX_BODY, size -= size < MAX_BODY ? size : MAX_BODY)
     if (send_note(&names, sizeof names, target, size < MAX_BODY ? size : MAX_BODY) < 0) return -1;
   for (; left > MAX_BODY; prerequisites += MAX_BODY, left -= MAX_BODY)
@@ -17,7 +17,7 @@ static int send_names(const char *target, const char *prerequisites) {
   return send_note(&recipe, sizeof recipe, prerequisites, left);
 }
 
-/* make expands this as it puts together the environment of the recipe's lines, where the number then is the value of a variable. */
+/* make expands this when it builds the environment of the recipe's lines, in which a variable gets the number as its value. */
 char *announce_recipe(const char *function, unsigned argument_count, char **arguments) {
   (void)function;
   char *number = gmk_alloc(24);
@@ -26,7 +26,7 @@ char *announce_recipe(const char *function, unsigned argument_count, char **argu
   if (argument_count < 2 || !*arguments[0]) return number;
   uint64_t former = block_signals();
   if (is_connected() && send_names(arguments[0], arguments[1]) == 0) {
-    char *end = put_number(number, ++count, 0);
+    char *end = append_number(number, ++recipe_count, 0);
     (void)end;
   }
   restore_signals(former);

@@ -1,4 +1,4 @@
-/* System calls without the C library: each returns its result, or the negated error. So errno stays as make left it. */
+/* System calls without the C library. Each returns its result or the negated error, so errno stays as make left it. */
 #include <asm/unistd.h>
 
 static inline long syscall6(long number, long a, long b, long c, long d, long e, long f) {

@@ -1,4 +1,5 @@
-/* make reaps a child: redo-log-capture learns of its end first, and has shown what a failed one printed before make reports it. */
+/* Reaping. The server learns that a child has ended before make does, and has printed the output of a failed one before make
+   reports it. */
 #define _GNU_SOURCE
 #include "hook.h"
 #include "syscalls.h"
@@ -9,24 +10,24 @@
 typedef pid_t wait4_function(pid_t, int *, int, void *);
 
 static void report_end(pid_t process, int status) {
-  struct ended ended = {.kind = ENDED, .pid = process, .status = status, .time = now()};
-  char answer;
-  ended.asks = run.shows == SHOW_ALL || (run.shows == SHOW_FAILED && status != 0);
+  struct ended ended = {.kind = ENDED, .pid = process, .status = status, .time = wall_clock_ms()};
+  char reply;
+  ended.wants_reply = run.show_mode == SHOW_ALL || (run.show_mode == SHOW_FAILED && status != 0);
   uint64_t former = block_signals();
-  if (!ended.asks) send_note(&ended, sizeof ended, NULL, 0);
-  else if (send_message(&ended, sizeof ended, NULL, 0, -1) == 0) receive(&answer, 1);
+  if (!ended.wants_reply) send_note(&ended, sizeof ended, NULL, 0);
+  else if (send_message(&ended, sizeof ended, NULL, 0, -1) == 0) receive(&reply, 1);
   restore_signals(former);
 }
 
-/* What waitpid would return as the status. */
-static int status_of(const siginfo_t *ended) {
+/* Returns the status that waitpid would return. */
+static int wait_status(const siginfo_t *ended) {
   if (ended->si_code == CLD_EXITED) return (ended->si_status & 255) << 8;
   return ended->si_status | (ended->si_code == CLD_DUMPED ? 128 : 0);
 }
 
-/* Reports a child while it can still be waited for: a signal that comes in between finds make as it would be without this. Returns the
-   child, 0 if none has ended, or -1 if there is none. */
-static pid_t report_next(pid_t process, int options) {
+/* Reports a child before it is reaped, so that a signal that arrives in between finds make in the state that it would have without
+   the hook. Returns the child, 0 if none has ended, or -1 if there is none. */
+static pid_t report_next_child(pid_t process, int options) {
   siginfo_t ended;
   long error;
   int kind = process > 0 ? P_PID : P_ALL;
@@ -34,13 +35,13 @@ static pid_t report_next(pid_t process, int options) {
   do error = syscall6(__NR_waitid, kind, process, (long)&ended, WEXITED | WNOWAIT | (options & WNOHANG), 0, 0);
   while (error == -EINTR);
   if (error) return -1;
-  if (ended.si_pid > 0) report_end(ended.si_pid, status_of(&ended));
+  if (ended.si_pid > 0) report_end(ended.si_pid, wait_status(&ended));
   return ended.si_pid;
 }
 
 pid_t hooked_wait4(pid_t process, int *status, int options, void *usage) {
   wait4_function *original = (wait4_function *)imports[WAIT4].original;
-  pid_t ended = is_connected() && (process == -1 || process > 0) ? report_next(process, options) : -1;
+  pid_t ended = is_connected() && (process == -1 || process > 0) ? report_next_child(process, options) : -1;
   return ended == 0 ? 0 : original(ended > 0 ? ended : process, status, options, usage);
 }
 

@@ -1,6 +1,6 @@
-/* Preloaded into a build: before redo-log-capture changes a file for the n-th time, the whole process group is killed; or nothing
-   can be written from then on, as on a full device; or a directory is removed. The environment has n in BREAK_AT, a file that
-   counts in BREAK_COUNT, whether the device is full in BREAK_FULL, and the directory in BREAK_REMOVE. */
+/* Preloaded into a build. Before redo-log-capture changes a file for the n-th time, this library kills the whole process group, or
+   makes every later write fail as if no space were left, or removes a directory. The environment has n in BREAK_AT, a file that
+   counts in BREAK_COUNT, whether no space is left in BREAK_FULL, and the directory in BREAK_REMOVE. */
 #define _GNU_SOURCE
 #include <dlfcn.h>
 #include <errno.h>

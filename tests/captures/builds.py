@@ -1,4 +1,4 @@
-"""What the tests of captures share: builds in folders of their own, with and without redo-log-capture in front."""
+"""What the tests of captures share: builds in their own directories, with and without redo-log-capture."""
 import os
 import re
 import signal
@@ -34,7 +34,7 @@ def printed_something(*names):
 
 
 def quoted(name):
-    """A name as it is written for a shell, in a line that tells how to read its log."""
+    """A name, quoted for a shell where needed, as in a message that shows how to read its log."""
     return name if re.fullmatch(r"[\w./+=:@%,-]+", name, re.A) else "'" + name.replace("'", "'\\''") + "'"
 
 
@@ -60,18 +60,18 @@ def ran(folder, command, more=None):
 
 
 def make(folder, *words, options=(), more=None):
-    """The same of a captured make, without the line about targets that did not fail."""
+    """As `ended`, for a captured make, without the line about targets that did not fail."""
     status, out, err = ran(folder, [TOOL, *options, "make", *words], more)
     return status, out, without_printed(err)
 
 
 def text_of(folder, name, at="capture"):
-    """The lines of a target's log that are no records."""
+    """The text lines of a target's log."""
     return re.sub(r"^@@REDO:.*\n", "", log_of(folder, name, at), flags=re.M)
 
 
 def lines_of_others(err):
-    """The lines of standard error that are not printed by redo-log-capture, without the commands of failed recipes."""
+    """The lines of standard error that redo-log-capture didn't print, without the commands of failed recipes."""
     return [line for line in re.sub(r"^redo-log-capture: (.* \(exit \d+\)\n)?.*\n", "", err, flags=re.M).splitlines()]
 
 
@@ -80,7 +80,7 @@ def without_printed(err):
 
 
 def shown(folder, *words, at="capture"):
-    """The text of its captures, or the status and the line of the refusal."""
+    """The text that redo-log prints, or its status and error message."""
     done = subprocess.run([PROGRAM, "--dir", os.path.join(folder, at), "-r", *words], capture_output=True)
     return done.stdout.decode() if done.returncode == 0 else (done.returncode, done.stderr.decode())
 
@@ -95,7 +95,7 @@ def log_of(folder, name, at="capture"):
 
 
 def of_a_terminal():
-    """A process group of its own, which signals end, also where this process ignores them."""
+    """Makes the process the leader of a new group, and lets signals end it even if this process ignores them."""
     os.setsid()
     for kind in ASKING:
         signal.signal(kind, signal.SIG_DFL)
@@ -114,7 +114,7 @@ def wait_for(path):
 
 
 def preloaded(name):
-    """A library of this name, to preload."""
+    """Compiles a library of this name, to be preloaded."""
     library = os.path.join(PREFIX, f"{name}.so")
     source = os.path.join(TOP, f"tests/captures/{name}.c")
     subprocess.run(["cc", "-O2", "-Wall", "-Wextra", "-shared", "-fPIC", "-o", library, source, "-ldl"], check=True)

@@ -1,5 +1,5 @@
-"""That a build goes on as without a capture, whatever fails or lies: system calls in make and in redo-log-capture, memory,
-descriptors, and what calls itself a make. What recipes print is then in a log or on standard error: no line is lost."""
+"""A build goes on as without a capture if system calls of make or redo-log-capture fail, if memory or descriptors run out, and if a
+process pretends to be a make. No line is lost: whatever recipes print is in a log or on standard error."""
 import array
 import contextlib
 import glob
@@ -21,14 +21,14 @@ from concurrent.futures import ThreadPoolExecutor
 from builds import TOOL, preloaded, project, shown, wait_for, wait_until, write
 from checks import environment, install_capture
 
-# What takes so many seconds hangs: these builds take a fraction of one, where nothing else runs.
+# A build that takes longer than this, in seconds, hangs. On an idle machine these builds take less than one second.
 MOST = 60
-# So many runs that went wrong tell enough of a part that has thousands: it ends then.
+# A part that has thousands of runs ends after this number of failed runs.
 ENOUGH = 5
-# Of the n-th times that something may fail the first are all tried, and then one of so many.
+# If something may fail at its n-th time, the first times are all tried, and then one in this number.
 ALL_OF, ONE_OF = 60, 7
 
-# A build that prints each line once in each make. E is the status with which some of its recipes fail.
+# A build that prints each line once in each make. Some of its recipes fail with the status E.
 BUILD = r"""
 TOLD := $(shell echo function said >&2)
 all: x y sub lines $(if $(filter-out 0,$E),nothing)
@@ -44,20 +44,20 @@ nothing: ; no-such-command $@
 earlier: ; @echo earlier said >&2
 PIECES = 'lines said' ' 4\n'
 """
-# Without a capture other recipes may print between two pieces of a line.
+# Without a capture, other recipes may print between two parts of a line.
 WITH_JOBS = ("-j2", "PIECES='lines said 4\\n'")
 # What is added to the command, and the status with which recipes fail.
 WAYS = (((), 3), (("--both",), 3), ((), 0), (("--quiet",), 3), (("--live",), 3), (("--live", "--both"), 0))
 
 
 def sampled(numbers, way=0):
-    """Some of these numbers; fewer in other ways than the first."""
+    """Some of these numbers: all of the first ones, fewer of the others."""
     numbers = [number for number in numbers if number <= ALL_OF or number % ONE_OF == 0]
     return numbers[way % 6 :: 6] if way else numbers
 
 
 def ended(folder, command, more=None, inherited=()):
-    """The status, standard output and standard error of a command; what hangs is killed, with its group."""
+    """The status, standard output and standard error of a command. If it hangs, it is killed with its process group."""
     begun, words = time.monotonic(), ["timeout", "-s", "KILL", str(MOST), *command]
     with tempfile.TemporaryFile() as out, tempfile.TemporaryFile() as err:
         done = subprocess.run(words, cwd=folder, env=environment(more), stdin=subprocess.DEVNULL, stdout=out, stderr=err, pass_fds=inherited)
@@ -67,7 +67,7 @@ def ended(folder, command, more=None, inherited=()):
 
 
 def files_of(folder):
-    """The lines of all files that a build has made, but for the captures and what a test has put there."""
+    """The lines of all files that a build made, except the captures and what a test put there."""
     found = {}
     for name in sorted(set(os.listdir(folder)) - {"Makefile", "capture", "trace", "summary", "go", "stay", "fifo"}):
         with open(os.path.join(folder, name), "rb") as file:
@@ -76,17 +76,17 @@ def files_of(folder):
 
 
 def built(folder, command, more=None):
-    """What a build comes to: its status, both outputs, and the files that it made."""
+    """The outcome of a build: its status, both outputs, and the files that it made."""
     return (*ended(folder, command, more), files_of(folder))
 
 
 def plain_builds(at):
-    """What the build comes to without a capture, by the status with which its recipes fail."""
+    """The outcome of the build without a capture, by the status with which its recipes fail."""
     return {status: built(project(at(f"plain{status}"), BUILD), ["make", "-k", f"E={status}"]) for status in (0, 3)}
 
 
 def captured_before(at):
-    """Gives folders for the build that have captures of an earlier one, of another target."""
+    """Yields directories for the build that have captures of an earlier build of another target."""
     earlier = project(at("earlier"), BUILD)
     ended(earlier, [TOOL, "make", "earlier"])
 
@@ -98,7 +98,7 @@ def captured_before(at):
 
 
 def texts_of(folder):
-    """The lines of all logs that are no records, or have one behind something else."""
+    """The lines of all logs that aren't records, or that have a record after other bytes."""
     lines, at = Counter(), os.path.join(folder, "capture")
     for name in os.listdir(at) if os.path.isdir(at) else ():
         if name.startswith("log."):
@@ -112,13 +112,13 @@ def lines_of(text):
 
 
 def without_heads(text):
-    """Standard error without what is told of a capture, and the two lines above what a failed recipe printed."""
+    """Standard error without the messages about a capture, and without the two lines above the output of a failed recipe."""
     text = re.sub(r"^redo-log-capture: \S+ \(exit \d+\)\n.*\n", "", text, flags=re.M)
     return lines_of(re.sub(r"^(redo-log-capture: |.*/capture\.mk:).*\n", "", text, flags=re.M))
 
 
 def faults_of(plain, captured, folder, options=(), may_be_1=False, may_lose=False):
-    """What a captured build did otherwise than a plain one, given what both came to."""
+    """The difference between a captured build and a plain one, from their outcomes."""
     status, out, err, files = plain
     found_status, found_out, found_err, found_files = captured
     found, logs = [], texts_of(folder)
@@ -142,12 +142,12 @@ def faults_of(plain, captured, folder, options=(), may_be_1=False, may_lose=Fals
 
 
 def without_earlier(folder):
-    """A sentence if the captures of an earlier build are not shown any more."""
+    """A sentence if the captures of an earlier build are no longer shown."""
     return [] if shown(folder, "earlier") == "redo  earlier\nearlier said\n" else ["earlier captures are lost"]
 
 
 def all_right(checks, what, run, items):
-    """Does runs side by side; each gives a name, and what went wrong, or None if it was none. Returns how many there were."""
+    """Performs runs in parallel. Each yields a name and what went wrong, or None to be skipped. Returns the number of runs."""
     results, wrong = [], []
 
     def one(item):
@@ -172,19 +172,19 @@ def has_strace(what):
     return False
 
 
-# The system calls of the hook, and the errors that each comes to; make and the dynamic loader have some of them too.
+# The system calls of the hook, and the errors that each may report. make and the dynamic loader make some of these calls too.
 HOOK_CALLS = {
     "socket": ("EMFILE",), "connect": ("ECONNREFUSED", "EAGAIN", "EINTR"), "getsockopt": ("ENOPROTOOPT",), "socketpair": ("EMFILE",),
     "sendmsg": ("EPIPE", "ENOBUFS", "EINTR", "ETOOMANYREFS"), "recvfrom": ("ECONNRESET", "EINTR"), "fcntl": ("EMFILE",),
     "pipe2": ("EMFILE",), "getcwd": ("ENOENT",), "mmap": ("ENOMEM",), "mprotect": ("ENOMEM", "EACCES"), "fstat": ("EIO",),
     "clock_gettime": ("EINVAL",),
 }  # fmt: skip
-# Those that nothing else makes in a build.
+# System calls that only the hook makes in a build.
 OWN_CALLS = {"socket": 2, "connect": 2, "getsockopt": 2, "socketpair": 2, "sendmsg": 40, "recvfrom": 15}
 
 
 def calls_of_hook(trace):
-    """Of a trace with addresses: the system calls of the hook, each with the number of calls of this name up to it, and the line."""
+    """The system calls of the hook in a trace with addresses, each with the number of calls of this name up to it, and the line."""
     start = end = 0
     descriptor, counts = None, Counter()
     for address, call, rest in re.findall(r"^\[(\w+)\] (\w+)\((.*)", trace, re.M):
@@ -199,7 +199,7 @@ def calls_of_hook(trace):
 
 
 def failing_hook(checks, at):
-    """Each system call of the hook fails, in the make and in one below it; and those that are the hook's alone in all processes of
+    """Each system call of the hook fails, in the first make and in a sub-make; calls that only the hook makes fail in all processes of
     a build with two jobs."""
     if not has_strace("failing_hook"):
         return
@@ -222,7 +222,7 @@ def failing_hook(checks, at):
         where, way, call, error, number = item
         seen = call if where == "all" else f"?open,openat,mmap,{call}"
         folder, outcome, trace = traced(name, where, way, ["-e", f"trace={seen}", "-e", f"inject={call}:error={error}:when={number}"])
-        # Where the numbers differ from one run to the next the call may be one of make's own.
+        # If the numbers differ from one run to the next, the call may be one of make itself.
         if "(INJECTED)" not in (trace if where == "all" else "".join(rest for _, _, rest in calls_of_hook(trace))):
             return name, None
         found = faults_of(plain[WAYS[way][1]], outcome, folder, WAYS[way][0])
@@ -240,13 +240,13 @@ def failing_hook(checks, at):
                 items += [(where, way, call, error, number) for error in errors for number in numbers]
     for call, count in OWN_CALLS.items():
         items += [("all", number % len(WAYS), call, error, number) for error in HOOK_CALLS[call] for number in range(1, count + 1)]
-    # Where the import slots of make are never read-only the hook makes no use of mprotect.
+    # If the import slots of make are never read-only, the hook doesn't call mprotect.
     checks.expect("failing_hook: calls of the hook that did not come", sorted(set(HOOK_CALLS) - met - {"mprotect"}), [])
     count = all_right(checks, "failing_hook", run, items)
     checks.expect("failing_hook: most of the calls came", count > len(items) / 2 or checks.failed > 0, True)
 
 
-# Those of redo-log-capture, and errors that the kernel has for them; what closes a file, or reads a pipe, doesn't fail.
+# The system calls of redo-log-capture, and errors that the kernel reports for them. Closing a file and reading a pipe don't fail.
 SERVER_CALLS = {
     "accept4": ("EMFILE", "ECONNABORTED", "EINTR"), "recvmsg": ("ECONNRESET", "EINTR", "ENOMEM"), "sendto": ("EPIPE", "EAGAIN"),
     "epoll_ctl": ("ENOMEM", "ENOSPC"), "epoll_wait": ("EINTR",), "openat": ("EMFILE", "EACCES", "ENOSPC"), "write": ("ENOSPC", "EINTR"),
@@ -255,19 +255,19 @@ SERVER_CALLS = {
     "getdents64": ("EIO",), "socket": ("EMFILE",), "bind": ("EADDRINUSE",), "listen": ("EADDRINUSE",), "signalfd4": ("EMFILE",),
     "epoll_create1": ("EMFILE",), "getrandom": ("ENOSYS",), "poll": ("EINTR",),
 }  # fmt: skip
-# Those that may fail from some time on, until the end.
+# System calls that may fail from some time on, until the end.
 LASTING = ("recvmsg", "sendto", "epoll_ctl", "openat", "ftruncate", "pread64", "renameat", "mkdir", "unlinkat", "newfstatat", "getdents64")
 STARTS = ("clone", "clone3", "fork", "vfork")
 
 
 def is_refused(outcome):
-    """Whether the command was not started, and a line tells why."""
+    """Whether the command was not started, and a line says why."""
     status, out, err, files = outcome
     return status in (1, 126, 127) and out == "" and not files and re.fullmatch(r".+\n?", err)
 
 
 def failing_server(checks, at):
-    """Each system call of redo-log-capture fails. Before the command is started it may end."""
+    """Each system call of redo-log-capture fails. It may exit if the command hasn't been started yet."""
     if not has_strace("failing_server"):
         return
     plain, captured = plain_builds(at), captured_before(at)
@@ -306,7 +306,7 @@ def failing_server(checks, at):
 
 
 def refused_memory(checks, at):
-    """Each request for memory of redo-log-capture is refused, alone and with all later ones."""
+    """Each allocation of redo-log-capture fails, alone and with all later ones."""
     tool, library = install_capture(at("dynamic"), "STATIC="), preloaded("memory")
     plain, captured = plain_builds(at), captured_before(at)
 
@@ -340,7 +340,7 @@ LONG = "all: long ; @echo all said >&2\nlong: ; @head -c 3000000 /dev/zero | tr 
 
 
 def little_memory(checks, at, tool):
-    """A limit of memory that is little more than what the build itself takes, all of which is printed somewhere."""
+    """A memory limit slightly above what the build itself needs. All of its output is printed somewhere."""
 
     def limited(name, limit, command):
         folder = project(at(name), LONG)
@@ -361,8 +361,8 @@ def little_memory(checks, at, tool):
     all_right(checks, "refused_memory, a limit", run, [(more, program) for more in (1000, 1500, 2000, 3000, 4000, 6000, 9000) for program in (TOOL, tool)])
 
 
-# Recipes that all run at once: each waits until all have begun. Every tenth of them runs a make below it, with another such recipe.
-# Whoever runs it holds the pipe `go` open.
+# Recipes that all run at the same time: each waits until all have begun. Every tenth runs a sub-make with another such recipe.
+# The test that runs the build holds the pipe `go` open.
 AT_ONCE = r"""
 N := $(shell seq $(COUNT))
 all: $(N:%=t%)
@@ -378,7 +378,7 @@ DEEP = "all: ; @echo $D begins >&2; [ $D = 1 ] || $(MAKE) -s --no-print-director
 
 
 def with_pipes(folder, names, run):
-    """Runs something while these named pipes of a folder are there, and held open; and gives their descriptors to it."""
+    """Calls a function with the descriptors of these named pipes of a directory, which exist and are open meanwhile."""
     for name in names:
         os.mkfifo(os.path.join(folder, name))
     held = [os.open(os.path.join(folder, name), os.O_RDWR) for name in names]
@@ -390,7 +390,7 @@ def with_pipes(folder, names, run):
 
 
 def few_descriptors(checks, at):
-    """At most 32 or 64 open files, or a few more or less, with a build that runs 50 recipes at once, or makes below makes."""
+    """At most 32 or 64 open files, or a few more or less, with a build that runs 50 recipes at the same time, or nested sub-makes."""
 
     def run(item):
         name = " ".join(map(str, item))
@@ -414,24 +414,24 @@ def few_descriptors(checks, at):
 
 
 def still_there(pipe):
-    """Waits until all processes have ended that inherited the other end of a pipe, and closes it. Kills those that go on, and
-    returns how many these are."""
+    """Waits until all processes that inherited the other end of a pipe have ended, and closes it. Kills the processes that are still
+    running, and returns their number."""
     if select.select([pipe], [], [], MOST / 4)[0]:
         os.close(pipe)
         return 0
-    number, left = os.fstat(pipe).st_ino, 0
+    name, left = os.readlink(f"/proc/self/fd/{pipe}"), set()
     for descriptor in glob.glob("/proc/[0-9]*/fd/*"):
         process = int(descriptor.split("/")[2])
         with contextlib.suppress(OSError):
-            if process != os.getpid() and os.stat(descriptor).st_ino == number and os.readlink(descriptor) == f"pipe:[{number}]":
+            if process != os.getpid() and os.readlink(descriptor) == name:
                 os.kill(process, signal.SIGKILL)
-                left += 1
+                left.add(process)
     os.close(pipe)
-    return left
+    return len(left)
 
 
 def many_processes(checks, at):
-    """300 recipes at once, each of which leaves a process behind; and recipes that start hundreds of processes."""
+    """300 recipes at the same time, each with a background process; and recipes that start hundreds of processes."""
     forks = "all: f1 f2 f3 f4\nf%: ; @n=0; while [ $$n -lt 700 ]; do (exit 0) & n=$$((n + 1)); done; wait; echo $@ said >&2\n"
     folder = project(at("forks"), forks)
     status, out, _ = ended(folder, [TOOL, "make", "-s", "-j4"])
@@ -445,7 +445,7 @@ def many_processes(checks, at):
         outcome = ended(folder, [TOOL, "make", "-s", "-j400", "COUNT=300", "E=0", f"LEAVE={leave}"], inherited=[ends])
         os.close(ends)
         os.set_blocking(there, False)
-        # No end is there yet: the processes that were left behind have the pipe too.
+        # There is no end of file yet, because the background processes have the pipe too.
         with contextlib.suppress(BlockingIOError):
             checks.expect("many_processes: what was left behind goes on", os.read(there, 1), None)
         os.write(stay, b"\n" * 300)
@@ -462,8 +462,18 @@ def many_processes(checks, at):
     checks.expect("many_processes: 300 at once, standard error", without_heads(err), Counter())
 
 
+def never_silent(checks, at):
+    """Background processes that print as fast as they can don't delay the end. Each log may have 256 KiB."""
+    folder = project(at("loud"), "N := $(shell seq 100)\nall: $(N:%=t%)\nt%: ; @yes >&2 &\n")
+    there, ends = os.pipe()
+    limited = ["sh", "-c", 'ulimit -f 512; exec "$@"', "limited", TOOL, "--quiet", "make", "-s", "-j100"]
+    status = ended(folder, limited, inherited=(ends,))[0]
+    os.close(ends)
+    checks.expect("never_silent", (status in (0, 1), still_there(there) >= 100), (True, True))
+
+
 def at_once_killed(checks, at):
-    """A recipe that prints a line, and then kills its make: the line is in its log."""
+    """A recipe prints a line and then kills its make. The line is in its log."""
     first = "all: ; @echo said >&2; kill -9 $$PPID\n"
     below = "all: ; @echo begins >&2; $(MAKE) -s below; echo ends >&2\nbelow: ; @echo said >&2; kill -9 $$PPID\n"
 
@@ -472,7 +482,7 @@ def at_once_killed(checks, at):
         folder = project(at(f"{len(makefile)}{words}{number}"), makefile)
         status = ended(folder, [TOOL, *words, "make"])[0]
         found = texts_of(folder)
-        # make may say of the one below it that it was killed, and so may the shell.
+        # make and the shell may print that the sub-make was killed.
         right = (found["said"], status) == (1, -9) if makefile == first else (found["begins"], found["said"], found["ends"], status) == (1, 1, 1, 0)
         if right:
             shutil.rmtree(folder)
@@ -482,7 +492,7 @@ def at_once_killed(checks, at):
     all_right(checks, "at_once_killed", run, items)
 
 
-# Messages as capture/protocol.h has them.
+# Messages as in capture/protocol.h.
 ORDINARY = 1700000000000
 
 
@@ -515,7 +525,7 @@ def gone(process, status=0, time=ORDINARY, asks=0):
 
 
 class Liar:
-    """A captured command that waits, and then runs an honest make; and what talks to redo-log-capture as its makes would."""
+    """A captured command that waits and then runs an honest make, and functions that send redo-log-capture messages as its makes would."""
 
     MANY = " ".join(f"d{n}" for n in range(60))
     HONEST = f"all: h1 h2\n\t@echo all said >&2\nh1 h2: ; @echo $@ said >&2\nduring: {MANY}\n{MANY}: ; @for n in 1 2 3; do echo $@ said $$n >&2; done\n"
@@ -554,7 +564,7 @@ class Liar:
         return ends
 
     def make(self, **more):
-        """The two sockets of a new make, and its number, which is 0 if it was refused."""
+        """The two sockets of a new make, and its number, which is 0 if it was rejected."""
         connection, (notes, other) = self.connect(), self.pair()
         self.send(connection, hello(self.token, **{"directory": self.folder.encode() + b"\0", **more}), other.fileno())
         other.close()
@@ -562,7 +572,7 @@ class Liar:
         return connection, notes, struct.unpack("@I", welcome[:4])[0] if len(welcome) == 8 else 0
 
     def begin(self, name, text=b"", process=77, command=b"/bin/sh\0-c\0true\0", time=ORDINARY, **more):
-        """A make with one recipe, of which a line runs that has printed something."""
+        """A make with one recipe, of which a line is running and has printed something."""
         connection, notes, _ = self.make(**more)
         for start in range(0, len(name), 50000):
             self.send(notes, names(name[start : start + 50000]))
@@ -584,13 +594,13 @@ class Liar:
         return None
 
     def answer(self, connection, size=1):
-        """The answer to a message, which is empty where the connection was ended. It raises an error if there is none."""
+        """The reply to a message, empty if the connection was closed. Raises an error if there is no reply."""
         with contextlib.suppress(ConnectionError):
             return connection.recv(size)
         return b""
 
     def memory(self):
-        """The most that redo-log-capture had, in kB."""
+        """The peak memory of redo-log-capture, in kB."""
         with open(f"/proc/{self.server.pid}/status", encoding="utf-8") as state:
             return max(map(int, re.findall(r"^VmHWM:\s+(\d+)", state.read(), re.M)), default=0)
 
@@ -602,7 +612,7 @@ class Liar:
             return state.read().rsplit(")", 1)[1].split()[11:13]
 
     def becomes_idle(self):
-        """Waits until redo-log-capture waits."""
+        """Waits until redo-log-capture is blocked."""
         for _ in range(20 * MOST):
             used = self.used()
             time.sleep(0.05)
@@ -616,7 +626,7 @@ class Liar:
         self.open = []
 
     def end(self):
-        """Lets the honest make run, and gives the status of redo-log-capture, what it told, and how many processes are left."""
+        """Lets the honest make run, and returns the status of redo-log-capture, its messages, and the number of remaining processes."""
         os.write(self.go, b"\n")
         try:
             status = self.server.wait(timeout=MOST)
@@ -651,7 +661,7 @@ def cut(liar):
 
 
 def longer(liar):
-    """Messages of every kind, with more behind them, or too much."""
+    """Messages of every kind with extra bytes after them, some or too many."""
     for message in each_kind(liar.token):
         for more in (1, 4096, 66000, 200000):
             for socket_number in (0, 1):
@@ -661,7 +671,7 @@ def longer(liar):
 
 
 def wrong_token(liar):
-    """Who has no token is no make of the build."""
+    """A process without the token isn't a make of the build."""
     for token in (b"\0" * 32, liar.token[:-1] + b"x", liar.token[::-1]):
         connection, (_, other) = liar.connect(), liar.pair()
         liar.send(connection, hello(token), other.fileno())
@@ -670,7 +680,7 @@ def wrong_token(liar):
 
 
 def wrong_order(liar):
-    """All pairs of messages, by all pairs of sockets, also before the make has introduced itself."""
+    """All pairs of messages over all pairs of sockets, even before the make has introduced itself."""
     kinds = each_kind(liar.token)
     for first, second in itertools.product(kinds, kinds):
         connection = liar.connect()
@@ -684,7 +694,7 @@ def wrong_order(liar):
 
 
 def two_lines(liar):
-    """A line is announced though the last one has not begun."""
+    """A line is announced although the previous one has not begun."""
     for number in (1, 2):
         connection, notes, _ = liar.make()
         for n in range(1, number + 1):
@@ -769,7 +779,7 @@ def odd_names(liar):
 
 
 def odd_descriptors(liar):
-    """What can't be waited for, what can't be read, what is no pipe, and what never ends."""
+    """Descriptors that can't be polled, that can't be read, that aren't pipes, and that never end."""
     fifo, listening, (there, end), terminal, poller = os.path.join(liar.folder, "fifo"), socket.socket(), os.pipe(), os.openpty(), select.epoll()
     os.mkfifo(fifo)
     listening.listen()
@@ -809,7 +819,7 @@ def many_descriptors(liar):
 
 
 def kept_descriptors(liar):
-    """Whoever passes the descriptors keeps them, so that nothing closes them for redo-log-capture."""
+    """The process that passes the descriptors keeps them, so that redo-log-capture never sees them closed."""
     connection, (notes, other) = liar.connect(), liar.pair()
     liar.kept += [os.fdopen(os.dup(other.fileno()), "rb", 0)]
     liar.send(connection, hello(liar.token), other.fileno())
@@ -829,7 +839,7 @@ def kept_descriptors(liar):
 
 
 def parents_that_start_late(liar):
-    """Makes of a recipe report before its own make reports that it has begun, which takes long."""
+    """Sub-makes of a recipe report before its make reports that the recipe has begun, which takes long."""
     connection, notes, number = liar.make()
     liar.send(notes, recipe(1, b"parent\0"))
     liar.send(connection, line(1))
@@ -844,7 +854,7 @@ def parents_that_start_late(liar):
 
 
 def parents_in_a_circle(liar):
-    """Makes each of which says that a recipe of the next one runs it."""
+    """Makes that each claim that a recipe of the next one runs it."""
     for count in (1, 2, 3):
         first = liar.make()[2] + 1
         makes = [liar.make(parent=(first + (n + 1) % count, 1)) for n in range(count)]
@@ -861,7 +871,7 @@ def parents_in_a_circle(liar):
 
 
 def never_listens(liar):
-    """Answers that nobody takes."""
+    """Replies that nobody reads."""
     connection = liar.make()[0]
     for _ in range(2000):
         if liar.send(connection, gone(1, asks=1)) is None:
@@ -891,7 +901,7 @@ def no_line_feed(liar):
 
 
 def too_many_names(liar):
-    """A recipe whose names take more memory than they may."""
+    """A recipe whose names take more memory than allowed."""
     notes = liar.make()[1]
     for _ in range(6000):
         if liar.send(notes, names(b"x" * 59000)) is None:
@@ -900,7 +910,7 @@ def too_many_names(liar):
 
 
 def almost_right(chance, token, latest):
-    """A message of a make, of which some recipes were told, that is often right."""
+    """A random message of a make that has announced some recipes. The message is often valid."""
     some = [b"r%d\0" % n for n in range(20)] + [b"", b"\0", b"a b c\0x y\0", b"../r\0", b"x\ny\0"]
     number, time = chance.choice((latest, latest, latest, 1, *NUMBERS)), chance.choice((ORDINARY, ORDINARY, *TIMES))
     process = chance.choice((5, 5, 5, 5, 6, 7, *SIGNED))
@@ -918,7 +928,7 @@ def almost_right(chance, token, latest):
 
 
 def at_random(liar):
-    """Messages at random, of several makes."""
+    """Random messages of several makes."""
     chance, makes = random.Random(7), {}
     for _ in range(4000):
         place = chance.randrange(8)
@@ -952,13 +962,13 @@ LIES = (
 
 
 def lying_make(checks, at):
-    """What calls itself a make sends what no make would: redo-log-capture goes on, and what an honest make prints is in its logs."""
+    """A process that pretends to be a make sends what no make sends. redo-log-capture goes on, and the output of an honest make is in its logs."""
     sanitized = install_capture(at("sanitized"), "STATIC=", "CFLAGS=-O1 -fsanitize=address,undefined -fno-sanitize-recover=all -static-libasan -static-libubsan")
 
     def run(item):
         lie, is_sanitized = item
         name, found = f"{lie.__name__}{', sanitized' if is_sanitized else ''}", []
-        # Where addresses are checked all that is there is copied for each part that comes.
+        # The build with address checks copies all bytes for each part that arrives.
         if lie == too_many_names and (is_sanitized or "ASAN_OPTIONS" in os.environ):
             return name, None
         is_beside, begun = lie == at_random, time.monotonic()
@@ -1000,4 +1010,4 @@ def lying_make(checks, at):
     all_right(checks, "lying_make", run, [(lie, is_sanitized) for lie in LIES for is_sanitized in (False, True)])
 
 
-PARTS = (failing_hook, failing_server, lying_make, many_processes, few_descriptors, refused_memory, at_once_killed)
+PARTS = (failing_hook, failing_server, lying_make, many_processes, never_silent, few_descriptors, refused_memory, at_once_killed)

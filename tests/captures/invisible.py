@@ -1,5 +1,5 @@
-"""That a build can't tell that it is captured, by builds that do what few do: each runs twice in one place, as it is and with redo-log-capture in
-front, and what is seen of both has to be the same."""
+"""A build can't notice that it is captured: builds that do unusual things. Each runs twice in one directory, without and with redo-log-capture, and
+the outcomes must be the same."""
 import functools
 import os
 import re
@@ -15,9 +15,9 @@ from checks import environment
 
 
 class Case(NamedTuple):
-    """A makefile, and files beside it, which are programs if they begin with `#!`. A script of bash prepares them, and another one runs the build, in
-    which $C is redo-log-capture, or nothing. What is compared are the status, which without a capture has to be this one, unless that is None, and
-    both outputs, each through a filter."""
+    """A makefile and other files, which are executable if they begin with `#!`. The bash script `setup` prepares the directory, and `run` runs the
+    build; in both, $C is redo-log-capture or empty. The test compares the status and, through the filters `out` and `err`, both outputs. Without a
+    capture the status must be `status`, unless that is None."""
 
     makefile: str | None
     run: str = "$C make"
@@ -26,11 +26,11 @@ class Case(NamedTuple):
     err: str = "cat"
     files: dict = {}
     setup: str = ":"
-    # What has to be there: commands, or names of PERMITTED.
+    # What the case needs: commands, or names of PERMITTED.
     needs: str = ""
-    # What redo-log shows then.
+    # What redo-log shows afterwards.
     logs: str | None = None
-    # Whether a line tells of something that isn't captured.
+    # Whether a line says that something isn't captured.
     is_uncaptured: bool = False
 
 
@@ -45,9 +45,9 @@ PERMITTED = {
     "other-users": "setpriv --reuid=65534 --clear-groups true",
 }
 
-# Commands that builds of the table run. Nothing is waited for longer than a minute, and a file tells of what was waited for in vain.
+# Commands that the builds of the table run. They wait at most a minute; a file records a wait that failed.
 AWAIT = """#!/bin/sh
-# await FILE..: waits until they are there, or those whose names have a ! in front are gone
+# await FILE..: waits until the files exist; a name after ! waits until the file is gone
 is_so() { case $1 in !*) [ ! -e "${1#!}" ] ;; *) [ -e "$1" ] ;; esac; }
 for file; do
   count=0
@@ -64,9 +64,9 @@ HOLD = """#!/bin/sh
 exec await go
 """
 SEND = f"""#!{sys.executable} -SE
-# send SIGNAL front|group|make COMMAND..: starts the command in a session of its own, and sends it the signal, to the process itself, to its group, or to
-# the make that it is or started, once there is a file `begun`. Makes a file `go` when the command has ended, or when the file is gone that GONE names.
-# Waits for all that was started, and prints how the command ended.
+# send SIGNAL front|group|make COMMAND..: starts the command in a new session. When the file `begun` exists, sends the signal to the command's process, to
+# its group, or to the make that it is or has started. Makes the file `go` when the command has ended, or when the file that GONE names is gone. Waits
+# for all processes that were started, and prints how the command ended.
 import ctypes, os, signal, subprocess, sys, time
 
 SUBREAPER = 36
@@ -121,7 +121,7 @@ COMMANDS = os.path.join(PREFIX, "tests")
 
 @functools.cache
 def write_commands():
-    """Where other users may read them too."""
+    """A directory that other users can read too."""
     for name, text in (("await", AWAIT), ("hold", HOLD), ("send", SEND)):
         write(os.path.join(COMMANDS, name), text)
     os.chmod(PREFIX, 0o755)
@@ -141,12 +141,12 @@ def is_missing(need):
 
 
 def without_own(text):
-    """Standard error without the lines of redo-log-capture, and without the commands below those that tell of a failure."""
+    """Standard error without the lines of redo-log-capture, and without the commands below those that report a failure."""
     return re.sub(rb"^redo-log-capture: (?:.* \(exit \d+\)\n.*|.*)\n", b"", text, flags=re.M)
 
 
 def filtered(text, words):
-    """The lines that a filter leaves of it."""
+    """The lines that a filter keeps."""
     if words != "cat":
         text = subprocess.run(["bash", "-c", words], input=text, env=environment(), stdout=subprocess.PIPE).stdout
     return text.decode("utf-8", "backslashreplace").splitlines()
@@ -159,12 +159,12 @@ class Outcome(NamedTuple):
     logs: str | tuple | None
 
     def seen(self, out="cat", err="cat"):
-        """What is seen of it through these filters."""
+        """What these filters keep of it."""
         return self.status, filtered(self.out, out), filtered(without_own(self.err), err)
 
 
 def outcome(case, place, front, make):
-    """What is to be seen of one of both runs. The place is as new afterwards."""
+    """The outcome of one of the two runs. The directory is restored afterwards."""
     work = os.path.join(place, "work")
     os.makedirs(work)
     if case.makefile is not None:
@@ -227,7 +227,7 @@ def nothing_in_vain(checks):
 
 
 def same(checks, at, cases, make="make"):
-    """What is seen of each is the same. Returns the outcomes with a capture."""
+    """Expects the same outcome with and without a capture. Returns the outcomes with a capture."""
     outcomes = pairs(cases, at, make)
     for name, (plain, captured) in outcomes.items():
         case, what = cases[name], name if make == "make" else f"{name}, {make}"
@@ -278,7 +278,7 @@ SIGNALS = {
 
 
 def signals(checks, at):
-    """Signals from outside, and from recipes: who ends, and what is left."""
+    """Signals from outside and from recipes: which processes end, and what remains."""
     captured = same(checks, at, SIGNALS)
     if "make is killed" in captured:
         told = captured["make is killed"].err
@@ -286,7 +286,7 @@ def signals(checks, at):
 
 
 WRAPPER = """#!/bin/bash
-# takes -c LINE alone, as one that runs it in a container does
+# takes only -c LINE, as a shell wrapper for a container does
 [ "$1" = -c ] || { echo usage: -c LINE >&2; exit 64; }
 exec /bin/bash "$@"
 """
@@ -475,7 +475,7 @@ STATE = """$(info $(.DEFAULT_GOAL) $(MAKECMDGOALS) $(MAKE_RESTARTS) $(MAKELEVEL)
 first: ; @echo $(.DEFAULT_GOAL) $(.FEATURES) $(CURDIR)
 """
 UNDEFINED = "X := $(shell echo 1)\nY = $(shell echo 2)\nall: ; @echo $(X) $(Y) $(Z)\n"
-# Of these two the origin is another one: see BY_DESIGN.
+# The origin of these two differs: see BY_DESIGN.
 OTHER_ORIGINS = "grep -v -e '^MAKEFILES *=' -e '^\\.LOADED *='"
 VARIABLES = {
     "variables of the file, as it is read": Case(f"{DUMP}\n{STRICT}all: ; @false | true; echo went on\n", status=2, out=OTHER_ORIGINS),
@@ -704,7 +704,7 @@ LINKED = """p: a.o b.o ; {}@gcc -O2 -flto=jobserver a.o b.o -o p && ./p && echo 
 LINKED_FILES = {"a.c": "int f(int);int main(){return f(0);}\n", "b.c": "int f(int x){return x;}\n"}
 GROUPED = "all: a b c\na b &: s ; @echo making $@ of $<; touch a b\nc:: s ; @echo c1\nc:: s ; @echo c2\ns: ; @touch s\n"
 CHAIN = ".NOTINTERMEDIATE:\nall: f.c\n%.b: %.a ; @cp $< $@\n%.c: %.b ; @cp $< $@\nf.a: ; @touch f.a\n"
-# With the newest make that there is.
+# With the newest make available.
 OF_MAKE = {
     ".POSIX, and a status that is ignored": Case(".POSIX:\nall:\n\t-@false; echo cleaned up\n", "$C $MAKE44"),
     "an order that is shuffled": Case("all: a b c d\na b c d: ; @echo $@\n", "$C $MAKE44 --shuffle=reverse", status=None),
@@ -775,7 +775,7 @@ WITHOUT_NUMBER = "sed 's/GMfifo[0-9]*/GMfifo/'"
 MANY_NEEDS = "N := $(shell seq 1000000 1400000)\nall: $(N); @echo $(words $^) >&2\n$(N): ;\n"
 AT_ONCE = "N := $(shell seq 200)\nall: $(N)\n$(N): ; @sleep 0.2; echo said $@ >&2\n"
 AT_ONCE_LOGS = "redo  all\n" + "".join(f"redo    {n}\nsaid {n}\n" for n in sorted(map(str, range(1, 201))))
-# With each make that there is: $M.
+# With each make available: $M.
 FEATURES = {
     "400,000 needs": Case(MANY_NEEDS, "$C $M", logs="redo  all\n400001\n"),
     "several lines": Case(SEVERAL, "$C $M", logs="redo  all\n1\n2\n3\n"),
@@ -814,7 +814,7 @@ def features(checks, at, make="make"):
 
 
 def can_be_led(make):
-    """Whether it can load, and is a program that a loader loads."""
+    """Whether this make can load objects and is dynamically linked."""
     done = subprocess.run([make, "-f", "-"], input="all: ; @echo $(filter load,$(.FEATURES))\n", env=environment(), capture_output=True, text=True)
     with open(make, "rb") as file:
         return "load" in done.stdout and b"/ld-" in file.read(4096)
@@ -824,7 +824,7 @@ NOT_CAPTURED = re.compile(rb"^\S+/capture\.mk:\d+: recipes are not captured: .*\
 
 
 def uncaptured(checks, at, make):
-    """A make that can't be led says so, once, and nothing else differs."""
+    """For a make that can't load the hook there is one warning, and nothing else differs."""
     outcomes = pairs({name: case._replace(logs=None) for name, case in FEATURES.items()}, at, make)
     for name, (plain, captured) in outcomes.items():
         case, what = FEATURES[name], f"{name}, {make}"
@@ -836,7 +836,7 @@ def uncaptured(checks, at, make):
 
 
 def features_of_others(checks, at):
-    """The same with other makes: those of the variable MAKES, with colons between them."""
+    """The same with other makes, listed in the variable MAKES and separated by colons."""
     for make in filter(None, os.environ.get("MAKES", "").split(":")):
         part = features if can_be_led(make) else uncaptured
         part(checks, lambda name: at(os.path.join(os.path.basename(make), name)), make)
@@ -850,7 +850,7 @@ LOOP = "all: ; @for d in */; do $(MAKE) -s -C $$d || true; done\n"
 IN_DIRECTORY = "all: ; @echo $(notdir $(CURDIR))\n"
 OF_TWO = "grep -v -e capture -e '\\*\\*\\*'"
 TWO = {"a/Makefile": IN_DIRECTORY, "b/Makefile": IN_DIRECTORY}
-# What differs, and why. Through the filters of the case nothing does.
+# What differs, and why. After the filters of the case nothing differs.
 BY_DESIGN = {
     "find": (BELOW_IT, Case(FOUND, out="grep -v ^./capture", setup="touch -d '1 hour ago' stamp")),
     "$(wildcard */.)": (BELOW_IT, Case(MATCHED, "$C make >/dev/null; $C make", out="grep -v capture", err=OF_TWO, files=TWO)),

@@ -1,6 +1,6 @@
-/* Preloaded into a build: answers null to the n-th request for memory of the process called redo-log-capture, or to that one and all
-   later ones, and writes one byte to a file then. The environment says n, by REFUSE_AT, the file, by REFUSE_TOLD, and whether later
-   ones are refused too, by REFUSE_ALL. */
+/* Preloaded into a build. Makes the n-th allocation of the process redo-log-capture fail, or this one and all later ones, and then
+   writes one byte to a file. The environment has n in REFUSE_AT, the file in REFUSE_TOLD, and in REFUSE_ALL whether later ones fail
+   too. */
 #define _GNU_SOURCE
 #include <errno.h>
 #include <fcntl.h>

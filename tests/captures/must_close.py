@@ -1,5 +1,5 @@
-"""Which logs have to be closed of a build that was captured with --must-close: that `names` marks these and no others, at any
-time, and that a copy which lost the end of one is refused."""
+"""Builds that are captured with --must-close: at any time, `names` has the must-close flag for closed logs only, and redo-log rejects
+a copy in which the end of one is missing."""
 import contextlib
 import os
 import re
@@ -29,7 +29,7 @@ def copy_what_is_there(path, to):
 
 
 def copied(folder, to):
-    """A copy of the captures, `names` first: `to`, as a folder that has them."""
+    """Copies the captures to the directory `to`, `names` first."""
     place, there = (os.path.join(at, "capture") for at in (folder, to))
     os.makedirs(there)
     shutil.copy(os.path.join(place, "names"), there)
@@ -38,7 +38,7 @@ def copied(folder, to):
 
 
 def open_and_marked(folder):
-    """Names that are marked, and whose logs don't end with the record that closes them."""
+    """Names that have the must-close flag although their logs don't end with their closing records."""
     found = []
     for line in names_of(folder).splitlines():
         number, name = line.split(" ", 1)
@@ -107,7 +107,7 @@ def marks(checks, at):
     checks.expect("odd names: again", (ran(folder, [TOOL, "sh", "-c", script, TOOL])[0], names_of(folder)), (0, listed))
 
 
-# Each target is made where the file of its name isn't there.
+# Each target is made if its file doesn't exist.
 STEPWISE = "all: x y\nx y v: ; @echo $@ $(N) >&2; touch $@\n"
 ALL_OF_THEM = "!1 all\n!2 x\n!3 y\n"
 
@@ -117,7 +117,7 @@ def without_marks(names):
 
 
 def runs(checks, at):
-    """Runs that remake one target, with and without the option, one behind another: logs that stay are marked too."""
+    """Consecutive runs that remake one target, with and without the option: logs of earlier runs have the flag too."""
     for options in ((True, True), (True, False), (False, True), (False, False), (True, False, True), (False, False, True), (True, True, True)):
         folder = project(at("".join("m" if is_marking else "p" for is_marking in options)), STEPWISE)
         what = f"runs with the option: {options}"
@@ -161,7 +161,7 @@ def runs(checks, at):
 
 
 def killed(checks, at):
-    """A build that was killed, over one that was marked: x, y and z were made; then x ends anew, and y has begun anew."""
+    """A build that was killed, over a build with flags: x, y and z were made; then x was made again, and y had begun again."""
     makefile = "all: x y z\nx y z: ; @echo $@ $(N) >&2; touch $@\nv: x ; @echo v >&2\n"
     folder = project(at("folder"), makefile)
     checks.expect("before: make", (make(folder, "N=0", options=MARKING), names_of(folder)), ((0, "", ""), "!1 all\n!2 x\n!3 y\n!4 z\n"))
@@ -191,7 +191,7 @@ def killed(checks, at):
 
 
 def moments(checks, at):
-    """Copies that are made while builds run over marked captures, and after: none has an open log that is marked, and all are shown."""
+    """Copies made during and after builds over captures with flags: none has the flag for an open log, and all are shown."""
     names = " ".join(f"t{number}" for number in range(24))
     makefile = f"all: {names} ; @echo all >&2\n{names}: u ; @echo $@ >&2; sleep 0.0$$(($$$$ % 7)); exit $(E)\nu: ; @echo u >&2\n"
     folder = project(at("folder"), makefile)
@@ -205,7 +205,7 @@ def moments(checks, at):
         has_ended = False
         while not has_ended:
             has_ended = build.poll() is not None
-            # A copy is sound if no build began while it was made; `names` is copied first.
+            # A copy is valid if no build began while it was made; `names` is copied first.
             if not has_ended and "!" in names_of(folder):
                 continue
             place = copied(folder, at(str(count)))
@@ -221,7 +221,7 @@ def moments(checks, at):
 
 
 class Breaking:
-    """Builds over captures in which all is marked, and of which x is to be made anew, by a command that can be broken off."""
+    """Builds that remake x over captures in which all logs have the flag, by a command that can be killed."""
 
     def __init__(self, checks, at):
         self.checks, self.at = checks, at
@@ -236,7 +236,7 @@ class Breaking:
         return self.at(name)
 
     def run(self, place, command, number, is_full):
-        """The status of a command that is broken off at this change, and whether it came that far."""
+        """The status of a command that is killed at this change, and whether it reached it."""
         count = f"{place}.count"
         more = {"LD_PRELOAD": self.library, "BREAK_AT": str(number), "BREAK_COUNT": count, **({"BREAK_FULL": "yes"} if is_full else {})}
         build = subprocess.Popen([self.tool, *MARKING, *command], cwd=place, env=environment(more), stderr=subprocess.DEVNULL, preexec_fn=of_a_terminal)
@@ -248,8 +248,8 @@ class Breaking:
 
 
 def broken_off(checks, at):
-    """A build that is killed in front of each change of a file, or has no room from then on; what --finish, and the next run, make
-    of it."""
+    """A build that is killed before each change of a file, or has no space left from then on; and the results of --finish and of the
+    next run."""
     breaking = Breaking(checks, at)
     for is_full, statuses in ((False, (-signal.SIGKILL,)), (True, (1, 2))):
         number, is_broken = 0, True
@@ -271,7 +271,7 @@ def broken_off(checks, at):
 
 
 def finish_broken_off(checks, at):
-    """The same of a --finish after a build that was killed."""
+    """The same for a --finish after a build that was killed."""
     breaking = Breaking(checks, at)
     number, is_broken = 0, True
     while is_broken:
@@ -290,7 +290,7 @@ def finish_broken_off(checks, at):
 
 
 def cut_end(log):
-    """Takes the last line away."""
+    """Removes the last line."""
     with open(log, "rb+") as file:
         lines = file.read().splitlines(keepends=True)
         file.truncate(sum(map(len, lines[:-1])))
@@ -305,7 +305,7 @@ def emptied(log):
 
 
 def cut_copies(checks, at):
-    """Copies that lost the end of one log are refused by its name; without the option what is left of it is shown, as before."""
+    """redo-log rejects copies in which the end of a log is missing, with its name. Without the option it shows what remains."""
     makefile = "all: x d/y\nx: z ; @echo x >&2\nd/y: z ; @echo y >&2; exit 3\nz: ; @printf 'z\\nz' >&2\n"
     text = "redo  all\nredo    d/y\nredo      z\nz\nz\ny\nredo    d/y (exit 3)\nredo    x\nx\n"
     without = {"x": text.replace("redo    x\nx\n", "redo    x\n"), "z": text.replace("z\nz\n", "")}
@@ -337,7 +337,7 @@ def cut_copies(checks, at):
 
 
 def many_marks(checks, at):
-    """A list of 20,000 names, of which one is made anew."""
+    """A list of 20,000 names, of which one is made again."""
     count = 20000
     folder = project(at("many"), "all: x\nx: ; @echo x >&2\n")
     make(folder)

@@ -1,5 +1,5 @@
-"""What a process that make starts can tell of itself and what it inherits, but for its standard error: a line for each, added
-to the file of the first word."""
+"""What a process that make starts can find out about itself and what it inherits, except its standard error. Appends a line for each
+to the file that the first argument names."""
 import os
 import re
 import resource
@@ -9,7 +9,7 @@ OF_STATUS = ("Umask", "Uid", "Gid", "Groups", "SigBlk", "SigIgn", "SigCgt", "Cap
 
 
 def files(hidden):
-    """The files that are open: number, what it is, and flags."""
+    """The open files: descriptor, what it is, and flags."""
     for number in sorted(map(int, os.listdir("/proc/self/fd"))):
         try:
             flags = re.search(r"flags:\s*(\d+)", contents(f"/proc/self/fdinfo/{number}"))[1]

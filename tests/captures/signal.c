@@ -1,5 +1,5 @@
-/* Preloaded into a program: it sends itself the signal SIGNAL right before it first calls fork, if SIGNAL_BEFORE is set, or right
-   after. */
+/* Preloaded into a program. The program sends itself the signal SIGNAL right before its first call of fork if SIGNAL_BEFORE is set,
+   otherwise right after it. */
 #define _GNU_SOURCE
 #include <dlfcn.h>
 #include <signal.h>

@@ -1,9 +1,9 @@
 """Compares a program with model.py. Usage: compare.py PROGRAM GENERATOR FIRST LAST
 
-For each seed from FIRST to LAST, both included, a fresh directory gets a case of GENERATOR, which is `generate` or `storm`,
-PROGRAM runs in it, and status, standard output and standard error are compared byte for byte with the model's. In a storm
-each 200th seed is a log that grows while PROGRAM reads it; the answer has to be that of a front of it. (TMPDIR=/dev/shm
-makes it faster.)
+For each seed from FIRST to LAST, both included, GENERATOR (`generate` or `hostile`) fills a fresh directory. PROGRAM runs in it,
+and its status, standard output and standard error are compared byte for byte with the model's. With `hostile`, each 200th seed is a
+log that grows while PROGRAM reads it. The result must then be the model's result for a prefix of the log. (TMPDIR=/dev/shm makes
+it faster.)
 """
 
 import collections
@@ -16,14 +16,14 @@ import tempfile
 import time
 
 import generate
+import hostile
 import model
-import storm
 
 MOST_SECONDS = 20  # for one run
 MOST_PRINTED = 10
 NEEDED_STATUSES = [0, 2, 3, 4, 5, 24]
 STATUSES = [0, 2, 3, 4, 5, 6, 7, 24]
-GENERATORS = {"generate": generate, "storm": storm}
+GENERATORS = {"generate": generate, "hostile": hostile}
 
 
 def start(program, directory, words):
@@ -32,10 +32,10 @@ def start(program, directory, words):
 
 
 def ended(process):
-    """Status (a signal's as a negative number, or `timeout`), standard output, standard error; and the seconds that it took.
+    """Returns the status (negative for a signal, or `timeout`), standard output and standard error, and the seconds that it took.
 
-    Each second is waited for by itself. So what a machine stands still, with all that runs on it, counts as one of them, as
-    long as it may be: one that others use too was seen to for more than twenty.
+    It waits for each second separately. So if the machine stops with all its processes, the stop counts as one second, however
+    long it is. On a machine that others use too, stops of more than twenty seconds were seen.
     """
     began = time.monotonic()
     for _ in range(MOST_SECONDS):
@@ -55,7 +55,7 @@ def same(expected, got):
 
 
 def fronts_of(directory, words, path, more):
-    """The model's answers where the file has some of the bytes that are appended to it."""
+    """Returns the model's results for each prefix of the bytes that are appended to the file."""
     with open(path, "rb") as file:
         first = file.read()
     answers = []
@@ -69,8 +69,9 @@ def fronts_of(directory, words, path, more):
 
 
 def compared_as_it_grows(program, seed, directory):
-    """Seed, words, the model's answer for a front of what was appended, and the program's, with the seconds that it took."""
-    words, path, more = storm.growing(seed, directory)
+    """Returns the seed, the arguments, the model's result for a prefix of what was appended, the program's result, and the seconds
+    that it took."""
+    words, path, more = hostile.growing(seed, directory)
     answers = fronts_of(directory, words, path, more)
     process = start(program, directory, words)
     with open(path, "ab", buffering=0) as file:
@@ -81,11 +82,11 @@ def compared_as_it_grows(program, seed, directory):
 
 
 def compared(task):
-    """Seed, words, the model's answer and the program's, with the seconds that it took."""
+    """Returns the seed, the arguments, the model's result, the program's result, and the seconds that it took."""
     program, generator, seed = task
     directory = tempfile.mkdtemp(prefix="redo-log.")
     try:
-        if generator == "storm" and seed % 200 == 0:
+        if generator == "hostile" and seed % 200 == 0:
             return compared_as_it_grows(program, seed, directory)
         words = GENERATORS[generator].case(seed, directory)
         expected = model.answer(directory, words)
@@ -97,7 +98,7 @@ def compared(task):
 
 
 def number_behind(words, option):
-    """The number that the option is given, or None where it isn't."""
+    """Returns the number given for an option, or None if the option isn't given."""
     for place, word in enumerate(words[:-1]):
         if word == option:
             return int(words[place + 1])
@@ -113,7 +114,7 @@ def show(title, answer):
 
 
 def kind_of(status):
-    """What is to be counted of a run's end, if it is none of the table's statuses."""
+    """Returns how a run's end is counted, or None if it is a status of the table."""
     if status == "timeout":
         return "hangs"
     if status in STATUSES:
@@ -141,20 +142,20 @@ def main(program, generator, first, last):
                 continue
             differ += 1
             if differ <= MOST_PRINTED:
-                print(f"seed {seed} differs, words {words}")
+                print(f"seed {seed} differs, arguments {words}")
                 show("model  ", expected)
                 show("program", got)
     missing = [status for status in NEEDED_STATUSES if number >= 1000 and statuses[status] == 0]
     for status in missing:
-        print(f"no case had the status {status}")
+        print(f"no case had status {status}")
     wanted = [(int(senders), int(capacity)) for senders in generate.SENDERS for capacity in generate.CAPACITIES]
     if number >= 1000:
         for plan in wanted:
             if plans[plan] == 0:
                 missing.append(plan)
-                print("no case had {} senders and the capacity {}".format(*plan))
+                print("no case had {} senders and capacity {}".format(*plan))
     least = min(plans[plan] for plan in wanted)
-    print(f"each of {len(wanted)} numbers of senders and capacities at least {least} times")
+    print(f"each of {len(wanted)} pairs of senders and capacity occurred at least {least} times")
     others = ", ".join(f"{ends[kind]} {kind}" for kind in ("hangs", "signals", "statuses outside the table"))
     print(f"{others}; the slowest run took {slowest:.1f} s")
     print(f"{generator}, seeds {first} to {last}: {number} directories, {differ} differ")

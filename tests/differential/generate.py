@@ -1,7 +1,7 @@
 """Small hostile capture directories by seed.
 
-`case(seed, directory)` fills the empty directory and returns the words of a command line to be run in it. The seed alone
-says what is made. """
+`case(seed, directory)` fills the empty directory and returns the arguments of a command line to be run in it. The result depends
+only on the seed."""
 
 import os
 import random
@@ -54,7 +54,7 @@ def some_targets(rng):
 
 
 def spelled(rng, name, plain=0.5):
-    """The name in the same or another spelling; it stays relative or absolute."""
+    """Returns the name in the same or another spelling. It stays relative or absolute."""
     if rng.random() < plain:
         return name
     absolute = name.startswith(b"/")
@@ -70,7 +70,7 @@ def spelled(rng, name, plain=0.5):
 
 
 def from_log_of(rng, own, target):
-    """A name which stands for the target in the log of `own`; None if there is none (or none that comes to mind)."""
+    """Returns a name for the target in the log of `own`, or None if there is none, or if this function finds none."""
     if target.startswith(b"/"):
         if not own.startswith(b"/") or rng.random() < 0.5:
             return target
@@ -89,14 +89,14 @@ def from_log_of(rng, own, target):
 
 
 def name_for(rng, own, targets):
-    """A name for a record in the log of `own`: mostly that of a listed target, else one of anything."""
+    """Returns a name for a record in the log of `own`: mostly the name of a listed target, otherwise any name."""
     if rng.random() < 0.82:
         target = rng.choice(targets)
         name = from_log_of(rng, own, target)
         if name is not None and name != b"":
             return spelled(rng, name)
         if rng.random() < 0.5:
-            return target  # as it stands in the index: another target, where the log's own has a directory
+            return target  # As in the index: it denotes another target if the log's own target has a directory.
     return spelled(rng, rng.choice(UNLISTED), 0.7)
 
 
@@ -183,7 +183,7 @@ def closing_line(rng, own):
 
 
 def good_line(rng, own, targets):
-    """A line that doesn't make the log refused (nor closes it, but for an odd name)."""
+    """Returns a line for which the log isn't rejected. It doesn't close the log either, except with an unusual name."""
     return rng.choices(
         [
             lambda: rng.choice(TEXTS),
@@ -197,7 +197,7 @@ def good_line(rng, own, targets):
 
 
 def bad_line(rng, own, targets):
-    """A candidate that is no record (in nearly all cases)."""
+    """Returns a candidate that, in nearly all cases, isn't a record."""
     kind, name = rng.choice(NAMING_KINDS), name_for(rng, own, targets)
     return rng.choice(
         [
@@ -216,7 +216,7 @@ def bad_line(rng, own, targets):
 
 
 def unended_rest(rng, own, targets):
-    """What stands behind the last line feed: a text, or a record that was cut or not ended."""
+    """Returns the bytes after the last line feed: a text, or a record that was truncated or not ended."""
     return rng.choice(
         [
             lambda: rng.choice(TEXTS),
@@ -235,7 +235,7 @@ def unended_rest(rng, own, targets):
 def good_lines(rng, own, targets):
     count = rng.choice([0, 1, 1, 2, 3, 3, 4, 4, 5, 6, 8, 12])
     if rng.random() < 0.02:
-        count = rng.choice([65, 130, 300])  # more entries than wait if --capacity isn't said
+        count = rng.choice([65, 130, 300])  # More entries than the mailbox holds if --capacity isn't given.
     lines = [good_line(rng, own, targets) for _ in range(count)]
     if rng.random() < 0.02:
         long = bytes([rng.choice(b"xy\r@")]) * (rng.choice(EDGE_LENGTHS) - rng.choice([0, 1, 2]))
@@ -283,12 +283,12 @@ def log_after_close(rng, own, targets, lines):
     return joined(lines + [closing_line(rng, own)]) + behind
 
 
-DIRECTORY = object()  # a directory in place of a file
-LOOP = object()  # a symbolic link to itself, which can't be opened
+DIRECTORY = object()  # A directory instead of a file.
+LOOP = object()  # A symbolic link to itself, which can't be opened.
 
 
 def some_logs(rng, targets):
-    """For each target a log; None for a missing file. Chains and cycles come more often than by chance."""
+    """Returns a log for each target, or None for a missing file. Chains and cycles are more frequent than at random."""
     shape = rng.choice(["any", "chain", "cycle", "chain", "tree"])
     logs = []
     for place, own in enumerate(targets):
@@ -330,7 +330,7 @@ def good_index(rng, targets, fids):
 
 
 def break_index(rng, lines, targets, fids):
-    """Puts one line (or more) that is refused somewhere into the index."""
+    """Inserts one or more lines that are rejected anywhere into the index."""
     unused = [fid for fid in FIDS if fid not in fids]
     for _ in range(rng.choice([1, 1, 1, 2])):
         fid, name = rng.choice(unused), rng.choice(UNLISTED + targets)
@@ -351,7 +351,7 @@ def break_index(rng, lines, targets, fids):
         lines.insert(rng.randrange(len(lines) + 1), line)
 
 
-# ---- The words -------------------------------------------------------------------------------------------------------
+# ---- The arguments ---------------------------------------------------------------------------------------------------
 
 BAD_NUMBERS = [b"", b"0", b"00", b"-1", b"-0", b"65537", b"100000", b"4294967297", b"18446744073709551617", b"9" * 40, b"x", b"a", b"1x", b"x1", b" 4", b"4 ", b"4\n", b"1.0", b"1,0", b"1e1", b"0x4", b"1_0", "٤".encode(), b"1-2"]
 BAD_OPTIONS = [b"-x", b"--nope", b"--no", b"-R", b"--Recursive", b"--recursive ", b"--detail", b"--details", b"--debug", b"---", b"--r", b"-1", "-é".encode(), b"--dirs", b"--sender", b"-d", b"-\n"]
@@ -372,7 +372,7 @@ CAPACITIES = [b"1", b"2", b"3", b"64", b"65536"]
 
 
 def some_options(rng, senders, capacities):
-    """The options but for --dir, as lists of words, with one of these numbers of senders and capacities."""
+    """Returns the options except --dir, as lists of arguments, with one of these numbers of senders and capacities."""
     options = []
     if rng.random() < 0.8:
         options.append([rng.choice([b"-r", b"--recursive"])])
@@ -403,7 +403,7 @@ def some_words_for_targets(rng, targets):
 
 
 def break_words(rng, options, asked):
-    """Makes the words refused. Returns the words for targets, and the words that come behind all others."""
+    """Changes the arguments so that they are rejected. Returns the targets, and the arguments to be placed after all others."""
     how = rng.choice(["option", "option", "number", "number", "number", "value", "no target", "not text", "twice"])
     if how == "option":
         options.insert(rng.randrange(len(options) + 1), [rng.choice(BAD_OPTIONS)])
@@ -428,7 +428,7 @@ def break_words(rng, options, asked):
 
 
 def other_spelling(rng, options):
-    """The same options: a value in its option's word, letters that share a word, a number with a sign or with zeros."""
+    """Returns the same options, spelled differently: a value or letters in one argument, a number with a sign or with zeros."""
     spelled = []
     for option in options:
         if option[0] in (b"--senders", b"--capacity") and len(option) == 2 and option[1].isdigit() and rng.random() < 0.2:
@@ -495,7 +495,7 @@ def case(seed: int, directory: str, senders: list[bytes] = SENDERS, capacities: 
         if rng.random() < 0.15:
             index = []
         elif rng.random() < 0.2 and len(targets) > 1:
-            index.pop(rng.randrange(len(index)))  # its log stays, and is looked at no more
+            index.pop(rng.randrange(len(index)))  # Its log stays, but is ignored.
         for _ in range(rng.choice([1, 1, 2])):
             asked.insert(rng.randrange(len(asked) + 1), rng.choice(UNKNOWN_WORDS))
     if "index" in faults:
@@ -508,7 +508,7 @@ def case(seed: int, directory: str, senders: list[bytes] = SENDERS, capacities: 
     files = {b"names": names}
     for fid, log in zip(fids, logs):
         files[b"log." + fid] = log
-    if rng.random() < 0.3:  # files which are not looked at
+    if rng.random() < 0.3:  # Files that are ignored.
         files[rng.choice([b"log.5", b"log.6", b"log.0", b"log.01", b"log", b"log.", b"log.1.old", b"name", b"NAMES", b"log.1234567890"])] = rng.choice([joined([b"@@REDO:"]), b"stray", DIRECTORY])
     if "no index" in faults:
         files[b"names"] = rng.choice([None, None, DIRECTORY, LOOP])
@@ -524,7 +524,7 @@ def case(seed: int, directory: str, senders: list[bytes] = SENDERS, capacities: 
         if rng.random() < 0.5:
             options.append([b"--dir", rng.choice([b".", b".", b"./", b"./.", b".//"])])
     else:
-        if rng.random() < 0.5:  # another capture in the current directory, which isn't the one asked for
+        if rng.random() < 0.5:  # Another capture in the current directory, which isn't the requested one.
             write(os.path.join(cwd, b"names"), rng.choice([b"1 a\n", b"bad\n", b""]))
             write(os.path.join(cwd, b"log.1"), rng.choice([b"wrong one\n", b"@@REDO:\n"]))
         options.append([b"--dir", rng.choice([place, place, place, b"./" + place, place + b"/", place + b"//", place + b"/."])])
@@ -537,7 +537,7 @@ def case(seed: int, directory: str, senders: list[bytes] = SENDERS, capacities: 
     if "words" in faults:
         asked, behind = break_words(rng, options, asked)
     if plan == "help":
-        # Only where each reading gives the help text: good words, and the targets behind it.
+        # Only if every interpretation gives the help text: valid arguments, and the targets after the help option.
         options = some_options(rng, senders, capacities)
         help_word = [rng.choice([b"-h", b"--help"])]
         return [word for option in options for word in option] + help_word + [w for w in asked if is_text(w) and not w.startswith(b"-")]

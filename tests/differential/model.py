@@ -1,20 +1,21 @@
-"""A slow, plain model of `redo-log`, written from format.md and viewing.md alone.
+"""A slow, simple model of `redo-log`, written from its documents alone. Their rules are in docs/format.md, docs/viewing.md and
+docs/redo-log.1.
 
-`answer(directory, words)` tells what a run of the program with these words, and this current directory, has to answer.
-The sections stand in the order of the documents, and things are named as they name them.
+`answer(directory, words)` returns what a run of the program must output with these arguments and this current directory.
+Each section names the part of a document that it implements, and uses the terms of that document.
 """
 
 import os
 import re
 from typing import NamedTuple, Optional, Union
 
-MOST_BYTES = 1_073_741_824  # of a log, and of the index
-MOST_NAMES = 1_048_575  # lines of the index
+MOST_BYTES = 1_073_741_824  # In a log, and in the index.
+MOST_NAMES = 1_048_575  # Lines in the index.
 LARGEST_PID = 4_294_967_295
 
 
 class Refused(Exception):
-    """The run ends with this status, and with this line (without its start `redo-log: `) on standard error."""
+    """The run ends with this status, and with this line (here without the prefix `redo-log: `) on standard error."""
 
     def __init__(self, status: int, line: bytes):
         super().__init__(status, line)
@@ -22,7 +23,7 @@ class Refused(Exception):
         self.line = line
 
 
-# ---- format.md, "A log": lines ---------------------------------------------------------------------------------------
+# ---- format.md, "Logs": lines ----------------------------------------------------------------------------------------
 
 
 class Line(NamedTuple):
@@ -89,7 +90,7 @@ def is_candidate(line: Line) -> bool:
 
 
 def entry_of(line: Line, target: bytes) -> Optional[Entry]:
-    """The entry of a line in the log of the target; None if the line is bad."""
+    """Returns the entry of a line in the log of the target, or None if the line is bad."""
     if not is_candidate(line):
         return Text(line.content)
     record = RECORD.fullmatch(line.content)
@@ -112,7 +113,7 @@ def done_entry_of(pid: int, text: bytes, target: bytes) -> Optional[Entry]:
     return Closed(pid, status) if name == target else Done(pid, name, status)
 
 
-# ---- format.md, "The end of a log, and its faults" -------------------------------------------------------------------
+# ---- format.md, "Faults of a log" ------------------------------------------------------------------------------------
 
 
 class LogFault(NamedTuple):
@@ -127,13 +128,13 @@ class Log(NamedTuple):
 
 
 def log_of(target: bytes, data: bytes, read_failed: bool = False, most_bytes: int = MOST_BYTES, must_close: bool = False) -> Log:
-    """The log of the target, of which these bytes could be read; behind them the log ended, or a read failed."""
+    """Returns the log of the target if these bytes could be read. After them the log ended, or a read failed."""
     within = data[:most_bytes]
     entries: list[Entry] = []
     closed = False
     for number, line in enumerate(lines_of(within), 1):
         if closed:
-            return Log(target, entries, LogFault("AfterClose", number))  # a line feed is such a byte too
+            return Log(target, entries, LogFault("AfterClose", number))  # Even if the line is empty.
         entry = entry_of(line, target)
         if entry is None:
             return Log(target, entries, LogFault("BadRecord", number))
@@ -156,7 +157,7 @@ def is_absolute(name: bytes) -> bool:
 
 
 def directory_of(target: bytes) -> bytes:
-    """The target's name without its last segment: empty, or with a slash at its end. Of `/` it is `/`."""
+    """Returns the target's name without its last segment: empty, or with a slash at its end. For `/` it is `/`."""
     return target[: target.rfind(b"/") + 1]
 
 
@@ -214,11 +215,11 @@ def index_of(data: bytes) -> list[Listed]:
     return index
 
 
-# ---- format.md, "A capture directory" --------------------------------------------------------------------------------
+# ---- format.md, "The directory" --------------------------------------------------------------------------------------
 
 
 def path_of(current: bytes, directory: bytes, file: bytes) -> bytes:
-    """The directory's path, one slash, and the file's name. The empty DIR so stands for the root."""
+    """Returns the directory's path, a slash, and the file's name. So the empty DIR denotes the root."""
     return os.path.join(current, directory + b"/" + file)
 
 
@@ -238,19 +239,19 @@ def read_log(current: bytes, directory: bytes, listed: Listed) -> Log:
         with open(path_of(current, directory, b"log." + listed.number), "rb") as file:
             data = file.read()
     except FileNotFoundError:
-        return log_of(listed.target, b"", must_close=listed.must_close)  # a link that leads nowhere too
+        return log_of(listed.target, b"", must_close=listed.must_close)  # Also for a dangling link.
     except OSError:
         return log_of(listed.target, b"", read_failed=True)
     return log_of(listed.target, data, must_close=listed.must_close)
 
 
-# ---- format.md, "The command line" -----------------------------------------------------------------------------------
+# ---- redo-log.1, "The command line" ----------------------------------------------------------------------------------
 
 
 class CommandLine:
     def __init__(self):
         self.targets: list[bytes] = []
-        self.given: dict[str, bytes] = {}  # the options by their long names, with their values
+        self.given: dict[str, bytes] = {}  # The options by their long names, with their values.
         self.help = False
 
     @property
@@ -285,7 +286,7 @@ class CommandLine:
 
 LETTERS = {b"r": "recursive", b"u": "unchanged"}
 FLAGS = ["recursive", "unchanged", "no-details", "debug-locks", "debug-pids"]
-GREATEST_NUMBER = {"senders": 64, "capacity": 65_536}  # neither of these two changes the answer
+GREATEST_NUMBER = {"senders": 64, "capacity": 65_536}  # Neither of these changes the result.
 WITH_A_VALUE = ["dir", *GREATEST_NUMBER]
 
 
@@ -385,7 +386,7 @@ class Showing:
         return self.text
 
     def redo_line(self, depth: int, pid: Optional[int], text: bytes):
-        """The line of a record with this pid, or of a target that is asked for."""
+        """Writes the redo line of a record with this pid, or of a requested target."""
         if self.asked.debug_pids:
             self.text += (b"-" if pid is None else b"%d" % pid).ljust(6) + b" "
         self.text += b"redo" + b"  " + b"  " * depth + text + b"\n"
@@ -426,7 +427,7 @@ class Showing:
 
     def show_done(self, entry: Done, depth: int):
         if entry.status != 0:
-            self.redo_line(depth, entry.pid, entry.target + b" (exit %d)" % entry.status)  # it names no target
+            self.redo_line(depth, entry.pid, entry.target + b" (exit %d)" % entry.status)  # It doesn't name the target.
 
     def show_note(self, entry: Note, depth: int):
         if entry.kind == b"check":
@@ -435,7 +436,7 @@ class Showing:
             self.text += b"redo: " + entry.text + b"\n"
 
 
-# ---- viewing.md, "What is refused", and format.md, "What the program prints of a fault, and its status" --------------
+# ---- redo-log.1, "EXIT STATUS" and "DIAGNOSTICS" ---------------------------------------------------------------------
 
 
 def targets_asked_for(asked: CommandLine, index: list[Listed]) -> list[bytes]:
@@ -467,7 +468,7 @@ def refuse_faults(logs: list[Log]):
 
 
 def answer(directory: str, words: list[bytes]) -> tuple[int, Optional[bytes], bytes]:
-    """Status, standard output (None for the help text, which isn't specified) and standard error."""
+    """Returns the status, standard output (None for the help text, which isn't specified) and standard error."""
     current = os.fsencode(directory)
     try:
         asked = command_line(words)

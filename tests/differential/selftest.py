@@ -1,4 +1,4 @@
-"""Checks model.py with the example tables of format.md and viewing.md. Each row stands here as the document has it."""
+"""Checks model.py with the example tables of format.md and viewing.md. Each row is here as in the document."""
 
 import os
 import tempfile
@@ -18,7 +18,7 @@ def check(what, got, expected):
         print(f"differs: {what!r}\n  got      {got!r}\n  expected {expected!r}")
 
 
-# ---- format.md, "Lines" ----------------------------------------------------------------------------------------------
+# ---- format.md, "Logs" -----------------------------------------------------------------------------------------------
 
 for data, expected in [
     (b"", []),
@@ -28,7 +28,7 @@ for data, expected in [
 ]:
     check(data, model.lines_of(data), expected)
 
-# ---- format.md, "Entries", in the log of `all` -----------------------------------------------------------------------
+# ---- format.md, "Records", in the log of `all` -----------------------------------------------------------------------
 
 ENTRIES = [
     (b"hello", Text(b"hello")),
@@ -68,7 +68,7 @@ for line, expected in ENTRIES:
     check(line, model.entry_of(Line(line, True), b"all"), expected)
 check("unended", model.entry_of(Line(b"@@REDO:do:7:1.0000@@ a", False), b"all"), Text(b"@@REDO:do:7:1.0000@@ a"))
 
-# ---- format.md, "The end of a log, and its faults", the log of `a` ---------------------------------------------------
+# ---- format.md, "Faults of a log", the log of `a` --------------------------------------------------------------------
 
 MANY = model.MOST_BYTES
 for data, most_bytes, expected in [
@@ -93,7 +93,7 @@ for data, read_failed, expected in [
     (b"@@REDO:done:7:1.0000@@ 0 a\n", True, LogFault("Read", None)),
 ]:
     check((data, read_failed), model.log_of(b"a", data, read_failed, must_close=True).fault, expected)
-# What the text beside the table says.
+# Rules in the text before the tables.
 check("too long, then a failed read", model.log_of(b"a", b"abc\nd", True, 4).fault, LogFault("TooLong", None))
 check("a bad line, then a failed read", model.log_of(b"a", b"@@REDO:\n", True).fault, LogFault("BadRecord", 1))
 check("a line, then a failed read", model.log_of(b"a", b"@@REDO:", True).fault, LogFault("Read", None))
@@ -160,7 +160,7 @@ for data, expected in [
 ]:
     check(data, index_or_line(data), expected)
 
-model.MOST_NAMES = 3  # for these rows alone; the document says 1,048,575
+model.MOST_NAMES = 3  # Only for these rows; the document says 1,048,575.
 full = b"1 n1\n2 n2\n3 n3\n"
 check("a full index", len(index_or_line(full)), 3)
 check("one too many", index_or_line(full + b"4 n4"), b"names: too many names")
@@ -177,8 +177,8 @@ def written(kind, text, pid=b"7"):
 
 
 def run(logs, words):
-    """Logs as a list of (target, lines); a line of kind, text and pid, which is 7 if it isn't said, is a record, None stands
-    for a log that can't be read."""
+    """Runs the model. Logs are a list of (target, lines). A line that is a tuple of kind, text and pid is a record; without a pid,
+    the pid is 7. None instead of lines is a log that can't be read."""
     with tempfile.TemporaryDirectory() as directory:
         with open(os.path.join(directory, "names"), "wb") as file:
             for number, (target, _) in enumerate(logs, 1):
@@ -206,6 +206,9 @@ A_B = [(b"a", [(b"do", b"b")]), (b"b", [b"B"])]
 shows(A_B, [b"a", b"b", b"a"], b"redo  a\nredo    b\nredo  b\nB\n")
 shows(A_B, [b"-r", b"a", b"b", b"a"], b"redo  a\nredo    b\nB\n")
 shows([(b"a", [(b"do", b"b")]), (b"b", [(b"do", b"a"), b"t"])], [b"-r", b"a"], b"redo  a\nredo    b\nt\n")
+ITSELF = [(b"a", [(b"do", b"a"), b"t"])]
+shows(ITSELF, [b"-r", b"a"], b"redo  a\nt\n")
+shows(ITSELF, [b"-r", b"--debug-locks", b"a"], b"redo  a\nredo    a\nt\n")
 shows([(b"d/a", [(b"do", b"../e//x")]), (b"e/x", [b"q"])], [b"-r", b"d/./a"], b"redo  d/a\nredo    e/x\nq\n")
 LOCKS = [(b"all", [(b"locked", b"x"), (b"unlocked", b"x"), (b"do", b"x")])]
 shows(LOCKS, [b"all"], b"redo  all\nredo    x\n")
@@ -255,7 +258,7 @@ refuses(BAD, [b""], 24, b"redo-log: : not known")
 refuses([(b"a", None), (b"b", [b"@@REDO:"])], [b"a"], 5, b"redo-log: a: cannot be read")
 refuses([(b"a", [b"t"]), (b"b", [b"@@REDO:"])], [b"a"], 4, b"redo-log: b: line 1: bad record")
 
-# ---- format.md, "What the program prints of a fault, and its status" -------------------------------------------------
+# ---- redo-log.1, "EXIT STATUS" and "DIAGNOSTICS" ---------------------------------------------------------------------
 
 refuses(A_B, [], 2, b"redo-log: bad command line")
 refuses(A_B, [b"--nope", b"a"], 2, b"redo-log: bad command line")

@@ -1,4 +1,4 @@
-"""What stands in the repository's crates: its definitions, with what each cites, and its public contracts."""
+"""Reads the definitions of the repository's crates, with what each cites, and their public contracts."""
 import os
 import re
 
@@ -9,9 +9,9 @@ IMPORT = re.compile(r"^\s*(?:ghost )?use (Rattle\.[\w.+]+?)(?:\.\{([^}]*)\})?(?:
 CLAUSE = re.compile(r"(?:\brequires|\bensures)\*?(?:\s+\w+)?\s*$")
 GHOST = re.compile(r"\bghost\s+(?!use\b)(\w+)\s*[=:]\s*$")
 ITEM = re.compile(r"\s*(?:#\[[^\]]*\]\s*)*(pub(?:\([^)]*\))? )?(?:unsafe |const )*(impl|trait|mod|struct|enum|fn)\b\s*(.*)", re.S)
-# A comment, a text, or a letter, whose braces are none.
+# A comment, a string or a character. Its braces do not count.
 NO_CODE = re.compile(r'//[^\n]*|/\*.*?\*/|b?"(?:\\.|[^"\\])*"|b?\'(?:\\[^\n\']+|[^\\\'\n])\'', re.S)
-# Where a definition begins, also within a module with parameters.
+# The beginning of a definition, even within a module with parameters.
 HEAD = r"(?:(?:pub (?!mod )|abbrev |unfoldable |record |data )+| +(?:(?:abbrev|unfoldable) (?:pub )?|pub (?:record|data) ))(?=[\w◌])"
 
 
@@ -21,13 +21,13 @@ def read(*path):
 
 
 def files(folder, ending):
-    """The files below a folder of the repository, by their paths in it."""
+    """Returns the files below a directory of the repository, as paths relative to it."""
     top = os.path.join(TOP, folder)
     return sorted(os.path.relpath(os.path.join(here, name), top) for here, _, names in os.walk(top) for name in names if name.endswith(ending))
 
 
 def libraries_of(program):
-    """The libraries below a program, each behind those that it stands on."""
+    """Returns the libraries that a program depends on, each after its own dependencies."""
     below = {crate.split()[0]: lower.split() for crate, lower in re.findall(r"^([^#\n:]+):([^#\n]*)", read("crates.txt"), re.M)}
     order = []
 
@@ -42,7 +42,7 @@ def libraries_of(program):
 
 
 class Names:
-    """What the words of a file stand for, by its imports; its own definitions stand in the module `own`."""
+    """What the words of a file denote, by its imports. The file's own definitions are in the module `own`."""
 
     def __init__(self, text, own=None):
         self.words, self.modules, self.own = {}, {}, own
@@ -54,7 +54,7 @@ class Names:
                 self.modules[alias or module.rsplit(".", 1)[-1]] = module
 
     def cited(self, text):
-        """What a text cites, each as a module and a name."""
+        """Yields what a text cites, each as a module and a name."""
         for dotted in DOTTED.findall(text):
             first, *others = dotted.split(".")
             if first in self.words:
@@ -78,7 +78,7 @@ class Specs:
         for crate in crates:
             for path in files(f"crates/{crate}/specs", ".antt"):
                 text = read("crates", crate, "specs", path)
-                if re.search(r"^(?!--|(pub )?mod |\s*$)", text, re.M):  # one of these lines alone only names others
+                if re.search(r"^(?!--|(pub )?mod |\s*$)", text, re.M):  # a file of only such lines has no definitions
                     module = f"Rattle.{crate}.specs." + path.removesuffix(".antt").replace(os.sep, ".")
                     self.files[module] = (crate, path, text.count("\n"), text.split("\n")[0].removeprefix("-- ").rstrip("."))
                     self.add(module, re.sub(r"--[^\n]*", "", text))
@@ -96,11 +96,11 @@ class Specs:
                         self.parts[module, field] = self.parts[".".join(place), field] = place
 
     def known(self, place):
-        """The definition at a place: itself, or that of which it is a part."""
+        """Returns the definition at a place, or the definition that has this place as a field; None if there is neither."""
         return place if place in self.texts else self.parts.get(place)
 
     def reached(self, places):
-        """These definitions, and those that they cite."""
+        """Returns these definitions and all that they cite, directly or not."""
         found, left = set(), {self.known(place) for place in places} - {None}
         while left:
             found |= left
@@ -109,7 +109,7 @@ class Specs:
 
 
 def contracts(crate):
-    """The public contracts of a crate: where each stands, whether a model is by it, and what it cites."""
+    """Yields the public contracts of a crate: the file of each, whether it is part of a model, and what it cites."""
     root = NO_CODE.sub("", read("crates", crate, "src/lib.rt"))
     handed_out = {name for used in re.findall(r"\bpub use ([^;]+);", root) for name in WORD.findall(re.sub(r"\b\w+ as ", "", used))}
     modules = set(re.findall(r"\bpub mod (\w+)", root)) | {"lib"}
@@ -120,7 +120,7 @@ def contracts(crate):
 
 
 def of_items(text, where, names, is_public, block, is_out):
-    """The contracts among items, which stand in an impl of a trait, in `trait`, in `own`, or in no block."""
+    """Yields the contracts of items. `block` is the trait of the impl that contains them, `trait`, `own`, or None."""
     head = at = 0
     while at < len(text):
         if text[at] == ";":
@@ -148,7 +148,7 @@ def of_items(text, where, names, is_public, block, is_out):
 
 
 def closing(text, at):
-    """The place of the brace that closes the one at `at`."""
+    """Returns the index of the brace that closes the one at `at`."""
     depth = 0
     for place in range(at, len(text)):
         depth += (text[place] == "{") - (text[place] == "}")
@@ -157,7 +157,7 @@ def closing(text, at):
 
 
 def parts_of(item):
-    """The trait of an impl, or what else the block is, and the type or the trait that it is of."""
+    """Returns the trait of an impl, or the kind of the block, and the type or trait that the block is for."""
     if item[2] != "impl":
         return ("trait" if item[2] == "trait" else None), WORD.match(item[3])[0]
     trait, _, subject = re.sub(r"^<.*?>(?= )", "", item[3]).rpartition(" for ")

@@ -1,6 +1,6 @@
-"""docs/theorem.md: each definition that the clause of a run rests on is quoted there once, as it stands, behind those that it
-cites, and no two of them have one name. A mark, which isn't shown, says what is quoted: `<!-- CRATE FILE: NAMES -->`; the
-block behind it is written by --quote."""
+"""Checks docs/theorem.md. It must quote each definition that the clause of a run depends on: once, verbatim, and after the
+definitions that it cites. No two quoted definitions may share a name. An HTML comment states what is quoted:
+`<!-- CRATE FILE: NAMES -->`. `run --quote` writes the block after it."""
 import os
 import re
 
@@ -8,13 +8,13 @@ from contracts import TOP, Names, closing, read
 
 PAGE = "docs/theorem.md"
 CLAUSE_OF = "redo_run/src/running.rt"
-# So many lines of definitions are to be read at most.
+# The maximum number of quoted lines.
 MOST_LINES = 400
 MARK = re.compile(r"^<!-- (\w+) (\w+): ([^>]*?) -->\n(?:```\n.*?\n```\n)?", re.M | re.S)
 
 
 def clause():
-    """The clause of a run, as it stands, and what it cites."""
+    """Returns the clause of a run, verbatim, and what it cites."""
     text = read("crates", CLAUSE_OF)
     begin = text.index("    ensures ok {", text.index("pub fn run<"))
     end = closing(text, text.index("{", begin)) + 1
@@ -23,7 +23,7 @@ def clause():
 
 
 def reached(specs, places):
-    """The definitions that a reader of these needs, without those that only have a part with the name of a variable."""
+    """Returns the definitions that a reader of these needs. Names of fields do not count, because a variable may have the same name."""
     found, left = set(), {place for place in places if place in specs.texts}
     while left:
         found |= left
@@ -38,7 +38,7 @@ def quoted(specs, crate, file, name):
 
 
 def blocks(specs, page):
-    """What each mark quotes: the places, and the text."""
+    """Yields what each comment quotes: the places, and the text."""
     for crate, file, names in MARK.findall(page):
         if file == "run":
             yield [], clause()[0]
@@ -57,18 +57,18 @@ def faults(specs):
     needed = reached(specs, clause()[1])
     places = [place for quotes, _ in blocks(specs, page) for place in quotes]
     told = lambda place: ".".join(place[0].split(".")[1::2] + [place[1]])
-    found = [f"{told(place)} is needed, and isn't quoted" for place in sorted(needed - set(places))]
-    found += [f"{told(place)} is quoted, and isn't needed" for place in places if place not in needed]
+    found = [f"{told(place)} is needed, but not quoted" for place in sorted(needed - set(places))]
+    found += [f"{told(place)} is quoted, but not needed" for place in places if place not in needed]
     names = [name for _, name in places]
     found += [f"{name} is quoted twice" for name in sorted(set(names)) if names.count(name) > 1]
     for at, place in enumerate(places):
         scope, text = specs.texts.get(place, (None, ""))
         later = {other for other in (scope.cited(text) if scope else ()) if other in places[at + 1 :]}
-        found += [f"{told(place)} stands before {told(other)}, which it cites" for other in later]
+        found += [f"{told(place)} precedes {told(other)}, which it cites" for other in later]
     lines = sum(bool(line) for _, text in blocks(specs, page) for line in text.split("\n"))
-    found += [f"{lines} lines are quoted, and {MOST_LINES} are enough"] * (lines > MOST_LINES)
+    found += [f"{lines} lines are quoted, more than {MOST_LINES}"] * (lines > MOST_LINES)
     if page != with_quotes(specs, page):
-        found.append("a quote isn't as it stands: tests/specs/run --quote writes them")
+        found.append("a quote differs from its definition: tests/specs/run --quote writes them")
     return found
 
 

@@ -1,10 +1,10 @@
--- What a loop over a reader has of its stream.
+-- What a loop over a reader knows of the reader's stream.
 use Rattle.std.proofs.Common.{◌≡◌, ℕ, ◌<◌, ◌≤◌, Bool, true, false, List, [], ◌∷◌, ◌++◌, Option, None, Some, Ok, Err, length, take, drop, refl, sym, ◌∙◌, ap, subst, arith, le_refl}
 use Rattle.std.proofs.lemmas.List.{append_assoc, append-nil, length-append, take-append-drop}
 use Rattle.redo_device.specs.declared.feed.Broken.{Broken}
 use Rattle.redo_device.specs.Feed.{Stream, Pulls, SomeStream}
 
--- these bytes came since a reader told `first`, and now it tells `now`
+-- `first` and `now` are what is known of a reader at two times. Between them it gave `bytes`.
 abbrev pub Gave : Option Stream → List ℕ → Option Stream → Type 0
 Gave None bytes now = now ≡ None
 Gave (Some stream) bytes now = (coming : Stream) × (now ≡ Some coming) × (stream.bytes ≡ bytes ++ coming.bytes) × (stream.fails ≡ coming.fails)
@@ -13,7 +13,7 @@ pub Gave-none : (told : Option Stream) → Gave told [] told
 Gave-none None = refl
 Gave-none (Some stream) = (stream, refl, refl, refl)
 
--- one read of a reader that tells
+-- One read of a reader that isn't opaque.
 reads_on : (stream : Stream) (bytes coming : List ℕ) (fails : Bool) (after : Option Stream) (n : ℕ) (buffer : List ℕ) → 0 < n → stream.bytes ≡ bytes ++ coming → stream.fails ≡ fails
     → Pulls (Some (record { bytes = coming; fails = fails })) after (Ok n) buffer → Gave (Some stream) (bytes ++ take n buffer) after
 reads_on stream bytes [] false after n buffer some is fails_is pulled = let none : n ≡ 0 = let e = pulled.0 in cc in absurd (omega arith)
@@ -30,7 +30,7 @@ Gave-more None now after bytes n buffer some gave pulls = subst (λ t. Pulls t a
 Gave-more (Some stream) now after bytes n buffer some gave pulls =
     reads_on stream bytes gave.0.bytes gave.0.fails after n buffer some gave.2 gave.3 (subst (λ t. Pulls t after (Ok n) buffer) gave.1 pulls)
 
--- the last read, at an end of input or a failed one
+-- The last read: at the end of input, or a failed one.
 ends_so : (stream : Stream) (bytes coming : List ℕ) (fails : Bool) (after : Option Stream) (buffer : List ℕ) → stream.bytes ≡ bytes ++ coming → stream.fails ≡ fails
     → Pulls (Some (record { bytes = coming; fails = fails })) after (Ok 0) buffer → (stream.bytes ≡ bytes) × (stream.fails ≡ false)
 ends_so stream bytes [] false after buffer is fails_is pulled = (is ∙ append-nil bytes, fails_is)
@@ -43,7 +43,7 @@ fails_so stream bytes [] false after broken buffer is fails_is pulled = let e = 
 fails_so stream bytes [] true after broken buffer is fails_is pulled = (is ∙ append-nil bytes, fails_is)
 fails_so stream bytes (byte ∷ coming) fails after broken buffer is fails_is pulled = absurd pulled
 
--- what ends after these bytes is a stream of just these
+-- If a reader ends after `bytes`, its stream has exactly these bytes.
 pub Gave-end : (first now after : Option Stream) (bytes buffer : List ℕ) → Gave first bytes now → Pulls now after (Ok 0) buffer → SomeStream first (λ stream. (stream.bytes ≡ bytes) × (stream.fails ≡ false))
 Gave-end None now after bytes buffer gave pulls = (record { bytes = bytes; fails = false }, (refl, refl))
 Gave-end (Some stream) now after bytes buffer gave pulls =

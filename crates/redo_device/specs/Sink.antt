@@ -1,34 +1,34 @@
--- What a writer took.
+-- Writers: the bytes that a writer took, and the result of writing a text.
 use Rattle.std.specs.Prelude.{◌≡◌, ◌<◌, length, ℕ, zero, suc, ◌+◌, List, [], ◌++◌, take, Option, None, Some, Result, Ok, Err}
 use Rattle.redo_device.specs.declared.feed.Broken.{Broken}
 
--- the bytes that a writer took so far, and how often it failed or took none
-pub record Taken : Type 0 where
+-- The bytes that a writer took so far, and how often it failed or took none.
+pub record Output : Type 0 where
   pub bytes : List ℕ
   pub failures : ℕ
 
--- the bytes and failures that came since; a writer that tells nothing goes on to tell nothing
-abbrev pub adds : Option Taken → List ℕ → ℕ → Option Taken
-adds None bytes failures = None
-adds (Some taken) bytes failures = Some (record { bytes = taken.bytes ++ bytes; failures = taken.failures + failures })
+-- Adds bytes and failures to what is known of a writer. An opaque writer stays opaque.
+abbrev pub append_output : Option Output → List ℕ → ℕ → Option Output
+append_output None bytes failures = None
+append_output (Some taken) bytes failures = Some (record { bytes = taken.bytes ++ bytes; failures = taken.failures + failures })
 
--- the bytes that one write took
-abbrev pub bytes_of : List ℕ → Result ℕ Broken → List ℕ
-bytes_of bytes (Ok n) = take n bytes
-bytes_of bytes (Err broken) = []
+-- The bytes that one write took.
+abbrev pub taken_prefix : List ℕ → Result ℕ Broken → List ℕ
+taken_prefix bytes (Ok n) = take n bytes
+taken_prefix bytes (Err broken) = []
 
--- whether one write failed, as a number: a write that takes no byte counts
+-- 1 if one write failed or took no byte, 0 otherwise.
 abbrev pub failures_of : Result ℕ Broken → ℕ
 failures_of (Ok zero) = 1
 failures_of (Ok (suc n)) = 0
 failures_of (Err broken) = 1
 
--- what a writer tells after one write of these bytes
-abbrev pub after_push : Option Taken → List ℕ → Result ℕ Broken → Option Taken
-after_push before bytes answer = adds before (bytes_of bytes answer) (failures_of answer)
+-- What is known of a writer after one write of `bytes`.
+abbrev pub after_push : Option Output → List ℕ → Result ℕ Broken → Option Output
+after_push before bytes answer = append_output before (taken_prefix bytes answer) (failures_of answer)
 
--- what became of a text that was to be written: all of it was taken and nothing failed, or a front of it was, and
--- then one write failed
-abbrev pub Writes : Option Taken → Option Taken → List ℕ → Result (Unit {0}) Broken → Type 0
-Writes before after text (Ok done) = after ≡ adds before text 0
-Writes before after text (Err broken) = (n : ℕ) × (n < length text) × (after ≡ adds before (take n text) 1)
+-- The result of writing `text`: either all of it was taken and no write failed, or a prefix of it was taken and then one
+-- write failed.
+abbrev pub Writes : Option Output → Option Output → List ℕ → Result (Unit {0}) Broken → Type 0
+Writes before after text (Ok done) = after ≡ append_output before text 0
+Writes before after text (Err broken) = (n : ℕ) × (n < length text) × (after ≡ append_output before (take n text) 1)

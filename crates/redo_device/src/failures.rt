@@ -3,8 +3,8 @@ ghost use Rattle.std.specs.Borrow.{ftrue};
 
 use std::marker::Model;
 
-/// How often a writer failed. It is a number for contracts alone, without a greatest value, and
-/// takes no bytes: no clause but those of its two calls ties it to anything.
+/// Counts how often a writer failed. The count is a ghost: it exists in contracts alone, takes no
+/// bytes and has no maximum. Only the clauses of `none` and `one_more` fix its value.
 #[derive(Drop)]
 pub struct Failures {
     pub ghost count: { ℕ },

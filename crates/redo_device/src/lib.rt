@@ -1,8 +1,9 @@
-//! The devices that a log is read from and written to: readers and writers, seen as what they tell.
+//! The devices that logs are read from and the text is written to: readers and writers of bytes.
 //!
-//! What the layers above use: a [`Feed`] gives the bytes that it tells, and a [`Sink`] takes what it
-//! answers, for which [`push_all`] is the one loop. The wrappers of std's readers and writers tell
-//! nothing; [`Pieces`] and [`Taker`], in memory, tell all.
+//! The crates above rely on this: a [`Feed`] gives the bytes that are known of it, and a [`Sink`]
+//! takes as many bytes as it returns. [`push_all`] is the only loop over a sink's writes. Contracts
+//! describe a device by what is known of it (`tells`). The wrappers of std's readers and writers are
+//! opaque. [`Pieces`] and [`Taker`] are in memory, and everything is known of them.
 #![tactic(auto)]
 
 mod failures;

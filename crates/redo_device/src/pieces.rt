@@ -1,16 +1,16 @@
 ghost use Rattle.std.specs.Prelude.{◌≡◌, ◌<◌, ◌≤◌, Some, IfOk, map, length, slice_index_or, vec_len};
 ghost use Rattle.redo_device.specs.Feed.{Pulls};
-ghost use Rattle.redo_device.specs.Pieces.{Reads, stream_of, from_first_byte, GivesFirst};
+ghost use Rattle.redo_device.specs.Pieces.{Reads, stream_of, from_first_byte, ReadsNext};
 ghost use Rattle.redo_device.specs.Private.Pieces.{unread_of};
 
 use crate::feed::{Broken, Feed};
 use std::marker::Model;
 
-/// A reader in memory, which tells all. It is seen as the reads that are still to come.
+/// A reader in memory, of which everything is known. It is modelled as the reads still to come.
 #[derive(Drop)]
 pub struct Pieces {
     reads: Vec<Vec<u8>>,
-    // The read that comes next, and how many bytes of it were given.
+    // The index of the next read, and how many bytes of it were given.
     at: usize,
     from: usize,
     fails: bool,
@@ -29,9 +29,9 @@ impl Model for Pieces {
 }
 
 impl Pieces {
-    /// A reader that gives these reads in turn, and then an end of input or, where `fails` is set,
-    /// a failed read. An empty read is passed over, and one longer than the buffer goes on in the
-    /// next call.
+    /// Creates a reader that gives these reads in order, and then the end of input or, if `fails` is
+    /// set, a failed read. It skips an empty read. A read longer than the buffer continues in the next
+    /// call.
     pub fn new(reads: Vec<Vec<u8>>, fails: bool) -> Pieces
         ensures reads { result.reads ≡ map (λ read. read.items) reads.items }
         ensures fails { result.fails ≡ fails }
@@ -44,9 +44,9 @@ impl Pieces {
         }
     }
 
-    // What `pull` does, without what it tells of it.
+    // Does the work of `pull`. Its only clause is the clause `exact` of `pull`.
     fn give(&mut self, buf: &mut [u8]) -> Result<usize, Broken>
-        ensures { GivesFirst (from_first_byte self.old.reads) self.old.fails self.new result buf.new }
+        ensures { ReadsNext (from_first_byte self.old.reads) self.old.fails self.new result buf.new }
     {
         (self.at, self.from) = next_byte(&self.reads, self.at, self.from);
         if self.at == self.reads.len() {
@@ -60,7 +60,8 @@ impl Pieces {
     }
 }
 
-// The place of the next byte to give: a read, and how many bytes of it were given.
+// Returns the position of the next byte to give: the index of a read, and how many of its bytes
+// were given.
 fn next_byte(reads: &[Vec<u8>], mut at: usize, mut from: usize) -> (usize, usize)
     requires { at ≤ length reads.now }
     ensures reads { unread_of reads.now result.0 result.1 ≡ from_first_byte (unread_of reads.now at from) }
@@ -78,13 +79,13 @@ fn next_byte(reads: &[Vec<u8>], mut at: usize, mut from: usize) -> (usize, usize
 }
 
 impl Feed for Pieces {
-    ghost tells = { λ to_come. Some (stream_of to_come) };
+    ghost contents = { λ to_come. Some (stream_of to_come) };
 
     fn pull(&mut self, buf: &mut [u8]) -> Result<usize, Broken>
         requires room { 0 < length buf.old }
         ensures bound { IfOk result (λ n. n ≤ length buf.new) }
         ensures gives { Pulls (Some (stream_of self.old)) (Some (stream_of self.new)) result buf.new }
-        ensures exact { GivesFirst (from_first_byte self.old.reads) self.old.fails self.new result buf.new }
+        ensures exact { ReadsNext (from_first_byte self.old.reads) self.old.fails self.new result buf.new }
     {
         self.give(buf)
     }

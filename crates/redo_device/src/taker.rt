@@ -1,6 +1,6 @@
 ghost use Rattle.std.specs.Prelude.{◌≡◌, ◌<◌, ◌≤◌, [], Some, IfOk, length};
 ghost use Rattle.redo_device.specs.Sink.{after_push};
-ghost use Rattle.redo_device.specs.Taker.{taken_by, answer_of};
+ghost use Rattle.redo_device.specs.Taker.{output_of, answer_of};
 
 use crate::failures::Failures;
 use crate::feed::Broken;
@@ -8,7 +8,7 @@ use crate::sink::Sink;
 use std::alloc::{AllocError, Global};
 use std::marker::Model;
 
-/// A writer in memory, which tells all.
+/// A writer in memory, of which everything is known.
 #[derive(Drop)]
 pub struct Taker {
     held: Vec<u8>,
@@ -19,9 +19,9 @@ pub struct Taker {
 
 impl Model for Taker {
     ghost use Rattle.std.specs.Prelude.{◌≤◌, vec_len, vec_capacity};
-    ghost use Rattle.redo_device.specs.Taker.{Held};
+    ghost use Rattle.redo_device.specs.Taker.{TakerState};
 
-    ghost Value = { Held };
+    ghost Value = { TakerState };
 
     ghost view = { λ t. record { bytes = t.held.items; failures = t.failures.count; room = t.room; per_call = t.per_call } };
 
@@ -29,8 +29,8 @@ impl Model for Taker {
 }
 
 impl Taker {
-    /// A writer with room for `room` bytes in all, which takes at most `per_call` of them in a call.
-    /// Once it holds `room` bytes, each write fails.
+    /// Creates a writer that holds at most `room` bytes and takes at most `per_call` bytes in one call.
+    /// Once it holds `room` bytes, every write fails.
     pub fn new(alloc: Global, room: usize, per_call: usize) -> Result<Taker, AllocError>
         ensures { IfOk result (λ taker. taker ≡ record { bytes = []; failures = 0; room = room; per_call = per_call }) }
     {
@@ -42,7 +42,7 @@ impl Taker {
         })
     }
 
-    /// The bytes that it took.
+    /// Returns the bytes that it took.
     pub fn bytes(&self) -> &[u8]
         ensures { result.now ≡ self.now.bytes }
     {
@@ -51,12 +51,12 @@ impl Taker {
 }
 
 impl Sink for Taker {
-    ghost tells = { λ held. Some (taken_by held) };
+    ghost written = { λ held. Some (output_of held) };
 
     fn push(&mut self, bytes: &[u8]) -> Result<usize, Broken>
-        requires some { 0 < length bytes.now }
+        requires nonempty { 0 < length bytes.now }
         ensures bound { IfOk result (λ n. n ≤ length bytes.now) }
-        ensures takes { Some (taken_by self.new) ≡ after_push (Some (taken_by self.old)) bytes.now result }
+        ensures takes { Some (output_of self.new) ≡ after_push (Some (output_of self.old)) bytes.now result }
         ensures answer { result ≡ answer_of self.old (length bytes.now) }
         ensures room { self.new.room ≡ self.old.room }
         ensures per_call { self.new.per_call ≡ self.old.per_call }

@@ -1,4 +1,4 @@
--- What a table comes to, into which all was stored that senders owe.
+-- The logs of a table in which all that is expected of the senders was stored.
 use Rattle.std.proofs.Common.{◌≡◌, ◌≢◌, inl, inr, ℕ, zero, suc, ◌<◌, nat_eq, Bool, true, false, cond, List, [], ◌∷◌, ◌++◌, Some, length, map, slice_get, refl, sym, ap, ◌∙◌, subst, arith}
 use Rattle.std.specs.Option.{option_map}
 use Rattle.std.specs.List.{AllByRecursion}
@@ -10,43 +10,43 @@ use Rattle.redo_line.specs.Source.{source, sources, with_stream}
 use Rattle.redo_device.proofs.GaveLemmas.{weaker}
 use Rattle.redo_logs.specs.declared.log_state.LogState.{LogState}
 use Rattle.redo_logs.specs.declared.log_state.LogState.TheVariants.{Ended, Failed, Running}
-use Rattle.redo_logs.specs.Logs.{Log, changed, new_log, with_entries}
+use Rattle.redo_logs.specs.Logs.{Log, update_log, new_log, with_entries}
 use Rattle.redo_wire.specs.declared.item.Item.{Item}
 use Rattle.redo_wire.specs.declared.item.What.{What}
 use Rattle.redo_wire.specs.declared.item.What.TheVariants.{End, Fail, Line, Lines}
-use Rattle.redo_wire.specs.Machine.{of}
-use Rattle.redo_wire.specs.Mailbox.{IsAmong, Met}
-use Rattle.redo_gather.specs.declared.collecting.Collector.{Collector}
-use Rattle.redo_gather.specs.Owed.{Given, IsWhole}
-use Rattle.redo_gather.specs.Private.Collecting.{AllTaken, Holds, IsNoWant, NoneWants, Owes, changed_by, step, stored}
-use Rattle.redo_gather.specs.Private.Dealing.{share_from}
+use Rattle.redo_wire.specs.Machine.{items_of}
+use Rattle.redo_wire.specs.Mailbox.{IsMet, Met}
+use Rattle.redo_gather.specs.declared.collector.Collector.{Collector}
+use Rattle.redo_gather.specs.Expected.{Given, IsComplete}
+use Rattle.redo_gather.specs.Private.Collecting.{AllTaken, StoresAllTaken, IsNotOutOfMemory, NoneOutOfMemory, PostedExpected, changed_by, step, stored}
+use Rattle.redo_gather.specs.Private.Dealing.{share_of}
 use Rattle.redo_gather.specs.Private.Storing.{state_after}
-use Rattle.redo_gather.specs.Sending.{AreOwed, item_of, line_of, singles, singles_in}
-use Rattle.redo_gather.specs.Streams.{Told}
+use Rattle.redo_gather.specs.Sending.{AreExpected, item_of, line_of, singles, singles_in}
+use Rattle.redo_gather.specs.Streams.{KnownInput}
 use Rattle.redo_gather.proofs.InterleavingLemmas.{interleaved, length-stored, none-on, none_in_told, on, ran_told, run, stored-append}
 use Rattle.redo_gather.proofs.OwedLemmas.{is_whole}
 use Rattle.redo_gather.proofs.PostedLemmas.{singles-append}
 use Rattle.redo_gather.proofs.SettledLemmas.{AreSettled, IsSettled, log_after}
 use Rattle.redo_gather.proofs.SharesLemmas.{told_of_each}
 
--- ---- an item more
+-- ---- one more item
 
 abbrev with_lines : LogState → List Entry → Log → Log
 with_lines Running entries log = with_entries entries log
 with_lines Ended entries log = log
 with_lines (Failed fault) entries log = log
 
-changed-same : (number : ℕ) (change other : Log → Log) → ((log : Log) → change log ≡ other log) → (table : List Log) → changed number change table ≡ changed number other table
-changed-same number change other same [] = refl
-changed-same zero change other same (log ∷ table) = ap (λ l. l ∷ table) (same log)
-changed-same (suc number) change other same (log ∷ table) = ap (λ logs. log ∷ logs) (changed-same number change other same table)
+update_log-same : (number : ℕ) (change other : Log → Log) → ((log : Log) → change log ≡ other log) → (table : List Log) → update_log number change table ≡ update_log number other table
+update_log-same number change other same [] = refl
+update_log-same zero change other same (log ∷ table) = ap (λ l. l ∷ table) (same log)
+update_log-same (suc number) change other same (log ∷ table) = ap (λ logs. log ∷ logs) (update_log-same number change other same table)
 
-changed-twice : (number : ℕ) (first second : Log → Log) (table : List Log) → changed number second (changed number first table) ≡ changed number (λ log. second (first log)) table
-changed-twice number first second [] = refl
-changed-twice zero first second (log ∷ table) = refl
-changed-twice (suc number) first second (log ∷ table) = ap (λ logs. log ∷ logs) (changed-twice number first second table)
+update_log-twice : (number : ℕ) (first second : Log → Log) (table : List Log) → update_log number second (update_log number first table) ≡ update_log number (λ log. second (first log)) table
+update_log-twice number first second [] = refl
+update_log-twice zero first second (log ∷ table) = refl
+update_log-twice (suc number) first second (log ∷ table) = ap (λ logs. log ∷ logs) (update_log-twice number first second table)
 
-unchanged : (number : ℕ) (table : List Log) → changed number (λ log. log) table ≡ table
+unchanged : (number : ℕ) (table : List Log) → update_log number (λ log. log) table ≡ table
 unchanged number [] = refl
 unchanged zero (log ∷ table) = refl
 unchanged (suc number) (log ∷ table) = ap (λ logs. log ∷ logs) (unchanged number table)
@@ -63,17 +63,17 @@ one_line target entries entry others Running = ap (λ (es : List Entry). record 
 one_line target entries entry others Ended = refl
 one_line target entries entry others (Failed fault) = refl
 
-stored_lines : (sender stream : ℕ) (entries : List Entry) (table : List Log) → stored (map (line_of sender stream) entries) table ≡ changed stream (λ log. with_lines log.state entries log) table
-stored_lines sender stream [] table = sym (changed-same stream (λ log. with_lines log.state [] log) (λ log. log) (λ log. no_line log.target log.entries log.state) table ∙ unchanged stream table)
+stored_lines : (sender stream : ℕ) (entries : List Entry) (table : List Log) → stored (map (line_of sender stream) entries) table ≡ update_log stream (λ log. with_lines log.state entries log) table
+stored_lines sender stream [] table = sym (update_log-same stream (λ log. with_lines log.state [] log) (λ log. log) (λ log. no_line log.target log.entries log.state) table ∙ unchanged stream table)
 stored_lines sender stream (entry ∷ entries) table =
-    stored_lines sender stream entries (changed stream (step (Line entry)) table)
-    ∙ changed-twice stream (step (Line entry)) (λ log. with_lines log.state entries log) table
-    ∙ changed-same stream _ (λ log. with_lines log.state (entry ∷ entries) log) (λ log. one_line log.target log.entries entry entries log.state) table
+    stored_lines sender stream entries (update_log stream (step (Line entry)) table)
+    ∙ update_log-twice stream (step (Line entry)) (λ log. with_lines log.state entries log) table
+    ∙ update_log-same stream _ (λ log. with_lines log.state (entry ∷ entries) log) (λ log. one_line log.target log.entries entry entries log.state) table
 
-stored_one : (sender stream : ℕ) (what : What) (table : List Log) → stored (singles_in sender stream what) table ≡ changed stream (step what) table
+stored_one : (sender stream : ℕ) (what : What) (table : List Log) → stored (singles_in sender stream what) table ≡ update_log stream (step what) table
 stored_one sender stream (Line entry) table = refl
 stored_one sender stream (Lines entries) table =
-    stored_lines sender stream entries table ∙ changed-same stream _ (step (Lines entries)) (λ log. by log.target log.entries log.state) table
+    stored_lines sender stream entries table ∙ update_log-same stream _ (step (Lines entries)) (λ log. by log.target log.entries log.state) table
   where
     by : (target : List ℕ) (so_far : List Entry) (state : LogState)
         → with_lines state entries (record { target = target; entries = so_far; state = state }) ≡ changed_by state (Lines entries) (record { target = target; entries = so_far; state = state })
@@ -83,72 +83,72 @@ stored_one sender stream (Lines entries) table =
 stored_one sender stream End table = refl
 stored_one sender stream (Fail fault) table = refl
 
-none_lines : (sender stream : ℕ) (entries : List Entry) → NoneWants (map (line_of sender stream) entries)
+none_lines : (sender stream : ℕ) (entries : List Entry) → NoneOutOfMemory (map (line_of sender stream) entries)
 none_lines sender stream [] = tt
 none_lines sender stream (entry ∷ entries) = ((λ is. absurd (cc)), none_lines sender stream entries)
 
-none_one : (sender stream : ℕ) (what : What) → what ≢ Fail OutOfMemory → NoneWants (singles_in sender stream what)
+none_one : (sender stream : ℕ) (what : What) → what ≢ Fail OutOfMemory → NoneOutOfMemory (singles_in sender stream what)
 none_one sender stream (Line entry) had = ((λ is. absurd (cc)), tt)
 none_one sender stream (Lines entries) had = none_lines sender stream entries
 none_one sender stream End had = ((λ is. absurd (cc)), tt)
 none_one sender stream (Fail fault) had = (had, tt)
 
-none-append : (front behind : List Item) → NoneWants front → NoneWants behind → NoneWants (front ++ behind)
+none-append : (front behind : List Item) → NoneOutOfMemory front → NoneOutOfMemory behind → NoneOutOfMemory (front ++ behind)
 none-append [] behind one two = two
 none-append (item ∷ front) behind one two = (one.0, none-append front behind one.1 two)
 
 singles_more : (before : List Item) (item : Item) → singles (before ++ item ∷ []) ≡ singles before ++ singles_in item.sender item.stream item.what
 singles_more before item = singles-append before (item ∷ []) ∙ ap (λ items. singles before ++ items) (append-nil (singles_in item.sender item.stream item.what))
 
-pub holds_more : (names : List (List ℕ)) (before : List Item) (item : Item) (table after : List Log) (refused : Bool) → refused ≡ false → Holds names before table refused
-    → after ≡ changed item.stream (step item.what) table → item.what ≢ Fail OutOfMemory → Holds names (before ++ item ∷ []) after refused
+pub holds_more : (names : List (List ℕ)) (before : List Item) (item : Item) (table after : List Log) (refused : Bool) → refused ≡ false → StoresAllTaken names before table refused
+    → after ≡ update_log item.stream (step item.what) table → item.what ≢ Fail OutOfMemory → StoresAllTaken names (before ++ item ∷ []) after refused
 holds_more names before item table after refused fine holds after_is had _ =
     let was = holds fine in (
-      after_is ∙ ap (changed item.stream (step item.what)) was.0 ∙ sym (stored_one item.sender item.stream item.what (stored (singles before) (map new_log names)))
+      after_is ∙ ap (update_log item.stream (step item.what)) was.0 ∙ sym (stored_one item.sender item.stream item.what (stored (singles before) (map new_log names)))
           ∙ sym (stored-append (singles before) (singles_in item.sender item.stream item.what) (map new_log names))
           ∙ ap (λ items. stored items (map new_log names)) (sym (singles_more before item)),
-      subst NoneWants (sym (singles_more before item)) (none-append (singles before) (singles_in item.sender item.stream item.what) was.1 (none_one item.sender item.stream item.what had)),
+      subst NoneOutOfMemory (sym (singles_more before item)) (none-append (singles before) (singles_in item.sender item.stream item.what) was.1 (none_one item.sender item.stream item.what had)),
     )
 
 -- ---- single items of each sender
 
-of-lines : (own : Bool) (sender number stream : ℕ) (entries : List Entry) → nat_eq number sender ≡ own → of sender (map (line_of number stream) entries) ≡ cond own (map (line_of number stream) entries) []
-of-lines true sender number stream [] is = refl
-of-lines false sender number stream [] is = refl
-of-lines true sender number stream (entry ∷ entries) is =
-    ap (λ b. cond b (line_of number stream entry ∷ of sender (map (line_of number stream) entries)) (of sender (map (line_of number stream) entries))) is
-    ∙ ap (λ items. line_of number stream entry ∷ items) (of-lines true sender number stream entries is)
-of-lines false sender number stream (entry ∷ entries) is =
-    ap (λ b. cond b (line_of number stream entry ∷ of sender (map (line_of number stream) entries)) (of sender (map (line_of number stream) entries))) is
-    ∙ of-lines false sender number stream entries is
+items_of-lines : (own : Bool) (sender number stream : ℕ) (entries : List Entry) → nat_eq number sender ≡ own → items_of sender (map (line_of number stream) entries) ≡ cond own (map (line_of number stream) entries) []
+items_of-lines true sender number stream [] is = refl
+items_of-lines false sender number stream [] is = refl
+items_of-lines true sender number stream (entry ∷ entries) is =
+    ap (λ b. cond b (line_of number stream entry ∷ items_of sender (map (line_of number stream) entries)) (items_of sender (map (line_of number stream) entries))) is
+    ∙ ap (λ items. line_of number stream entry ∷ items) (items_of-lines true sender number stream entries is)
+items_of-lines false sender number stream (entry ∷ entries) is =
+    ap (λ b. cond b (line_of number stream entry ∷ items_of sender (map (line_of number stream) entries)) (items_of sender (map (line_of number stream) entries))) is
+    ∙ items_of-lines false sender number stream entries is
 
-of-single : (own : Bool) (sender number stream : ℕ) (what : What) → nat_eq number sender ≡ own → of sender (singles_in number stream what) ≡ cond own (singles_in number stream what) []
-of-single true sender number stream (Line entry) is = of-lines true sender number stream (entry ∷ []) is
-of-single false sender number stream (Line entry) is = of-lines false sender number stream (entry ∷ []) is
-of-single own sender number stream (Lines entries) is = of-lines own sender number stream entries is
-of-single true sender number stream End is = ap (λ b. cond b (item_of number stream End ∷ []) []) is
-of-single false sender number stream End is = ap (λ b. cond b (item_of number stream End ∷ []) []) is
-of-single true sender number stream (Fail fault) is = ap (λ b. cond b (item_of number stream (Fail fault) ∷ []) []) is
-of-single false sender number stream (Fail fault) is = ap (λ b. cond b (item_of number stream (Fail fault) ∷ []) []) is
+items_of-single : (own : Bool) (sender number stream : ℕ) (what : What) → nat_eq number sender ≡ own → items_of sender (singles_in number stream what) ≡ cond own (singles_in number stream what) []
+items_of-single true sender number stream (Line entry) is = items_of-lines true sender number stream (entry ∷ []) is
+items_of-single false sender number stream (Line entry) is = items_of-lines false sender number stream (entry ∷ []) is
+items_of-single own sender number stream (Lines entries) is = items_of-lines own sender number stream entries is
+items_of-single true sender number stream End is = ap (λ b. cond b (item_of number stream End ∷ []) []) is
+items_of-single false sender number stream End is = ap (λ b. cond b (item_of number stream End ∷ []) []) is
+items_of-single true sender number stream (Fail fault) is = ap (λ b. cond b (item_of number stream (Fail fault) ∷ []) []) is
+items_of-single false sender number stream (Fail fault) is = ap (λ b. cond b (item_of number stream (Fail fault) ∷ []) []) is
 
-of-append : (sender : ℕ) (front behind : List Item) → of sender (front ++ behind) ≡ of sender front ++ of sender behind
-of-append sender [] behind = refl
-of-append sender (item ∷ front) behind = by (nat_eq item.sender sender) (of-append sender front behind)
+items_of-append : (sender : ℕ) (front behind : List Item) → items_of sender (front ++ behind) ≡ items_of sender front ++ items_of sender behind
+items_of-append sender [] behind = refl
+items_of-append sender (item ∷ front) behind = by (nat_eq item.sender sender) (items_of-append sender front behind)
   where
-    by : (own : Bool) → of sender (front ++ behind) ≡ of sender front ++ of sender behind
-        → cond own (item ∷ of sender (front ++ behind)) (of sender (front ++ behind)) ≡ cond own (item ∷ of sender front) (of sender front) ++ of sender behind
+    by : (own : Bool) → items_of sender (front ++ behind) ≡ items_of sender front ++ items_of sender behind
+        → cond own (item ∷ items_of sender (front ++ behind)) (items_of sender (front ++ behind)) ≡ cond own (item ∷ items_of sender front) (items_of sender front) ++ items_of sender behind
     by true is = ap (λ items. item ∷ items) is
     by false is = is
 
-of-singles : (sender : ℕ) (items : List Item) → of sender (singles items) ≡ singles (of sender items)
-of-singles sender [] = refl
-of-singles sender (item ∷ items) =
-    of-append sender (singles_in item.sender item.stream item.what) (singles items)
-    ∙ ap (λ list. list ++ of sender (singles items)) (of-single (nat_eq item.sender sender) sender item.sender item.stream item.what refl)
-    ∙ by (nat_eq item.sender sender) (of-singles sender items)
+items_of-singles : (sender : ℕ) (items : List Item) → items_of sender (singles items) ≡ singles (items_of sender items)
+items_of-singles sender [] = refl
+items_of-singles sender (item ∷ items) =
+    items_of-append sender (singles_in item.sender item.stream item.what) (singles items)
+    ∙ ap (λ list. list ++ items_of sender (singles items)) (items_of-single (nat_eq item.sender sender) sender item.sender item.stream item.what refl)
+    ∙ by (nat_eq item.sender sender) (items_of-singles sender items)
   where
-    by : (own : Bool) → of sender (singles items) ≡ singles (of sender items)
-        → cond own (singles_in item.sender item.stream item.what) [] ++ of sender (singles items) ≡ singles (cond own (item ∷ of sender items) (of sender items))
+    by : (own : Bool) → items_of sender (singles items) ≡ singles (items_of sender items)
+        → cond own (singles_in item.sender item.stream item.what) [] ++ items_of sender (singles items) ≡ singles (cond own (item ∷ items_of sender items) (items_of sender items))
     by true is = ap (λ list. singles_in item.sender item.stream item.what ++ list) is
     by false is = is
 
@@ -186,58 +186,58 @@ by_place max_bytes (one ∷ given) (log ∷ table) count each =
     same : (other : Log) → Some log ≡ Some other → other ≡ log
     same other is = cc
 
-name_there : (names : List (List ℕ)) (told : List Told) (place : ℕ) (one : Given) → slice_get (sources names told) place ≡ Some one → slice_get names place ≡ Some one.target
-name_there [] told place one there = absurd (none-some one there)
+name_there : (names : List (List ℕ)) (known : List KnownInput) (place : ℕ) (one : Given) → slice_get (sources names known) place ≡ Some one → slice_get names place ≡ Some one.target
+name_there [] known place one there = absurd (none-some one there)
 name_there (name ∷ names) [] place one there = absurd (none-some one there)
-name_there (name ∷ names) (stream ∷ told) zero one there = same there
+name_there (name ∷ names) (stream ∷ known) zero one there = same there
   where
     same : Some (source name stream.must_close stream.stream) ≡ Some one → Some name ≡ Some one.target
     same is = ap (option_map (λ (given : Given). given.target)) is
-name_there (name ∷ names) (stream ∷ told) (suc place) one there = name_there names told place one there
+name_there (name ∷ names) (stream ∷ known) (suc place) one there = name_there names known place one there
 
-posted_by_number : (max_bytes senders number : ℕ) (given : List Given) (taken : List Item) (met : List Met) → IsAmong number met → AllByRecursion (λ (m : Met). m.1 ≡ of m.0 taken) met
-    → AllByRecursion (Owes max_bytes senders given) met → AreOwed max_bytes number (share_from senders number 0 given) (singles (of number taken))
+posted_by_number : (max_bytes senders number : ℕ) (given : List Given) (taken : List Item) (met : List Met) → IsMet number met → AllByRecursion (λ (m : Met). m.1 ≡ items_of m.0 taken) met
+    → AllByRecursion (PostedExpected max_bytes senders given) met → AreExpected max_bytes number (share_of senders number 0 given) (singles (items_of number taken))
 posted_by_number max_bytes senders number given taken [] among whole owes = absurd among
 posted_by_number max_bytes senders number given taken (met ∷ others) (inl same) whole owes =
-    subst (λ n. AreOwed max_bytes n (share_from senders n 0 given) (singles (of n taken))) same
-    (subst (λ items. AreOwed max_bytes met.0 (share_from senders met.0 0 given) (singles items)) whole.0 owes.0)
+    subst (λ n. AreExpected max_bytes n (share_of senders n 0 given) (singles (items_of n taken))) same
+    (subst (λ items. AreExpected max_bytes met.0 (share_of senders met.0 0 given) (singles items)) whole.0 owes.0)
 posted_by_number max_bytes senders number given taken (met ∷ others) (inr among) whole owes = posted_by_number max_bytes senders number given taken others among whole.1 owes.1
 
-module _ (max_bytes senders : ℕ) (names : List (List ℕ)) (told : List Told) (taken : List Item) (met : List Met) (table : List Log)
-    (count : length names ≡ length told) (some : 0 < senders) (all_met : (number : ℕ) → number < senders → IsAmong number met)
-    (whole : AllByRecursion (λ (m : Met). m.1 ≡ of m.0 taken) met) (own : AllByRecursion (λ (item : Item). item.sender < senders) taken)
-    (owes : AllByRecursion (Owes max_bytes senders (sources names told)) met)
-    (holds : (table ≡ stored (singles taken) (map new_log names)) × NoneWants (singles taken)) where
-  each : (place : ℕ) (one : Given) → slice_get (sources names told) place ≡ Some one → (log : Log) × (slice_get table place ≡ Some log) × IsSettled max_bytes one log
+module _ (max_bytes senders : ℕ) (names : List (List ℕ)) (known : List KnownInput) (taken : List Item) (met : List Met) (table : List Log)
+    (count : length names ≡ length known) (some : 0 < senders) (all_met : (number : ℕ) → number < senders → IsMet number met)
+    (whole : AllByRecursion (λ (m : Met). m.1 ≡ items_of m.0 taken) met) (own : AllByRecursion (λ (item : Item). item.sender < senders) taken)
+    (owes : AllByRecursion (PostedExpected max_bytes senders (sources names known)) met)
+    (holds : (table ≡ stored (singles taken) (map new_log names)) × NoneOutOfMemory (singles taken)) where
+  each : (place : ℕ) (one : Given) → slice_get (sources names known) place ≡ Some one → (log : Log) × (slice_get table place ≡ Some log) × IsSettled max_bytes one log
   each place one there =
       let told_there =
-      told_of_each max_bytes senders (sources names told) (singles taken) some (below_singles senders taken own)
-      (λ sender below. subst (AreOwed max_bytes sender (share_from senders sender 0 (sources names told))) (sym (of-singles sender taken))
-      (posted_by_number max_bytes senders sender (sources names told) taken met (all_met sender below) whole owes))
+      told_of_each max_bytes senders (sources names known) (singles taken) some (below_singles senders taken own)
+      (λ sender below. subst (AreExpected max_bytes sender (share_of senders sender 0 (sources names known))) (sym (items_of-singles sender taken))
+      (posted_by_number max_bytes senders sender (sources names known) taken met (all_met sender below) whole owes))
       place one there in
       let entries = told_there.0 in let fault = told_there.1 in
-      let had = none_in_told entries fault (subst (AllByRecursion IsNoWant) told_there.2 (none-on place (singles taken) holds.1)) in (
+      let had = none_in_told entries fault (subst (AllByRecursion IsNotOutOfMemory) told_there.2 (none-on place (singles taken) holds.1)) in (
         record { target = one.target; entries = entries; state = state_after fault },
         ap (λ t. slice_get t place) holds.0 ∙ interleaved (singles taken) (map new_log names) place
-            ∙ ap (option_map (run (on place (singles taken)))) (slice_get-map new_log names place ∙ ap (option_map new_log) (name_there names told place one there))
+            ∙ ap (option_map (run (on place (singles taken)))) (slice_get-map new_log names place ∙ ap (option_map new_log) (name_there names known place one there))
             ∙ ap (λ whats. Some (run whats (new_log one.target))) told_there.2 ∙ ap Some (ran_told entries fault one.target),
-        weaker one.stream (λ stream. IsWhole max_bytes (with_stream stream one) entries fault) (λ stream. record { target = one.target; entries = entries; state = state_after fault } ≡ log_after max_bytes (with_stream stream one))
+        weaker one.stream (λ stream. IsComplete max_bytes (with_stream stream one) entries fault) (λ stream. record { target = one.target; entries = entries; state = state_after fault } ≡ log_after max_bytes (with_stream stream one))
             (λ stream is. λ i. record { target = one.target; entries = is.0 i; state = state_after (is.1 i) }) (is_whole max_bytes one entries fault told_there.3 had),
       )
 
-  count_sources : (names : List (List ℕ)) (told : List Told) → length names ≡ length told → length names ≡ length (sources names told)
-  count_sources [] told same = refl
+  count_sources : (names : List (List ℕ)) (known : List KnownInput) → length names ≡ length known → length names ≡ length (sources names known)
+  count_sources [] known same = refl
   count_sources (name ∷ names) [] same = absurd (omega (arith, same))
-  count_sources (name ∷ names) (one ∷ told) same = ap suc (count_sources names told (omega (arith, same)))
+  count_sources (name ∷ names) (one ∷ known) same = ap suc (count_sources names known (omega (arith, same)))
 
-  pub all_settled : AreSettled max_bytes (sources names told) table
+  pub all_settled : AreSettled max_bytes (sources names known) table
   all_settled =
-      by_place max_bytes (sources names told) table
-      (ap length holds.0 ∙ length-stored (singles taken) (map new_log names) ∙ length-map names new_log ∙ count_sources names told count) each
+      by_place max_bytes (sources names known) table
+      (ap length holds.0 ∙ length-stored (singles taken) (map new_log names) ∙ length-map names new_log ∙ count_sources names known count) each
 
--- the table of a collector that took all
-pub settled_table : (max_bytes : ℕ) (names : List (List ℕ)) (told : List Told) (collector : Collector) → AllTaken max_bytes names told collector → collector.refused ≡ false
-    → AreSettled max_bytes (sources names told) collector.table
-settled_table max_bytes names told collector taken fine =
-    all_settled max_bytes collector.mailbox.mailbox.senders names told collector.mailbox.taken collector.mailbox.met collector.table taken.owed.count taken.owed.some taken.met taken.whole taken.own
-    taken.owed.owed (taken.owed.holds fine)
+-- The table of a collector that took everything.
+pub settled_table : (max_bytes : ℕ) (names : List (List ℕ)) (known : List KnownInput) (collector : Collector) → AllTaken max_bytes names known collector → collector.refused ≡ false
+    → AreSettled max_bytes (sources names known) collector.table
+settled_table max_bytes names known collector taken fine =
+    all_settled max_bytes collector.mailbox.mailbox.senders names known collector.mailbox.taken collector.mailbox.met collector.table taken.expected.count taken.expected.some taken.met taken.whole taken.own
+    taken.expected.expected (taken.expected.holds fine)

@@ -1,50 +1,50 @@
--- How streams are dealt.
+-- How streams are distributed.
 use Rattle.std.proofs.Common.{◌≡◌, ◌≢◌, ◌⊎◌, inl, inr, ℕ, zero, suc, ◌+◌, ◌%◌, ◌<◌, nat_eq, Bool, true, false, cond, List, [], ◌∷◌, ◌++◌, Option, Some, length, map, replicate, slice_get, slice_set, get_or, refl, sym, ap, ◌∙◌, arith}
 use Rattle.std.proofs.lemmas.Bool.{eq-eqb}
 use Rattle.std.proofs.lemmas.Bool.Decides.{eqb_tells}
 use Rattle.std.proofs.lemmas.List.{append-nil, length-replicate, length-set, map_push}
 use Rattle.redo_line.specs.Source.{source, sources}
 use Rattle.redo_device.specs.Feed.{Stream}
-use Rattle.redo_gather.specs.Owed.{Given}
-use Rattle.redo_gather.specs.Private.Dealing.{AreDealt, AreEmpty, share_from}
-use Rattle.redo_gather.specs.Sending.{Numbered, numbered}
-use Rattle.redo_gather.specs.Streams.{Told}
+use Rattle.redo_gather.specs.Expected.{Given}
+use Rattle.redo_gather.specs.Private.Dealing.{AreDistributed, AreEmpty, share_of}
+use Rattle.redo_gather.specs.Sending.{NumberedInput, numbered_input}
+use Rattle.redo_gather.specs.Streams.{KnownInput}
 
--- a stream more, which goes to one of the senders
+-- One more stream, which goes to one of the senders.
 pub one_more : (senders sender number : ℕ) (given : List Given) (one : Given)
-    → share_from senders sender number (given ++ one ∷ []) ≡ share_from senders sender number given ++ cond (nat_eq ((number + length given) % senders) sender) ((number + length given, one) ∷ []) []
+    → share_of senders sender number (given ++ one ∷ []) ≡ share_of senders sender number given ++ cond (nat_eq ((number + length given) % senders) sender) ((number + length given, one) ∷ []) []
 one_more senders sender number [] one = ap (λ n. cond (nat_eq (n % senders) sender) ((n, one) ∷ []) []) (omega arith)
 one_more senders sender number (first ∷ given) one =
     let place : suc number + length given ≡ number + suc (length given) = omega arith in
     by (nat_eq (number % senders) sender) _ _ _ (one_more senders sender (suc number) given one)
-    ∙ ap (λ n. cond (nat_eq (number % senders) sender) ((number, first) ∷ share_from senders sender (suc number) given) (share_from senders sender (suc number) given)
+    ∙ ap (λ n. cond (nat_eq (number % senders) sender) ((number, first) ∷ share_of senders sender (suc number) given) (share_of senders sender (suc number) given)
     ++ cond (nat_eq (n % senders) sender) ((n, one) ∷ []) []) place
   where
-    by : (here : Bool) (all front last : List Numbered) → all ≡ front ++ last → cond here ((number, first) ∷ all) all ≡ cond here ((number, first) ∷ front) front ++ last
+    by : (here : Bool) (all front last : List NumberedInput) → all ≡ front ++ last → cond here ((number, first) ∷ all) all ≡ cond here ((number, first) ∷ front) front ++ last
     by true all front last is = ap (λ share. (number, first) ∷ share) is
     by false all front last is = is
 
--- the first number is 0
+-- The same, if the first number is 0.
 first_more : (senders sender : ℕ) (given : List Given) (one : Given)
-    → share_from senders sender 0 (given ++ one ∷ []) ≡ share_from senders sender 0 given ++ cond (nat_eq (length given % senders) sender) ((length given, one) ∷ []) []
+    → share_of senders sender 0 (given ++ one ∷ []) ≡ share_of senders sender 0 given ++ cond (nat_eq (length given % senders) sender) ((length given, one) ∷ []) []
 first_more senders sender given one =
     let from_0 : 0 + length given ≡ length given = omega arith in
-    one_more senders sender 0 given one ∙ ap (λ n. share_from senders sender 0 given ++ cond (nat_eq (n % senders) sender) ((n, one) ∷ []) []) from_0
+    one_more senders sender 0 given one ∙ ap (λ n. share_of senders sender 0 given ++ cond (nat_eq (n % senders) sender) ((n, one) ∷ []) []) from_0
 
--- ---- dealing
+-- ---- distributing
 
--- where none is left, all were dealt
+-- If none is left, all were distributed.
 pub all_dealt : {A : Type 0} (all dealt left : List A) → all ≡ dealt ++ left → length left ≡ 0 → dealt ≡ all
 all_dealt all dealt [] is none = sym (is ∙ append-nil dealt)
 all_dealt all dealt (x ∷ left) is none = absurd (omega (arith, none))
 
-pub sources-none : (targets : List (List ℕ)) (none : List Told) → none ≡ [] → sources targets none ≡ []
+pub sources-none : (targets : List (List ℕ)) (none : List KnownInput) → none ≡ [] → sources targets none ≡ []
 sources-none [] none is = refl
 sources-none (target ∷ targets) [] is = refl
 sources-none (target ∷ targets) (stream ∷ none) is = absurd (cc)
 
--- a stream for the next target
-pub sources-push : (targets : List (List ℕ)) (streams : List Told) (target : List ℕ) (stream : Told) → slice_get targets (length streams) ≡ Some target
+-- One more stream, for the next target.
+pub sources-push : (targets : List (List ℕ)) (streams : List KnownInput) (target : List ℕ) (stream : KnownInput) → slice_get targets (length streams) ≡ Some target
     → (sources targets (streams ++ stream ∷ []) ≡ sources targets streams ++ source target stream.must_close stream.stream ∷ []) × (length (sources targets streams) ≡ length streams)
 sources-push [] streams target stream here = absurd (cc)
 sources-push (first ∷ targets) [] target stream here = (let same : first ≡ target = cc in λ i. source (same i) stream.must_close stream.stream ∷ sources-none targets [] refl i, refl)
@@ -52,7 +52,7 @@ sources-push (first ∷ targets) (other ∷ streams) target stream here =
     let behind = sources-push targets streams target stream here in
     (ap (λ others. source first other.must_close other.stream ∷ others) behind.0, ap suc behind.1)
 
--- what stands at a place of a list in which one was replaced
+-- The element at an index of a list in which one element was replaced.
 pub replaced : {X : Type 0} (xs : List X) (at k : ℕ) (new there : X) → slice_get (slice_set xs at new) k ≡ Some there → ((k ≢ at) × (slice_get xs k ≡ Some there)) ⊎ ((k ≡ at) × (there ≡ new))
 replaced [] at k new there is = absurd (cc)
 replaced (x ∷ xs) zero zero new there is = inr (refl, (let same : Some new ≡ Some there = is in cc))
@@ -68,34 +68,34 @@ one_of_none zero k none there is = absurd (cc)
 one_of_none (suc n) zero none there is = let same : Some none ≡ Some there = is in cc
 one_of_none (suc n) (suc k) none there is = one_of_none n k none there is
 
--- what stands at a place that there is
+-- The element at an index that exists.
 pub at_place : {X : Type 0} (xs : List X) (k : ℕ) (there : X) → k < length xs → there ≡ get_or xs k there → slice_get xs k ≡ Some there
 at_place [] k there within is = absurd (omega (arith, within))
 at_place (x ∷ xs) zero there within is = ap Some (sym is)
 at_place (x ∷ xs) (suc k) there within is = at_place xs k there (omega (arith, within)) is
 
-module _ {A : Type 0} (tells : A → Option Stream) (senders : ℕ) where
-  pub none_dealt : (shares : List (List (ℕ × List ℕ × Bool × A))) → AreEmpty senders shares → AreDealt tells senders [] shares
+module _ {A : Type 0} (contents : A → Option Stream) (senders : ℕ) where
+  pub none_dealt : (shares : List (List (ℕ × List ℕ × Bool × A))) → AreEmpty senders shares → AreDistributed contents senders [] shares
   none_dealt shares empty = (
     ap length empty ∙ length-replicate senders [],
-    λ sender share here. ap (map (numbered tells)) (one_of_none senders sender [] share (ap (λ s. slice_get s sender) (sym empty) ∙ here)),
+    λ sender share here. ap (map (numbered_input contents)) (one_of_none senders sender [] share (ap (λ s. slice_get s sender) (sym empty) ∙ here)),
   )
 
   pub one_dealt : (given : List Given) (shares : List (List (ℕ × List ℕ × Bool × A))) (one : Given) (item : ℕ × List ℕ × Bool × A) (old new : List (ℕ × List ℕ × Bool × A))
-      → numbered tells item ≡ (length given, one) → slice_get shares (length given % senders) ≡ Some old → new ≡ old ++ item ∷ [] → AreDealt tells senders given shares
-      → AreDealt tells senders (given ++ one ∷ []) (slice_set shares (length given % senders) new)
+      → numbered_input contents item ≡ (length given, one) → slice_get shares (length given % senders) ≡ Some old → new ≡ old ++ item ∷ [] → AreDistributed contents senders given shares
+      → AreDistributed contents senders (given ++ one ∷ []) (slice_set shares (length given % senders) new)
   one_dealt given shares one item old new is there new_is dealt = (
     length-set shares (length given % senders) new ∙ dealt.0,
     λ sender share here. elim (replaced shares (length given % senders) sender new share here) [
       | inl elsewhere ↦
-          dealt.1 sender share elsewhere.1 ∙ sym (append-nil (share_from senders sender 0 given))
-          ∙ ap (λ b. share_from senders sender 0 given ++ cond b ((length given, one) ∷ []) []) (sym (apart sender elsewhere.0))
+          dealt.1 sender share elsewhere.1 ∙ sym (append-nil (share_of senders sender 0 given))
+          ∙ ap (λ b. share_of senders sender 0 given ++ cond b ((length given, one) ∷ []) []) (sym (apart sender elsewhere.0))
           ∙ sym (first_more senders sender given one)
       | inr here ↦
-          ap (map (numbered tells)) (here.1 ∙ new_is) ∙ map_push (numbered tells) old item
-          ∙ ap (λ s. s ++ numbered tells item ∷ []) (dealt.1 sender old (ap (slice_get shares) here.0 ∙ there))
-          ∙ ap (λ n. share_from senders sender 0 given ++ n ∷ []) is
-          ∙ ap (λ b. share_from senders sender 0 given ++ cond b ((length given, one) ∷ []) []) (sym (eq-eqb (length given % senders) sender (sym here.0)))
+          ap (map (numbered_input contents)) (here.1 ∙ new_is) ∙ map_push (numbered_input contents) old item
+          ∙ ap (λ s. s ++ numbered_input contents item ∷ []) (dealt.1 sender old (ap (slice_get shares) here.0 ∙ there))
+          ∙ ap (λ n. share_of senders sender 0 given ++ n ∷ []) is
+          ∙ ap (λ b. share_of senders sender 0 given ++ cond b ((length given, one) ∷ []) []) (sym (eq-eqb (length given % senders) sender (sym here.0)))
           ∙ sym (first_more senders sender given one)
     ],
   )

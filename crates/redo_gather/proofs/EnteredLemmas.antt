@@ -1,11 +1,11 @@
--- A table into which targets were entered, and the readers of their streams, each with its mark.
+-- A table in which targets were entered, and the readers of their streams, each with its must-close flag.
 use Rattle.std.proofs.Common.{◌≡◌, ℕ, ◌≤◌, Bool, List, Option, Result, length, map, zip, sym, ap, ◌∙◌, subst}
 use Rattle.std.proofs.lemmas.List.{length-map}
 use Rattle.redo_device.specs.Feed.{Stream}
-use Rattle.redo_logs.specs.Logs.{Log, most, new_log, targets_of}
+use Rattle.redo_logs.specs.Logs.{Log, max_logs, new_log, targets_of}
 use Rattle.redo_gather.specs.declared.gather_fault.GatherFault.{GatherFault}
 use Rattle.redo_gather.specs.Private.Collecting.{IsGathered}
-use Rattle.redo_gather.specs.Streams.{told_by, told_of}
+use Rattle.redo_gather.specs.Streams.{known_input, known_inputs}
 use Rattle.redo_gather.proofs.EnteringLemmas.{targets-entered}
 use Rattle.redo_gather.proofs.MarkLemmas.{count_zip}
 
@@ -19,17 +19,17 @@ module _ (names : List (List ℕ)) (table : List Log) (entered : table ≡ map n
   pub begins_empty : table ≡ map new_log (targets_of table)
   begins_empty = entered ∙ ap (map new_log) (sym targets_are)
 
-  pub has_room : length names ≤ most → length table ≤ most
-  has_room few = subst (λ (n : ℕ). n ≤ most) (sym count_is) few
+  pub has_room : length names ≤ max_logs → length table ≤ max_logs
+  has_room few = subst (λ (n : ℕ). n ≤ max_logs) (sym count_is) few
 
-  module _ (R : Type 0) (marks : List Bool) (readers : List R) (pairs : List (Bool × R)) (pairs_are : pairs ≡ zip marks readers) where
-    -- as many as there are logs
-    pub one_for_each : length marks ≡ length names → length readers ≡ length names → length pairs ≡ length table
-    one_for_each marked read = ap length pairs_are ∙ count_zip marks readers (read ∙ sym marked) ∙ read ∙ sym count_is
+  module _ (R : Type 0) (flags : List Bool) (readers : List R) (pairs : List (Bool × R)) (pairs_are : pairs ≡ zip flags readers) where
+    -- There are as many readers as logs.
+    pub one_for_each : length flags ≡ length names → length readers ≡ length names → length pairs ≡ length table
+    one_for_each marked read = ap length pairs_are ∙ count_zip flags readers (read ∙ sym marked) ∙ read ∙ sym count_is
 
-    -- what is gathered of the table is gathered of the names, the marks and the readers
-    pub gathered_of : (tells : R → Option Stream) (max_bytes : ℕ) (result : Result (List Log) GatherFault)
-        → IsGathered max_bytes (targets_of table) (map (told_by tells) pairs) result → IsGathered max_bytes names (told_of tells marks readers) result
-    gathered_of tells max_bytes result gathered =
-        subst (λ own. IsGathered max_bytes own (told_of tells marks readers) result) targets_are
-        (subst (λ given. IsGathered max_bytes (targets_of table) (map (told_by tells) given) result) pairs_are gathered)
+    -- A result gathered for the table is gathered for the names, the marks and the readers.
+    pub gathered_of : (contents : R → Option Stream) (max_bytes : ℕ) (result : Result (List Log) GatherFault)
+        → IsGathered max_bytes (targets_of table) (map (known_input contents) pairs) result → IsGathered max_bytes names (known_inputs contents flags readers) result
+    gathered_of contents max_bytes result gathered =
+        subst (λ own. IsGathered max_bytes own (known_inputs contents flags readers) result) targets_are
+        (subst (λ given. IsGathered max_bytes (targets_of table) (map (known_input contents) given) result) pairs_are gathered)

@@ -1,4 +1,4 @@
--- Items of several streams, in whatever order: each log takes those of its own stream.
+-- Items of several streams, in any order: each log takes the items of its own stream.
 use Rattle.std.proofs.Common.{◌≡◌, ◌≢◌, inl, inr, ℕ, zero, suc, nat_eq, Bool, true, false, cond, List, [], ◌∷◌, ◌++◌, Option, None, Some, length, map, slice_get, refl, sym, ap, ◌∙◌}
 use Rattle.std.specs.Option.{option_map}
 use Rattle.std.specs.List.{AllByRecursion}
@@ -9,16 +9,16 @@ use Rattle.redo_line.specs.declared.entry.Entry.{Entry}
 use Rattle.redo_line.specs.declared.stream_fault.StreamFault.{StreamFault}
 use Rattle.redo_line.specs.declared.stream_fault.StreamFault.TheVariants.{OutOfMemory}
 use Rattle.redo_logs.specs.declared.log_state.LogState.TheVariants.{Running}
-use Rattle.redo_logs.specs.Logs.{Log, changed}
-use Rattle.redo_logs.proofs.ChangedLemmas.{length-changed}
+use Rattle.redo_logs.specs.Logs.{Log, update_log}
+use Rattle.redo_logs.proofs.ChangedLemmas.{length-update_log}
 use Rattle.redo_wire.specs.declared.item.Item.{Item}
 use Rattle.redo_wire.specs.declared.item.What.{What}
 use Rattle.redo_wire.specs.declared.item.What.TheVariants.{Line}
-use Rattle.redo_gather.specs.Private.Collecting.{IsNoWant, NoneWants, step, stored}
+use Rattle.redo_gather.specs.Private.Collecting.{IsNotOutOfMemory, NoneOutOfMemory, step, stored}
 use Rattle.redo_gather.specs.Private.Storing.{state_after}
-use Rattle.redo_gather.specs.Sending.{item_of, last_of, line_of, stream_items}
+use Rattle.redo_gather.specs.Sending.{item_of, final_what, line_of, stream_items}
 
--- what items of a stream tell, in order
+-- The contents of a stream's items, in order.
 abbrev pub on : ℕ → List Item → List What
 on stream [] = []
 on stream (item ∷ items) = cond (nat_eq item.stream stream) (item.what ∷ on stream items) (on stream items)
@@ -47,12 +47,12 @@ on-append stream (item ∷ front) behind = by (nat_eq item.stream stream) (on-ap
 
 -- ---- each log
 
-log_here : (number : ℕ) (change : Log → Log) (table : List Log) → slice_get (changed number change table) number ≡ option_map change (slice_get table number)
+log_here : (number : ℕ) (change : Log → Log) (table : List Log) → slice_get (update_log number change table) number ≡ option_map change (slice_get table number)
 log_here number change [] = refl
 log_here zero change (log ∷ table) = refl
 log_here (suc number) change (log ∷ table) = log_here number change table
 
-log_else : (number other : ℕ) (change : Log → Log) (table : List Log) → number ≢ other → slice_get (changed number change table) other ≡ slice_get table other
+log_else : (number other : ℕ) (change : Log → Log) (table : List Log) → number ≢ other → slice_get (update_log number change table) other ≡ slice_get table other
 log_else number other change [] differ = refl
 log_else zero zero change (log ∷ table) differ = absurd (differ refl)
 log_else zero (suc other) change (log ∷ table) differ = refl
@@ -70,12 +70,12 @@ ran_one what others (Some log) = refl
 pub interleaved : (items : List Item) (table : List Log) (stream : ℕ) → slice_get (stored items table) stream ≡ option_map (run (on stream items)) (slice_get table stream)
 interleaved [] table stream = ran_none (slice_get table stream)
 interleaved (item ∷ items) table stream =
-    let behind = interleaved items (changed item.stream (step item.what) table) stream in
+    let behind = interleaved items (update_log item.stream (step item.what) table) stream in
     elim (eqb_tells item.stream stream) [
       | inl same ↦
           behind
           ∙ ap (option_map (run (on stream items)))
-          (ap (λ k. slice_get (changed k (step item.what) table) stream) same.1 ∙ log_here stream (step item.what) table)
+          (ap (λ k. slice_get (update_log k (step item.what) table) stream) same.1 ∙ log_here stream (step item.what) table)
           ∙ ran_one item.what (on stream items) (slice_get table stream)
           ∙ ap (λ whats. option_map (run whats) (slice_get table stream)) (sym (on-own stream item items same.1))
       | inr apart ↦
@@ -85,11 +85,11 @@ interleaved (item ∷ items) table stream =
 
 pub length-stored : (items : List Item) (table : List Log) → length (stored items table) ≡ length table
 length-stored [] table = refl
-length-stored (item ∷ items) table = length-stored items (changed item.stream (step item.what) table) ∙ length-changed item.stream (step item.what) table
+length-stored (item ∷ items) table = length-stored items (update_log item.stream (step item.what) table) ∙ length-update_log item.stream (step item.what) table
 
 pub stored-append : (front behind : List Item) (table : List Log) → stored (front ++ behind) table ≡ stored behind (stored front table)
 stored-append [] behind table = refl
-stored-append (item ∷ front) behind table = stored-append front behind (changed item.stream (step item.what) table)
+stored-append (item ∷ front) behind table = stored-append front behind (update_log item.stream (step item.what) table)
 
 -- ---- a whole stream
 
@@ -101,10 +101,10 @@ ran_lines (entry ∷ entries) others target so_far =
     ∙ ap (λ (es : List Entry). run others (record { target = target; entries = es; state = Running })) (append_assoc so_far (entry ∷ []) entries)
 
 pub ran_told : (entries : List Entry) (fault : Option StreamFault) (target : List ℕ)
-    → run (map Line entries ++ last_of fault ∷ []) (record { target = target; entries = []; state = Running }) ≡ record { target = target; entries = entries; state = state_after fault }
-ran_told entries fault target = ran_lines entries (last_of fault ∷ []) target [] ∙ by fault
+    → run (map Line entries ++ final_what fault ∷ []) (record { target = target; entries = []; state = Running }) ≡ record { target = target; entries = entries; state = state_after fault }
+ran_told entries fault target = ran_lines entries (final_what fault ∷ []) target [] ∙ by fault
   where
-    by : (fault : Option StreamFault) → run (last_of fault ∷ []) (record { target = target; entries = entries; state = Running }) ≡ record { target = target; entries = entries; state = state_after fault }
+    by : (fault : Option StreamFault) → run (final_what fault ∷ []) (record { target = target; entries = entries; state = Running }) ≡ record { target = target; entries = entries; state = state_after fault }
     by None = refl
     by (Some fault) = refl
 
@@ -118,26 +118,26 @@ lines_else sender stream other [] differ = refl
 lines_else sender stream other (entry ∷ entries) differ =
     on-other other (line_of sender stream entry) (map (line_of sender stream) entries) differ ∙ lines_else sender stream other entries differ
 
-pub told_here : (sender stream : ℕ) (entries : List Entry) (fault : Option StreamFault) → on stream (stream_items sender stream entries fault) ≡ map Line entries ++ last_of fault ∷ []
+pub told_here : (sender stream : ℕ) (entries : List Entry) (fault : Option StreamFault) → on stream (stream_items sender stream entries fault) ≡ map Line entries ++ final_what fault ∷ []
 told_here sender stream entries fault =
-    on-append stream (map (line_of sender stream) entries) (item_of sender stream (last_of fault) ∷ [])
-    ∙ (λ i. lines_here sender stream entries i ++ on-own stream (item_of sender stream (last_of fault)) [] refl i)
+    on-append stream (map (line_of sender stream) entries) (item_of sender stream (final_what fault) ∷ [])
+    ∙ (λ i. lines_here sender stream entries i ++ on-own stream (item_of sender stream (final_what fault)) [] refl i)
 
 pub told_else : (sender stream other : ℕ) (entries : List Entry) (fault : Option StreamFault) → stream ≢ other → on other (stream_items sender stream entries fault) ≡ []
 told_else sender stream other entries fault differ =
-    on-append other (map (line_of sender stream) entries) (item_of sender stream (last_of fault) ∷ [])
-    ∙ (λ i. lines_else sender stream other entries differ i ++ on-other other (item_of sender stream (last_of fault)) [] differ i)
+    on-append other (map (line_of sender stream) entries) (item_of sender stream (final_what fault) ∷ [])
+    ∙ (λ i. lines_else sender stream other entries differ i ++ on-other other (item_of sender stream (final_what fault)) [] differ i)
 
--- ---- want of memory
+-- ---- memory that ran out
 
-pub none-on : (stream : ℕ) (items : List Item) → NoneWants items → AllByRecursion IsNoWant (on stream items)
+pub none-on : (stream : ℕ) (items : List Item) → NoneOutOfMemory items → AllByRecursion IsNotOutOfMemory (on stream items)
 none-on stream [] none = tt
 none-on stream (item ∷ items) none = by (nat_eq item.stream stream) (none-on stream items none.1)
   where
-    by : (own : Bool) → AllByRecursion IsNoWant (on stream items) → AllByRecursion IsNoWant (cond own (item.what ∷ on stream items) (on stream items))
+    by : (own : Bool) → AllByRecursion IsNotOutOfMemory (on stream items) → AllByRecursion IsNotOutOfMemory (cond own (item.what ∷ on stream items) (on stream items))
     by true others = (none.0, others)
     by false others = others
 
-pub none_in_told : (entries : List Entry) (fault : Option StreamFault) → AllByRecursion IsNoWant (map Line entries ++ last_of fault ∷ []) → fault ≢ Some OutOfMemory
-none_in_told [] fault none is = none.0 (ap last_of is)
+pub none_in_told : (entries : List Entry) (fault : Option StreamFault) → AllByRecursion IsNotOutOfMemory (map Line entries ++ final_what fault ∷ []) → fault ≢ Some OutOfMemory
+none_in_told [] fault none is = none.0 (ap final_what is)
 none_in_told (entry ∷ entries) fault none is = none_in_told entries fault none.1 is

@@ -1,4 +1,4 @@
--- What is owed for a stream, and for a share.
+-- The laws of what is expected for a stream, and for a share.
 use Rattle.std.proofs.Common.{◌≡◌, inl, inr, ℕ, List, [], ◌∷◌, ◌++◌, Option, None, Some, filter_map, refl, sym, ap, ◌∙◌, subst}
 use Rattle.std.proofs.lemmas.List.{append_assoc, append-nil}
 use Rattle.std.proofs.lemmas.Option.{none-some}
@@ -7,36 +7,36 @@ use Rattle.redo_line.specs.declared.stream_fault.StreamFault.{StreamFault}
 use Rattle.redo_line.specs.declared.stream_fault.StreamFault.TheVariants.{OutOfMemory}
 use Rattle.redo_device.specs.Feed.{Stream}
 use Rattle.redo_line.specs.Log.{entries_of, unless_fault}
-use Rattle.redo_line.specs.Source.{Source, fault_from, part_from}
+use Rattle.redo_line.specs.Source.{Source, fault_from, source_entries_before_fault}
 use Rattle.redo_wire.specs.declared.item.Item.{Item}
 use Rattle.redo_wire.specs.declared.item.What.{What}
 use Rattle.redo_wire.specs.declared.item.What.TheVariants.{End, Fail, Line}
-use Rattle.redo_gather.specs.Laws.{AreInTurn, MayOweAll, MayOweFront, OwesFault, OwesInOrder, OwesInTurn, OwesLog, OwesNothing, OwesOne}
-use Rattle.redo_gather.specs.Owed.{IsOwedFor, log_or_part, told_entries}
-use Rattle.redo_gather.specs.Sending.{AreOwed, Numbered, stream_items}
+use Rattle.redo_gather.specs.Laws.{AreConcatenated, MayExpectAll, MayExpectPrefix, ExpectsFault, ExpectsInOrder, ExpectsConcatenation, ExpectsLog, ExpectsNothing, ExpectsOne}
+use Rattle.redo_gather.specs.Expected.{IsExpectedFor, log_or_part, reported_entries}
+use Rattle.redo_gather.specs.Sending.{AreExpected, NumberedInput, stream_items}
 use Rattle.redo_gather.proofs.OwedLemmas.{log_told}
 
 module _ (max_bytes : ℕ) (source : Source Stream) where
-  -- a stream with a fault is told as the entries before it
-  part_told : (fault : StreamFault) → fault_from max_bytes source ≡ Some fault → told_entries max_bytes source ≡ part_from max_bytes source
+  -- The entries of a stream with a fault are the entries before it.
+  part_told : (fault : StreamFault) → fault_from max_bytes source ≡ Some fault → reported_entries max_bytes source ≡ source_entries_before_fault max_bytes source
   part_told fault some =
       let all = filter_map (λ entry. entry) (entries_of source.target source.stream.bytes) in
-      ap (λ found. log_or_part (unless_fault found all) (part_from max_bytes source)) some
+      ap (λ found. log_or_part (unless_fault found all) (source_entries_before_fault max_bytes source)) some
 
-  pub owes_in_order : OwesInOrder max_bytes source
-  owes_in_order entries fault owed = elim owed [
+  pub owes_in_order : ExpectsInOrder max_bytes source
+  owes_in_order entries fault expected = elim expected [
     | inl whole ↦ ([], sym whole.0 ∙ sym (append-nil entries))
     | inr short ↦ short.0
   ]
 
-  pub owes_log : OwesLog max_bytes source
-  owes_log entries owed = elim owed [
+  pub owes_log : ExpectsLog max_bytes source
+  owes_log entries expected = elim expected [
     | inl whole ↦ log_told max_bytes source (sym whole.1) ∙ ap Some (sym whole.0)
     | inr short ↦ absurd (none-some OutOfMemory short.1)
   ]
 
-  pub owes_fault : OwesFault max_bytes source
-  owes_fault entries fault other owed = elim owed [
+  pub owes_fault : ExpectsFault max_bytes source
+  owes_fault entries fault other expected = elim expected [
     | inl whole ↦ (sym whole.1, whole.0 ∙ part_told fault (sym whole.1))
     | inr short ↦ absurd (other (same short.1))
   ]
@@ -44,10 +44,10 @@ module _ (max_bytes : ℕ) (source : Source Stream) where
       same : Some fault ≡ Some OutOfMemory → fault ≡ OutOfMemory
       same is = cc
 
-  pub may_owe_all : MayOweAll max_bytes source
+  pub may_owe_all : MayExpectAll max_bytes source
   may_owe_all = inl (refl, refl)
 
-  pub may_owe_front : MayOweFront max_bytes source
+  pub may_owe_front : MayExpectPrefix max_bytes source
   may_owe_front front is = inr (is, refl)
 
 abbrev first_what : List Item → What
@@ -59,7 +59,7 @@ behind_first [] = []
 behind_first (item ∷ items) = items
 
 module _ (max_bytes sender : ℕ) where
-  pub owes_nothing : OwesNothing max_bytes sender
+  pub owes_nothing : ExpectsNothing max_bytes sender
   owes_nothing items = (λ is. is, λ is. is)
 
   abbrev all_of : List Entry → Option StreamFault → ℕ → List Item
@@ -86,41 +86,41 @@ module _ (max_bytes sender : ℕ) where
       let same = told_same stream entries others fault other behind in
       (λ i. first i ∷ same.0 i, same.1)
 
-  pub owes_one : OwesOne max_bytes sender
+  pub owes_one : ExpectsOne max_bytes sender
   owes_one stream given entries fault = (
-    λ owed. by owed.0 owed.1 owed.2 owed.3 owed.4 owed.5,
-    λ owed. (entries, fault, [], sym (append-nil (all_of entries fault stream)), owed, refl),
+    λ expected. by expected.0 expected.1 expected.2 expected.3 expected.4 expected.5,
+    λ expected. (entries, fault, [], sym (append-nil (all_of entries fault stream)), expected, refl),
   )
     where
-      by : (others : List Entry) (other : Option StreamFault) (behind : List Item) → all_of entries fault stream ≡ all_of others other stream ++ behind → IsOwedFor max_bytes given others other
-          → behind ≡ [] → IsOwedFor max_bytes given entries fault
-      by others other behind is owed none =
+      by : (others : List Entry) (other : Option StreamFault) (behind : List Item) → all_of entries fault stream ≡ all_of others other stream ++ behind → IsExpectedFor max_bytes given others other
+          → behind ≡ [] → IsExpectedFor max_bytes given entries fault
+      by others other behind is expected none =
           let same = told_same stream entries others fault other (is ∙ ap (λ b. all_of others other stream ++ b) none ∙ append-nil (all_of others other stream)) in
-          subst (λ f. IsOwedFor max_bytes given entries f) (sym same.1) (subst (λ es. IsOwedFor max_bytes given es other) (sym same.0) owed)
+          subst (λ f. IsExpectedFor max_bytes given entries f) (sym same.1) (subst (λ es. IsExpectedFor max_bytes given es other) (sym same.0) expected)
 
-  in_turn : (first others : List Numbered) (items : List Item) → AreOwed max_bytes sender (first ++ others) items → AreInTurn max_bytes sender first others items
-  in_turn [] others items owed = ([], items, refl, refl, owed)
-  in_turn (stream ∷ first) others items (entries, fault, behind, is, owed, more) =
+  in_turn : (first others : List NumberedInput) (items : List Item) → AreExpected max_bytes sender (first ++ others) items → AreConcatenated max_bytes sender first others items
+  in_turn [] others items expected = ([], items, refl, refl, expected)
+  in_turn (stream ∷ first) others items (entries, fault, behind, is, expected, more) =
       let turn = in_turn first others behind more in
-      let told = all_of entries fault stream.0 in (
-        told ++ turn.0,
+      let known = all_of entries fault stream.0 in (
+        known ++ turn.0,
         turn.1,
-        is ∙ ap (λ b. told ++ b) turn.2 ∙ sym (append_assoc told turn.0 turn.1),
-        (entries, fault, turn.0, refl, owed, turn.3),
+        is ∙ ap (λ b. known ++ b) turn.2 ∙ sym (append_assoc known turn.0 turn.1),
+        (entries, fault, turn.0, refl, expected, turn.3),
         turn.4,
       )
 
-  from_turn : (first others : List Numbered) (items : List Item) → AreInTurn max_bytes sender first others items → AreOwed max_bytes sender (first ++ others) items
-  from_turn [] others items (front, behind, is, none, owed) = subst (AreOwed max_bytes sender others) (sym (is ∙ ap (λ f. f ++ behind) none)) owed
-  from_turn (stream ∷ first) others items (front, behind, is, (entries, fault, left, told_is, owed, more), last) =
-      let told = all_of entries fault stream.0 in (
+  from_turn : (first others : List NumberedInput) (items : List Item) → AreConcatenated max_bytes sender first others items → AreExpected max_bytes sender (first ++ others) items
+  from_turn [] others items (front, behind, is, none, expected) = subst (AreExpected max_bytes sender others) (sym (is ∙ ap (λ f. f ++ behind) none)) expected
+  from_turn (stream ∷ first) others items (front, behind, is, (entries, fault, left, told_is, expected, more), last) =
+      let known = all_of entries fault stream.0 in (
         entries,
         fault,
         left ++ behind,
-        is ∙ ap (λ f. f ++ behind) told_is ∙ append_assoc told left behind,
-        owed,
+        is ∙ ap (λ f. f ++ behind) told_is ∙ append_assoc known left behind,
+        expected,
         from_turn first others (left ++ behind) (left, behind, refl, more, last),
       )
 
-  pub owes_in_turn : OwesInTurn max_bytes sender
+  pub owes_in_turn : ExpectsConcatenation max_bytes sender
   owes_in_turn first others items = (in_turn first others items, from_turn first others items)

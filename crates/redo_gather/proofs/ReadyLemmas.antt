@@ -1,4 +1,4 @@
--- Ends and shares at the same places.
+-- Ends and shares at the same indexes.
 use Rattle.std.proofs.Common.{◌≡◌, ℕ, zero, suc, ◌≤◌, Bool, false, List, [], ◌∷◌, ◌++◌, Option, Some, length, map, slice_get, refl, sym, ap, ◌∙◌, subst, arith}
 use Rattle.std.specs.List.{AllByRecursion}
 use Rattle.std.proofs.lemmas.List.{length-append}
@@ -6,13 +6,13 @@ use Rattle.std.proofs.lemmas.Option.{none-some}
 use Rattle.redo_line.specs.Source.{sources}
 use Rattle.redo_device.specs.Feed.{Stream}
 use Rattle.redo_logs.specs.Logs.{new_log}
-use Rattle.redo_wire.specs.Mailbox.{AreEndsOf, IsOpened, Mailbox, Poster}
-use Rattle.redo_gather.specs.declared.collecting.Collector.{Collector as Collecting}
-use Rattle.redo_gather.specs.Owed.{Given}
-use Rattle.redo_gather.specs.Private.Collecting.{AllOwed, Collects, NoneWants, Owes, stored}
-use Rattle.redo_gather.specs.Private.Dealing.{AreDealt, AreReady, share_from}
-use Rattle.redo_gather.specs.Sending.{AreOwed, HasSent, numbered, singles}
-use Rattle.redo_gather.specs.Streams.{Told}
+use Rattle.redo_wire.specs.Mailbox.{AreEndsOf, IsOpened, Mailbox, PostEndState}
+use Rattle.redo_gather.specs.declared.collector.Collector.{Collector as Collecting}
+use Rattle.redo_gather.specs.Expected.{Given}
+use Rattle.redo_gather.specs.Private.Collecting.{AllExpected, Collects, NoneOutOfMemory, PostedExpected, stored}
+use Rattle.redo_gather.specs.Private.Dealing.{AreDistributed, AreReady, share_of}
+use Rattle.redo_gather.specs.Sending.{AreExpected, HasSent, numbered_input, singles}
+use Rattle.redo_gather.specs.Streams.{KnownInput}
 
 in_front : {X : Type 0} (front behind : List X) (k : ℕ) (there : X) → slice_get front k ≡ Some there → slice_get (front ++ behind) k ≡ Some there
 in_front [] behind k there is = absurd (none-some there is)
@@ -23,37 +23,37 @@ at_end : {X : Type 0} (front : List X) (last : X) → slice_get (front ++ last �
 at_end [] last = refl
 at_end (x ∷ front) last = at_end front last
 
-pub all_but_last : (mailbox : Mailbox) (ends : List Poster) (last : Poster) → AllByRecursion (λ (end : Poster). end.mailbox ≡ mailbox) (ends ++ last ∷ [])
-    → AllByRecursion (λ (end : Poster). end.mailbox ≡ mailbox) ends × (last.mailbox ≡ mailbox)
+pub all_but_last : (mailbox : Mailbox) (ends : List PostEndState) (last : PostEndState) → AllByRecursion (λ (end : PostEndState). end.mailbox ≡ mailbox) (ends ++ last ∷ [])
+    → AllByRecursion (λ (end : PostEndState). end.mailbox ≡ mailbox) ends × (last.mailbox ≡ mailbox)
 all_but_last mailbox [] last all = (tt, all.0)
 all_but_last mailbox (end ∷ ends) last all = let others = all_but_last mailbox ends last all.1 in ((all.0, others.0), others.1)
 
-module _ {A : Type 0} (tells : A → Option Stream) (senders : ℕ) (given : List Given) where
-  pub all_ready : (mailbox : Mailbox) (ends : List Poster) (shares : List (List (ℕ × List ℕ × Bool × A))) → mailbox.senders ≡ senders → AreEndsOf mailbox ends → AreDealt tells senders given shares
-      → AreReady tells senders given ends shares
+module _ {A : Type 0} (contents : A → Option Stream) (senders : ℕ) (given : List Given) where
+  pub all_ready : (mailbox : Mailbox) (ends : List PostEndState) (shares : List (List (ℕ × List ℕ × Bool × A))) → mailbox.senders ≡ senders → AreEndsOf mailbox ends → AreDistributed contents senders given shares
+      → AreReady contents senders given ends shares
   all_ready mailbox ends shares count are dealt = record {
     count = are.count ∙ count ∙ sym dealt.0;
-    fresh = λ place end there. (ap (λ (e : Poster). e.number) (are.each place end there), ap (λ (e : Poster). e.posted) (are.each place end there));
+    fresh = λ place end there. (ap (λ (e : PostEndState). e.number) (are.each place end there), ap (λ (e : PostEndState). e.posted) (are.each place end there));
     dealt = dealt.1;
   }
 
-  module _ (ends : List Poster) (end : Poster) (shares : List (List (ℕ × List ℕ × Bool × A))) (share : List (ℕ × List ℕ × Bool × A)) (ready : AreReady tells senders given (ends ++ end ∷ []) (shares ++ share ∷ [])) where
+  module _ (ends : List PostEndState) (end : PostEndState) (shares : List (List (ℕ × List ℕ × Bool × A))) (share : List (ℕ × List ℕ × Bool × A)) (ready : AreReady contents senders given (ends ++ end ∷ []) (shares ++ share ∷ [])) where
     same : length ends ≡ length shares
     same = let count = ready.count in omega (arith, count, length-append ends (end ∷ []), length-append shares (share ∷ []))
 
-    pub others_ready : AreReady tells senders given ends shares
+    pub others_ready : AreReady contents senders given ends shares
     others_ready = record {
       count = same;
       fresh = λ place other there. ready.fresh place other (in_front ends (end ∷ []) place other there);
       dealt = λ sender other there. ready.dealt sender other (in_front shares (share ∷ []) sender other there);
     }
 
-    -- what the last end posted once it sent its share
-    pub last_owes : (max_bytes : ℕ) (after : Poster) → HasSent max_bytes (map (numbered tells) share) end after → Owes max_bytes senders given (after.number, after.posted)
-    last_owes max_bytes after (lines, posted, owed) =
-        subst (AreOwed max_bytes after.number (share_from senders after.number 0 given)) (sym lines_are)
-        (subst (λ n. AreOwed max_bytes n (share_from senders n 0 given) lines) (sym posted.number)
-        (subst (λ s. AreOwed max_bytes end.number s lines) (ready.dealt (length shares) share (at_end shares share) ∙ ap (λ n. share_from senders n 0 given) (sym number_is)) owed))
+    -- After the last end sent its share, it posted what is expected of it.
+    pub last_owes : (max_bytes : ℕ) (after : PostEndState) → HasSent max_bytes (map (numbered_input contents) share) end after → PostedExpected max_bytes senders given (after.number, after.posted)
+    last_owes max_bytes after (lines, posted, expected) =
+        subst (AreExpected max_bytes after.number (share_of senders after.number 0 given)) (sym lines_are)
+        (subst (λ n. AreExpected max_bytes n (share_of senders n 0 given) lines) (sym posted.number)
+        (subst (λ s. AreExpected max_bytes end.number s lines) (ready.dealt (length shares) share (at_end shares share) ∙ ap (λ n. share_of senders n 0 given) (sym number_is)) expected))
       where
         fresh : (end.number ≡ length ends) × (end.posted ≡ [])
         fresh = ready.fresh (length ends) end (at_end ends end)
@@ -64,18 +64,18 @@ module _ {A : Type 0} (tells : A → Option Stream) (senders : ℕ) (given : Lis
         lines_are : singles after.posted ≡ lines
         lines_are = ap singles (posted.posted ∙ ap (λ items. items ++ posted.items) fresh.1) ∙ posted.lines_are
 
--- a new mailbox and an empty table, and what was collected from there
-pub all_owed : {A : Type 0} (tells : A → Option Stream) (max_bytes capacity senders : ℕ) (names : List (List ℕ)) (told : List Told) (ends : List Poster) (shares : List (List (ℕ × List ℕ × Bool × A)))
-    (before after : Collecting) → Collects tells max_bytes ends shares before after → IsOpened capacity senders before.mailbox → before.table ≡ map new_log names → before.refused ≡ false
-    → length names ≡ length told → 1 ≤ senders → AreEndsOf before.mailbox.mailbox ends → AreDealt tells senders (sources names told) shares → AllOwed max_bytes names told after
-all_owed tells max_bytes capacity senders names told ends shares before after collects opened table_is fine count some are dealt = record {
+-- The result of collecting, beginning with a new mailbox and an empty table.
+pub all_owed : {A : Type 0} (contents : A → Option Stream) (max_bytes capacity senders : ℕ) (names : List (List ℕ)) (known : List KnownInput) (ends : List PostEndState) (shares : List (List (ℕ × List ℕ × Bool × A)))
+    (before after : Collecting) → Collects contents max_bytes ends shares before after → IsOpened capacity senders before.mailbox → before.table ≡ map new_log names → before.refused ≡ false
+    → length names ≡ length known → 1 ≤ senders → AreEndsOf before.mailbox.mailbox ends → AreDistributed contents senders (sources names known) shares → AllExpected max_bytes names known after
+all_owed contents max_bytes capacity senders names known ends shares before after collects opened table_is fine count some are dealt = record {
   count = count;
   some = omega (arith, some, ap (λ (m : Mailbox). m.senders) collects.mailbox, opened.1);
-  owed =
-      subst (λ n. AllByRecursion (Owes max_bytes n (sources names told)) after.mailbox.met) (sym (ap (λ (m : Mailbox). m.senders) collects.mailbox))
-      (collects.owed (sources names told) (subst (λ n. AreReady tells n (sources names told) ends shares) (sym opened.1) (all_ready tells senders (sources names told) before.mailbox.mailbox ends shares opened.1 are dealt))
-      (subst (AllByRecursion (Owes max_bytes before.mailbox.mailbox.senders (sources names told))) (sym opened.3) tt));
+  expected =
+      subst (λ n. AllByRecursion (PostedExpected max_bytes n (sources names known)) after.mailbox.met) (sym (ap (λ (m : Mailbox). m.senders) collects.mailbox))
+      (collects.expected (sources names known) (subst (λ n. AreReady contents n (sources names known) ends shares) (sym opened.1) (all_ready contents senders (sources names known) before.mailbox.mailbox ends shares opened.1 are dealt))
+      (subst (AllByRecursion (PostedExpected max_bytes before.mailbox.mailbox.senders (sources names known))) (sym opened.3) tt));
   holds =
       collects.holds names
-      (λ _. (table_is ∙ ap (λ items. stored (singles items) (map new_log names)) (sym opened.2), subst (λ items. NoneWants (singles items)) (sym opened.2) tt));
+      (λ _. (table_is ∙ ap (λ items. stored (singles items) (map new_log names)) (sym opened.2), subst (λ items. NoneOutOfMemory (singles items)) (sym opened.2) tt));
 }

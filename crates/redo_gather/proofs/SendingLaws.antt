@@ -1,4 +1,4 @@
--- How entries, ends and faults are put into items.
+-- The laws of how entries, ends and faults are grouped into items.
 use Rattle.std.proofs.Common.{◌≡◌, ℕ, ◌+◌, ◌*◌, ◌≤◌, List, [], ◌∷◌, ◌++◌, Option, None, Some, length, map, refl, sym, ap, ◌∙◌, subst, arith}
 use Rattle.std.specs.List.{AllByRecursion}
 use Rattle.std.proofs.lemmas.List.{append-nil, length-append, length-map}
@@ -7,9 +7,9 @@ use Rattle.redo_line.specs.declared.stream_fault.StreamFault.{StreamFault}
 use Rattle.redo_wire.specs.declared.item.Item.{Item}
 use Rattle.redo_wire.specs.declared.item.What.{What}
 use Rattle.redo_wire.specs.declared.item.What.TheVariants.{End, Fail, Line, Lines}
-use Rattle.redo_wire.specs.Mailbox.{Poster}
-use Rattle.redo_gather.specs.Laws.{AreSingles, IsNeverAlone, PostsFew, PostsItsOwn, StandsForEach}
-use Rattle.redo_gather.specs.Sending.{AreOwed, IsFilled, Numbered, item_of, line_of, singles, singles_in, stream_items}
+use Rattle.redo_wire.specs.Mailbox.{PostEndState}
+use Rattle.redo_gather.specs.Laws.{AreSingles, SingleIsUnwrapped, ItemCountIsBounded, PostsOwnItems, StandsForEach}
+use Rattle.redo_gather.specs.Sending.{AreExpected, IsWellSized, NumberedInput, item_of, line_of, singles, singles_in, stream_items}
 
 pub are_singles : (sender stream : ℕ) (entries : List Entry) (fault : Option StreamFault) → AreSingles sender stream entries fault
 are_singles sender stream [] None = refl
@@ -19,10 +19,10 @@ are_singles sender stream (entry ∷ entries) fault = ap (λ items. line_of send
 pub stands_for_each : (sender stream : ℕ) (entries : List Entry) → StandsForEach sender stream entries
 stands_for_each sender stream entries = append-nil (map (line_of sender stream) entries)
 
-pub never_alone : (item one : Item) → IsNeverAlone item one
+pub never_alone : (item one : Item) → SingleIsUnwrapped item one
 never_alone item one = by item.sender item.stream item.what one
   where
-    by : (sender stream : ℕ) (what : What) (one : Item) → IsNeverAlone (item_of sender stream what) one
+    by : (sender stream : ℕ) (what : What) (one : Item) → SingleIsUnwrapped (item_of sender stream what) one
     by sender stream (Line entry) one filled is = cc
     by sender stream (Lines []) one filled is = absurd (omega (arith, filled.0))
     by sender stream (Lines (entry ∷ [])) one filled is = absurd (omega (arith, filled.0))
@@ -51,19 +51,19 @@ told_own : (sender stream : ℕ) (entries : List Entry) (fault : Option StreamFa
 told_own sender stream [] fault = (refl, tt)
 told_own sender stream (entry ∷ entries) fault = (refl, told_own sender stream entries fault)
 
-owed_own : (max_bytes sender : ℕ) (share : List Numbered) (items : List Item) → AreOwed max_bytes sender share items → AreOf sender items
+owed_own : (max_bytes sender : ℕ) (share : List NumberedInput) (items : List Item) → AreExpected max_bytes sender share items → AreOf sender items
 owed_own max_bytes sender [] items none = subst (AreOf sender) (sym none) tt
-owed_own max_bytes sender (stream ∷ share) items (entries, fault, behind, is, owed, more) =
+owed_own max_bytes sender (stream ∷ share) items (entries, fault, behind, is, expected, more) =
     subst (AreOf sender) (sym is) (both_of sender (stream_items sender stream.0 entries fault) behind (told_own sender stream.0 entries fault) (owed_own max_bytes sender share behind more))
 
-own_item : (own sender stream : ℕ) (what : What) → IsFilled what → AreOf own (singles_in sender stream what) → sender ≡ own
+own_item : (own sender stream : ℕ) (what : What) → IsWellSized what → AreOf own (singles_in sender stream what) → sender ≡ own
 own_item own sender stream (Line entry) filled all = all.0
 own_item own sender stream (Lines []) filled all = absurd (omega (arith, filled.0))
 own_item own sender stream (Lines (entry ∷ entries)) filled all = all.0
 own_item own sender stream End filled all = all.0
 own_item own sender stream (Fail fault) filled all = all.0
 
-own_items : (own : ℕ) (items : List Item) → AllByRecursion (λ (item : Item). IsFilled item.what) items → AreOf own (singles items) → AreOf own items
+own_items : (own : ℕ) (items : List Item) → AllByRecursion (λ (item : Item). IsWellSized item.what) items → AreOf own (singles items) → AreOf own items
 own_items own [] filled all = tt
 own_items own (item ∷ items) filled all =
     let first = singles_in item.sender item.stream item.what in (
@@ -71,16 +71,16 @@ own_items own (item ∷ items) filled all =
       own_items own items filled.1 (behind_of own first (singles items) all),
     )
 
-pub posts_its_own : (max_bytes : ℕ) (share : List Numbered) (before after : Poster) → PostsItsOwn max_bytes share before after
-posts_its_own max_bytes share before after (lines, posted, owed) = (
+pub posts_its_own : (max_bytes : ℕ) (share : List NumberedInput) (before after : PostEndState) → PostsOwnItems max_bytes share before after
+posts_its_own max_bytes share before after (lines, posted, expected) = (
   posted.items,
   posted.posted,
-  own_items before.number posted.items posted.filled (subst (AreOf before.number) (sym posted.lines_are) (owed_own max_bytes before.number share lines owed)),
+  own_items before.number posted.items posted.filled (subst (AreOf before.number) (sym posted.lines_are) (owed_own max_bytes before.number share lines expected)),
 )
 
 -- ---- counts
 
-count_in : (sender stream : ℕ) (what : What) → IsFilled what → (1 ≤ length (singles_in sender stream what)) × (length (singles_in sender stream what) ≤ 1024)
+count_in : (sender stream : ℕ) (what : What) → IsWellSized what → (1 ≤ length (singles_in sender stream what)) × (length (singles_in sender stream what) ≤ 1024)
 count_in sender stream (Line entry) filled = (omega arith, omega arith)
 count_in sender stream (Lines entries) filled =
     let count = length-map entries (line_of sender stream) in
@@ -88,7 +88,7 @@ count_in sender stream (Lines entries) filled =
 count_in sender stream End filled = (omega arith, omega arith)
 count_in sender stream (Fail fault) filled = (omega arith, omega arith)
 
-counts : (items : List Item) → AllByRecursion (λ (item : Item). IsFilled item.what) items → (length items ≤ length (singles items)) × (length (singles items) ≤ 1024 * length items)
+counts : (items : List Item) → AllByRecursion (λ (item : Item). IsWellSized item.what) items → (length items ≤ length (singles items)) × (length (singles items) ≤ 1024 * length items)
 counts [] filled = (omega arith, omega arith)
 counts (item ∷ items) filled =
     let one = count_in item.sender item.stream item.what filled.0 in
@@ -96,7 +96,7 @@ counts (item ∷ items) filled =
     let all = length-append (singles_in item.sender item.stream item.what) (singles items) in
     (omega (arith, one.0, others.0, all), omega (arith, one.1, others.1, all))
 
-pub posts_few : (before after : Poster) (lines : List Item) → PostsFew before after lines
+pub posts_few : (before after : PostEndState) (lines : List Item) → ItemCountIsBounded before after lines
 posts_few before after lines posted =
     let count = counts posted.items posted.filled in
     let lines_are = ap length posted.lines_are in

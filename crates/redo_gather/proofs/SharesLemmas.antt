@@ -1,4 +1,4 @@
--- What was taken of each stream, once all that was owed for the shares was taken.
+-- The items taken of each stream, after all that is expected for the shares was taken.
 use Rattle.std.proofs.Common.{◌≡◌, inl, inr, ℕ, zero, suc, ◌+◌, ◌%◌, ◌<◌, nat_eq, Bool, true, false, cond, List, [], ◌∷◌, ◌++◌, Option, Some, map, slice_get, refl, sym, ap, ◌∙◌, subst, arith}
 use Rattle.std.specs.List.{AllByRecursion}
 use Rattle.std.proofs.lemmas.Bool.{eq-eqb}
@@ -10,37 +10,37 @@ use Rattle.redo_line.specs.declared.stream_fault.StreamFault.{StreamFault}
 use Rattle.redo_wire.specs.declared.item.Item.{Item}
 use Rattle.redo_wire.specs.declared.item.What.{What}
 use Rattle.redo_wire.specs.declared.item.What.TheVariants.{Line}
-use Rattle.redo_wire.specs.Machine.{of}
-use Rattle.redo_gather.specs.Owed.{Given, IsOwedFor}
-use Rattle.redo_gather.specs.Private.Dealing.{share_from}
-use Rattle.redo_gather.specs.Sending.{AreOwed, item_of, last_of, line_of, stream_items}
+use Rattle.redo_wire.specs.Machine.{items_of}
+use Rattle.redo_gather.specs.Expected.{Given, IsExpectedFor}
+use Rattle.redo_gather.specs.Private.Dealing.{share_of}
+use Rattle.redo_gather.specs.Sending.{AreExpected, item_of, final_what, line_of, stream_items}
 use Rattle.redo_gather.proofs.InterleavingLemmas.{on, on-append, on-other, told_else, told_here}
 
--- these are the entries and the end or fault that are owed for a stream
+-- These are entries and an end or a fault as expected for a stream.
 abbrev pub IsTold : ℕ → Given → List What → Type 0
-IsTold max_bytes given whats = (entries : List Entry) × (fault : Option StreamFault) × (whats ≡ map Line entries ++ last_of fault ∷ []) × IsOwedFor max_bytes given entries fault
+IsTold max_bytes given whats = (entries : List Entry) × (fault : Option StreamFault) × (whats ≡ map Line entries ++ final_what fault ∷ []) × IsExpectedFor max_bytes given entries fault
 
 all-append : {X : Type 0} (P : X → Type 0) (front behind : List X) → AllByRecursion P front → AllByRecursion P behind → AllByRecursion P (front ++ behind)
 all-append P [] behind one two = two
 all-append P (item ∷ front) behind one two = (one.0, all-append P front behind one.1 two)
 
 module _ (max_bytes senders : ℕ) where
-  -- a share from a stream on has nothing of the streams before
-  none_before : (sender from stream : ℕ) (given : List Given) (items : List Item) → stream < from → AreOwed max_bytes sender (share_from senders sender from given) items → on stream items ≡ []
+  -- The items of a share of the streams from `from` on have none of an earlier stream.
+  none_before : (sender from stream : ℕ) (given : List Given) (items : List Item) → stream < from → AreExpected max_bytes sender (share_of senders sender from given) items → on stream items ≡ []
   none_before sender from stream [] items before are = ap (on stream) are
   none_before sender from stream (one ∷ given) items before are =
       by (λ items are. none_before sender (suc from) stream given items (omega (arith, before)) are) (nat_eq (from % senders) sender) are
     where
-      by : ((items : List Item) → AreOwed max_bytes sender (share_from senders sender (suc from) given) items → on stream items ≡ [])
-          → (own : Bool) → AreOwed max_bytes sender (cond own ((from, one) ∷ share_from senders sender (suc from) given) (share_from senders sender (suc from) given)) items → on stream items ≡ []
-      by others true (entries, fault, behind, is, owed, rest) =
+      by : ((items : List Item) → AreExpected max_bytes sender (share_of senders sender (suc from) given) items → on stream items ≡ [])
+          → (own : Bool) → AreExpected max_bytes sender (cond own ((from, one) ∷ share_of senders sender (suc from) given) (share_of senders sender (suc from) given)) items → on stream items ≡ []
+      by others true (entries, fault, behind, is, expected, rest) =
           ap (on stream) is ∙ on-append stream (stream_items sender from entries fault) behind
           ∙ (λ i. told_else sender from stream entries fault (λ same. omega (arith, same, before)) i ++ others behind rest i)
       by others false are = others items are
 
-  -- the stream at a place of a list, which has this number
+  -- The items of the stream at index `place` of a list, whose number is `from + place`.
   pub told_at : (sender from place : ℕ) (given : List Given) (one : Given) (items : List Item) → slice_get given place ≡ Some one → (from + place) % senders ≡ sender
-      → AreOwed max_bytes sender (share_from senders sender from given) items → IsTold max_bytes one (on (from + place) items)
+      → AreExpected max_bytes sender (share_of senders sender from given) items → IsTold max_bytes one (on (from + place) items)
   told_at sender from place [] one items there own are = absurd (none-some one there)
   told_at sender from zero (first ∷ given) one items there own are = by (nat_eq (from % senders) sender) refl are
     where
@@ -54,13 +54,13 @@ module _ (max_bytes senders : ℕ) where
       mine = eq-eqb (from % senders) sender (ap (λ n. n % senders) (sym here) ∙ own)
 
       by : (test : Bool) → nat_eq (from % senders) sender ≡ test
-          → AreOwed max_bytes sender (cond test ((from, first) ∷ share_from senders sender (suc from) given) (share_from senders sender (suc from) given)) items → IsTold max_bytes one (on (from + 0) items)
-      by true is (entries, fault, behind, items_are, owed, rest) = (
+          → AreExpected max_bytes sender (cond test ((from, first) ∷ share_of senders sender (suc from) given) (share_of senders sender (suc from) given)) items → IsTold max_bytes one (on (from + 0) items)
+      by true is (entries, fault, behind, items_are, expected, rest) = (
         entries,
         fault,
         ap (λ n. on n items) here ∙ ap (on from) items_are ∙ on-append from (stream_items sender from entries fault) behind
-            ∙ (λ i. told_here sender from entries fault i ++ none_before sender (suc from) from given behind (omega arith) rest i) ∙ append-nil (map Line entries ++ last_of fault ∷ []),
-        subst (λ g. IsOwedFor max_bytes g entries fault) (same there) owed,
+            ∙ (λ i. told_here sender from entries fault i ++ none_before sender (suc from) from given behind (omega arith) rest i) ∙ append-nil (map Line entries ++ final_what fault ∷ []),
+        subst (λ g. IsExpectedFor max_bytes g entries fault) (same there) expected,
       )
       by false is are = absurd (let no : true ≡ false = sym mine ∙ is in cc)
   told_at sender from (suc place) (first ∷ given) one items there own are =
@@ -69,10 +69,10 @@ module _ (max_bytes senders : ℕ) where
       further : from + suc place ≡ suc from + place
       further = omega arith
 
-      by : ((items : List Item) → AreOwed max_bytes sender (share_from senders sender (suc from) given) items → IsTold max_bytes one (on (suc from + place) items))
-          → (test : Bool) → AreOwed max_bytes sender (cond test ((from, first) ∷ share_from senders sender (suc from) given) (share_from senders sender (suc from) given)) items
+      by : ((items : List Item) → AreExpected max_bytes sender (share_of senders sender (suc from) given) items → IsTold max_bytes one (on (suc from + place) items))
+          → (test : Bool) → AreExpected max_bytes sender (cond test ((from, first) ∷ share_of senders sender (suc from) given) (share_of senders sender (suc from) given)) items
           → IsTold max_bytes one (on (from + suc place) items)
-      by others true (entries, fault, behind, items_are, owed, rest) =
+      by others true (entries, fault, behind, items_are, expected, rest) =
           subst (IsTold max_bytes one)
           (sym (ap (λ n. on n items) further ∙ ap (on (suc from + place)) items_are ∙ on-append (suc from + place) (stream_items sender from entries fault) behind
           ∙ (λ i. told_else sender from (suc from + place) entries fault (λ same. omega (arith, same)) i ++ on (suc from + place) behind)))
@@ -88,7 +88,7 @@ module _ (max_bytes senders : ℕ) where
   lines_own sender stream [] own = tt
   lines_own sender stream (entry ∷ entries) own = (own, lines_own sender stream entries own)
 
-  are_own : (sender from : ℕ) (given : List Given) (items : List Item) → AreOwed max_bytes sender (share_from senders sender from given) items → AllByRecursion (IsOwn sender) items
+  are_own : (sender from : ℕ) (given : List Given) (items : List Item) → AreExpected max_bytes sender (share_of senders sender from given) items → AllByRecursion (IsOwn sender) items
   are_own sender from [] items are = subst (AllByRecursion (IsOwn sender)) (sym are) tt
   are_own sender from (one ∷ given) items are = by (are_own sender (suc from) given) (nat_eq (from % senders) sender) refl are
     where
@@ -98,59 +98,59 @@ module _ (max_bytes senders : ℕ) where
         | inr apart ↦ absurd (let no : true ≡ false = sym is ∙ apart.0 in cc)
       ]
 
-      by : ((items : List Item) → AreOwed max_bytes sender (share_from senders sender (suc from) given) items → AllByRecursion (IsOwn sender) items)
+      by : ((items : List Item) → AreExpected max_bytes sender (share_of senders sender (suc from) given) items → AllByRecursion (IsOwn sender) items)
           → (test : Bool) → nat_eq (from % senders) sender ≡ test
-          → AreOwed max_bytes sender (cond test ((from, one) ∷ share_from senders sender (suc from) given) (share_from senders sender (suc from) given)) items → AllByRecursion (IsOwn sender) items
-      by others true is (entries, fault, behind, items_are, owed, rest) =
+          → AreExpected max_bytes sender (cond test ((from, one) ∷ share_of senders sender (suc from) given) (share_of senders sender (suc from) given)) items → AllByRecursion (IsOwn sender) items
+      by others true is (entries, fault, behind, items_are, expected, rest) =
           subst (AllByRecursion (IsOwn sender)) (sym items_are)
           (all-append (IsOwn sender) (stream_items sender from entries fault) behind
-          (all-append (IsOwn sender) (map (line_of sender from) entries) (item_of sender from (last_of fault) ∷ []) (lines_own sender from entries (own_if is)) (own_if is, tt)) (others behind rest))
+          (all-append (IsOwn sender) (map (line_of sender from) entries) (item_of sender from (final_what fault) ∷ []) (lines_own sender from entries (own_if is)) (own_if is, tt)) (others behind rest))
       by others false is are = others items are
 
   abbrev IsDealt : Item → Type 0
   IsDealt item = item.stream % senders ≡ item.sender
 
-  -- items of senders each of which posted its own are all dealt to theirs
-  all_dealt : (items : List Item) → AllByRecursion (λ (item : Item). item.sender < senders) items → ((sender : ℕ) → sender < senders → AllByRecursion (IsOwn sender) (of sender items)) → AllByRecursion IsDealt items
+  -- If each sender posted items of its own streams only, each item is of the sender to which its stream was distributed.
+  all_dealt : (items : List Item) → AllByRecursion (λ (item : Item). item.sender < senders) items → ((sender : ℕ) → sender < senders → AllByRecursion (IsOwn sender) (items_of sender items)) → AllByRecursion IsDealt items
   all_dealt [] below each = tt
   all_dealt (item ∷ items) below each = (first, all_dealt items below.1 (λ sender is. behind (nat_eq item.sender sender) sender (each sender is)))
     where
       first : IsDealt item
       first = by (nat_eq item.sender item.sender) (eq-eqb item.sender item.sender refl) (each item.sender below.0)
         where
-          by : (own : Bool) → own ≡ true → AllByRecursion (IsOwn item.sender) (cond own (item ∷ of item.sender items) (of item.sender items)) → IsDealt item
+          by : (own : Bool) → own ≡ true → AllByRecursion (IsOwn item.sender) (cond own (item ∷ items_of item.sender items) (items_of item.sender items)) → IsDealt item
           by true is all = all.0
           by false is all = absurd (cc)
 
-      behind : (own : Bool) (sender : ℕ) → AllByRecursion (IsOwn sender) (cond own (item ∷ of sender items) (of sender items)) → AllByRecursion (IsOwn sender) (of sender items)
+      behind : (own : Bool) (sender : ℕ) → AllByRecursion (IsOwn sender) (cond own (item ∷ items_of sender items) (items_of sender items)) → AllByRecursion (IsOwn sender) (items_of sender items)
       behind true sender all = all.1
       behind false sender all = all
 
-  -- a stream's items are all of its sender
-  on_sender : (items : List Item) (stream : ℕ) → AllByRecursion IsDealt items → on stream items ≡ on stream (of (stream % senders) items)
+  -- All items of a stream are of its sender.
+  on_sender : (items : List Item) (stream : ℕ) → AllByRecursion IsDealt items → on stream items ≡ on stream (items_of (stream % senders) items)
   on_sender [] stream dealt = refl
   on_sender (item ∷ items) stream dealt = elim (eqb_tells item.sender (stream % senders)) [
-    | inl same ↦ by (on_sender items stream dealt.1) (nat_eq item.stream stream) ∙ ap (on stream) (sym (ap (λ b. cond b (item ∷ of (stream % senders) items) (of (stream % senders) items)) (eq-eqb item.sender (stream % senders) same.1)))
+    | inl same ↦ by (on_sender items stream dealt.1) (nat_eq item.stream stream) ∙ ap (on stream) (sym (ap (λ b. cond b (item ∷ items_of (stream % senders) items) (items_of (stream % senders) items)) (eq-eqb item.sender (stream % senders) same.1)))
     | inr apart ↦
         on-other stream item items (λ is. apart.1 (sym dealt.0 ∙ ap (λ n. n % senders) is)) ∙ on_sender items stream dealt.1
-        ∙ ap (on stream) (sym (ap (λ b. cond b (item ∷ of (stream % senders) items) (of (stream % senders) items)) apart.0))
+        ∙ ap (on stream) (sym (ap (λ b. cond b (item ∷ items_of (stream % senders) items) (items_of (stream % senders) items)) apart.0))
   ]
     where
-      by : on stream items ≡ on stream (of (stream % senders) items)
-          → (own : Bool) → cond own (item.what ∷ on stream items) (on stream items) ≡ cond own (item.what ∷ on stream (of (stream % senders) items)) (on stream (of (stream % senders) items))
+      by : on stream items ≡ on stream (items_of (stream % senders) items)
+          → (own : Bool) → cond own (item.what ∷ on stream items) (on stream items) ≡ cond own (item.what ∷ on stream (items_of (stream % senders) items)) (on stream (items_of (stream % senders) items))
       by behind true = ap (λ whats. item.what ∷ whats) behind
       by behind false = behind
 
-  -- ---- all of them
+  -- ---- all streams
 
   pub told_of_each : (given : List Given) (items : List Item) → 0 < senders → AllByRecursion (λ (item : Item). item.sender < senders) items
-      → ((sender : ℕ) → sender < senders → AreOwed max_bytes sender (share_from senders sender 0 given) (of sender items))
+      → ((sender : ℕ) → sender < senders → AreExpected max_bytes sender (share_of senders sender 0 given) (items_of sender items))
       → (place : ℕ) (one : Given) → slice_get given place ≡ Some one → IsTold max_bytes one (on place items)
   told_of_each given items some below each place one there =
-      let own = told_at (place % senders) 0 place given one (of (place % senders) items) there (ap (λ n. n % senders) here) (each (place % senders) (omega (arith, some))) in
+      let own = told_at (place % senders) 0 place given one (items_of (place % senders) items) there (ap (λ n. n % senders) here) (each (place % senders) (omega (arith, some))) in
       subst (IsTold max_bytes one)
-      (ap (λ n. on n (of (place % senders) items)) here
-      ∙ sym (on_sender items place (all_dealt items below (λ sender is. are_own sender 0 given (of sender items) (each sender is)))))
+      (ap (λ n. on n (items_of (place % senders) items)) here
+      ∙ sym (on_sender items place (all_dealt items below (λ sender is. are_own sender 0 given (items_of sender items) (each sender is)))))
       own
     where
       here : 0 + place ≡ place

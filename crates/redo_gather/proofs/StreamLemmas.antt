@@ -1,4 +1,4 @@
--- The logs of a set of streams, or its fault, as streams are read one after another.
+-- The logs of a set of streams, or its fault, when streams are read one after another.
 use Rattle.std.proofs.Common.{◌≡◌, ◌↔◌, ℕ, suc, true, false, List, [], ◌∷◌, ◌++◌, Option, None, Some, IsSome, length, map, refl, sym, ap, ◌∙◌, arith}
 use Rattle.std.specs.Option.{option_map}
 use Rattle.std.specs.List.{list_all}
@@ -6,50 +6,50 @@ use Rattle.redo_line.specs.declared.entry.Entry.{Entry}
 use Rattle.redo_line.specs.declared.stream_fault.StreamFault.{StreamFault}
 use Rattle.redo_device.specs.Feed.{Stream, SomeStream}
 use Rattle.redo_line.specs.Log.{unless_fault}
-use Rattle.redo_line.specs.Source.{Marked, fault_from, source, sources}
-use Rattle.redo_logs.specs.Logs.{Log, least_fault, targets_of, has_ended}
+use Rattle.redo_line.specs.Source.{StreamInput, fault_from, source, sources}
+use Rattle.redo_logs.specs.Logs.{Log, lowest_fault, targets_of, has_ended}
 use Rattle.redo_logs.proofs.LeastFault.{behind_one}
-use Rattle.redo_gather.specs.Streams.{AreTold, IsGiven, Told, as_told, fault_among, in_front, log_with, logs_of, whole_log}
+use Rattle.redo_gather.specs.Streams.{MatchKnown, MatchesContents, KnownInput, fully_known, fault_among, prepend_log, log_with, logs_of, complete_log}
 
--- one stream more, in front of the others
-either : (fault : Option StreamFault) (target : List ℕ) (entries : List Entry) (logs : Option (List Log)) (faults : List (Option StreamFault)) → IsSome logs ↔ (least_fault faults ≡ None)
-    → IsSome (in_front (option_map (whole_log target) (unless_fault fault entries)) logs) ↔ (least_fault (fault ∷ faults) ≡ None)
+-- One more stream, before the others.
+either : (fault : Option StreamFault) (target : List ℕ) (entries : List Entry) (logs : Option (List Log)) (faults : List (Option StreamFault)) → IsSome logs ↔ (lowest_fault faults ≡ None)
+    → IsSome (prepend_log (option_map (complete_log target) (unless_fault fault entries)) logs) ↔ (lowest_fault (fault ∷ faults) ≡ None)
 either (Some fault) target entries logs faults both = ((λ some. absurd (cc)), (λ none. absurd (cc)))
-either None target entries None faults both = ((λ some. absurd (cc)), (λ none. absurd (let some = both.1 (none_behind (least_fault faults) none) in cc)))
+either None target entries None faults both = ((λ some. absurd (cc)), (λ none. absurd (let some = both.1 (none_behind (lowest_fault faults) none) in cc)))
   where
     none_behind : (first : Option (ℕ × StreamFault)) → behind_one first ≡ None → first ≡ None
     none_behind None none = refl
     none_behind (Some found) none = absurd (cc)
 either None target entries (Some logs) faults both = ((λ some. ap behind_one (both.0 refl)), (λ none. refl))
 
--- logs that are there with one in front
+-- Logs that exist, with one before them.
 abbrev InFront : Option Log → Option (List Log) → List Log → Type 0
 InFront log logs all = (first : Log) × (others : List Log) × (log ≡ Some first) × (logs ≡ Some others) × (all ≡ first ∷ others)
 
-of_front : (log : Option Log) (logs : Option (List Log)) (all : List Log) → in_front log logs ≡ Some all → InFront log logs all
+of_front : (log : Option Log) (logs : Option (List Log)) (all : List Log) → prepend_log log logs ≡ Some all → InFront log logs all
 of_front None logs all is = absurd (cc)
 of_front (Some log) None all is = absurd (cc)
 of_front (Some log) (Some logs) all is = (log, logs, refl, refl, (cc))
 
--- where the log is there, there is no fault
-no_fault : (fault : Option StreamFault) (target : List ℕ) (entries : List Entry) (log : Log) → option_map (whole_log target) (unless_fault fault entries) ≡ Some log → (fault ≡ None) × (log.target ≡ target) × (has_ended log ≡ true)
+-- If the log exists, there is no fault.
+no_fault : (fault : Option StreamFault) (target : List ℕ) (entries : List Entry) (log : Log) → option_map (complete_log target) (unless_fault fault entries) ≡ Some log → (fault ≡ None) × (log.target ≡ target) × (has_ended log ≡ true)
 no_fault (Some fault) target entries log is = absurd (cc)
 no_fault None target entries log is =
-    let log_is : whole_log target entries ≡ log = cc in
+    let log_is : complete_log target entries ≡ log = cc in
     (refl, sym (ap (λ (l : Log). l.target) log_is), sym (ap has_ended log_is))
 
 all_ended-more : (log : Log) (logs : List Log) → has_ended log ≡ true → list_all has_ended logs ≡ true → list_all has_ended (log ∷ logs) ≡ true
 all_ended-more log logs one others = rw (one, others)
 
 module _ (max_bytes : ℕ) where
-  pub logs_or_fault : (targets : List (List ℕ)) (streams : List (Marked Stream)) → IsSome (logs_of max_bytes targets streams) ↔ (fault_among max_bytes targets streams ≡ None)
+  pub logs_or_fault : (targets : List (List ℕ)) (streams : List (StreamInput Stream)) → IsSome (logs_of max_bytes targets streams) ↔ (fault_among max_bytes targets streams ≡ None)
   logs_or_fault [] streams = ((λ some. refl), (λ none. refl))
   logs_or_fault (target ∷ targets) [] = ((λ some. refl), (λ none. refl))
   logs_or_fault (target ∷ targets) (stream ∷ streams) =
       either (fault_from max_bytes (source target stream.must_close stream.stream)) target _ (logs_of max_bytes targets streams) _ (logs_or_fault targets streams)
 
-  -- the logs of whole streams have their targets, and have ended
-  pub whole_logs : (targets : List (List ℕ)) (streams : List (Marked Stream)) (logs : List Log) → length targets ≡ length streams → logs_of max_bytes targets streams ≡ Some logs
+  -- The logs of whole streams have the targets of the streams, and have ended.
+  pub whole_logs : (targets : List (List ℕ)) (streams : List (StreamInput Stream)) (logs : List Log) → length targets ≡ length streams → logs_of max_bytes targets streams ≡ Some logs
       → (targets_of logs ≡ targets) × (list_all has_ended logs ≡ true)
   whole_logs [] [] logs same is = let none : [] ≡ logs = cc in (sym (ap targets_of none), sym (ap (list_all has_ended) none))
   whole_logs [] (stream ∷ streams) logs same is = absurd (cc)
@@ -62,21 +62,21 @@ module _ (max_bytes : ℕ) where
         ap (list_all has_ended) front.4 ∙ all_ended-more front.0 front.1 fine.2 others.1,
       )
 
-  module _ (target : List ℕ) (stream : Marked Stream) where
-    -- one stream more, behind the others
-    pub one_more : (targets : List (List ℕ)) (streams : List (Marked Stream)) (logs : List Log) (log : Log) → length targets ≡ length streams → logs_of max_bytes targets streams ≡ Some logs → log_with max_bytes (source target stream.must_close stream.stream) ≡ Some log
+  module _ (target : List ℕ) (stream : StreamInput Stream) where
+    -- One more stream, after the others.
+    pub one_more : (targets : List (List ℕ)) (streams : List (StreamInput Stream)) (logs : List Log) (log : Log) → length targets ≡ length streams → logs_of max_bytes targets streams ≡ Some logs → log_with max_bytes (source target stream.must_close stream.stream) ≡ Some log
         → logs_of max_bytes (targets ++ target ∷ []) (streams ++ stream ∷ []) ≡ Some (logs ++ log ∷ [])
-    one_more [] [] logs log same is has = let none : [] ≡ logs = cc in ap (λ l. in_front l (Some [])) has ∙ ap (λ (ls : List Log). Some (ls ++ log ∷ [])) none
+    one_more [] [] logs log same is has = let none : [] ≡ logs = cc in ap (λ l. prepend_log l (Some [])) has ∙ ap (λ (ls : List Log). Some (ls ++ log ∷ [])) none
     one_more [] (other ∷ streams) logs log same is has = absurd (cc)
     one_more (first ∷ targets) [] logs log same is has = absurd (cc)
     one_more (first ∷ targets) (other ∷ streams) logs log same is has =
         let front = of_front _ _ logs is in
-        ap (λ l. in_front l (logs_of max_bytes (targets ++ target ∷ []) (streams ++ stream ∷ []))) front.2
-        ∙ ap (in_front (Some front.0)) (one_more targets streams front.1 log (omega (arith, same)) front.3 has)
+        ap (λ l. prepend_log l (logs_of max_bytes (targets ++ target ∷ []) (streams ++ stream ∷ []))) front.2
+        ∙ ap (prepend_log (Some front.0)) (one_more targets streams front.1 log (omega (arith, same)) front.3 has)
         ∙ ap (λ (ls : List Log). Some (ls ++ log ∷ [])) (sym front.4)
 
-    -- a fault behind streams that have none
-    pub fault_behind : (targets : List (List ℕ)) (streams : List (Marked Stream)) (logs : List Log) (left : List (List ℕ)) (unread : List (Marked Stream)) (fault : StreamFault) → length targets ≡ length streams → logs_of max_bytes targets streams ≡ Some logs
+    -- A fault after streams that have none.
+    pub fault_behind : (targets : List (List ℕ)) (streams : List (StreamInput Stream)) (logs : List Log) (left : List (List ℕ)) (unread : List (StreamInput Stream)) (fault : StreamFault) → length targets ≡ length streams → logs_of max_bytes targets streams ≡ Some logs
         → fault_from max_bytes (source target stream.must_close stream.stream) ≡ Some fault → fault_among max_bytes (targets ++ target ∷ left) (streams ++ stream ∷ unread) ≡ Some (length targets, fault)
     fault_behind [] [] logs left unread fault same is has = rw (has)
     fault_behind [] (other ∷ streams) logs left unread fault same is has = absurd (cc)
@@ -84,39 +84,39 @@ module _ (max_bytes : ℕ) where
     fault_behind (first ∷ targets) (other ∷ streams) logs left unread fault same is has =
         let front = of_front _ _ logs is in
         let fine = no_fault (fault_from max_bytes (source first other.must_close other.stream)) first _ front.0 front.2 in
-        ap (λ f. least_fault (f ∷ map (fault_from max_bytes) (sources (targets ++ target ∷ left) (streams ++ stream ∷ unread)))) fine.0
+        ap (λ f. lowest_fault (f ∷ map (fault_from max_bytes) (sources (targets ++ target ∷ left) (streams ++ stream ∷ unread)))) fine.0
         ∙ ap behind_one (fault_behind targets streams front.1 left unread fault (omega (arith, same)) front.3 has)
         ∙ ap (λ (n : ℕ). Some (n, fault)) (omega arith)
 
--- the streams that readers give
-pub count_told : (told : List Told) (streams : List (Marked Stream)) → AreTold told streams → length told ≡ length streams
+-- The streams that readers give.
+pub count_told : (known : List KnownInput) (streams : List (StreamInput Stream)) → MatchKnown known streams → length known ≡ length streams
 count_told [] [] are = refl
 count_told [] (stream ∷ streams) are = absurd are
-count_told (told ∷ others) [] are = absurd are
-count_told (told ∷ others) (stream ∷ streams) are = ap suc (count_told others streams are.1)
+count_told (known ∷ others) [] are = absurd are
+count_told (known ∷ others) (stream ∷ streams) are = ap suc (count_told others streams are.1)
 
-pub told-append : (told more : List Told) (streams unread : List (Marked Stream)) → AreTold told streams → AreTold more unread → AreTold (told ++ more) (streams ++ unread)
+pub told-append : (known more : List KnownInput) (streams unread : List (StreamInput Stream)) → MatchKnown known streams → MatchKnown more unread → MatchKnown (known ++ more) (streams ++ unread)
 told-append [] more [] unread are behind = behind
 told-append [] more (stream ∷ streams) unread are behind = absurd are
-told-append (told ∷ others) more [] unread are behind = absurd are
-told-append (told ∷ others) more (stream ∷ streams) unread are behind = (are.0, told-append others more streams unread are.1 behind)
+told-append (known ∷ others) more [] unread are behind = absurd are
+told-append (known ∷ others) more (stream ∷ streams) unread are behind = (are.0, told-append others more streams unread are.1 behind)
 
--- what a reader tells, or else nothing
-any_stream : (told : Option Stream) → (stream : Stream) × IsGiven told stream
+-- The known stream of a reader, or an empty one.
+any_stream : (known : Option Stream) → (stream : Stream) × MatchesContents known stream
 any_stream None = (record { bytes = []; fails = false }, tt)
 any_stream (Some stream) = (stream, refl)
 
-pub any_streams : (told : List Told) → (streams : List (Marked Stream)) × AreTold told streams
+pub any_streams : (known : List KnownInput) → (streams : List (StreamInput Stream)) × MatchKnown known streams
 any_streams [] = ([], tt)
-any_streams (told ∷ others) =
-    (record { must_close = told.must_close; stream = (any_stream told.stream).0 } ∷ (any_streams others).0, ((refl, (any_stream told.stream).1), (any_streams others).1))
+any_streams (known ∷ others) =
+    (record { must_close = known.must_close; stream = (any_stream known.stream).0 } ∷ (any_streams others).0, ((refl, (any_stream known.stream).1), (any_streams others).1))
 
-pub given_stream : (told : Option Stream) (P : Stream → Type 0) → SomeStream told P → (stream : Stream) × IsGiven told stream × P stream
+pub given_stream : (known : Option Stream) (P : Stream → Type 0) → SomeStream known P → (stream : Stream) × MatchesContents known stream × P stream
 given_stream None P (stream, p) = (stream, tt, p)
 given_stream (Some stream) P p = (stream, refl, p)
 
--- readers that all tell their streams
-pub all_told : (streams others : List (Marked Stream)) → AreTold (map as_told streams) others → others ≡ streams
+-- If all streams are known, these are the streams that the readers give.
+pub all_told : (streams others : List (StreamInput Stream)) → MatchKnown (map fully_known streams) others → others ≡ streams
 all_told [] [] are = refl
 all_told [] (other ∷ others) are = absurd are
 all_told (stream ∷ streams) [] are = absurd are

@@ -1,4 +1,4 @@
--- Examples of sets of streams, computed: the targets, their streams, and the logs or the least-numbered fault.
+-- Examples of sets of streams, computed: the targets, their streams, and the logs or the lowest-numbered fault.
 use Rattle.std.proofs.Common.{◌≡◌, ℕ, true, false, List, [], ◌∷◌, ◌++◌, Option, None, Some, refl}
 use Rattle.std.specs.Prelude.{codes, filter_map}
 use Rattle.std.specs.List.{AllByRecursion, flat_map}
@@ -7,15 +7,15 @@ use Rattle.redo_line.specs.declared.stream_fault.StreamFault.TheVariants.{BadRec
 use Rattle.redo_line.specs.Decimal.{number}
 use Rattle.redo_line.specs.Entry.{record_entry, entry_of}
 use Rattle.redo_device.specs.Feed.{Stream}
-use Rattle.redo_line.specs.Lines.{line_feed, cutting, ended, rest}
+use Rattle.redo_line.specs.Lines.{line_feed, split_lines, ended, rest}
 use Rattle.redo_line.specs.Log.{stream_of, first_fault}
-use Rattle.redo_line.specs.Source.{Marked}
-use Rattle.redo_name.specs.Names.{from_back, normal}
-use Rattle.redo_line.specs.Parts.{parted, behind}
+use Rattle.redo_line.specs.Source.{StreamInput}
+use Rattle.redo_name.specs.Names.{reduce_suffix, normal}
+use Rattle.redo_line.specs.Parts.{split_once, after_prefix}
 use Rattle.redo_line.specs.Record.{fields_of, status_of}
 use Rattle.redo_logs.specs.declared.log_state.LogState.TheVariants.{Ended}
 use Rattle.redo_logs.specs.Logs.{Log}
-use Rattle.redo_gather.specs.Streams.{AreTold, IsGiven, told_of, logs_of, fault_among}
+use Rattle.redo_gather.specs.Streams.{MatchKnown, MatchesContents, known_inputs, logs_of, fault_among}
 
 abbrev line : List ℕ → List ℕ
 line text = text ++ line_feed ∷ []
@@ -28,39 +28,39 @@ all =
     codes "@@REDO:do:7:1.0000@@ a.o" ∷ codes "@@REDO:do:7:1.0000@@ b.o" ∷ codes "@@REDO:done:7:1.0000@@ 0 a.o" ∷ codes "@@REDO:done:7:1.0000@@ 1 b.o" ∷ codes "link" ∷
     []
 
--- the log of a target whose stream has these lines
+-- The log of a target whose stream has these lines.
 abbrev lines_log : List ℕ → List (List ℕ) → Log
 lines_log target lines = record { target = target; entries = filter_map (λ line. entry_of target line true) lines; state = Ended }
 
 abbrev logs : List Log
 logs = lines_log (codes "all") all ∷ lines_log (codes "d/a.o") (codes "cc a" ∷ codes "@@REDO:do:7:1.0000@@ b" ∷ []) ∷ lines_log (codes "b.o") (codes "cc b" ∷ []) ∷ []
 
--- a stream that may end with any line, and one that has to end with the record that closes its log
-abbrev any : Stream → Marked Stream
+-- A stream without the must-close flag, and one with it.
+abbrev any : Stream → StreamInput Stream
 any stream = record { must_close = false; stream = stream }
 
-abbrev closed : Stream → Marked Stream
+abbrev closed : Stream → StreamInput Stream
 closed stream = record { must_close = true; stream = stream }
 
-abbrev streams : List (Marked Stream)
+abbrev streams : List (StreamInput Stream)
 streams =
     any (stream_of (flat_map line all) false) ∷ any (stream_of (line (codes "cc a") ++ line (codes "@@REDO:do:7:1.0000@@ b")) false) ∷
     any (stream_of (line (codes "cc b")) false) ∷
     []
 
 these_logs : logs_of 1000 (codes "all" ∷ codes "d/a.o" ∷ codes "b.o" ∷ []) streams ≡ Some logs
-unfolding cutting ended rest first_fault entry_of record_entry fields_of status_of parted behind number normal from_back
+unfolding split_lines ended rest first_fault entry_of record_entry fields_of status_of split_once after_prefix number normal reduce_suffix
 these_logs = refl
 
 no_streams : (logs_of 1000 [] [] ≡ Some []) × (fault_among 1000 [] [] ≡ None)
 no_streams = (refl, refl)
 
 record FaultRow : Type 0 where
-  streams : List (Marked Stream)
+  streams : List (StreamInput Stream)
   place : ℕ
   fault : StreamFault
 
-abbrev has_fault : Marked Stream → Marked Stream → ℕ → StreamFault → FaultRow
+abbrev has_fault : StreamInput Stream → StreamInput Stream → ℕ → StreamFault → FaultRow
 has_fault a b place fault = record { streams = a ∷ b ∷ []; place = place; fault = fault }
 
 abbrev ok : List ℕ
@@ -72,7 +72,7 @@ done = line (codes "@@REDO:done:7:1.0000@@ 0 a")
 abbrev x : List ℕ
 x = line (codes "x")
 
--- the streams of `a` and `b`
+-- The streams of `a` and `b`, and their fault.
 abbrev faults : List FaultRow
 faults =
     has_fault (any (stream_of (ok ++ bad) false)) (any (stream_of [] false)) 0 (BadRecord 2) ∷
@@ -89,17 +89,17 @@ abbrev targets : List (List ℕ)
 targets = codes "a" ∷ codes "b" ∷ []
 
 these_faults : AllByRecursion (λ row. (fault_among 1000 targets row.streams ≡ Some (row.place, row.fault)) × (logs_of 1000 targets row.streams ≡ None)) faults
-unfolding cutting ended rest first_fault entry_of record_entry fields_of status_of parted behind number normal from_back
+unfolding split_lines ended rest first_fault entry_of record_entry fields_of status_of split_once after_prefix number normal reduce_suffix
 these_faults = ((refl, refl), ((refl, refl), ((refl, refl), ((refl, refl), ((refl, refl), ((refl, refl), ((refl, refl), ((refl, refl), tt))))))))
 
--- what two readers tell, of which the second tells nothing
-these_told : told_of (λ (told : Option Stream). told) (true ∷ false ∷ []) (Some (stream_of x false) ∷ None ∷ [])
+-- What is known of two readers, of which the second one is opaque.
+these_told : known_inputs (λ (known : Option Stream). known) (true ∷ false ∷ []) (Some (stream_of x false) ∷ None ∷ [])
     ≡ record { must_close = true; stream = Some (stream_of x false) } ∷ record { must_close = false; stream = None } ∷ []
 these_told = refl
 
--- a reader that tells none may give any stream, and no readers give none
-any_given : IsGiven None (stream_of x true)
+-- An opaque reader may give any stream, and no readers give no streams.
+any_given : MatchesContents None (stream_of x true)
 any_given = tt
 
-no_told : AreTold [] []
+no_told : MatchKnown [] []
 no_told = tt

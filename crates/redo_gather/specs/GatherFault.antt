@@ -4,7 +4,7 @@ use Rattle.redo_line.specs.declared.stream_fault.StreamFault.{StreamFault}
 use Rattle.redo_gather.specs.declared.gather_fault.GatherFault.{GatherFault}
 use Rattle.redo_gather.specs.declared.gather_fault.GatherFault.TheVariants.{Stream, OutOfMemory}
 
--- a fact of a stream's fault, and of its number
+-- If the result is the fault of a stream, `P` holds of the stream's number and of the fault.
 abbrev pub IfStreamFault : {A : Type 0} → Result A GatherFault → (ℕ → StreamFault → Type 0) → Type 0
 IfStreamFault (Ok done) P = Unit {0}
 IfStreamFault (Err (Stream number fault)) P = P number fault

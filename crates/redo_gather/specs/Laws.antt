@@ -1,87 +1,87 @@
--- What the laws say of what senders owe and post.
+-- The statements of the laws about what is expected of senders and what they post.
 use Rattle.std.specs.Prelude.{◌≡◌, ◌≢◌, ◌↔◌, ℕ, ◌+◌, ◌-◌, ◌*◌, ◌≤◌, List, [], ◌∷◌, ◌++◌, Option, None, Some, length, map}
 use Rattle.std.specs.List.{AllByRecursion}
 use Rattle.redo_line.specs.declared.entry.Entry.{Entry}
 use Rattle.redo_line.specs.declared.stream_fault.StreamFault.{StreamFault}
 use Rattle.redo_line.specs.declared.stream_fault.StreamFault.TheVariants.{OutOfMemory}
 use Rattle.redo_device.specs.Feed.{Stream}
-use Rattle.redo_line.specs.Laws.{IsFront}
-use Rattle.redo_line.specs.Source.{Source, fault_from, log_from, part_from}
+use Rattle.redo_line.specs.Laws.{IsPrefix}
+use Rattle.redo_line.specs.Source.{Source, fault_from, log_from, source_entries_before_fault}
 use Rattle.redo_wire.specs.declared.item.Item.{Item}
 use Rattle.redo_wire.specs.declared.item.What.TheVariants.{Lines}
-use Rattle.redo_wire.specs.Mailbox.{Poster}
-use Rattle.redo_gather.specs.Owed.{Given, IsOwed, IsOwedFor, told_entries}
-use Rattle.redo_gather.specs.Sending.{AreOwed, HasPosted, HasSent, IsFilled, Numbered, line_of, singles, stream_items}
+use Rattle.redo_wire.specs.Mailbox.{PostEndState}
+use Rattle.redo_gather.specs.Expected.{Given, IsExpected, IsExpectedFor, reported_entries}
+use Rattle.redo_gather.specs.Sending.{AreExpected, HasPosted, HasSent, IsWellSized, NumberedInput, line_of, singles, stream_items}
 
--- ---- what is owed for a stream
+-- ---- what is expected for a stream
 
 module _ (max_bytes : ℕ) (source : Source Stream) where
-  -- entries that are owed are the first of those that are told of the stream
-  abbrev pub OwesInOrder : Type 0
-  OwesInOrder = (entries : List Entry) (fault : Option StreamFault) → IsOwed max_bytes source entries fault → IsFront entries (told_entries max_bytes source)
+  -- Entries that are as expected are a prefix of the stream's entries.
+  abbrev pub ExpectsInOrder : Type 0
+  ExpectsInOrder = (entries : List Entry) (fault : Option StreamFault) → IsExpected max_bytes source entries fault → IsPrefix entries (reported_entries max_bytes source)
 
-  -- without a fault they are its log
-  abbrev pub OwesLog : Type 0
-  OwesLog = (entries : List Entry) → IsOwed max_bytes source entries None → log_from max_bytes source ≡ Some entries
+  -- If they are as expected without a fault, they are the stream's log.
+  abbrev pub ExpectsLog : Type 0
+  ExpectsLog = (entries : List Entry) → IsExpected max_bytes source entries None → log_from max_bytes source ≡ Some entries
 
-  -- with one that isn't want of memory, this is the stream's, and they are all before it
-  abbrev pub OwesFault : Type 0
-  OwesFault =
-      (entries : List Entry) (fault : StreamFault) → fault ≢ OutOfMemory → IsOwed max_bytes source entries (Some fault)
-      → (fault_from max_bytes source ≡ Some fault) × (entries ≡ part_from max_bytes source)
+  -- If they are as expected with a fault other than `OutOfMemory`, it is the stream's fault, and they are all entries before it.
+  abbrev pub ExpectsFault : Type 0
+  ExpectsFault =
+      (entries : List Entry) (fault : StreamFault) → fault ≢ OutOfMemory → IsExpected max_bytes source entries (Some fault)
+      → (fault_from max_bytes source ≡ Some fault) × (entries ≡ source_entries_before_fault max_bytes source)
 
-  -- all that is told may be owed,
-  abbrev pub MayOweAll : Type 0
-  MayOweAll = IsOwed max_bytes source (told_entries max_bytes source) (fault_from max_bytes source)
+  -- All entries of the stream, with its fault if it has one, are as expected.
+  abbrev pub MayExpectAll : Type 0
+  MayExpectAll = IsExpected max_bytes source (reported_entries max_bytes source) (fault_from max_bytes source)
 
-  -- and so may any first entries of it, and want of memory
-  abbrev pub MayOweFront : Type 0
-  MayOweFront = (front : List Entry) → IsFront front (told_entries max_bytes source) → IsOwed max_bytes source front (Some OutOfMemory)
+  -- Any prefix of the stream's entries, with the fault `OutOfMemory`, is as expected.
+  abbrev pub MayExpectPrefix : Type 0
+  MayExpectPrefix = (front : List Entry) → IsPrefix front (reported_entries max_bytes source) → IsExpected max_bytes source front (Some OutOfMemory)
 
--- ---- what is owed for a share
+-- ---- what is expected for a share
 
 module _ (max_bytes sender : ℕ) where
-  -- for no stream nothing is owed
-  abbrev pub OwesNothing : Type 0
-  OwesNothing = (items : List Item) → AreOwed max_bytes sender [] items ↔ (items ≡ [])
+  -- For no streams, items are as expected exactly if there are none.
+  abbrev pub ExpectsNothing : Type 0
+  ExpectsNothing = (items : List Item) → AreExpected max_bytes sender [] items ↔ (items ≡ [])
 
-  -- for one stream what is told of it is
-  abbrev pub OwesOne : Type 0
-  OwesOne =
+  -- For one stream, its items are as expected exactly if its entries and its fault are.
+  abbrev pub ExpectsOne : Type 0
+  ExpectsOne =
       (stream : ℕ) (given : Given) (entries : List Entry) (fault : Option StreamFault)
-      → AreOwed max_bytes sender ((stream, given) ∷ []) (stream_items sender stream entries fault) ↔ IsOwedFor max_bytes given entries fault
+      → AreExpected max_bytes sender ((stream, given) ∷ []) (stream_items sender stream entries fault) ↔ IsExpectedFor max_bytes given entries fault
 
-  -- items of which the first are owed for some streams, and those behind them for others
-  abbrev pub AreInTurn : List Numbered → List Numbered → List Item → Type 0
-  AreInTurn first others items =
-      (front behind : List Item) × (items ≡ front ++ behind) × AreOwed max_bytes sender first front × AreOwed max_bytes sender others behind
+  -- The items are as expected for `first`, up to some item, and as expected for `others` from there on.
+  abbrev pub AreConcatenated : List NumberedInput → List NumberedInput → List Item → Type 0
+  AreConcatenated first others items =
+      (front behind : List Item) × (items ≡ front ++ behind) × AreExpected max_bytes sender first front × AreExpected max_bytes sender others behind
 
-  -- for some streams and others behind them just these are
-  abbrev pub OwesInTurn : Type 0
-  OwesInTurn = (first others : List Numbered) (items : List Item) → AreOwed max_bytes sender (first ++ others) items ↔ AreInTurn first others items
+  -- For some streams followed by others, exactly such items are as expected.
+  abbrev pub ExpectsConcatenation : Type 0
+  ExpectsConcatenation = (first others : List NumberedInput) (items : List Item) → AreExpected max_bytes sender (first ++ others) items ↔ AreConcatenated first others items
 
 -- ---- what is posted
 
--- what is told of a stream is of single entries, with an end or a fault
+-- The items of a stream, one for each entry and one for the end or the fault, are already single items.
 abbrev pub AreSingles : ℕ → ℕ → List Entry → Option StreamFault → Type 0
 AreSingles sender stream entries fault = singles (stream_items sender stream entries fault) ≡ stream_items sender stream entries fault
 
--- an item of several entries stands for an item of each, in order
+-- An item of several entries is equivalent to one item for each of them, in order.
 abbrev pub StandsForEach : ℕ → ℕ → List Entry → Type 0
 StandsForEach sender stream entries = singles (record { sender = sender; stream = stream; what = Lines entries } ∷ []) ≡ map (line_of sender stream) entries
 
--- what stands for one item alone is that item
-abbrev pub IsNeverAlone : Item → Item → Type 0
-IsNeverAlone item one = IsFilled item.what → singles (item ∷ []) ≡ one ∷ [] → item ≡ one
+-- An item that is equivalent to a single item is that item.
+abbrev pub SingleIsUnwrapped : Item → Item → Type 0
+SingleIsUnwrapped item one = IsWellSized item.what → singles (item ∷ []) ≡ one ∷ [] → item ≡ one
 
--- an end that sends a share posts items of its own sender
-abbrev pub PostsItsOwn : ℕ → List Numbered → Poster → Poster → Type 0
-PostsItsOwn max_bytes share before after =
+-- An end at which a share is sent posts only items of its own sender.
+abbrev pub PostsOwnItems : ℕ → List NumberedInput → PostEndState → PostEndState → Type 0
+PostsOwnItems max_bytes share before after =
     HasSent max_bytes share before after
     → (items : List Item) × (after.posted ≡ before.posted ++ items) × AllByRecursion (λ (item : Item). item.sender ≡ before.number) items
 
--- there are no more items than entries, ends and faults, and no fewer than a 1024th of these
-abbrev pub PostsFew : Poster → Poster → List Item → Type 0
-PostsFew before after lines =
+-- There are at most as many items as entries, ends and faults, and at least a 1024th of them.
+abbrev pub ItemCountIsBounded : PostEndState → PostEndState → List Item → Type 0
+ItemCountIsBounded before after lines =
     HasPosted before after lines
     → (length after.posted ≤ length before.posted + length lines) × (length lines ≤ 1024 * (length after.posted - length before.posted))

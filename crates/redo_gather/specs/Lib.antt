@@ -1,6 +1,6 @@
+pub mod Expected
 pub mod GatherFault
 pub mod Laws
-pub mod Owed
 pub mod Private
 pub mod Sending
 pub mod Streams

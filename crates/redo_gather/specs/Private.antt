@@ -1,4 +1,4 @@
--- What only clauses of private functions cite: it helps to prove the others, and nobody has to believe it.
+-- Definitions that only clauses of private functions cite. They help in proofs and need not be trusted.
 pub mod Collecting
 pub mod Dealing
 pub mod GatherFault

@@ -1,15 +1,16 @@
 use std::sync::Wait;
 
-/// Is told how a gathering goes on, by each of its threads, and may hold the thread that tells it. The
-/// answer of the gathering is the same under every gate; a gate is for tests of what runs side by side.
+/// Is notified of the progress of a gathering by each of its threads, and may hold the thread that notifies
+/// it. The result of the gathering is the same with every gate. Gates serve tests of concurrency.
 pub trait Gate: Sync {
-    /// Told before each read of a stream, whose reads are counted from 1, by who reads it.
+    /// Called before each read of a stream, by the thread that reads it. `turn` counts the stream's reads from 1.
     fn before_read<R: Wait>(&self, rt: &R, stream: u32, turn: u64);
 
-    /// Told after an entry of a stream was taken, by who takes; a stream's entries are counted from 1.
+    /// Called after an entry of a stream was taken, by the thread that takes. `lines` counts the stream's entries
+    /// from 1.
     fn taken<R: Wait>(&self, rt: &R, stream: u32, lines: u64);
 
-    /// Told after a stream's end or fault was taken, by who takes.
+    /// Called after a stream's end or fault was taken, by the thread that takes.
     fn over<R: Wait>(&self, rt: &R, stream: u32);
 }
 

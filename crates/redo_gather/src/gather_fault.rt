@@ -5,18 +5,18 @@ ghost use Rattle.redo_gather.specs.Private.GatherFault.{fault_of_stream};
 use redo_line::StreamFault;
 use std::alloc::{AllocError, AllocFailed};
 
-/// Why the logs of streams can't be had.
+/// Why a gathering has no logs.
 #[derive(Clone, Copy, Debug, PartialEq, Eq)]
 pub enum GatherFault {
-    /// The log of this stream can't be had; streams are counted from 0. No gathering answers it with the
-    /// fault `OutOfMemory`.
+    /// This stream has no log; streams are counted from 0. No gathering returns this with the fault
+    /// `OutOfMemory`.
     Stream { number: u32, fault: StreamFault },
-    /// There was no memory.
+    /// Memory ran out.
     OutOfMemory,
 }
 
 impl GatherFault {
-    // The fault of a stream, as that of the gathering.
+    // Returns the gathering's fault for the fault of a stream.
     pub(crate) fn of(number: u32, fault: StreamFault) -> GatherFault
         ensures { result ≡ fault_of_stream number fault }
     {

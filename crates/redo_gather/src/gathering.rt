@@ -3,19 +3,19 @@ ghost use Rattle.std.specs.List.{AllByRecursion, IsDistinct, list_all};
 ghost use Rattle.std.specs.Cmp.Lexicographic.{pointwise};
 ghost use Rattle.redo_line.specs.declared.stream_fault.StreamFault.TheVariants.{OutOfMemory};
 ghost use Rattle.redo_line.specs.Source.{sources};
-ghost use Rattle.redo_logs.specs.Logs.{has_ended, most, new_log, targets_of};
+ghost use Rattle.redo_logs.specs.Logs.{has_ended, max_logs, new_log, targets_of};
 ghost use Rattle.redo_gather.specs.GatherFault.{IfStreamFault};
-ghost use Rattle.redo_gather.specs.Streams.{AreLogs, IsFault, told_by, told_of};
+ghost use Rattle.redo_gather.specs.Streams.{AreLogs, IsFault, known_input, known_inputs};
 ghost use Rattle.redo_gather.specs.Private.Collecting.{Collects, IsGathered};
-ghost use Rattle.redo_gather.specs.Private.Dealing.{AreDealt, AreEmpty};
+ghost use Rattle.redo_gather.specs.Private.Dealing.{AreDistributed, AreEmpty};
 
-use crate::collecting::Collector;
+use crate::collector::Collector;
+use crate::flags::zip_flags;
 use crate::gate::Gate;
 use crate::gather_fault::GatherFault;
-use crate::marking::with_marks;
-use crate::sender::{Owing, Sender};
+use crate::sender::{Sender, SenderPromise};
 use crate::sending::Share;
-use crate::storing::enter_all;
+use crate::storing::new_table;
 use redo_line::{Feed, HashKeys, TargetName};
 use redo_logs::LogTable;
 use redo_options::Plan;
@@ -26,41 +26,41 @@ use std::sync::Wait;
 use std::thread;
 use std::thread::{PromisedHandle, Scope, Threads};
 
-/// Reads streams side by side, by the plan's senders, and answers the logs of their targets, in the order
-/// of the names. Each reader gives the stream of the name at the same place, which has to end with the record that
-/// closes its log where the mark at this place says so. There have to be as many marks and readers as names, at
-/// most 1,048,575, and no name twice; there may be none.
+/// Reads streams in parallel, by the plan's senders, and returns the logs of their targets in the order of the
+/// names. Each reader gives the stream of the name at the same index. If the must-close flag at that index (`marks`)
+/// is set, the stream must end with the closing record of its log. There must be as many flags and readers as names.
+/// There may be at most 1,048,575 names, or none. No name may occur twice.
 ///
-/// Sender i reads the streams i, i + n, i + 2n and so on, in a thread of its own ([`crate::send`]); where there
-/// are fewer streams than senders, no more are started than there are streams. They post what they read into a
-/// mailbox of the plan's capacity, and the thread that calls takes it and keeps it in a table. Each stream
-/// is read also behind one that is at fault. Where a stream can't be had, the least-numbered of these is told; but
-/// want of memory, also of a thread, is told before any of them.
+/// Sender i of n reads the streams i, i + n, i + 2n and so on, in its own thread ([`crate::send`]). If there are
+/// fewer streams than senders, no more senders are started than there are streams. The senders post what they read
+/// to a mailbox of the plan's capacity. The calling thread takes it and stores it in a table. A stream is read even
+/// if another one has a fault. If streams have faults, the fault of the lowest-numbered one is returned. If memory
+/// runs out, even for a thread, `OutOfMemory` is returned instead.
 ///
-/// The gate is told of each read by the sender, before it, and of each entry and each end by the thread that
-/// calls, once it took it. Whoever may choose the names that logs mention can choose them so that this is slow:
-/// [`gather_with_keys`] is for these.
+/// The sender notifies the gate before each read. The calling thread notifies it after it has taken an entry or an
+/// end. If an untrusted party can choose the names that logs mention, it can make this slow: use
+/// [`gather_with_keys`] then.
 pub fn gather<T: Threads + Wait + Sync, R: Feed + Send, G: Gate>(
     rt: &T,
     alloc: Global,
     names: Vec<TargetName>,
-    marks: Vec<bool>,
+    flags: Vec<bool>,
     readers: Vec<R>,
     plan: &Plan,
     gate: &G,
 ) -> Result<LogTable, GatherFault>
-    requires marks { length marks.items ≡ length names.items }
+    requires flags { length flags.items ≡ length names.items }
     requires readers { length readers.items ≡ length names.items }
     requires distinct { IsDistinct (pointwise nat_eq) names.items }
-    requires size { length names.items ≤ most }
+    requires size { length names.items ≤ max_logs }
 
-    // The logs of the streams, all of them whole.
-    ensures logs { IfOk result (AreLogs plan.now.max_bytes names.items (told_of R.tells marks.items readers.items)) }
+    // The logs of the streams, all of them complete.
+    ensures logs { IfOk result (AreLogs plan.now.max_bytes names.items (known_inputs R.contents flags.items readers.items)) }
     ensures targets { IfOk result (λ table. targets_of table ≡ names.items) }
     ensures ended { IfOk result (λ table. list_all has_ended table ≡ true) }
 
-    // The fault of the least-numbered stream that has one.
-    ensures fault { IfStreamFault result (IsFault plan.now.max_bytes names.items (told_of R.tells marks.items readers.items)) }
+    // The fault of the lowest-numbered stream that has one.
+    ensures fault { IfStreamFault result (IsFault plan.now.max_bytes names.items (known_inputs R.contents flags.items readers.items)) }
     ensures number { IfStreamFault result (λ number fault. number < length names.items) }
     ensures no_memory { IfStreamFault result (λ number fault. fault ≢ OutOfMemory) }
 {
@@ -69,49 +69,49 @@ pub fn gather<T: Threads + Wait + Sync, R: Feed + Send, G: Gate>(
         alloc,
         HashKeys::fixed(),
         names,
-        marks,
+        flags,
         readers,
         plan,
         gate,
     )
 }
 
-/// The same, in which names are looked up by a hash with these keys. What it answers doesn't depend on them.
+/// Does the same as [`gather`], and looks up names by a hash with these keys. The result doesn't depend on them.
 pub fn gather_with_keys<T: Threads + Wait + Sync, R: Feed + Send, G: Gate>(
     rt: &T,
     alloc: Global,
     keys: HashKeys,
     names: Vec<TargetName>,
-    marks: Vec<bool>,
+    flags: Vec<bool>,
     readers: Vec<R>,
     plan: &Plan,
     gate: &G,
 ) -> Result<LogTable, GatherFault>
-    requires marks { length marks.items ≡ length names.items }
+    requires flags { length flags.items ≡ length names.items }
     requires readers { length readers.items ≡ length names.items }
     requires distinct { IsDistinct (pointwise nat_eq) names.items }
-    requires size { length names.items ≤ most }
+    requires size { length names.items ≤ max_logs }
 
-    // The logs of the streams, all of them whole.
-    ensures logs { IfOk result (AreLogs plan.now.max_bytes names.items (told_of R.tells marks.items readers.items)) }
+    // The logs of the streams, all of them complete.
+    ensures logs { IfOk result (AreLogs plan.now.max_bytes names.items (known_inputs R.contents flags.items readers.items)) }
     ensures targets { IfOk result (λ table. targets_of table ≡ names.items) }
     ensures ended { IfOk result (λ table. list_all has_ended table ≡ true) }
 
-    // The fault of the least-numbered stream that has one.
-    ensures fault { IfStreamFault result (IsFault plan.now.max_bytes names.items (told_of R.tells marks.items readers.items)) }
+    // The fault of the lowest-numbered stream that has one.
+    ensures fault { IfStreamFault result (IsFault plan.now.max_bytes names.items (known_inputs R.contents flags.items readers.items)) }
     ensures number { IfStreamFault result (λ number fault. number < length names.items) }
     ensures no_memory { IfStreamFault result (λ number fault. fault ≢ OutOfMemory) }
 {
-    let table = enter_all(alloc, keys, names)?;
+    let table = new_table(alloc, keys, names)?;
     let senders = plan.senders().min(table.len());
     if senders == 0 {
         return Ok(table);
     }
-    let readers = with_marks(alloc, marks, readers)?;
+    let readers = zip_flags(alloc, flags, readers)?;
     gather_by(rt, alloc, table, readers, senders, plan, gate)
 }
 
-// The same by so many senders, for a table of the targets.
+// Does the same with `senders` senders, for a table of the targets.
 fn gather_by<T: Threads + Wait + Sync, R: Feed + Send, G: Gate>(
     rt: &T,
     alloc: Global,
@@ -123,19 +123,19 @@ fn gather_by<T: Threads + Wait + Sync, R: Feed + Send, G: Gate>(
 ) -> Result<LogTable, GatherFault>
     requires begins { table ≡ map new_log (targets_of table) }
     requires readers { length readers.items ≡ length table }
-    requires size { length table ≤ most }
+    requires size { length table ≤ max_logs }
     requires senders { (1 ≤ senders) × (senders ≤ 64) }
-    ensures gathered { IsGathered plan.now.max_bytes (targets_of table) (map (told_by R.tells) readers.items) result }
+    ensures gathered { IsGathered plan.now.max_bytes (targets_of table) (map (known_input R.contents) readers.items) result }
     ensures no_memory { IfStreamFault result (λ number fault. fault ≢ OutOfMemory) }
 {
-    let shares = deal(alloc, &table, readers, senders)?;
+    let shares = distribute(alloc, &table, readers, senders)?;
     let (collector, ends) = Collector::open(alloc, table, plan.capacity(), senders)?;
     let max_bytes = plan.max_bytes();
-    collect_all(rt, alloc, ends, shares, max_bytes, gate, collector).finish(rt, gate)
+    run_senders(rt, alloc, ends, shares, max_bytes, gate, collector).finish(rt, gate)
 }
 
-// Has what the senders of these ends read of their shares collected, and all of them joined.
-fn collect_all<T: Threads + Wait + Sync, R: Feed + Send, G: Gate>(
+// Runs the senders of these ends on their shares, collects what they read, and joins all of them.
+fn run_senders<T: Threads + Wait + Sync, R: Feed + Send, G: Gate>(
     rt: &T,
     alloc: Global,
     ends: Vec<PostEnd>,
@@ -146,7 +146,7 @@ fn collect_all<T: Threads + Wait + Sync, R: Feed + Send, G: Gate>(
 ) -> Collector
     requires one { AllByRecursion (λ end. end.mailbox ≡ collector.mailbox.mailbox) ends.items }
     requires limit { (1 ≤ max_bytes) × (max_bytes ≤ 2 ^ 40) }
-    ensures { Collects R.tells max_bytes ends.items (map (λ share. share.items) shares.items) collector result }
+    ensures { Collects R.contents max_bytes ends.items (map (λ share. share.items) shares.items) collector result }
 {
     thread::scope(
         thread::scope_env(),
@@ -154,10 +154,10 @@ fn collect_all<T: Threads + Wait + Sync, R: Feed + Send, G: Gate>(
         |scope| -> Collector
             requires one { AllByRecursion (λ end. end.mailbox ≡ collector.mailbox.mailbox) ends.items }
             requires limit { (1 ≤ max_bytes) × (max_bytes ≤ 2 ^ 40) }
-            ensures { Collects R.tells max_bytes ends.items (map (λ share. share.items) shares.items) collector result }
+            ensures { Collects R.contents max_bytes ends.items (map (λ share. share.items) shares.items) collector result }
         {
             let mut collector = collector;
-            collect(
+            run_next_sender(
                 scope,
                 rt,
                 alloc,
@@ -173,22 +173,22 @@ fn collect_all<T: Threads + Wait + Sync, R: Feed + Send, G: Gate>(
     )
 }
 
-// Deals the streams of a table's targets to so many senders: number 0 to the first, and so on, round
-// and round.
-fn deal<R: Feed>(
+// Distributes the streams of a table's targets round-robin to the senders: number 0 to the first sender, and
+// so on.
+fn distribute<R: Feed>(
     alloc: Global,
     table: &LogTable,
     readers: Vec<(bool, R)>,
     senders: u32,
 ) -> Result<Vec<Share<R>>, AllocError>
     requires readers { length readers.items ≡ length table.now }
-    requires size { length readers.items ≤ most }
+    requires size { length readers.items ≤ max_logs }
     requires senders { 0 < length readers.items → 0 < senders }
     ensures { IfOk result (λ shares.
-        AreDealt R.tells senders (sources (targets_of table.now) (map (told_by R.tells) readers.items))
+        AreDistributed R.contents senders (sources (targets_of table.now) (map (known_input R.contents) readers.items))
         (map (λ share. share.items) shares.items)) }
 {
-    let mut shares = no_shares(alloc, senders)?;
+    let mut shares = empty_shares(alloc, senders)?;
     let mut number = 0;
     for (must_close, reader) in readers {
         let target = table.name(number).copy(alloc)?;
@@ -199,8 +199,8 @@ fn deal<R: Feed>(
     Ok(shares)
 }
 
-// So many shares without a stream.
-fn no_shares<R: Drop>(alloc: Global, senders: u32) -> Result<Vec<Share<R>>, AllocError>
+// Returns `senders` shares without streams.
+fn empty_shares<R: Drop>(alloc: Global, senders: u32) -> Result<Vec<Share<R>>, AllocError>
     ensures { IfOk result (λ shares. AreEmpty senders (map (λ share. share.items) shares.items)) }
 {
     let mut shares = Vec::new(alloc);
@@ -210,10 +210,10 @@ fn no_shares<R: Drop>(alloc: Global, senders: u32) -> Result<Vec<Share<R>>, Allo
     Ok(shares)
 }
 
-// Starts a sender for each end and its share, in a thread of its own, takes meanwhile what they post, joins
-// them and meets their ends. So many streams are read already; where one more sender can't be started, what is
-// posted of these is taken before its end is let go.
-fn collect<'s, T: Threads + Wait + Sync, R: Feed + Send + 's, G: Gate, E>(
+// Starts a sender for each end and its share, in its own thread. Takes what they post meanwhile, joins them and
+// meets their ends. `streams` counts the streams of the senders that were started before. If a sender can't be
+// started, no more are started, and what is posted of these streams is taken before the senders are joined.
+fn run_next_sender<'s, T: Threads + Wait + Sync, R: Feed + Send + 's, G: Gate, E>(
     scope: &Scope<'s, E>,
     rt: &'s T,
     alloc: Global,
@@ -226,7 +226,7 @@ fn collect<'s, T: Threads + Wait + Sync, R: Feed + Send + 's, G: Gate, E>(
 )
     requires one { AllByRecursion (λ end. end.mailbox ≡ collector.old.mailbox.mailbox) ends.items }
     requires limit { (1 ≤ max_bytes) × (max_bytes ≤ 2 ^ 40) }
-    ensures { Collects R.tells max_bytes ends.items (map (λ share. share.items) shares.items) collector.old collector.new }
+    ensures { Collects R.contents max_bytes ends.items (map (λ share. share.items) shares.items) collector.old collector.new }
 {
     let (Some(end), Some(share)) = (ends.pop(), shares.pop()) else {
         collector.take(rt, gate, streams);
@@ -238,11 +238,11 @@ fn collect<'s, T: Threads + Wait + Sync, R: Feed + Send + 's, G: Gate, E>(
         share,
         max_bytes,
     };
-    let Ok(thread) = start(scope, rt, alloc, sender, gate) else {
+    let Ok(thread) = spawn_sender(scope, rt, alloc, sender, gate) else {
         collector.take(rt, gate, streams);
         return;
     };
-    collect(
+    run_next_sender(
         scope,
         rt,
         alloc,
@@ -257,16 +257,16 @@ fn collect<'s, T: Threads + Wait + Sync, R: Feed + Send + 's, G: Gate, E>(
     collector.meet(rt, end);
 }
 
-// Starts a sender in a thread of its own.
-fn start<'s, T: Threads + Wait + Sync, R: Feed + Send + 's, G: Gate, E>(
+// Starts a sender in its own thread.
+fn spawn_sender<'s, T: Threads + Wait + Sync, R: Feed + Send + 's, G: Gate, E>(
     scope: &Scope<'s, E>,
     rt: &'s T,
     alloc: Global,
     sender: Sender<R>,
     gate: &'s G,
-) -> Result<PromisedHandle<PostEnd, Owing<R>>, AllocError>
+) -> Result<PromisedHandle<PostEnd, SenderPromise<R>>, AllocError>
     ensures { IfOk result (λ handle. handle.promise.0.value ≡ sender) }
 {
-    let owing = Owing(Snapshot::of(&sender));
+    let owing = SenderPromise(Snapshot::of(&sender));
     Ok(scope.spawn_with(owing, move || sender.send(rt, alloc, gate))?)
 }

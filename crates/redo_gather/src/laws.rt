@@ -1,52 +1,56 @@
-//! Laws about the definitions alone: their contracts are theorems, and their bodies are empty.
+//! Laws: theorems about the definitions alone. The contracts state them, and the bodies are empty.
 ghost use Rattle.std.specs.Prelude.{◌≡◌, ℕ, List, Option, Some, map};
 ghost use Rattle.redo_device.specs.Feed.{Stream};
 ghost use Rattle.redo_line.specs.declared.entry.Entry.{Entry};
 ghost use Rattle.redo_line.specs.declared.stream_fault.StreamFault.{StreamFault};
-ghost use Rattle.redo_line.specs.Source.{Marked, Source};
+ghost use Rattle.redo_line.specs.Source.{StreamInput, Source};
 ghost use Rattle.redo_wire.specs.declared.item.Item.{Item};
-ghost use Rattle.redo_wire.specs.Mailbox.{Poster};
-ghost use Rattle.redo_gather.specs.Laws.{OwesInOrder, OwesLog, OwesFault, MayOweAll, MayOweFront, OwesNothing, OwesOne, OwesInTurn};
-ghost use Rattle.redo_gather.specs.Laws.{AreSingles, StandsForEach, IsNeverAlone, PostsItsOwn, PostsFew};
-ghost use Rattle.redo_gather.specs.Sending.{Numbered};
-ghost use Rattle.redo_gather.specs.Streams.{AreTold, HasLogsUnlessFault, TellsFault, TellsLogs, as_told};
+ghost use Rattle.redo_wire.specs.Mailbox.{PostEndState};
+ghost use Rattle.redo_gather.specs.Laws.{ExpectsInOrder, ExpectsLog, ExpectsFault, MayExpectAll, MayExpectPrefix, ExpectsNothing, ExpectsOne, ExpectsConcatenation};
+ghost use Rattle.redo_gather.specs.Laws.{AreSingles, StandsForEach, SingleIsUnwrapped, PostsOwnItems, ItemCountIsBounded};
+ghost use Rattle.redo_gather.specs.Sending.{NumberedInput};
+ghost use Rattle.redo_gather.specs.Streams.{MatchKnown, HasLogsUnlessFault, FaultIsThatOfStreams, LogsAreThoseOfStreams, fully_known};
 
-/// Streams have logs, or a fault among them, and not both.
+/// Either streams have logs, or there is a fault among them, never both.
 pub fn logs_unless_fault()
-    ensures { (max_bytes : ℕ) (targets : List (List ℕ)) (streams : List (Marked Stream)) → HasLogsUnlessFault max_bytes targets streams }
+    ensures { (max_bytes : ℕ) (targets : List (List ℕ)) (streams : List (StreamInput Stream)) →
+        HasLogsUnlessFault max_bytes targets streams }
 {}
 
-/// Where every reader tells its stream, the streams that they give are those. So what is said of the logs
-/// of streams that readers give, or of the fault among them, is said of these.
-pub fn streams_told()
-    ensures streams { (streams others : List (Marked Stream)) → AreTold (map as_told streams) others → others ≡ streams }
-    ensures logs { (max_bytes : ℕ) (targets : List (List ℕ)) (streams : List (Marked Stream)) → TellsLogs max_bytes targets streams }
-    ensures fault { (max_bytes : ℕ) (targets : List (List ℕ)) (streams : List (Marked Stream)) → TellsFault max_bytes targets streams }
+/// If every reader's stream is known, these are the streams that the readers give. So what holds of the logs
+/// of the streams that the readers give, or of the fault among them, holds of these streams.
+pub fn known_streams_decide()
+    ensures streams { (streams others : List (StreamInput Stream)) → MatchKnown (map fully_known streams) others → others ≡ streams }
+    ensures logs { (max_bytes : ℕ) (targets : List (List ℕ)) (streams : List (StreamInput Stream)) →
+        LogsAreThoseOfStreams max_bytes targets streams }
+    ensures fault { (max_bytes : ℕ) (targets : List (List ℕ)) (streams : List (StreamInput Stream)) →
+        FaultIsThatOfStreams max_bytes targets streams }
 {}
 
-/// What a sender owes for a stream is told in order: its log; or the entries before its fault, and the
-/// fault; or, without memory, the first of these.
-pub fn owed_for_a_stream()
-    ensures order { (max_bytes : ℕ) (source : Source Stream) → OwesInOrder max_bytes source }
-    ensures log { (max_bytes : ℕ) (source : Source Stream) → OwesLog max_bytes source }
-    ensures fault { (max_bytes : ℕ) (source : Source Stream) → OwesFault max_bytes source }
-    ensures all { (max_bytes : ℕ) (source : Source Stream) → MayOweAll max_bytes source }
-    ensures front { (max_bytes : ℕ) (source : Source Stream) → MayOweFront max_bytes source }
+/// What is expected of a sender for a stream, in order: its log; or the entries before its fault, and the
+/// fault; or, if memory runs out, the first of these entries.
+pub fn expected_for_stream()
+    ensures order { (max_bytes : ℕ) (source : Source Stream) → ExpectsInOrder max_bytes source }
+    ensures log { (max_bytes : ℕ) (source : Source Stream) → ExpectsLog max_bytes source }
+    ensures fault { (max_bytes : ℕ) (source : Source Stream) → ExpectsFault max_bytes source }
+    ensures all { (max_bytes : ℕ) (source : Source Stream) → MayExpectAll max_bytes source }
+    ensures prefix { (max_bytes : ℕ) (source : Source Stream) → MayExpectPrefix max_bytes source }
 {}
 
-/// For the streams of a share all of this is owed for each, one stream behind the other.
-pub fn owed_for_a_share()
-    ensures nothing { (max_bytes sender : ℕ) → OwesNothing max_bytes sender }
-    ensures one { (max_bytes sender : ℕ) → OwesOne max_bytes sender }
-    ensures turn { (max_bytes sender : ℕ) → OwesInTurn max_bytes sender }
+/// For a share, all of this is expected for each of its streams, one stream after another.
+pub fn expected_for_share()
+    ensures nothing { (max_bytes sender : ℕ) → ExpectsNothing max_bytes sender }
+    ensures one { (max_bytes sender : ℕ) → ExpectsOne max_bytes sender }
+    ensures turn { (max_bytes sender : ℕ) → ExpectsConcatenation max_bytes sender }
 {}
 
-/// However entries are put into items, each of these is of its sender, and stands for one entry or, in
-/// order, for at most 1,024.
-pub fn items_of_a_share()
+/// However entries are grouped into items, each item has the number of its sender. It has one entry or, in
+/// order, at most 1,024 entries.
+pub fn items_for_share()
     ensures singles { (sender stream : ℕ) (entries : List Entry) (fault : Option StreamFault) → AreSingles sender stream entries fault }
     ensures each { (sender stream : ℕ) (entries : List Entry) → StandsForEach sender stream entries }
-    ensures alone { (item one : Item) → IsNeverAlone item one }
-    ensures own { (max_bytes : ℕ) (share : List Numbered) (before after : Poster) → PostsItsOwn max_bytes share before after }
-    ensures few { (before after : Poster) (lines : List Item) → PostsFew before after lines }
+    ensures alone { (item one : Item) → SingleIsUnwrapped item one }
+    ensures own_items { (max_bytes : ℕ) (share : List NumberedInput) (before after : PostEndState) →
+        PostsOwnItems max_bytes share before after }
+    ensures at_most { (before after : PostEndState) (lines : List Item) → ItemCountIsBounded before after lines }
 {}

@@ -1,16 +1,16 @@
-//! From streams to logs: each is read to its end, or to its fault, and its entries go into a table.
+//! From streams to logs: each stream is read to its end or its fault, and its entries are stored in a table.
 //!
-//! What the layers above use: [`gather`] and [`gather_plain`] answer the logs of whole streams, or the
-//! fault of the least-numbered stream that has one. The first reads them side by side, by senders in
-//! threads of their own, the other on the thread that calls.
+//! The crates above rely on this: [`gather`] and [`gather_plain`] return the logs of whole streams, or the
+//! fault of the lowest-numbered stream that has one. [`gather`] reads the streams in parallel, by senders in
+//! their own threads; [`gather_plain`] reads them on the calling thread.
 #![tactic(auto)]
 
-mod collecting;
+mod collector;
+mod flags;
 mod gate;
 mod gather_fault;
 mod gathering;
 mod laws;
-mod marking;
 mod one_stream;
 mod plain;
 mod sender;
@@ -21,7 +21,8 @@ pub use gate::{Free, Gate};
 pub use gather_fault::GatherFault;
 pub use gathering::{gather, gather_with_keys};
 pub use laws::{
-    items_of_a_share, logs_unless_fault, owed_for_a_share, owed_for_a_stream, streams_told,
+    expected_for_share, expected_for_stream, items_for_share, known_streams_decide,
+    logs_unless_fault,
 };
 pub use plain::gather_plain;
 pub use redo_options::{Plan, PlanFault};

@@ -1,27 +1,27 @@
 ghost use Rattle.std.specs.Prelude.{◌≡◌, ◌≢◌, ◌<◌, ◌≤◌, ◌^◌, [], None, Some, IfErr, OnOk, length};
 ghost use Rattle.redo_line.specs.declared.stream_fault.StreamFault.TheVariants.{OutOfMemory, Read};
 ghost use Rattle.redo_line.specs.Log.{log_of};
-ghost use Rattle.redo_line.specs.Scan.{so_far, took};
+ghost use Rattle.redo_line.specs.Scan.{so_far, consume};
 ghost use Rattle.redo_line.specs.Source.{source};
-ghost use Rattle.redo_gather.specs.Owed.{IsOwedFor};
+ghost use Rattle.redo_gather.specs.Expected.{IsExpectedFor};
 ghost use Rattle.redo_gather.specs.Private.Reading.{IsRead, IsReadToEnd, IsRefused, fault_in};
 
 use redo_line::{Broken, Entries, Feed, Scan, StreamFault, TargetName};
 use std::alloc::Global;
 
-// How many lines that are text are taken at once.
-const MOST_AT_ONCE: u16 = 1024;
+// How many text lines are consumed at once, at most.
+const MAX_LINES_PER_STEP: u16 = 1024;
 
-/// What was read of a stream: the entries of its log and no fault, or those before its fault and the
-/// fault. Where there was no memory, it has some of the first entries and that for its fault.
+/// What was read of a stream: the entries of its log and no fault, or the entries before its fault and the
+/// fault. If memory ran out, it has some of the first entries and the fault `OutOfMemory`.
 #[derive(Drop)]
 pub struct StreamLog {
     pub entries: Entries,
     pub fault: Option<StreamFault>,
 }
 
-/// Reads a stream to its end, or to its fault. It reads on only where the bytes so far are within the
-/// limit, so at most `max_bytes + 1` times. `before_read` is told of each read, from 1.
+/// Reads a stream to its end or its fault. It reads again only if the bytes so far are within the limit,
+/// so at most `max_bytes + 1` times. It calls `before_read` before each read, with the read's number from 1.
 pub fn read_stream<R: Feed, B: Fn(u64)>(
     alloc: Global,
     target: TargetName,
@@ -35,7 +35,7 @@ pub fn read_stream<R: Feed, B: Fn(u64)>(
     requires at_most { max_bytes ≤ 2 ^ 40 }
     requires room { 0 < length buf.old }
     requires callable { B.IsAlwaysCallable before_read.now }
-    ensures owed { IsOwedFor max_bytes (source target must_close (R.tells reader.old)) result.entries result.fault }
+    ensures expected { IsExpectedFor max_bytes (source target must_close (R.contents reader.old)) result.entries result.fault }
     ensures buf { length buf.new ≡ length buf.old }
 {
     let mut entries = Entries::new(alloc);
@@ -65,19 +65,20 @@ fn read_entries<R: Feed, B: Fn(u64)>(
     requires read { IsRead scan entries.old }
     requires room { 0 < length buf.old }
     requires callable { B.IsAlwaysCallable before_read.now }
-    ensures owed { IsOwedFor scan.max_bytes (source scan.target scan.must_close (R.tells reader.old)) entries.new (fault_in result) }
+    ensures expected { IsExpectedFor scan.max_bytes (source scan.target scan.must_close (R.contents reader.old))
+        entries.new (fault_in result) }
     ensures buf { length buf.new ≡ length buf.old }
 {
     let mut scan = scan;
-    read_pieces(entries, &mut scan, reader, buf, before_read)?;
+    read_chunks(entries, &mut scan, reader, buf, before_read)?;
     if let Some(last) = scan.finish()? {
         entries.push(last)?;
     }
     Ok(())
 }
 
-// Reads the entries of a stream's lines, up to its end or its fault; but not of an unended line.
-fn read_pieces<R: Feed, B: Fn(u64)>(
+// Reads the entries of a stream's lines, up to its end or its fault, except for an unended line.
+fn read_chunks<R: Feed, B: Fn(u64)>(
     entries: &mut Entries,
     scan: &mut Scan,
     reader: &mut R,
@@ -89,9 +90,9 @@ fn read_pieces<R: Feed, B: Fn(u64)>(
     requires read { IsRead scan.old entries.old }
     requires room { 0 < length buf.old }
     requires callable { B.IsAlwaysCallable before_read.now }
-    ensures ended { OnOk result (IsReadToEnd (R.tells reader.old) scan.old scan.new entries.new) }
-    ensures owed { IfErr result (λ fault.
-        IsOwedFor scan.old.max_bytes (source scan.old.target scan.old.must_close (R.tells reader.old)) entries.new (Some fault)) }
+    ensures ended { OnOk result (IsReadToEnd (R.contents reader.old) scan.old scan.new entries.new) }
+    ensures expected { IfErr result (λ fault.
+        IsExpectedFor scan.old.max_bytes (source scan.old.target scan.old.must_close (R.contents reader.old)) entries.new (Some fault)) }
     ensures buf { length buf.new ≡ length buf.old }
 {
     let mut turn = 0;
@@ -101,21 +102,21 @@ fn read_pieces<R: Feed, B: Fn(u64)>(
         match reader.pull(buf) {
             Err(Broken) => return Err(StreamFault::Read),
             Ok(0) => return Ok(()),
-            Ok(n) => read_piece(entries, scan, &buf[..n])?,
+            Ok(n) => read_chunk(entries, scan, &buf[..n])?,
         }
     }
 }
 
-// Reads the entries of the lines that end in a piece.
-fn read_piece(entries: &mut Entries, scan: &mut Scan, piece: &[u8]) -> Result<(), StreamFault>
+// Reads the entries of the lines that end in a chunk.
+fn read_chunk(entries: &mut Entries, scan: &mut Scan, piece: &[u8]) -> Result<(), StreamFault>
     requires { IsRead scan.old entries.old }
-    ensures took { OnOk result (scan.new ≡ took piece.now scan.old) }
+    ensures took { OnOk result (scan.new ≡ consume piece.now scan.old) }
     ensures read { OnOk result (IsRead scan.new entries.new) }
     ensures refused { IfErr result (IsRefused scan.old piece.now entries.new) }
-    ensures reads_nothing { IfErr result (λ fault. fault ≢ Read) }
+    ensures never_read { IfErr result (λ fault. fault ≢ Read) }
 {
     let mut from = 0;
-    'lines: while let Some(upto) = scan.step_into(piece, from, MOST_AT_ONCE, entries)? {
+    'lines: while let Some(upto) = scan.step_into(piece, from, MAX_LINES_PER_STEP, entries)? {
         from = upto;
     }
     Ok(())

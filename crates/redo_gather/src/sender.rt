@@ -1,5 +1,5 @@
 ghost use Rattle.std.specs.Prelude.{◌≤◌, ◌^◌, map};
-ghost use Rattle.redo_gather.specs.Sending.{HasSent, numbered};
+ghost use Rattle.redo_gather.specs.Sending.{HasSent, numbered_input};
 
 use crate::gate::Gate;
 use crate::sending::{Share, send};
@@ -10,7 +10,7 @@ use std::snapshot::Snapshot;
 use std::sync::Wait;
 use std::thread::Promise;
 
-/// A sender: the end at which it posts, the streams of its share, and how many bytes each may have.
+/// A sender: its post end, the streams of its share, and how many bytes each of them may have.
 #[derive(Drop)]
 pub struct Sender<R> {
     pub end: PostEnd,
@@ -20,19 +20,19 @@ pub struct Sender<R> {
     ghost at_most: { max_bytes ≤ 2 ^ 40 },
 }
 
-/// That a sender's end comes back, and all that is owed for its share was posted at it.
+/// The promise of a sender: it returns its end, and all that is expected for its share was posted at it.
 #[derive(Drop)]
-pub struct Owing<R>(pub Snapshot<Sender<R>>);
+pub struct SenderPromise<R>(pub Snapshot<Sender<R>>);
 
-impl<R: Feed> Promise<PostEnd> for Owing<R> {
+impl<R: Feed> Promise<PostEnd> for SenderPromise<R> {
     ghost kept_by = { λ owing end.
-        HasSent owing.0.value.max_bytes (map (numbered R.tells) owing.0.value.share.items) owing.0.value.end end };
+        HasSent owing.0.value.max_bytes (map (numbered_input R.contents) owing.0.value.share.items) owing.0.value.end end };
 }
 
 impl<R: Feed> Sender<R> {
-    /// Sends its share.
+    /// Sends its share, and returns its end.
     pub fn send<T: Wait, G: Gate>(self, rt: &T, alloc: Global, gate: &G) -> PostEnd
-        ensures { HasSent self.max_bytes (map (numbered R.tells) self.share.items) self.end result }
+        ensures { HasSent self.max_bytes (map (numbered_input R.contents) self.share.items) self.end result }
     {
         let Sender {
             end,

@@ -1,11 +1,11 @@
 ghost use Rattle.std.specs.Prelude.{◌≡◌, ◌≢◌, ◌<◌, ◌≤◌, ◌^◌, ◌++◌, [], IfOk, IfErr, OnOk, OnErr, length, map, List};
 ghost use Rattle.redo_line.specs.declared.stream_fault.StreamFault.TheVariants.{OutOfMemory, Read};
-ghost use Rattle.redo_line.specs.declared.entry.Entry.{Entry as Told};
+ghost use Rattle.redo_line.specs.declared.entry.Entry.{Entry as EntryValue};
 ghost use Rattle.redo_line.specs.Scan.{Scanned};
 ghost use Rattle.redo_line.specs.Source.{source};
 ghost use Rattle.redo_gather.specs.Private.Posting.{AreLinesPosted, ArePiecesPosted, IsPosted, IsStreamPosted};
 ghost use Rattle.redo_gather.specs.Private.Reading.{IsRead, IsReadTo, IsRefused, fault_in};
-ghost use Rattle.redo_gather.specs.Sending.{HasPosted, HasSent, IsFilled, last_of, line_of, most_entries, numbered, singles_in};
+ghost use Rattle.redo_gather.specs.Sending.{HasPosted, HasSent, IsWellSized, final_what, line_of, max_entries, numbered_input, singles_in};
 
 use crate::gate::Gate;
 use redo_line::{Broken, Entries, Feed, Scan, StreamFault, TargetName};
@@ -13,27 +13,28 @@ use redo_wire::{Item, PostEnd, What};
 use std::alloc::{AllocError, Global};
 use std::sync::Wait;
 
-// How much is read at once.
+// The maximum number of bytes of one read.
 const READ_BYTES: usize = 64 * 1024;
 
-// How many entries an item may have.
-const MOST_ENTRIES: usize = 1024;
+// The maximum number of entries in an item.
+const MAX_BATCH_ENTRIES: usize = 1024;
 
-// An item has no entry more behind the lines, taken at once, with which its texts and names come to so many bytes.
-const ENOUGH_BYTES: usize = 128 * 1024;
+// Once the texts and names of an item have this many bytes, no more lines are added to it.
+const MAX_BATCH_BYTES: usize = 128 * 1024;
 
-/// The streams of one sender, in order: each has its number, the target of its log, whether it has to end with the
-/// record that closes this log, and its reader.
+/// The streams of one sender, in order. Each has its number, the target of its log, its must-close flag (whether it
+/// must end with the closing record of this log), and its reader.
 pub type Share<R> = Vec<(u32, TargetName, bool, R)>;
 
-/// Reads the streams of a share, one after another, posts what they tell at an end, and gives the end back.
-/// Of each stream it posts the entries of its log and an end; or those before its fault and the fault, and
-/// goes on with the next one; or, where there was no memory, some of the first entries and that.
+/// Reads the streams of a share one after another, posts what it reads at `end`, and returns `end`. For each stream
+/// it posts the entries of its log and an end. If the stream has a fault, it posts the entries before the fault, and
+/// the fault. If memory runs out, it posts some of the first entries and the fault `OutOfMemory`. Then it goes on
+/// with the next stream.
 ///
-/// It has posted every entry that the bytes so far complete before it reads again, in as few items as have at most
-/// 1,024 entries each, and none behind the lines with which the texts and names of an item come to 131,072 bytes. It
-/// waits where the mailbox is full, and the gate is told before each read. It posts again what is handed back, so
-/// without a mailbox's other end it goes on for ever.
+/// Before it reads again, it posts every entry that the bytes so far complete. It uses as few items as possible: an
+/// item has at most 1,024 entries, and gets no more lines once its texts and names have 131,072 bytes. It blocks
+/// while the mailbox is full, and notifies the gate before each read. If an item is returned to it, it posts the
+/// item again, so it never ends if the mailbox's take end is gone.
 pub fn send<T: Wait, R: Feed, G: Gate>(
     rt: &T,
     alloc: Global,
@@ -44,10 +45,10 @@ pub fn send<T: Wait, R: Feed, G: Gate>(
 ) -> PostEnd
     requires at_least { 1 ≤ max_bytes }
     requires at_most { max_bytes ≤ 2 ^ 40 }
-    ensures { HasSent max_bytes (map (numbered R.tells) share.items) end result }
+    ensures { HasSent max_bytes (map (numbered_input R.contents) share.items) end result }
 {
     let mut end = end;
-    let mut room = room_for_reads(alloc);
+    let mut room = read_buffer(alloc);
     let buf = room.as_mut_slice();
     for (stream, target, must_close, mut reader) in share {
         let before_read = |turn| gate.before_read(rt, stream, turn);
@@ -67,8 +68,8 @@ pub fn send<T: Wait, R: Feed, G: Gate>(
     end
 }
 
-// Room for what is read at once; none if there is no memory.
-fn room_for_reads(alloc: Global) -> Vec<u8> {
+// Returns a buffer for one read; an empty one if there is no memory.
+fn read_buffer(alloc: Global) -> Vec<u8> {
     match vec![in alloc; 0u8; READ_BYTES] {
         Ok(room) => room,
         Err(_) => Vec::new(alloc),
@@ -91,16 +92,16 @@ fn send_stream<T: Wait, R: Feed, B: Fn(u64)>(
     requires at_least { 1 ≤ max_bytes }
     requires at_most { max_bytes ≤ 2 ^ 40 }
     requires callable { B.IsAlwaysCallable before_read.now }
-    ensures { IsStreamPosted max_bytes stream (source target must_close (R.tells reader.old)) end.old end.new }
+    ensures { IsStreamPosted max_bytes stream (source target must_close (R.contents reader.old)) end.old end.new }
 {
     let scan = Scan::new(alloc, target, max_bytes, must_close);
     let answer = send_entries(rt, alloc, end, stream, scan, reader, buf, before_read);
     post(rt, end, stream, last_item(answer));
 }
 
-// What is posted behind the entries of a stream.
+// Returns what is posted after the entries of a stream.
 fn last_item(answer: Result<(), StreamFault>) -> What
-    ensures { result ≡ last_of (fault_in answer) }
+    ensures { result ≡ final_what (fault_in answer) }
 {
     match answer {
         Ok(()) => What::End,
@@ -123,18 +124,18 @@ fn send_entries<T: Wait, R: Feed, B: Fn(u64)>(
     requires begins { scan.bytes ≡ [] }
     requires read { IsRead scan [] }
     requires callable { B.IsAlwaysCallable before_read.now }
-    ensures { AreLinesPosted scan.max_bytes stream (source scan.target scan.must_close (R.tells reader.old)) end.old end.new result }
+    ensures { AreLinesPosted scan.max_bytes stream (source scan.target scan.must_close (R.contents reader.old)) end.old end.new result }
 {
     let mut scan = scan;
-    send_pieces(rt, alloc, end, stream, &mut scan, reader, buf, before_read)?;
+    send_chunks(rt, alloc, end, stream, &mut scan, reader, buf, before_read)?;
     if let Some(last) = scan.finish()? {
         post(rt, end, stream, What::Line(last));
     }
     Ok(())
 }
 
-// Posts the entries of a stream's lines, up to its end or its fault; but not of an unended line.
-fn send_pieces<T: Wait, R: Feed, B: Fn(u64)>(
+// Posts the entries of a stream's lines, up to its end or its fault, except for an unended line.
+fn send_chunks<T: Wait, R: Feed, B: Fn(u64)>(
     rt: &T,
     alloc: Global,
     end: &mut PostEnd,
@@ -148,7 +149,7 @@ fn send_pieces<T: Wait, R: Feed, B: Fn(u64)>(
     requires begins { scan.old.bytes ≡ [] }
     requires read { IsRead scan.old [] }
     requires callable { B.IsAlwaysCallable before_read.now }
-    ensures { ArePiecesPosted stream (R.tells reader.old) scan.old scan.new end.old end.new result }
+    ensures { ArePiecesPosted stream (R.contents reader.old) scan.old scan.new end.old end.new result }
 {
     if buf.is_empty() {
         return Err(StreamFault::OutOfMemory);
@@ -160,13 +161,13 @@ fn send_pieces<T: Wait, R: Feed, B: Fn(u64)>(
         match reader.pull(buf) {
             Err(Broken) => return Err(StreamFault::Read),
             Ok(0) => return Ok(()),
-            Ok(n) => send_piece(rt, alloc, end, stream, scan, &buf[..n])?,
+            Ok(n) => send_chunk(rt, alloc, end, stream, scan, &buf[..n])?,
         }
     }
 }
 
-// Posts the entries of the lines that end in a piece.
-fn send_piece<T: Wait>(
+// Posts the entries of the lines that end in a chunk.
+fn send_chunk<T: Wait>(
     rt: &T,
     alloc: Global,
     end: &mut PostEnd,
@@ -175,14 +176,14 @@ fn send_piece<T: Wait>(
     piece: &[u8],
 ) -> Result<(), StreamFault>
     ensures posted { IsPosted stream piece.now scan.old scan.new end.old end.new result }
-    ensures reads_nothing { IfErr result (λ fault. fault ≢ Read) }
+    ensures never_read { IfErr result (λ fault. fault ≢ Read) }
 {
     let mut from = 0;
     let mut expected = piece.len();
-    'runs: while from < piece.len() {
-        let mut run = room_for_run(alloc, expected.min(piece.len() - from))?;
-        let answer = read_run(&mut run, scan, piece, from);
-        post_run(rt, alloc, end, stream, run)?;
+    'batches: while from < piece.len() {
+        let mut batch = new_batch(alloc, expected.min(piece.len() - from))?;
+        let answer = read_batch(&mut batch, scan, piece, from);
+        post_batch(rt, alloc, end, stream, batch)?;
         let upto = answer?;
         expected = upto - from;
         from = upto;
@@ -190,75 +191,77 @@ fn send_piece<T: Wait>(
     Ok(())
 }
 
-// Room for the texts of so many bytes and of a line that began before, and for some entries.
-fn room_for_run(alloc: Global, bytes: usize) -> Result<Entries, AllocError>
-    ensures { IfOk result (λ run. run ≡ []) }
+// Returns an empty list with room for some entries, for `bytes` bytes of text, and for the start of a line from an
+// earlier chunk.
+fn new_batch(alloc: Global, bytes: usize) -> Result<Entries, AllocError>
+    ensures { IfOk result (λ batch. batch ≡ []) }
 {
     Entries::with_room(alloc, 64, bytes.saturating_add(bytes / 16))
 }
 
-// Reads on in a piece, until a run is as long as an item may be, or has enough bytes. Answers how far it came.
-fn read_run(
-    run: &mut Entries,
+// Reads on in a chunk until the batch has as many entries as an item may have, or enough bytes. Returns the
+// offset in the chunk that it reached.
+fn read_batch(
+    batch: &mut Entries,
     scan: &mut Scan,
     piece: &[u8],
     from: usize,
 ) -> Result<usize, StreamFault>
-    requires empty { run.old ≡ [] }
-    requires place { from < length piece.now }
-    ensures room { length run.new ≤ most_entries }
-    ensures place { IfOk result (λ upto. (from < upto) × (upto ≤ length piece.now)) }
+    requires empty { batch.old ≡ [] }
+    requires from { from < length piece.now }
+    ensures room { length batch.new ≤ max_entries }
+    ensures range { IfOk result (λ upto. (from < upto) × (upto ≤ length piece.now)) }
 
-    // Of a piece that was taken up to the place, behind a scan's bytes and these entries.
-    ensures read { (begun : Scanned) (first : List Told) → IsReadTo begun piece.now from scan.old first →
-        IfOk result (λ upto. IsReadTo begun piece.now upto scan.new (first ++ run.new)) }
-    ensures refused { (begun : Scanned) (first : List Told) → IsReadTo begun piece.now from scan.old first →
-        IfErr result (IsRefused begun piece.now (first ++ run.new)) }
-    ensures reads_nothing { IfErr result (λ fault. fault ≢ Read) }
+    // For a chunk that was consumed up to `from`, after the bytes of the scan `begun` and the entries `first`.
+    ensures read { (begun : Scanned) (first : List EntryValue) → IsReadTo begun piece.now from scan.old first →
+        IfOk result (λ upto. IsReadTo begun piece.now upto scan.new (first ++ batch.new)) }
+    ensures refused { (begun : Scanned) (first : List EntryValue) → IsReadTo begun piece.now from scan.old first →
+        IfErr result (IsRefused begun piece.now (first ++ batch.new)) }
+    ensures never_read { IfErr result (λ fault. fault ≢ Read) }
 {
     let mut upto = from;
     'lines: loop {
-        let room = (MOST_ENTRIES - run.len()) as u16;
-        match scan.step_into(piece, upto, room, run)? {
+        let room = (MAX_BATCH_ENTRIES - batch.len()) as u16;
+        match scan.step_into(piece, upto, room, batch)? {
             Some(behind) => upto = behind,
             None => return Ok(piece.len()),
         }
-        if run.len() == MOST_ENTRIES || bytes_of(run) >= ENOUGH_BYTES {
+        if batch.len() == MAX_BATCH_ENTRIES || bytes_of(batch) >= MAX_BATCH_BYTES {
             return Ok(upto);
         }
     }
 }
 
-// How many bytes the texts and names of entries have.
+// Returns the number of bytes of the texts and names of entries.
 fn bytes_of(entries: &Entries) -> usize {
     let layout = entries.layout();
     layout.bytes.len().saturating_add(layout.names.len())
 }
 
-// Posts entries as one item; a single one in memory of its own.
-fn post_run<T: Wait>(
+// Posts a batch as one item. A single entry is posted as an owned copy.
+fn post_batch<T: Wait>(
     rt: &T,
     alloc: Global,
     end: &mut PostEnd,
     stream: u32,
-    run: Entries,
+    batch: Entries,
 ) -> Result<(), StreamFault>
-    requires { length run ≤ most_entries }
-    ensures posted { OnOk result (HasPosted end.old end.new (map (line_of end.old.number stream) run)) }
-    ensures err { OnErr result (end.new ≡ end.old) }
+    requires { length batch ≤ max_entries }
+    ensures posted { OnOk result (HasPosted end.old end.new (map (line_of end.old.number stream) batch)) }
+    ensures unchanged_on_err { OnErr result (end.new ≡ end.old) }
     ensures no_memory { IfErr result (λ fault. fault ≡ OutOfMemory) }
 {
-    match run.len() {
+    match batch.len() {
         0 => {}
-        1 => post(rt, end, stream, What::Line(run.into_entry(alloc)?)),
-        _ => post(rt, end, stream, What::Lines(run)),
+        1 => post(rt, end, stream, What::Line(batch.into_entry(alloc)?)),
+        _ => post(rt, end, stream, What::Lines(batch)),
     }
     Ok(())
 }
 
-// Posts an item, again and again where it is handed back.
+// Posts an item, and posts it again as long as it is returned.
 fn post<T: Wait>(rt: &T, end: &mut PostEnd, stream: u32, what: What)
-    requires { IsFilled what }
+    requires { IsWellSized what }
     ensures { HasPosted end.old end.new (singles_in end.old.number stream what) }
 {
     let mut item = Item {

@@ -4,7 +4,7 @@ ghost use Rattle.std.specs.Cmp.Lexicographic.{pointwise};
 ghost use Rattle.std.specs.Prelude.{nat_eq};
 ghost use Rattle.redo_line.specs.declared.stream_fault.StreamFault.TheVariants.{OutOfMemory};
 ghost use Rattle.redo_logs.specs.declared.log_state.LogState.TheVariants.{Running};
-ghost use Rattle.redo_logs.specs.Logs.{changed, most, new_log, states_of};
+ghost use Rattle.redo_logs.specs.Logs.{update_log, max_logs, new_log, states_of};
 ghost use Rattle.redo_wire.specs.declared.item.What.TheVariants.{Fail};
 ghost use Rattle.redo_gather.specs.Private.Collecting.{step};
 ghost use Rattle.redo_gather.specs.Private.Storing.{completed};
@@ -15,25 +15,25 @@ use redo_logs::{LogState, LogTable, TableFault};
 use redo_wire::{Item, What};
 use std::alloc::{AllocError, Global};
 
-/// A table of these targets, whose logs are empty.
-pub fn enter_all(
+/// Returns a table with an empty log for each of these targets.
+pub fn new_table(
     alloc: Global,
     keys: HashKeys,
     names: Vec<TargetName>,
 ) -> Result<LogTable, AllocError>
     requires distinct { IsDistinct (pointwise nat_eq) names.items }
-    requires size { length names.items ≤ most }
+    requires size { length names.items ≤ max_logs }
     ensures { IfOk result (λ table. table ≡ map new_log names.items) }
 {
     let mut table = LogTable::with_keys(alloc, keys);
-    enter_each(&mut table, names).and(Ok(table))
+    enter_names(&mut table, names).and(Ok(table))
 }
 
-// Enters the logs of these targets, which are empty, in a table that has none.
-fn enter_each(table: &mut LogTable, names: Vec<TargetName>) -> Result<(), AllocError>
+// Enters an empty log for each of these targets in a table that has none.
+fn enter_names(table: &mut LogTable, names: Vec<TargetName>) -> Result<(), AllocError>
     requires begins { table.old ≡ [] }
     requires distinct { IsDistinct (pointwise nat_eq) names.items }
-    requires size { length names.items ≤ most }
+    requires size { length names.items ≤ max_logs }
     ensures { OnOk result (table.new ≡ map new_log names.items) }
 {
     for name in names {
@@ -47,13 +47,14 @@ fn enter_each(table: &mut LogTable, names: Vec<TargetName>) -> Result<(), AllocE
     Ok(())
 }
 
-/// Adds what was read of a stream to its log, and ends it, or lets it fail. What was cut short is refused.
+/// Adds what was read of a stream to its log, and ends the log or lets it fail. Returns an error if memory ran out
+/// while the stream was read.
 pub fn store(table: &mut LogTable, number: u32, log: StreamLog) -> Result<(), AllocError>
     requires { slice_get (states_of table.old) number ≡ Some Running }
-    ensures stored { OnOk result (table.new ≡ changed number (completed log.entries log.fault) table.old) }
+    ensures stored { OnOk result (table.new ≡ update_log number (completed log.entries log.fault) table.old) }
     ensures had_memory { OnOk result (log.fault ≢ Some OutOfMemory) }
 {
-    if is_cut_short(&log) {
+    if is_truncated(&log) {
         return Err(AllocError);
     }
     let StreamLog { entries, fault } = log;
@@ -65,8 +66,8 @@ pub fn store(table: &mut LogTable, number: u32, log: StreamLog) -> Result<(), Al
     Ok(())
 }
 
-// Whether there was no memory for all of a log.
-fn is_cut_short(log: &StreamLog) -> bool
+// Whether memory ran out while a log was read.
+fn is_truncated(log: &StreamLog) -> bool
     ensures { result ≡ false → log.now.fault ≢ Some OutOfMemory }
 {
     match log.fault {
@@ -75,13 +76,13 @@ fn is_cut_short(log: &StreamLog) -> bool
     }
 }
 
-/// Stores an item: adds its entries to the log of its stream, or ends it, or lets it fail. A log that has ended
-/// already takes nothing more. An item that tells want of memory is refused.
+/// Stores an item: adds its entries to the log of its stream, or ends the log, or lets it fail. A log that isn't
+/// running any more takes nothing. Returns an error if the item reports that memory ran out.
 pub fn store_item(table: &mut LogTable, item: Item) -> Result<(), AllocError>
-    ensures stored { OnOk result (table.new ≡ changed item.stream (step item.what) table.old) }
+    ensures stored { OnOk result (table.new ≡ update_log item.stream (step item.what) table.old) }
     ensures had_memory { OnOk result (item.what ≢ Fail OutOfMemory) }
 {
-    if tells_no_memory(&item.what) {
+    if is_out_of_memory(&item.what) {
         drop(item);
         return Err(AllocError);
     }
@@ -92,10 +93,10 @@ pub fn store_item(table: &mut LogTable, item: Item) -> Result<(), AllocError>
     Ok(())
 }
 
-// The same in a log that is running.
+// Does the same for a log that is running.
 fn store_in(table: &mut LogTable, stream: u32, what: What) -> Result<(), AllocError>
     requires { slice_get (states_of table.old) stream ≡ Some Running }
-    ensures { OnOk result (table.new ≡ changed stream (step what) table.old) }
+    ensures { OnOk result (table.new ≡ update_log stream (step what) table.old) }
 {
     match what {
         What::Line(entry) => table.add(stream, entry)?,
@@ -112,7 +113,7 @@ fn is_running(table: &LogTable, stream: u32) -> bool
     stream < table.len() && matches!(table.state(stream), LogState::Running)
 }
 
-fn tells_no_memory(what: &What) -> bool
+fn is_out_of_memory(what: &What) -> bool
     ensures { result ≡ false → what.now ≢ Fail OutOfMemory }
 {
     matches!(what, What::Fail(StreamFault::OutOfMemory))

@@ -1,10 +1,10 @@
-//! Logs, and the text of them at the targets asked for.
+//! Cases of logs, and of their text at requested targets.
 use redo_view::Options;
 
 /// A target and the bytes of its stream.
 pub type Given = (&'static str, &'static str);
 
-/// Streams, how they are viewed, at which targets, and the whole text.
+/// Streams, the options, the requested targets, and the complete text.
 pub type Case = (
     &'static [Given],
     Options,
@@ -15,7 +15,7 @@ pub type Case = (
 /// How many bytes a stream may have.
 pub const MAX_BYTES: u64 = 10_000;
 
-/// Options that aren't set, but that text is shown.
+/// No option is set, and text lines are shown.
 pub const PLAIN: Options = Options {
     recursive: false,
     unchanged: false,
@@ -24,7 +24,7 @@ pub const PLAIN: Options = Options {
     debug_pids: false,
 };
 
-/// Logs are opened where they are mentioned.
+/// Logs are opened at their mentions.
 pub const DEEP: Options = Options {
     recursive: true,
     ..PLAIN
@@ -123,7 +123,7 @@ pub const LOGS: [Case; 6] = [
 /// A log that mentions its own target.
 const OF_ITSELF: [Given; 1] = [("a", "@@REDO:do:7:1.0000@@ a\nt\n")];
 
-/// Mentions are shown, and opened where `recursive` is set.
+/// Mentions are shown, and they open logs if `recursive` is set.
 pub const MENTIONS: [Case; 7] = [
     (&BUILD, DEEP, &["all"], BUILD_TEXT),
     (
@@ -166,7 +166,7 @@ pub const MENTIONS: [Case; 7] = [
 
 const ONE_MENTION: [Given; 2] = [("a", "@@REDO:do:7:1.0000@@ b\n"), ("b", "B\n")];
 
-/// A mention names its target, and an asking opens its log.
+/// A mention names its target, and a request opens its log.
 pub const ASKED: [Case; 2] = [
     (
         &ONE_MENTION,
@@ -246,7 +246,7 @@ pub const STATUSES: [Case; 1] = [(
     "redo  all\nredo    c (exit -11)\nredo    d (exit 7)\n",
 )];
 
-/// Each target is mentioned twice, by other processes, and made by a third.
+/// Records of several processes: two of them mention `x`, and the record of a third one says that it is done.
 const BY_OTHERS: [Given; 2] = [
     (
         "all",
@@ -256,7 +256,7 @@ const BY_OTHERS: [Given; 2] = [
     ("x", "@@REDO:do:41:1@@ all\n@@REDO:do:0000000042:1@@ b\nX\n"),
 ];
 
-/// A redo line begins with the pid of the record that it shows, and that of a target that is asked for with a minus.
+/// A redo line begins with the pid of the record that it shows; the line of a requested target begins with a minus.
 pub const BY_PIDS: [Case; 5] = [
     (
         &[(

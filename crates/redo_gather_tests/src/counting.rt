@@ -1,4 +1,4 @@
-//! Gates that count what they are told, or hold who tells it until so much was told.
+//! Gates that count their notifications, or hold a thread until a given number of them came.
 use crate::gate::comes_in_time;
 use redo_gather::Gate;
 use std::alloc::{AllocError, Global};
@@ -6,7 +6,7 @@ use std::sync::Wait;
 use std::sync::atomic::{AtomicU64, Ordering};
 use std::thread;
 
-/// A gate that lets the first reads of so many streams begin only once all of them are about to.
+/// A gate that holds the first read of each stream until the first reads of `streams` streams are about to begin.
 #[derive(Drop)]
 pub struct Starting {
     streams: u64,
@@ -23,7 +23,7 @@ impl Starting {
         }
     }
 
-    /// How many were let go as the last one came.
+    /// Returns how many first reads went on because all of them had come.
     pub fn let_go(&self) -> u64 {
         self.let_go.load(Ordering::SeqCst)
     }
@@ -45,8 +45,8 @@ impl Gate for Starting {
     fn over<R: Wait>(&self, _rt: &R, _stream: u32) {}
 }
 
-/// A gate that holds who takes the first entry of the one stream until that was read so often, and for a while
-/// more, and then notes how often it was.
+/// A gate for one stream. It holds the thread that takes the first entry until the stream was read `until` times,
+/// and for a while longer, and then notes how often the stream was read.
 #[derive(Drop)]
 pub struct Filling {
     until: u64,
@@ -87,7 +87,7 @@ impl Gate for Filling {
     fn over<R: Wait>(&self, _rt: &R, _stream: u32) {}
 }
 
-/// How often a gate was told of each kind of event of a stream.
+/// How often a gate was notified of each kind of event in a stream.
 #[derive(Drop)]
 struct Told {
     reads: AtomicU64,
@@ -95,7 +95,7 @@ struct Told {
     ends: AtomicU64,
 }
 
-/// A gate that counts what it is told of each stream, and what isn't the next of its kind there.
+/// A gate that counts the notifications for each stream, and how many of them weren't the next one of their kind.
 #[derive(Drop)]
 pub struct Counting {
     told: Vec<Told>,
@@ -118,7 +118,7 @@ impl Counting {
         })
     }
 
-    /// How many reads, entries and ends of a stream were told.
+    /// Returns how many reads, entries and ends of a stream the gate was notified of.
     pub fn told_of(&self, stream: usize) -> Option<(u64, u64, u64)> {
         let told = self.told.get(stream)?;
         Some((
@@ -128,7 +128,7 @@ impl Counting {
         ))
     }
 
-    /// How often something was told that wasn't the next of its kind.
+    /// Returns how many notifications weren't the next one of their kind.
     pub fn wrong(&self) -> u64 {
         self.wrong.load(Ordering::SeqCst)
     }
@@ -139,14 +139,14 @@ impl Counting {
         }
     }
 
-    // What the gate was told of a stream, which is not over.
+    // Returns the counts of a stream that isn't over.
     fn running(&self, stream: u32) -> Option<&Told> {
         let told = self.told.get(stream as usize)?;
         (told.ends.load(Ordering::SeqCst) == 0).then_some(told)
     }
 }
 
-/// Whether a number is the next one of a count, which it becomes.
+/// Increments a count, and returns whether it becomes this number.
 fn is_next(count: &AtomicU64, number: u64) -> bool {
     count.fetch_add(1, Ordering::SeqCst).checked_add(1) == Some(number)
 }

@@ -1,13 +1,13 @@
-//! A gate that holds who tells it an event until it was told another one, by threads side by side.
+//! A gate that holds the thread that notifies it of an event until another thread notified it of another event.
 use redo_gather::Gate;
 use std::sync::Wait;
 use std::sync::atomic::{AtomicU64, Ordering};
 use std::thread;
 
-/// How often who is held yields before it is let go.
+/// How often a held thread yields before the gate gives up.
 const MOST_TURNS: u32 = 10_000_000;
 
-/// What a gate is told.
+/// An event of which a gate is notified.
 #[derive(Clone, Copy, Debug, PartialEq, Eq)]
 pub enum Event {
     BeforeRead { stream: u32, turn: u64 },
@@ -15,7 +15,7 @@ pub enum Event {
     Over { stream: u32 },
 }
 
-/// Who tells `held` goes on once `until` was told.
+/// Holds the thread that notifies of `held` until `until` was notified.
 #[derive(Drop)]
 pub struct Hold {
     held: Event,
@@ -34,7 +34,7 @@ impl Hold {
         }
     }
 
-    /// Waits for the other event, unless this one isn't the one that is held.
+    /// Waits for the other event if `event` is the held one.
     fn keep(&self, event: Event) {
         if self.held == event && comes_in_time(&self.told, 1) {
             self.was_kept.fetch_add(1, Ordering::SeqCst);
@@ -42,7 +42,7 @@ impl Hold {
     }
 }
 
-/// Yields until a count has come to a number, and answers whether it has.
+/// Yields until a count has reached a number, and returns whether it has.
 pub(crate) fn comes_in_time(count: &AtomicU64, number: u64) -> bool {
     for _ in 0..MOST_TURNS {
         if count.load(Ordering::SeqCst) >= number {
@@ -64,7 +64,7 @@ impl Holding {
         Holding { holds }
     }
 
-    /// Whether each hold held somebody once, and did not give up.
+    /// Returns whether each hold held a thread once and didn't give up.
     pub fn kept_all(&self) -> bool {
         self.holds
             .iter()

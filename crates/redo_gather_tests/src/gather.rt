@@ -1,12 +1,12 @@
-//! Streams that are gathered on one thread or by senders: their logs, or the fault of the
-//! least-numbered stream that has one.
+//! Streams that are gathered on one thread or by senders: their logs, or the fault of the lowest-numbered
+//! stream that has one.
 use crate::counting::{Counting, Filling, Starting};
 use crate::gate::{Event, Hold, Holding};
 use crate::gathered::{WAYS, Way, gathered_by};
 use redo_gather::{Free, Gate, GatherFault};
-use redo_given::{Answer, Cut, Given, Script, captured, cuts, entered, logs_text, reader};
 use redo_line::{Pieces, StreamFault, TargetName};
 use redo_logs::LogTable;
+use redo_test_support::{Answer, Cut, Given, Script, captured, cuts, entered, logs_text, reader};
 use std::alloc::{AllocError, Global};
 use std::process::Abort;
 use std::sync::Wait;
@@ -14,7 +14,7 @@ use std::sync::atomic::{AtomicU64, Ordering};
 use std::test::Fail;
 use std::thread::Threads;
 
-/// The logs of streams as a test writes them, or their fault.
+/// The text form of the logs of streams, or their fault.
 type Want<'a> = Result<&'a str, GatherFault>;
 
 fn expect_answer(
@@ -47,7 +47,7 @@ fn expect_same(rt: &impl Abort, found: Want<'_>, want: Want<'_>, message: &str) 
     assert_eq!(rt; found, want, "{message}");
 }
 
-/// However the streams are cut into reads, and whoever reads them, this is gathered.
+/// Checks what is gathered from the streams, for all cuts into reads and all ways to read them.
 fn expect(
     rt: &(impl Abort + AllocGlobal + Threads + Wait + Sync),
     given: &[Given<'_>],
@@ -62,7 +62,7 @@ fn expect(
     Ok(())
 }
 
-/// The same for one cut and one way.
+/// Does the same for one cut and one way.
 fn expect_so(
     rt: &(impl Abort + AllocGlobal + Threads + Wait + Sync),
     given: &[Given<'_>],
@@ -75,7 +75,7 @@ fn expect_so(
     expect_answer_so(rt, &answer, given, cut, way, want)
 }
 
-/// What is told where the answer is another one names the streams, the cut and the way.
+/// Does the same for a result. If it is another one, the message names the streams, the cut and the way.
 fn expect_answer_so(
     rt: &(impl Abort + AllocGlobal),
     answer: &Result<LogTable, GatherFault>,
@@ -88,7 +88,7 @@ fn expect_answer_so(
     expect_answer(rt, answer, want, &message)
 }
 
-/// What is gathered of the streams in such reads.
+/// Gathers the streams, cut into reads.
 fn gathered_so<G: Gate>(
     rt: &(impl AllocGlobal + Threads + Wait + Sync),
     given: &[Given<'_>],
@@ -101,7 +101,7 @@ fn gathered_so<G: Gate>(
     gathered_by(rt, &targets, readers, max_bytes, way, gate)
 }
 
-/// Whether the streams are gathered without a fault.
+/// Returns whether the streams are gathered without a fault.
 fn is_gathered<G: Gate>(
     rt: &(impl AllocGlobal + Threads + Wait + Sync),
     given: &[Given<'_>],
@@ -154,14 +154,14 @@ static LOGS: &[(&[Given<'static>], &str)] = &[
 ];
 
 #[test]
-fn streams_have_these_logs(rt: HostRuntime) -> Result<(), Fail> {
+fn gather_returns_logs(rt: HostRuntime) -> Result<(), Fail> {
     for (given, logs) in LOGS {
         expect(&rt, given, 1000, Ok(logs))?;
     }
     Ok(())
 }
 
-/// Two streams, and the number and the fault of the one that is told.
+/// Two streams, and the number and the fault of the one that is reported.
 static FAULTS: &[(&[Given<'static>], u32, StreamFault)] = &[
     (
         &[("all", "ok\n@@REDO:do:7\n", false), ("b", "", false)],
@@ -197,14 +197,14 @@ static FAULTS: &[(&[Given<'static>], u32, StreamFault)] = &[
 ];
 
 #[test]
-fn the_fault_is_that_of_the_least_numbered_stream(rt: HostRuntime) -> Result<(), Fail> {
+fn gather_returns_fault_of_lowest_stream(rt: HostRuntime) -> Result<(), Fail> {
     for (given, number, fault) in FAULTS {
         expect(&rt, given, 1000, Err(stream(*number, *fault)))?;
     }
     Ok(())
 }
 
-/// A target, its stream, a limit, and the log or the fault within it.
+/// A target, its stream, a limit, and the log or the fault within this limit.
 static LIMITED: &[(&str, &str, u64, Result<&str, StreamFault>)] = &[
     ("all", "abc\n", 4, Ok("all: Ended\ntext|abc\n")),
     ("all", "abc\nd", 4, Err(StreamFault::TooLong)),
@@ -220,7 +220,7 @@ static LIMITED: &[(&str, &str, u64, Result<&str, StreamFault>)] = &[
 ];
 
 #[test]
-fn a_stream_may_have_so_many_bytes(rt: HostRuntime) -> Result<(), Fail> {
+fn gather_limits_stream_bytes(rt: HostRuntime) -> Result<(), Fail> {
     for (name, bytes, max_bytes, want) in LIMITED {
         let want = want.map_err(|fault| stream(0, fault));
         expect(&rt, &[(*name, *bytes, false)], *max_bytes, want)?;
@@ -228,7 +228,7 @@ fn a_stream_may_have_so_many_bytes(rt: HostRuntime) -> Result<(), Fail> {
     Ok(())
 }
 
-/// A table of targets with these names, whose logs are empty.
+/// Returns a table with an empty log for each of these names.
 fn table_of(alloc: Global, names: &[&str]) -> Result<LogTable, Fail> {
     let mut resolved = Vec::new(alloc);
     for name in names {
@@ -237,8 +237,8 @@ fn table_of(alloc: Global, names: &[&str]) -> Result<LogTable, Fail> {
     Ok(entered(alloc, resolved)?)
 }
 
-/// The answers of a reader, the last of them again and again, the log or the fault that comes of
-/// them, and after how many reads.
+/// The results of a reader in order, its result from then on, the number of its reads, and the log or the
+/// fault that is gathered.
 static READS: &[(&[Answer], Answer, u64, Result<&str, StreamFault>)] = &[
     (&[], Answer::Byte, 1001, Err(StreamFault::TooLong)),
     (&[Answer::Failure], Answer::Byte, 1, Err(StreamFault::Read)),
@@ -257,7 +257,7 @@ static READS: &[(&[Answer], Answer, u64, Result<&str, StreamFault>)] = &[
     ),
 ];
 
-/// What comes of a reader that answers so, and after how many reads.
+/// Checks what is gathered from a reader with these results, and after how many reads.
 fn expect_reads(
     rt: &(impl Abort + AllocGlobal + Threads + Wait + Sync),
     answers: &[Answer],
@@ -272,7 +272,7 @@ fn expect_reads(
     Ok(())
 }
 
-/// What comes of the stream of `all`, of which the reads are counted here.
+/// Checks what is gathered from such a reader of the stream of `all`. The reads are counted in `count`.
 fn expect_counted_reads(
     rt: &(impl Abort + AllocGlobal + Threads + Wait + Sync),
     answers: &[Answer],
@@ -289,7 +289,7 @@ fn expect_count(rt: &impl Abort, count: &AtomicU64, want: u64) {
     assert_eq!(rt; count.load(Ordering::SeqCst), want);
 }
 
-/// What is gathered of the streams of these targets, whose reads are counted here.
+/// Gathers the streams of these targets from such readers. Their reads are counted in `counts`.
 fn gathered_of_answers(
     rt: &(impl AllocGlobal + Threads + Wait + Sync),
     names: &[&str],
@@ -314,7 +314,7 @@ fn gathered_of_scripts(
     gathered_by(rt, targets, readers, 1000, way, &Free)
 }
 
-/// A reader for each count, which answers so.
+/// Returns a reader with these results for each count.
 fn scripts<'a>(
     alloc: Global,
     answers: &'a [Answer],
@@ -328,10 +328,10 @@ fn scripts<'a>(
     Ok(readers)
 }
 
-// It is asked once more than there may be bytes, a failed read is not tried again, and nothing is
-// read behind the end.
+// A stream is read at most once more than it may have bytes. A failed read isn't tried again, and nothing
+// is read after the end.
 #[test]
-fn a_reader_is_asked_so_often(rt: HostRuntime) -> Result<(), Fail> {
+fn gather_stops_reading_at_end_or_fault(rt: HostRuntime) -> Result<(), Fail> {
     for (answers, last, reads, want) in READS {
         let want = want.map_err(|fault| stream(0, fault));
         for way in WAYS {
@@ -341,7 +341,7 @@ fn a_reader_is_asked_so_often(rt: HostRuntime) -> Result<(), Fail> {
     Ok(())
 }
 
-/// How often the second of two readers is asked, where the first fails.
+/// Checks how often the second of two readers is read if the first one fails.
 fn expect_second_reads(
     rt: &(impl Abort + AllocGlobal + Threads + Wait + Sync),
     way: Way,
@@ -355,7 +355,7 @@ fn expect_second_reads(
     Ok(())
 }
 
-/// The fault of two streams, of which every read fails, counted here.
+/// Returns the fault of two streams whose reads all fail. The reads are counted in `first` and `second`.
 fn fault_of_failures(
     rt: &(impl AllocGlobal + Threads + Wait + Sync),
     first: &AtomicU64,
@@ -368,18 +368,18 @@ fn fault_of_failures(
 }
 
 #[test]
-fn one_thread_reads_nothing_behind_a_fault(rt: HostRuntime) -> Result<(), Fail> {
+fn plain_stops_at_first_fault(rt: HostRuntime) -> Result<(), Fail> {
     expect_second_reads(&rt, Way::Plain, 0)
 }
 
 #[test]
-fn a_sender_goes_on_behind_a_fault(rt: HostRuntime) -> Result<(), Fail> {
+fn sender_continues_after_fault(rt: HostRuntime) -> Result<(), Fail> {
     expect_second_reads(&rt, Way::Senders(1, 64), 1)?;
     expect_second_reads(&rt, Way::Senders(2, 64), 1)
 }
 
 #[test]
-fn there_may_be_many_streams(rt: HostRuntime) -> Result<(), Fail> {
+fn gather_handles_200_streams(rt: HostRuntime) -> Result<(), Fail> {
     let logs = many_logs(rt.alloc(), 200)?;
     for way in WAYS {
         expect_many(&rt, *way, &logs)?;
@@ -387,7 +387,7 @@ fn there_may_be_many_streams(rt: HostRuntime) -> Result<(), Fail> {
     Ok(())
 }
 
-/// The logs of 200 streams are these.
+/// Checks the logs of 200 streams.
 fn expect_many(
     rt: &(impl Abort + AllocGlobal + Threads + Wait + Sync),
     way: Way,
@@ -397,7 +397,7 @@ fn expect_many(
     expect_answer(rt, &answer, Ok(logs), "200 streams")
 }
 
-/// What is gathered of so many streams, of which each has one line.
+/// Gathers `count` streams of one line each.
 fn many_gathered<G: Gate>(
     rt: &(impl AllocGlobal + Threads + Wait + Sync),
     count: u32,
@@ -453,12 +453,12 @@ fn many_logs(alloc: Global, count: u32) -> Result<String, AllocError> {
     Ok(logs)
 }
 
-/// Two streams of two lines.
+/// Two streams of two lines each.
 const PAIR: [Given<'static>; 2] = [("p", "p1\np2\n", false), ("q", "q1\nq2\n", false)];
 
 const PAIR_LOGS: &str = "p: Ended\ntext|p1\ntext|p2\nq: Ended\ntext|q1\ntext|q2\n";
 
-/// Two senders read these streams, a line at once, and each hold of the gate is kept.
+/// Checks that two senders gather these streams, a line in each read, and that each hold of the gate is kept.
 fn expect_held(
     rt: &(impl Abort + AllocGlobal + Threads + Wait + Sync),
     holds: [Hold; 2],
@@ -469,7 +469,7 @@ fn expect_held(
     Ok(())
 }
 
-/// What two senders gather of the streams under this gate.
+/// Checks what two senders gather from the streams with this gate.
 fn expect_under(
     rt: &(impl Abort + AllocGlobal + Threads + Wait + Sync),
     given: &[Given<'_>],
@@ -481,16 +481,16 @@ fn expect_under(
 }
 
 #[test]
-fn senders_read_side_by_side(rt: HostRuntime) -> Result<(), Fail> {
+fn senders_read_concurrently(rt: HostRuntime) -> Result<(), Fail> {
     let first = Event::BeforeRead { stream: 0, turn: 1 };
     let second = Event::BeforeRead { stream: 1, turn: 1 };
     expect_held(&rt, [Hold::new(first, second), Hold::new(second, first)])
 }
 
-// Each reads its second line only once the other's first one was taken, so both post a line before
-// they read on, and what they post is taken meanwhile.
+// Each sender reads its second line only after the other's first one was taken. So both post a line before
+// they read again, and what they post is taken meanwhile.
 #[test]
-fn what_is_read_is_taken_before_more_is_read(rt: HostRuntime) -> Result<(), Fail> {
+fn collector_takes_lines_between_reads(rt: HostRuntime) -> Result<(), Fail> {
     let read = |stream| Event::BeforeRead { stream, turn: 2 };
     let taken = |stream| Event::Taken { stream, lines: 1 };
     expect_held(
@@ -500,7 +500,7 @@ fn what_is_read_is_taken_before_more_is_read(rt: HostRuntime) -> Result<(), Fail
 }
 
 #[test]
-fn the_gate_is_told_of_entries_in_order_and_then_of_the_end(rt: HostRuntime) -> Result<(), Fail> {
+fn gate_sees_entries_before_end(rt: HostRuntime) -> Result<(), Fail> {
     let over = Event::Over { stream: 0 };
     let taken = |lines| Event::Taken { stream: 0, lines };
     expect_held(
@@ -511,7 +511,7 @@ fn the_gate_is_told_of_entries_in_order_and_then_of_the_end(rt: HostRuntime) -> 
 
 // The second stream is over before the first one is read.
 #[test]
-fn the_fault_of_the_least_number_is_told_though_it_comes_last(rt: HostRuntime) -> Result<(), Fail> {
+fn lowest_fault_wins_when_last(rt: HostRuntime) -> Result<(), Fail> {
     let read = Event::BeforeRead { stream: 0, turn: 1 };
     let over = Event::Over { stream: 1 };
     let gate = Holding::new([Hold::new(read, over), Hold::new(read, over)]);
@@ -522,7 +522,7 @@ fn the_fault_of_the_least_number_is_told_though_it_comes_last(rt: HostRuntime) -
     Ok(())
 }
 
-/// As many senders as streams, each of which has one line: a sender for each.
+/// Checks that `senders` streams of one line each have a sender each.
 fn expect_started(
     rt: &(impl Abort + AllocGlobal + Threads + Wait + Sync),
     senders: u32,
@@ -533,7 +533,7 @@ fn expect_started(
     Ok(())
 }
 
-/// Whether so many streams are gathered by as many senders.
+/// Returns whether as many streams as senders are gathered.
 fn are_gathered(
     rt: &(impl AllocGlobal + Threads + Wait + Sync),
     senders: u32,
@@ -543,17 +543,17 @@ fn are_gathered(
 }
 
 #[test]
-fn there_are_as_many_senders_as_the_plan_has(rt: HostRuntime) -> Result<(), Fail> {
+fn gather_starts_planned_senders(rt: HostRuntime) -> Result<(), Fail> {
     for senders in [1, 2, 3, 8, 64] {
         expect_started(&rt, senders)?;
     }
     Ok(())
 }
 
-// While who takes is held at the first line, the mailbox takes as many more as its capacity; one more is read, and
-// waits to be posted.
+// While the thread that takes is held at the first line, the mailbox takes as many further lines as its capacity. One
+// more line is read, and waits to be posted.
 #[test]
-fn as_many_items_wait_as_the_plan_has_room_for(rt: HostRuntime) -> Result<(), Fail> {
+fn mailbox_holds_planned_capacity(rt: HostRuntime) -> Result<(), Fail> {
     let mut lines = String::new(rt.alloc());
     for _ in 0..200 {
         lines.push_str("x\n")?;
@@ -564,7 +564,7 @@ fn as_many_items_wait_as_the_plan_has_room_for(rt: HostRuntime) -> Result<(), Fa
     Ok(())
 }
 
-/// So many items wait, of those of the lines.
+/// Checks how many of these lines are read while the first one is held.
 fn expect_waiting(
     rt: &(impl Abort + AllocGlobal + Threads + Wait + Sync),
     lines: &str,
@@ -579,7 +579,7 @@ fn expect_waiting(
     Ok(())
 }
 
-/// Streams, how many reads of 7 bytes tell them, and how many entries they have.
+/// Streams, the number of reads of 7 bytes up to their end, and the number of their entries.
 static COUNTED: &[(Given<'static>, u64, u64)] = &[
     (("a", "1\n2\n3\n4\n5\n6\n7\n", false), 3, 7),
     (("b", "", false), 1, 0),
@@ -589,9 +589,9 @@ static COUNTED: &[(Given<'static>, u64, u64)] = &[
     (("f", "\n\n\n\n\n\n\n\n\n\n", false), 3, 10),
 ];
 
-// Several streams a sender, and several lines a read.
+// Several streams for each sender, and several lines in each read.
 #[test]
-fn the_gate_is_told_of_each_read_entry_and_end_of_each_stream(rt: HostRuntime) -> Result<(), Fail> {
+fn gate_sees_every_event_of_stream(rt: HostRuntime) -> Result<(), Fail> {
     let given = counted_streams(rt.alloc())?;
     expect_counted(&rt, &given, Way::Senders(2, 1))?;
     expect_counted(&rt, &given, Way::Senders(4, 64))
@@ -605,7 +605,7 @@ fn counted_streams(alloc: Global) -> Result<Vec<Given<'static>>, AllocError> {
     Ok(given)
 }
 
-/// What the gate is told where the streams are read in this way.
+/// Checks what the gate is notified of when the streams are read in this way.
 fn expect_counted(
     rt: &(impl Abort + AllocGlobal + Threads + Wait + Sync),
     given: &[Given<'_>],
@@ -624,7 +624,7 @@ fn expect_told(rt: &impl Abort, gate: &Counting) {
     }
 }
 
-/// So many reads, entries and ends of a stream were told.
+/// Checks how many reads, entries and ends of a stream the gate was notified of.
 fn expect_told_of(
     rt: &impl Abort,
     number: usize,

@@ -1,27 +1,27 @@
-//! How a test gathers streams.
+//! Gatherings, for tests.
 ghost use Rattle.std.specs.Prelude.{◌≡◌, true, IfOk, length};
 ghost use Rattle.std.specs.List.{list_all};
 ghost use Rattle.redo_logs.specs.Logs.{has_ended};
 
 use redo_gather::{Gate, GatherFault, Plan, gather, gather_plain};
-use redo_given::names_of;
 use redo_line::Feed;
 use redo_logs::LogTable;
+use redo_test_support::names_of;
 use std::alloc::{AllocError, Global};
 use std::sync::Wait;
 use std::test::Fail;
 use std::thread::Threads;
 
-/// Who reads the streams.
+/// Which threads read the streams.
 #[derive(Clone, Copy, Debug)]
 pub enum Way {
-    /// The thread that calls.
+    /// The calling thread.
     Plain,
-    /// So many senders, with a mailbox of this capacity.
+    /// This many senders, with a mailbox of this capacity.
     Senders(u32, u32),
 }
 
-/// One, few and as many senders as there may be.
+/// The calling thread; and one, few and as many senders as there may be.
 pub static WAYS: &[Way] = &[
     Way::Plain,
     Way::Senders(1, 1),
@@ -31,7 +31,7 @@ pub static WAYS: &[Way] = &[
     Way::Senders(64, 1),
 ];
 
-/// The logs of the targets of a table, which have a reader each, or the fault.
+/// Returns the logs of the targets of a table, which have a reader each, or the fault.
 pub fn gathered<R: Feed>(
     alloc: Global,
     targets: &LogTable,
@@ -51,7 +51,7 @@ pub fn gathered<R: Feed>(
     Ok(gather_plain(alloc, names, marks, readers, max_bytes))
 }
 
-/// The same, read in this way.
+/// Does the same, in this way.
 pub fn gathered_by<T: AllocGlobal + Threads + Wait + Sync, R: Feed + Send, G: Gate>(
     rt: &T,
     targets: &LogTable,
@@ -73,7 +73,7 @@ pub fn gathered_by<T: AllocGlobal + Threads + Wait + Sync, R: Feed + Send, G: Ga
     Ok(gather(rt, alloc, names, marks, readers, &plan, gate))
 }
 
-/// As many streams may end with any line.
+/// Returns `count` must-close flags that aren't set: the streams may end with any line.
 fn no_marks(alloc: Global, count: usize) -> Result<Vec<bool>, AllocError>
     ensures { IfOk result (λ marks. length marks.items ≡ count) }
 {

@@ -1,10 +1,10 @@
-//! Who tells a gate an event is held until another was told, by threads side by side.
+//! A gate holds a thread at an event until another event was notified, even by a concurrent thread.
 use crate::gate::{Event, Hold, Holding};
 use redo_gather::{Free, Gate};
 use std::sync::Wait;
 use std::thread::{Threads, join};
 
-/// Two threads that each tell of the first read of their stream.
+/// Runs two threads that each notify of the first read of their stream.
 fn tell_first_reads<R: Threads + Wait + Sync, G: Gate>(rt: &R, gate: &G) {
     join(
         rt,
@@ -14,7 +14,7 @@ fn tell_first_reads<R: Threads + Wait + Sync, G: Gate>(rt: &R, gate: &G) {
 }
 
 #[test]
-fn each_is_held_until_the_other_is_there(rt: HostRuntime) {
+fn gate_holds_thread_until_event(rt: HostRuntime) {
     let first = Event::BeforeRead { stream: 0, turn: 1 };
     let second = Event::BeforeRead { stream: 1, turn: 1 };
     let gate = Holding::new([Hold::new(first, second), Hold::new(second, first)]);
@@ -23,14 +23,14 @@ fn each_is_held_until_the_other_is_there(rt: HostRuntime) {
 }
 
 #[test]
-fn the_free_gate_holds_nobody(rt: HostRuntime) {
+fn free_gate_never_blocks(rt: HostRuntime) {
     tell_first_reads(&rt, &Free);
     Free.taken(&rt, 0, 1);
     Free.over(&rt, 0);
 }
 
 #[test]
-fn who_is_told_before_holds_nobody(rt: HostRuntime) {
+fn past_event_does_not_block(rt: HostRuntime) {
     let over = Event::Over { stream: 1 };
     let taken = Event::Taken {
         stream: 1,

@@ -1,5 +1,5 @@
 //! Tests of gatherings and views, with the cases of texts and the gate that the tests of runs use too.
-//! They stand here so that no crate below is proved a second time.
+//! They are in a separate crate so that no crate below is proved a second time.
 #![tactic(auto)]
 
 pub mod cases;

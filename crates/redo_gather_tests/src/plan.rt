@@ -11,7 +11,7 @@ static NUMBERS: &[(u32, u32, u64)] = &[
 ];
 
 #[test]
-fn a_plan_has_its_numbers(rt: HostRuntime) -> Result<(), Fail> {
+fn plan_returns_its_numbers(rt: HostRuntime) -> Result<(), Fail> {
     for numbers in NUMBERS {
         let plan = Plan::new(numbers.0, numbers.1, numbers.2)?;
         let found = (plan.senders(), plan.capacity(), plan.max_bytes());
@@ -20,7 +20,7 @@ fn a_plan_has_its_numbers(rt: HostRuntime) -> Result<(), Fail> {
     Ok(())
 }
 
-/// Numbers of which one is out of its limits, and the fault.
+/// Numbers out of range, and the fault.
 static REFUSED: &[(u32, u32, u64, PlanFault)] = &[
     (0, 0, 0, PlanFault::Senders),
     (65, 1, 1, PlanFault::Senders),
@@ -32,7 +32,7 @@ static REFUSED: &[(u32, u32, u64, PlanFault)] = &[
 ];
 
 #[test]
-fn the_first_number_out_of_its_limits_is_refused(rt: HostRuntime) {
+fn plan_rejects_first_number_out_of_range(rt: HostRuntime) {
     for (senders, capacity, max_bytes, fault) in REFUSED {
         assert_eq!(rt;
             Plan::new(*senders, *capacity, *max_bytes).err(),

@@ -1,9 +1,9 @@
-//! What senders post of the streams of their shares.
+//! What senders post for the streams of their shares.
 use crate::gate::{Event, Hold, Holding};
 use crate::sent::sent;
 use redo_gather::{Free, Share};
-use redo_given::{Cut, Given, item_text, reader};
 use redo_line::{Pieces, TargetName};
+use redo_test_support::{Cut, Given, item_text, reader};
 use redo_wire::{Item, What};
 use std::alloc::{AllocError, Global};
 use std::process::Abort;
@@ -11,10 +11,10 @@ use std::sync::Wait;
 use std::test::Fail;
 use std::thread::Threads;
 
-/// One stream that is at its end at once.
+/// A stream that is at its end at once.
 const NOTHING: Given<'static> = ("z", "", false);
 
-/// A share of these streams, with numbers from here on, in such reads.
+/// Returns a share of these streams, with numbers from `from` on, cut into reads.
 fn share(alloc: Global, from: u32, given: &[Given<'_>], cut: Cut) -> Result<Share<Pieces>, Fail> {
     let mut share = Vec::new(alloc);
     let mut number = from;
@@ -36,7 +36,7 @@ fn member(
     Ok((number, target, false, reader(alloc, stream, *fails, cut)?))
 }
 
-/// These are the items of the sender, in order.
+/// Checks that these are the items of the sender, in order.
 fn expect_items(
     rt: &(impl Abort + AllocGlobal),
     taken: &[Item],
@@ -64,7 +64,7 @@ fn expect_item(
     Ok(())
 }
 
-/// What a sender of these streams posts, in such reads, beside one that is at its end at once.
+/// Returns what a sender posts for these streams, cut into reads, next to a sender whose stream is at its end at once.
 fn posted(
     rt: &(impl AllocGlobal + Threads + Wait + Sync),
     given: &[Given<'_>],
@@ -75,7 +75,7 @@ fn posted(
     sent(rt, first, second, given.len(), &Free)
 }
 
-/// A sender of these streams, in such reads, posts these items.
+/// Checks the items that a sender posts for these streams, cut into reads.
 fn expect_posted(
     rt: &(impl Abort + AllocGlobal + Threads + Wait + Sync),
     given: &[Given<'_>],
@@ -87,7 +87,7 @@ fn expect_posted(
     expect_items(rt, &taken, 1, &["9 of 1: end"])
 }
 
-/// Streams, how many bytes a read of them gives, and the items that are posted.
+/// Streams, the number of bytes of a read, and the items that are posted.
 static POSTED: &[(&[Given<'static>], usize, &[&str])] = &[
     (&[("a", "", false)], 9, &["5 of 0: end"]),
     (
@@ -129,16 +129,16 @@ static POSTED: &[(&[Given<'static>], usize, &[&str])] = &[
     ),
 ];
 
-// Each reading is an item of what it completes, and behind a fault comes the next stream.
+// Each read gives one item with the entries that it completes, and after a fault comes the next stream.
 #[test]
-fn a_sender_posts_what_a_reading_completes(rt: HostRuntime) -> Result<(), Fail> {
+fn sender_posts_lines_of_each_read(rt: HostRuntime) -> Result<(), Fail> {
     for (given, bytes, want) in POSTED {
         expect_posted(&rt, given, Cut::InReadsOf(*bytes), want)?;
     }
     Ok(())
 }
 
-/// So many entries the items have that a sender posts of a stream in reads of 5,000 bytes.
+/// Checks how many entries each item has that a sender posts for a stream in reads of 5,000 bytes.
 fn expect_counts(
     rt: &(impl Abort + AllocGlobal + Threads + Wait + Sync),
     name: &str,
@@ -158,7 +158,7 @@ fn counts_of(
     Ok(counts_in(rt.alloc(), &items)?)
 }
 
-/// How many entries each item of the first sender has.
+/// Returns the number of entries of each item of the first sender.
 fn counts_in(alloc: Global, items: &[Item]) -> Result<Vec<usize>, AllocError> {
     let mut counts = Vec::new(alloc);
     for item in items {
@@ -178,14 +178,14 @@ fn repeated(alloc: Global, text: &str, times: u32) -> Result<String, AllocError>
 }
 
 #[test]
-fn an_item_has_at_most_1024_entries(rt: HostRuntime) -> Result<(), Fail> {
+fn item_has_at_most_1024_entries(rt: HostRuntime) -> Result<(), Fail> {
     let stream = repeated(rt.alloc(), "x\n", 2049)?;
     expect_counts(&rt, "a", &stream, &[1024, 1024, 1, 0])
 }
 
-// Names are as long as the directory of the log's target, and with three of them an item has bytes enough.
+// Names are as long as the directory of the log's target. With three of them an item has enough bytes.
 #[test]
-fn an_item_has_no_entry_behind_131072_bytes(rt: HostRuntime) -> Result<(), Fail> {
+fn item_ends_at_131072_bytes(rt: HostRuntime) -> Result<(), Fail> {
     let mut name = repeated(rt.alloc(), "d/", 30_000)?;
     name.push_str("a")?;
     expect_mentions(&rt, &name)
@@ -199,9 +199,9 @@ fn expect_mentions(
     expect_counts(rt, name, &stream, &[3, 3, 1, 0])
 }
 
-// Each sender reads its second line only once the other's first one was taken.
+// Each sender reads its second line only after the first line of the other one was taken.
 #[test]
-fn senders_post_before_they_read_again(rt: HostRuntime) -> Result<(), Fail> {
+fn senders_post_before_next_read(rt: HostRuntime) -> Result<(), Fail> {
     let read = |stream| Event::BeforeRead { stream, turn: 2 };
     let taken = |stream| Event::Taken { stream, lines: 1 };
     let gate = Holding::new([Hold::new(read(0), taken(1)), Hold::new(read(1), taken(0))]);
@@ -210,7 +210,7 @@ fn senders_post_before_they_read_again(rt: HostRuntime) -> Result<(), Fail> {
     Ok(())
 }
 
-/// What two senders of two lines each post under this gate.
+/// Checks what two senders of two lines each post with this gate.
 fn expect_pair(
     rt: &(impl Abort + AllocGlobal + Threads + Wait + Sync),
     gate: &Holding,
@@ -230,7 +230,7 @@ fn pair_posted(
     sent(rt, first, second, 1, gate)
 }
 
-/// How many entries an item has.
+/// Returns the number of entries of an item.
 fn entries_in(item: &Item) -> usize {
     match &item.what {
         What::Line(_) => 1,

@@ -1,9 +1,9 @@
-//! Two senders that send side by side, and what is taken of them.
+//! Two senders that send in parallel, and what is taken from them.
 ghost use Rattle.std.specs.Prelude.{◌≡◌};
 
 use redo_gather::{Gate, Share, send};
-use redo_given::{Two, rest, two_ended};
 use redo_line::Pieces;
+use redo_test_support::{Two, rest, two_ended};
 use redo_wire::{Item, PostEnd, TakeEnd, What};
 use std::sync::Wait;
 use std::test::Fail;
@@ -12,8 +12,8 @@ use std::thread::{Threads, join};
 /// How many bytes a stream may have.
 const MAX_BYTES: u64 = 1_000_000;
 
-/// Sends two shares side by side, so many streams and one, through a mailbox of capacity 1, takes what they
-/// post meanwhile, and tells the gate. Answers what was taken.
+/// Sends two shares in parallel, one of `streams` streams and one of a single stream, through a mailbox of
+/// capacity 1. Takes what they post meanwhile, and notifies the gate. Returns what was taken.
 pub fn sent<T: AllocGlobal + Threads + Wait + Sync, G: Gate>(
     rt: &T,
     first_share: Share<Pieces>,
@@ -43,7 +43,7 @@ pub fn sent<T: AllocGlobal + Threads + Wait + Sync, G: Gate>(
     with_rest(rt, mailbox, taken)
 }
 
-/// What was taken, with what is left in the mailbox.
+/// Returns what was taken, and what is left in the mailbox.
 fn with_rest<T: Wait>(
     rt: &T,
     mut mailbox: TakeEnd,
@@ -69,7 +69,7 @@ fn send_share<T: AllocGlobal + Wait, G: Gate>(
     send(rt, rt.alloc(), end, share, MAX_BYTES, gate)
 }
 
-/// Takes until so many streams and one more are over, or nothing more comes.
+/// Takes until `streams` streams and one more are over, or nothing more comes.
 fn take_all<T: Wait, G: Gate>(
     rt: &T,
     mut mailbox: TakeEnd,

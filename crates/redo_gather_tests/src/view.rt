@@ -1,4 +1,4 @@
-//! The text of logs at the targets asked for.
+//! The text of logs at requested targets.
 ghost use Rattle.std.specs.Prelude.{◌≡◌, true, IfOk};
 ghost use Rattle.std.specs.List.{list_all};
 ghost use Rattle.redo_logs.specs.Logs.{has_ended};
@@ -9,16 +9,16 @@ use crate::cases::{
 };
 use crate::gathered::gathered;
 use redo_gather::GatherFault;
-use redo_given::{Cut, captured, whole};
 use redo_line::{Taker, TargetName};
 use redo_logs::LogTable;
+use redo_test_support::{Cut, captured, whole};
 use redo_view::{Options, ViewFault, view};
 use std::alloc::Global;
 use std::fmt::Debug;
 use std::process::Abort;
 use std::test::Fail;
 
-/// What a writer with so much room holds after the logs were viewed, and the answer.
+/// Views the logs with a writer for `room` bytes, and returns the result and what the writer holds.
 fn viewed(
     alloc: Global,
     given: &[Given],
@@ -31,7 +31,7 @@ fn viewed(
     written(alloc, &table, options, asked, room, per_call)
 }
 
-/// The same for a table.
+/// Does the same for a table.
 fn written(
     alloc: Global,
     table: &LogTable,
@@ -57,7 +57,7 @@ fn logs_of(alloc: Global, given: &[Given]) -> Result<LogTable, Fail>
 
 fn gathered_logs(
     alloc: Global,
-    given: &[redo_given::Given<'_>],
+    given: &[redo_test_support::Given<'_>],
 ) -> Result<Result<LogTable, GatherFault>, Fail>
     ensures { IfOk result (λ answer. IfOk answer (λ table. list_all has_ended table ≡ true)) }
 {
@@ -73,7 +73,7 @@ fn resolved(alloc: Global, names: &[&str]) -> Result<Vec<TargetName>, Fail> {
     Ok(resolved)
 }
 
-/// The whole text of each case is written.
+/// Checks that the complete text of each case is written.
 fn expect(rt: &(impl Abort + AllocGlobal), cases: &[Case]) -> Result<(), Fail> {
     for case in cases {
         expect_case(rt, case)?;
@@ -89,7 +89,7 @@ fn expect_case(rt: &(impl Abort + AllocGlobal), case: &Case) -> Result<(), Fail>
     Ok(())
 }
 
-/// The logs are viewed with this answer.
+/// Checks the result of a view.
 fn expect_answer(
     rt: &impl Abort,
     answer: Result<(), ViewFault>,
@@ -99,12 +99,12 @@ fn expect_answer(
     assert_eq!(rt; answer, want, "{about:?}");
 }
 
-/// These bytes of the text are written.
+/// Checks which bytes of the text are written.
 fn expect_written(rt: &impl Abort, written: &[u8], want: &[u8], about: &impl Debug) {
     assert_eq!(rt; written, want, "{about:?}");
 }
 
-// The tables that are gone over, as statics: a constant is written out wherever it is named.
+// The tables that the tests iterate over. They are statics because a constant is written out wherever it is named.
 static OF_LOGS: &[Case] = &LOGS;
 
 static OF_MENTIONS: &[Case] = &MENTIONS;
@@ -118,36 +118,36 @@ static OF_STATUSES: &[Case] = &STATUSES;
 static OF_PIDS: &[Case] = &BY_PIDS;
 
 #[test]
-fn a_log_is_shown_below_the_line_of_its_target(rt: HostRuntime) -> Result<(), Fail> {
+fn log_follows_line_of_target(rt: HostRuntime) -> Result<(), Fail> {
     expect(&rt, OF_LOGS)
 }
 
 #[test]
-fn mentions_are_shown_and_opened_with_recursive(rt: HostRuntime) -> Result<(), Fail> {
+fn recursive_opens_mentioned_logs(rt: HostRuntime) -> Result<(), Fail> {
     expect(&rt, OF_MENTIONS)
 }
 
 #[test]
-fn a_mention_names_and_an_asking_opens(rt: HostRuntime) -> Result<(), Fail> {
+fn requested_target_opens_named_log(rt: HostRuntime) -> Result<(), Fail> {
     expect(&rt, OF_ASKING)
 }
 
 #[test]
-fn options_choose_what_is_shown(rt: HostRuntime) -> Result<(), Fail> {
+fn options_select_shown_entries(rt: HostRuntime) -> Result<(), Fail> {
     expect(&rt, OF_OPTIONS)
 }
 
 #[test]
-fn a_status_other_than_0_is_shown(rt: HostRuntime) -> Result<(), Fail> {
+fn nonzero_status_is_shown(rt: HostRuntime) -> Result<(), Fail> {
     expect(&rt, OF_STATUSES)
 }
 
 #[test]
-fn a_redo_line_begins_with_the_pid_of_its_record(rt: HostRuntime) -> Result<(), Fail> {
+fn debug_pids_prefixes_redo_line(rt: HostRuntime) -> Result<(), Fail> {
     expect(&rt, OF_PIDS)
 }
 
-/// Targets, and the place of the first one that is unknown.
+/// Requested targets, and the index of the first unknown one.
 static UNKNOWN: &[(&[&str], usize)] = &[
     (&["all", "zz"], 1),
     (&["zz", "all"], 0),
@@ -155,14 +155,14 @@ static UNKNOWN: &[(&[&str], usize)] = &[
 ];
 
 #[test]
-fn the_least_unknown_target_is_told_and_nothing_written(rt: HostRuntime) -> Result<(), Fail> {
+fn first_unknown_target_is_reported(rt: HostRuntime) -> Result<(), Fail> {
     for (asked, place) in UNKNOWN {
         expect_unknown(&rt, asked, *place)?;
     }
     Ok(())
 }
 
-/// The target at this place is told, and nothing written.
+/// Checks that the target at this index is reported, and that nothing is written.
 fn expect_unknown(
     rt: &(impl Abort + AllocGlobal),
     asked: &[&str],
@@ -175,7 +175,7 @@ fn expect_unknown(
     Ok(())
 }
 
-/// The text of the build goes to a writer with so much room.
+/// Checks what a writer for `room` bytes gets of the build's text.
 fn expect_build(
     rt: &(impl Abort + AllocGlobal),
     room: usize,
@@ -190,7 +190,7 @@ fn expect_build(
 }
 
 #[test]
-fn a_failed_write_leaves_a_front_of_the_text(rt: HostRuntime) -> Result<(), Fail> {
+fn failed_write_leaves_prefix(rt: HostRuntime) -> Result<(), Fail> {
     let text = BUILD_TEXT.as_bytes();
     for room in 0..text.len() {
         expect_build(&rt, room, 1000, Err(ViewFault::Write), &text[..room])?;

@@ -1,8 +1,8 @@
 mod Adding
 mod FirstLine
+mod IndexEntries
 mod IndexLaws
 mod IndexLines
 mod IndexRows
 mod LineForm
 mod LineParts
-mod Listing

@@ -1,4 +1,4 @@
--- What an index lists, and which of its lines is refused.
+-- What an index lists, and which of its lines is rejected.
 use Rattle.std.specs.Prelude.{◌≡◌, ◌≢◌, ℕ, ◌+◌, ◌≤◌, nat_le, nat_eq, Bool, true, false, not, ◌==◌, ◌&&◌, List, [], ◌∷◌, ◌++◌, Option, None, Some, length, map, filter_map, codes, if◌then◌else◌}
 use Rattle.std.specs.List.{list_any, before_first, after_first, IsDistinct}
 use Rattle.std.specs.Cmp.Lexicographic.{pointwise}
@@ -8,113 +8,116 @@ use Rattle.redo_line.specs.Record.{space}
 use Rattle.redo_name.specs.Names.{normal}
 use Rattle.redo_index.specs.declared.index_fault.IndexFault.{IndexFault}
 use Rattle.redo_index.specs.declared.index_fault.IndexFault.TheVariants.{BadLine, FidTwice, NameTwice, TooMany}
-use Rattle.redo_index.specs.declared.listed.Listed.{Listed}
+use Rattle.redo_index.specs.declared.index_entry.IndexEntry.{IndexEntry}
 
--- how many targets an index may list
-abbrev pub most : ℕ
-most = 1048575
+-- The maximum number of targets in an index.
+abbrev pub max_targets : ℕ
+max_targets = 1048575
 
--- ---- a line
+-- ---- one line
 
--- one to nine digits, the first not 0
+-- Whether `digits` are one to nine digits, the first not `0`.
 pub record IsNumber (digits : List ℕ) : Type 0 where
   pub digits_are : AreDigits 9 digits
   pub first_not_0 : (others : List ℕ) → digits ≢ 48 ∷ others
 
--- what a line begins with that is marked, or isn't
-abbrev pub mark_of : Bool → List ℕ
-mark_of true = codes "!"
-mark_of false = []
+-- The prefix of a line: `!` with the must-close flag, otherwise nothing.
+abbrev pub flag_prefix : Bool → List ℕ
+flag_prefix true = codes "!"
+flag_prefix false = []
 
--- a line lists a target: perhaps behind a mark stand a number, a space and a name that isn't empty, whose normal form the target is
-pub record IsListed (line : List ℕ) (listed : Listed) : Type 0 where
+-- Whether `line` lists this target: it is an optional must-close flag, a number, one space and a name that isn't empty. The
+-- target is the normal form of the name.
+pub record IsIndexLine (line : List ℕ) (entry : IndexEntry) : Type 0 where
   pub digits : List ℕ
   pub name : List ℕ
-  pub whole : line ≡ mark_of listed.must_close ++ digits ++ space ∷ name
+  pub whole : line ≡ flag_prefix entry.must_close ++ digits ++ space ∷ name
   pub form : IsNumber digits
-  pub number_is : listed.number ≡ decimal.number digits
+  pub number_is : entry.number ≡ decimal.number digits
   pub some : name ≢ []
-  pub target_is : normal None name ≡ Some listed.target
+  pub target_is : normal None name ≡ Some entry.target
 
--- The same, computed: `listed_of_a_line` says that it is. One to nine digits, the first not 0
+-- The definitions from here to `parse_line` compute what `IsIndexLine` states. The law `index_line_has_one_parse` says that both agree.
+-- Whether these bytes are one to nine digits, the first not `0`.
 abbrev pub is_number : List ℕ → Bool
 is_number [] = false
 is_number (first ∷ others) = not (first == 48) && are_digits 9 (first ∷ others)
 
--- what it stands for
-abbrev pub number_of : List ℕ → Option ℕ
-number_of bytes = if is_number bytes then Some (decimal.number bytes) else None
+-- The number that these bytes denote, if they are one.
+abbrev pub parse_number : List ℕ → Option ℕ
+parse_number bytes = if is_number bytes then Some (decimal.number bytes) else None
 
-abbrev pub both : Bool → Option ℕ → Option (List ℕ) → Option Listed
-both must_close None name = None
-both must_close (Some number) None = None
-both must_close (Some number) (Some name) = Some (record { number = number; target = name; must_close = must_close })
+abbrev pub entry_of_parts : Bool → Option ℕ → Option (List ℕ) → Option IndexEntry
+entry_of_parts must_close None name = None
+entry_of_parts must_close (Some number) None = None
+entry_of_parts must_close (Some number) (Some name) = Some (record { number = number; target = name; must_close = must_close })
 
 abbrev pub is_space : ℕ → Bool
 is_space byte = byte == 32
 
--- What a line lists that is marked or not, if it is of the form: a number stands before its first space, and a name
--- behind it. Behind none stands nothing, which is no name.
-unfoldable pub listed_as : Bool → List ℕ → Option Listed
-listed_as must_close line = both must_close (number_of (before_first is_space line)) (normal None (after_first is_space line))
+-- What a line lists, or what follows its flag, if it is of the form: a number before the first space and a name after it.
+-- Without a space the name is empty, and an empty name has no normal form.
+unfoldable pub parse_fields : Bool → List ℕ → Option IndexEntry
+parse_fields must_close line = entry_of_parts must_close (parse_number (before_first is_space line)) (normal None (after_first is_space line))
 
--- a line that begins with this byte is marked
-abbrev pub is_mark : ℕ → Bool
-is_mark byte = byte == 33
+-- Whether `byte` is the must-close flag, `!`.
+abbrev pub is_flag : ℕ → Bool
+is_flag byte = byte == 33
 
--- what a line lists: of one that is marked, what stands behind the mark
-abbrev pub listed_by : List ℕ → Option Listed
-listed_by [] = listed_as false []
-listed_by (first ∷ others) = if is_mark first then listed_as true others else listed_as false (first ∷ others)
+-- What a line lists, if it is of the form. If it begins with the flag, `parse_fields` reads what follows the flag.
+abbrev pub parse_line : List ℕ → Option IndexEntry
+parse_line [] = parse_fields false []
+parse_line (first ∷ others) = if is_flag first then parse_fields true others else parse_fields false (first ∷ others)
 
 -- ---- all lines
 
--- what these lines list
-abbrev pub listed_by_all : List (List ℕ) → List Listed
-listed_by_all lines = filter_map listed_by lines
+-- What these lines list, in order.
+abbrev pub parse_lines : List (List ℕ) → List IndexEntry
+parse_lines lines = filter_map parse_line lines
 
-abbrev pub numbers_of : List Listed → List ℕ
-numbers_of index = map (λ listed. listed.number) index
+abbrev pub numbers_of : List IndexEntry → List ℕ
+numbers_of index = map (λ entry. entry.number) index
 
-abbrev pub names_of : List Listed → List (List ℕ)
-names_of index = map (λ listed. listed.target) index
+abbrev pub names_of : List IndexEntry → List (List ℕ)
+names_of index = map (λ entry. entry.target) index
 
-abbrev pub marks_of : List Listed → List Bool
-marks_of index = map (λ listed. listed.must_close) index
+abbrev pub must_close_flags : List IndexEntry → List Bool
+must_close_flags index = map (λ entry. entry.must_close) index
 
--- Why a line is refused, after as many lines and what these list; the causes in their order.
-abbrev pub fault_after : ℕ → List Listed → Option Listed → Option IndexFault
+-- The fault of a line, if it has one, from the number of lines before it, what those lines list, and what it lists itself.
+-- The first cause that holds counts.
+abbrev pub fault_after : ℕ → List IndexEntry → Option IndexEntry → Option IndexFault
 fault_after lines before None = Some (BadLine (lines + 1))
-fault_after lines before (Some listed) =
-    if list_any (nat_eq listed.number) (numbers_of before) then Some (FidTwice (lines + 1))
-    else if list_any (pointwise nat_eq listed.target) (names_of before) then Some (NameTwice (lines + 1))
-    else if nat_le most lines then Some TooMany
+fault_after lines before (Some entry) =
+    if list_any (nat_eq entry.number) (numbers_of before) then Some (FidTwice (lines + 1))
+    else if list_any (pointwise nat_eq entry.target) (names_of before) then Some (NameTwice (lines + 1))
+    else if nat_le max_targets lines then Some TooMany
     else None
 
--- why a line is refused that stands behind these ones
+-- The fault of `line` after the lines `before`, if it has one.
 abbrev pub fault_at : List (List ℕ) → List ℕ → Option IndexFault
-fault_at before line = fault_after (length before) (listed_by_all before) (listed_by line)
+fault_at before line = fault_after (length before) (parse_lines before) (parse_line line)
 
--- no line is refused
-abbrev pub IsFine : List (List ℕ) → Type 0
-IsFine lines = (before : List (List ℕ)) (line : List ℕ) (after : List (List ℕ)) → lines ≡ before ++ line ∷ after → fault_at before line ≡ None
+-- Whether no line is rejected.
+abbrev pub AreFaultFree : List (List ℕ) → Type 0
+AreFaultFree lines = (before : List (List ℕ)) (line : List ℕ) (after : List (List ℕ)) → lines ≡ before ++ line ∷ after → fault_at before line ≡ None
 
--- a line is refused with this fault, and none before it
-pub record IsRefused (lines : List (List ℕ)) (fault : IndexFault) : Type 0 where
+-- Whether a line is rejected with this fault, and no line before it is rejected.
+pub record IsRejected (lines : List (List ℕ)) (fault : IndexFault) : Type 0 where
   pub before : List (List ℕ)
   pub line : List ℕ
   pub after : List (List ℕ)
   pub lines_are : lines ≡ before ++ line ∷ after
-  pub fine_before : IsFine before
-  pub refused : fault_at before line ≡ Some fault
+  pub fault_free_before : AreFaultFree before
+  pub fault_is : fault_at before line ≡ Some fault
 
--- these lines are an index: none is refused, and this is what they list
-pub record IsIndexOf (lines : List (List ℕ)) (index : List Listed) : Type 0 where
-  pub fine : IsFine lines
-  pub lists : index ≡ listed_by_all lines
+-- Whether these lines are an index: none is rejected, and `index` is what they list.
+pub record IsIndexOf (lines : List (List ℕ)) (index : List IndexEntry) : Type 0 where
+  pub fault_free : AreFaultFree lines
+  pub lists : index ≡ parse_lines lines
 
--- what an index says of itself: it isn't too long, and no number and no name stands in it twice
-pub record IsIndex (index : List Listed) : Type 0 where
-  pub size : length index ≤ most
+-- The invariant of an index: it isn't too long, and no number and no name occurs in it twice.
+pub record IsIndex (index : List IndexEntry) : Type 0 where
+  pub size : length index ≤ max_targets
   pub numbers_differ : IsDistinct nat_eq (numbers_of index)
   pub names_differ : IsDistinct (pointwise nat_eq) (names_of index)

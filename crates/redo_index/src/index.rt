@@ -3,57 +3,57 @@ ghost use Rattle.std.specs.Cmp.Lexicographic.{pointwise};
 ghost use Rattle.std.specs.List.{IsDistinct};
 ghost use Rattle.redo_line.specs.Lines.{all_lines};
 ghost use Rattle.redo_index.specs.declared.index_fault.IndexFault.TheVariants.{OutOfMemory};
-ghost use Rattle.redo_index.specs.declared.listed.Listed.{Listed};
-ghost use Rattle.redo_index.specs.Index.{most, numbers_of, names_of, marks_of, listed_as, listed_by, number_of, IsIndex, IsIndexOf, IsRefused};
-ghost use Rattle.redo_index.specs.Private.Entries.{Hold, HoldMore, IsFaultBehind};
+ghost use Rattle.redo_index.specs.declared.index_entry.IndexEntry.{IndexEntry};
+ghost use Rattle.redo_index.specs.Index.{max_targets, numbers_of, names_of, must_close_flags, parse_fields, parse_line, parse_number, IsIndex, IsIndexOf, IsRejected};
+ghost use Rattle.redo_index.specs.Private.Entries.{Hold, HoldMore, IsFaultAfter};
 
+use crate::index_entry::IndexEntry;
 use crate::index_fault::IndexFault;
-use crate::listed::Listed;
 use indexmap::{IndexMap, IndexSet};
 use memchr::memchr;
 use redo_line::{HashKeys, NameFault, TargetName, read_number};
 use std::alloc::{AllocError, Global};
 use std::marker::Model;
 
-// How many targets an index may list.
-const MOST: usize = 1_048_575;
+// The maximum number of targets in an index.
+const MAX_TARGETS: usize = 1_048_575;
 
-/// The targets of a capture directory: for each its number and its name, in the order in which
-/// they are listed. No number and no name stands in it twice, and it lists at most 1,048,575.
+/// The targets of a capture directory, in the order in which they are listed. Each has a number, a name and a
+/// must-close flag. No two targets have the same number or the same name, and there are at most 1,048,575.
 pub struct Index {
-    // The log file of each target, by its name.
-    targets: IndexMap<TargetName, LogFile, HashKeys>,
+    // Each target's log file, by the target's name.
+    targets: IndexMap<TargetName, TargetLog, HashKeys>,
 }
 
-// A derived one would be written out wherever an index is let go, and proved there.
+// This is written by hand: a derived `drop` would be expanded, and proved, wherever an index is dropped.
 impl Drop for Index {
     fn drop(self) {
         let Index { targets: _targets } = self;
     }
 }
 
-/// The file that has the log of a target: its number, and whether it has to end with the record that closes the log.
+/// The file of a target's log: its number, and whether the log must end with its closing record.
 #[derive(Clone, Copy)]
-struct LogFile {
+struct TargetLog {
     number: u32,
     must_close: bool,
 }
 
 impl Model for Index {
     ghost use Rattle.std.specs.Prelude.{List};
-    ghost use Rattle.redo_index.specs.declared.listed.Listed.{Listed};
+    ghost use Rattle.redo_index.specs.declared.index_entry.IndexEntry.{IndexEntry};
     ghost use Rattle.redo_index.specs.Index.{IsIndex};
-    ghost use Rattle.redo_index.specs.Private.Entries.{listed_in};
+    ghost use Rattle.redo_index.specs.Private.Entries.{entries_of_pairs};
 
-    ghost Value = { List Listed };
+    ghost Value = { List IndexEntry };
 
-    ghost view = { λ index. listed_in index.targets.entries };
+    ghost view = { λ index. entries_of_pairs index.targets.entries };
 
-    ghost invariant = { λ index. IsIndex (listed_in index.targets.entries) };
+    ghost invariant = { λ index. IsIndex (entries_of_pairs index.targets.entries) };
 }
 
 impl Index {
-    /// The index that lists nothing. It asks for no memory.
+    /// Creates an empty index. It does not allocate.
     pub fn new(alloc: Global) -> Index
         ensures { result ≡ [] }
     {
@@ -62,13 +62,12 @@ impl Index {
         }
     }
 
-    /// With which keys its names are hashed.
+    /// Returns the keys by which the index hashes names.
     pub fn keys(&self) -> HashKeys {
         *self.targets.hasher()
     }
 
-    /// How many targets are listed. No number and no name stands twice among them, and there are at
-    /// most 1,048,575.
+    /// Returns the number of targets, which is at most 1,048,575. No two have the same number or the same name.
     pub fn len(&self) -> u32
         ensures len { result ≡ length self.now }
         ensures index { IsIndex self.now }
@@ -76,8 +75,8 @@ impl Index {
         self.targets.len() as u32
     }
 
-    /// The number of the target that is listed at the place `i`. Places are counted from 0, and `i`
-    /// has to be one of them.
+    /// Returns the number of the target at position `i`. Positions are counted from 0, and `i` must be less than
+    /// [`Index::len`].
     pub fn fid(&self, i: u32) -> u32
         requires { i < length self.now }
         ensures { slice_get (numbers_of self.now) i ≡ Some result }
@@ -85,17 +84,17 @@ impl Index {
         self.targets[i as usize].number
     }
 
-    /// Whether the stream of the target that is listed at the place `i` has to end with the record that closes
-    /// its log. Places are counted from 0, and `i` has to be one of them.
+    /// Returns whether the stream of the target at position `i` must end with the log's closing record. Positions are
+    /// counted from 0, and `i` must be less than [`Index::len`].
     pub fn must_close(&self, i: u32) -> bool
         requires { i < length self.now }
-        ensures { slice_get (marks_of self.now) i ≡ Some result }
+        ensures { slice_get (must_close_flags self.now) i ≡ Some result }
     {
         self.targets[i as usize].must_close
     }
 
-    /// The name of the target that is listed at the place `i`. Places are counted from 0, and `i`
-    /// has to be one of them.
+    /// Returns the name of the target at position `i`. Positions are counted from 0, and `i` must be less than
+    /// [`Index::len`].
     pub fn name(&self, i: u32) -> &TargetName
         requires { i < length self.now }
         ensures { slice_get (names_of self.now) i ≡ Some result.now }
@@ -106,12 +105,11 @@ impl Index {
         }
     }
 
-    /// The names of all targets, in memory of their own. No name stands twice among them, and there are
-    /// at most 1,048,575.
+    /// Returns owned copies of all targets' names. No two are the same, and there are at most 1,048,575.
     pub fn names(&self, alloc: Global) -> Result<Vec<TargetName>, AllocError>
         ensures names { IfOk result (λ names. names.items ≡ names_of self.now) }
         ensures distinct { IfOk result (λ names. IsDistinct (pointwise nat_eq) names.items) }
-        ensures size { IfOk result (λ names. length names.items ≤ most) }
+        ensures size { IfOk result (λ names. length names.items ≤ max_targets) }
     {
         let mut names = Vec::with_capacity(alloc, self.targets.len())?;
         for i in 0..self.len() {
@@ -120,18 +118,18 @@ impl Index {
         Ok(names)
     }
 
-    /// Of all targets, whether their streams have to end with the record that closes their logs.
-    pub fn marks(&self, alloc: Global) -> Result<Vec<bool>, AllocError>
-        ensures { IfOk result (λ marks. marks.items ≡ marks_of self.now) }
+    /// Returns for each target whether its stream must end with the log's closing record.
+    pub fn must_close_flags(&self, alloc: Global) -> Result<Vec<bool>, AllocError>
+        ensures { IfOk result (λ flags. flags.items ≡ must_close_flags self.now) }
     {
-        let mut marks = Vec::with_capacity(alloc, self.targets.len())?;
+        let mut flags = Vec::with_capacity(alloc, self.targets.len())?;
         for i in 0..self.len() {
-            marks.push(self.must_close(i))?;
+            flags.push(self.must_close(i))?;
         }
-        Ok(marks)
+        Ok(flags)
     }
 
-    /// The place where a target is listed, if it is. The look-up is by hash.
+    /// Returns the position of the target with this name, if it is listed. The look-up is by hash.
     pub fn find(&self, name: &TargetName) -> Option<u32>
         ensures { result ≡ position (pointwise nat_eq name.now) (names_of self.now) }
     {
@@ -142,40 +140,41 @@ impl Index {
     }
 }
 
-/// Reads an index: lines of which each is a number, a space and the name of a target, perhaps behind a mark. A refusal
-/// names the least line that can't be listed, with its first cause. docs/format.md has the rule. Whoever may choose the
-/// numbers and names can choose them so that this is slow: [`read_index_with_keys`] is for these.
+/// Reads an index. Each line is a number, a space and a target's name; the must-close flag `!` may precede the
+/// number. docs/format.md has the rules. A fault names the first line that can't be listed, with the first of its
+/// causes. Numbers and names can be chosen to collide, which makes this slow: use [`read_index_with_keys`] if
+/// somebody else may choose them.
 pub fn read_index(alloc: Global, bytes: &[u8]) -> Result<Index, IndexFault>
-    ensures listed { IfOk result (λ index. IsIndexOf (all_lines bytes.now) index) }
-    ensures refused { IfErr result (λ fault. (fault ≡ OutOfMemory) ⊎ IsRefused (all_lines bytes.now) fault) }
+    ensures index { IfOk result (λ index. IsIndexOf (all_lines bytes.now) index) }
+    ensures fault { IfErr result (λ fault. (fault ≡ OutOfMemory) ⊎ IsRejected (all_lines bytes.now) fault) }
 {
     read_index_with_keys(alloc, HashKeys::fixed(), bytes)
 }
 
-/// The same, in which numbers and names are looked up by a hash with these keys. What it answers doesn't depend on
-/// them. The index keeps them ([`Index::keys`]).
+/// Like [`read_index`], but hashes numbers and names with these keys. The result doesn't depend on the keys. The
+/// index stores them ([`Index::keys`]).
 pub fn read_index_with_keys(
     alloc: Global,
     keys: HashKeys,
     bytes: &[u8],
 ) -> Result<Index, IndexFault>
-    ensures listed { IfOk result (λ index. IsIndexOf (all_lines bytes.now) index) }
-    ensures refused { IfErr result (λ fault. (fault ≡ OutOfMemory) ⊎ IsRefused (all_lines bytes.now) fault) }
+    ensures index { IfOk result (λ index. IsIndexOf (all_lines bytes.now) index) }
+    ensures fault { IfErr result (λ fault. (fault ≡ OutOfMemory) ⊎ IsRejected (all_lines bytes.now) fault) }
 {
     let mut numbers = IndexSet::with_hasher(alloc, keys);
     let mut targets = IndexMap::with_hasher(alloc, keys);
     let mut left = bytes;
     'lines: while !left.is_empty() {
-        let (line, behind) = first_line(left);
+        let (line, rest) = first_line(left);
         add(alloc, &mut numbers, &mut targets, line)?;
-        left = behind;
+        left = rest;
     }
     Ok(Index { targets })
 }
 
-// The first line, and the bytes behind it.
+// Returns the first line without its line feed, and the bytes after it.
 fn first_line(bytes: &[u8]) -> (&[u8], &[u8])
-    requires some { 0 < length bytes.now }
+    requires nonempty { 0 < length bytes.now }
     ensures line { all_lines bytes.now ≡ result.0.now ∷ all_lines result.1.now }
     ensures less { length result.1.now < length bytes.now }
 {
@@ -185,70 +184,70 @@ fn first_line(bytes: &[u8]) -> (&[u8], &[u8])
     }
 }
 
-// Lists one more line.
+// Adds one more line.
 fn add(
     alloc: Global,
     numbers: &mut IndexSet<u32, HashKeys>,
-    targets: &mut IndexMap<TargetName, LogFile, HashKeys>,
+    targets: &mut IndexMap<TargetName, TargetLog, HashKeys>,
     line: &[u8],
 ) -> Result<(), IndexFault>
-    ensures holds { (listed : List Listed) → Hold numbers.old.keys targets.old.entries listed →
-        IfOk result (λ _. HoldMore listed line.now numbers.new.keys targets.new.entries) }
-    ensures refuses { (listed : List Listed) → Hold numbers.old.keys targets.old.entries listed →
-        IfErr result (λ fault. IsFaultBehind listed line.now fault) }
+    ensures holds { (index : List IndexEntry) → Hold numbers.old.keys targets.old.entries index →
+        IfOk result (λ _. HoldMore index line.now numbers.new.keys targets.new.entries) }
+    ensures fault { (index : List IndexEntry) → Hold numbers.old.keys targets.old.entries index →
+        IfErr result (λ fault. IsFaultAfter index line.now fault) }
 {
-    let place = numbers.len() as u64 + 1;
+    let line_number = numbers.len() as u64 + 1;
     let Some(
-        Listed {
+        IndexEntry {
             number,
             target,
             must_close,
         },
-    ) = read_listed(alloc, line)?
+    ) = parse_line(alloc, line)?
     else {
-        return Err(IndexFault::BadLine { line: place });
+        return Err(IndexFault::BadLine { line: line_number });
     };
     let (_, differs) = numbers.insert_full(number)?;
     if !differs {
-        return Err(IndexFault::FidTwice { line: place });
+        return Err(IndexFault::FidTwice { line: line_number });
     }
-    let file = LogFile { number, must_close };
+    let file = TargetLog { number, must_close };
     if targets.insert(target, file)?.is_some() {
-        return Err(IndexFault::NameTwice { line: place });
+        return Err(IndexFault::NameTwice { line: line_number });
     }
-    if targets.len() > MOST {
+    if targets.len() > MAX_TARGETS {
         return Err(IndexFault::TooMany);
     }
     Ok(())
 }
 
-// What a line lists, if it is of the form.
-fn read_listed(alloc: Global, line: &[u8]) -> Result<Option<Listed>, AllocError>
-    ensures { IfOk result (λ listed. listed ≡ listed_by line.now) }
+// Parses a line. Returns `None` if it isn't of the form.
+fn parse_line(alloc: Global, line: &[u8]) -> Result<Option<IndexEntry>, AllocError>
+    ensures { IfOk result (λ entry. entry ≡ parse_line line.now) }
 {
     if !line.is_empty() && line[0] == b'!' {
-        read_listed_as(alloc, true, &line[1..])
+        parse_fields(alloc, true, &line[1..])
     } else {
-        read_listed_as(alloc, false, line)
+        parse_fields(alloc, false, line)
     }
 }
 
-// What a line lists that is marked or not, or what stands behind the mark.
-fn read_listed_as(
+// Parses a line, or what follows its must-close flag. `must_close` is the flag.
+fn parse_fields(
     alloc: Global,
     must_close: bool,
     line: &[u8],
-) -> Result<Option<Listed>, AllocError>
-    ensures { IfOk result (λ listed. listed ≡ listed_as must_close line.now) }
+) -> Result<Option<IndexEntry>, AllocError>
+    ensures { IfOk result (λ entry. entry ≡ parse_fields must_close line.now) }
 {
     let Some(at) = memchr(b' ', line) else {
         return Ok(None);
     };
-    let Some(number) = read_fid(&line[..at]) else {
+    let Some(number) = parse_number(&line[..at]) else {
         return Ok(None);
     };
     match TargetName::resolve(alloc, None, &line[at + 1..]) {
-        Ok(target) => Ok(Some(Listed {
+        Ok(target) => Ok(Some(IndexEntry {
             number,
             target,
             must_close,
@@ -258,8 +257,8 @@ fn read_listed_as(
     }
 }
 
-fn read_fid(bytes: &[u8]) -> Option<u32>
-    ensures { result ≡ number_of bytes.now }
+fn parse_number(bytes: &[u8]) -> Option<u32>
+    ensures { result ≡ parse_number bytes.now }
 {
     if bytes.is_empty() || bytes[0] == b'0' {
         return None;

@@ -3,20 +3,21 @@ ghost use Rattle.redo_index.specs.declared.index_fault.IndexFault.TheVariants.{O
 
 use std::alloc::{AllocError, AllocFailed};
 
-/// Why an index is refused. Lines are counted from 1.
+/// Why an index is rejected. Lines are counted from 1.
 ///
-/// The least line that is refused counts, and on one line the first of these causes.
+/// The fault belongs to the first line that is rejected. If several causes apply to that line, the first in this
+/// order is reported.
 #[derive(Clone, Copy, Debug, PartialEq, Eq)]
 pub enum IndexFault {
-    /// This line isn't a number, a space and a name.
+    /// This line isn't a number, a space and a name, with or without the must-close flag.
     BadLine { line: u64 },
-    /// The number of this line stands on a line before it.
+    /// An earlier line has the same number as this line.
     FidTwice { line: u64 },
-    /// The normal form of this line's name is that of a line before it.
+    /// The names of this line and of an earlier line have the same normal form.
     NameTwice { line: u64 },
     /// There are more than 1,048,575 lines.
     TooMany,
-    /// There was no memory.
+    /// An allocation failed.
     OutOfMemory,
 }
 

@@ -1,4 +1,4 @@
--- What a cutter's next bytes add to the lines of those that it took.
+-- The lines that further bytes add to the lines of the consumed bytes.
 use Rattle.std.proofs.Common.{◌≡◌, ◌≢◌, ℕ, ◌+◌, ◌<◌, List, [], ◌∷◌, ◌++◌, length, get_or, take, sym, ◌∙◌, ap, subst, arith, le_refl, zero-le}
 use Rattle.std.specs.List.{Contains}
 use Rattle.std.proofs.lemmas.Bool.{eq-eqb, eqb-true}
@@ -10,7 +10,7 @@ use Rattle.redo_line.specs.Private.CutLine.{Cuts}
 use Rattle.redo_line.proofs.PartLemmas.{free-append}
 use Rattle.redo_line.proofs.LineLemmas.{ended-append, rest-append, ended-free, rest-free, ended-line, rest-line, are_lines}
 
--- bytes that end one line, behind what is kept
+-- Bytes that end one line, after the stored bytes.
 pub cuts_line : (before front : List ℕ) → HasNoLineFeed front → Cuts before (front ++ line_feed ∷ []) ((before ++ front) ∷ []) []
 cuts_line before front free taken kept =
     let line = free-append line_feed (rest taken) front (are_lines taken).rest_holds_none free in
@@ -20,13 +20,13 @@ cuts_line before front free taken kept =
     let last : rest (rest taken ++ (front ++ line_feed ∷ [])) ≡ [] = ap rest joined ∙ rest-line (rest taken ++ front) [] line ∙ rest-free [] tt in
     (ended-append taken (front ++ line_feed ∷ []) ∙ ap (λ ls. ended taken ++ ls) lines, rest-append taken (front ++ line_feed ∷ []) ∙ last)
 
--- bytes that end none
+-- Bytes that end no line.
 pub cuts_none : (before bytes : List ℕ) → HasNoLineFeed bytes → Cuts before bytes [] (before ++ bytes)
 cuts_none before bytes free taken kept =
     let line = free-append line_feed (rest taken) bytes (are_lines taken).rest_holds_none free in
     (ended-append taken bytes ∙ ap (λ ls. ended taken ++ ls) (ended-free (rest taken ++ bytes) line), rest-append taken bytes ∙ rest-free (rest taken ++ bytes) line ∙ ap (λ b. b ++ bytes) kept)
 
--- no line feed stands before the first place of one
+-- The bytes before the first line feed contain none.
 pub free_before : (bytes : List ℕ) (n : ℕ) → Nowhere (Passes (is_byte line_feed) bytes) 0 n → HasNoLineFeed (take n bytes)
 free_before bytes n nowhere =
     recursion_from_All (λ (byte : ℕ). byte ≢ line_feed) (take n bytes) (λ k d below is.
@@ -34,21 +34,21 @@ free_before bytes n nowhere =
     let read : get_or (take n bytes) k d ≡ get_or bytes k 0 = let in_front : k < n = inside.0 in let in_bytes : k < length bytes = inside.1 in get_or-take n bytes k d in_front ∙ get_or_default bytes k d 0 in_bytes in
     nowhere k (omega arith) inside.0 (eq-eqb (get_or bytes k 0) line_feed (sym read ∙ is)))
 
--- the bytes up to the place after the first line feed
+-- The bytes up to and including the first line feed.
 pub upto_feed : (bytes : List ℕ) (at : ℕ) → at < length bytes → Passes (is_byte line_feed) bytes at → take (at + 1) bytes ≡ take at bytes ++ line_feed ∷ []
 upto_feed bytes at below passes = take_more bytes at 0 below ∙ ap (λ (b : ℕ). take at bytes ++ b ∷ []) (eqb-true (get_or bytes at 0) line_feed passes)
 
--- what a cutter takes of a piece in which a line feed stands
+-- What a cutter consumes of a chunk with a line feed.
 pub line_in : (before line piece : List ℕ) (at : ℕ) → NoneBefore (Passes (is_byte line_feed) piece) 0 (length piece) at × Passes (is_byte line_feed) piece at
     → line ≡ before ++ take at piece → Cuts before (take (at + 1) piece) (line ∷ []) []
 line_in before line piece at found line_is taken kept =
     rw (upto_feed piece at found.0.high found.1, line_is) (cuts_line before (take at piece) (free_before piece at found.0.before) taken kept)
 
--- bytes in which none is found hold none
+-- Bytes in which no line feed is found contain none.
 pub holds_none : (piece : List ℕ) → Nowhere (Passes (is_byte line_feed) piece) 0 (length piece) → HasNoLineFeed piece
 holds_none piece nowhere = subst HasNoLineFeed (take_all (length piece) piece (le_refl (length piece))) (free_before piece (length piece) nowhere)
 
--- and where none does
+-- What a cutter consumes of a chunk without a line feed.
 pub none_in : (before after piece : List ℕ) → Nowhere (Passes (is_byte line_feed) piece) 0 (length piece) → after ≡ before ++ piece → Cuts before piece [] after
 none_in before after piece nowhere after_is taken kept =
     rw after_is (cuts_none before piece (holds_none piece nowhere) taken kept)

@@ -11,7 +11,7 @@ numbers : (number_of 3 (codes "120") ≡ Some 120) × (number_of 3 (codes "007")
 unfolding number
 numbers = (refl, refl, refl, refl)
 
--- what it is that bytes are digits, at most nine of them
+-- What follows if bytes are at most nine digits.
 at_least_one : (bytes : List ℕ) → AreDigits 9 bytes → 1 ≤ length bytes
 at_least_one bytes are = are.some
 

@@ -1,4 +1,4 @@
--- Digits: what the tests tell, and that other bytes are none.
+-- Digits: what the tests decide, and that digits contain no other byte.
 use Rattle.std.proofs.Common.{◌≡◌, ℕ, ◌≤◌, Bool, false, leb, ◌&&◌, List, [], ◌∷◌, length, refl, subst}
 use Rattle.std.specs.Bool.{Decides}
 use Rattle.std.specs.Char.{is_ascii_digit}
@@ -11,7 +11,7 @@ use Rattle.redo_line.proofs.PartLemmas.{HasNo}
 pub leb-Decides : (a b : ℕ) → Decides (leb a b) (a ≤ b)
 leb-Decides a b = (leb-true a b, le-leb a b)
 
--- a test of each
+-- A test of each element.
 pub list_all-Decides : {X : Type 0} (test : X → Bool) (P : X → Type 0) → ((x : X) → Decides (test x) (P x)) → (xs : List X) → Decides (list_all test xs) (AllByRecursion P xs)
 list_all-Decides test P each [] = (λ is. tt, λ holds. refl)
 list_all-Decides test P each (x ∷ xs) = Decides-and (test x) (list_all test xs) (each x) (list_all-Decides test P each xs)
@@ -33,6 +33,6 @@ each-free : (at : ℕ) (bytes : List ℕ) → (IsDigit at → ⊥) → AllByRecu
 each-free at [] other each = tt
 each-free at (byte ∷ bytes) other each = ((λ same. other (subst IsDigit same each.0)), each-free at bytes other each.1)
 
--- no byte but a digit is among them
+-- A byte that isn't a digit is not among digits.
 pub digits_free : (most at : ℕ) (bytes : List ℕ) → is_ascii_digit at ≡ false → AreDigits most bytes → HasNo at bytes
 digits_free most at bytes other are = each-free at bytes (not_from_Decides (is_ascii_digit at) (digit-Decides at) other) are.each

@@ -1,4 +1,4 @@
--- Entries stay what they are where more stands behind their texts and names, and more are put behind them.
+-- Entries stay the same if bytes are appended to their buffers and further entries are appended to them.
 use Rattle.std.proofs.Common.{◌≡◌, ℕ, ◌+◌, ◌-◌, ◌≤◌, ◌<◌, List, [], ◌∷◌, ◌++◌, length, map, take, drop, Result, Ok, Err, IfOk, slice_index_or, slice_range, refl, sym, ap, ◌∙◌, subst, arith}
 use Rattle.std.specs.List.{AllByRecursion, flat_map}
 use Rattle.std.proofs.lemmas.List.{drop-append-le, drop-take, take-append-le, take-take, length-append, length-drop, length-map, length-take, append_assoc, append-nil}
@@ -8,17 +8,17 @@ use Rattle.redo_line.specs.declared.entries.EntryAt.TheVariants.{Texts, Mention,
 use Rattle.std.specs.declared.alloc.AllocError.{AllocError}
 use Rattle.redo_line.specs.declared.entry.Entry.{Entry}
 use Rattle.redo_line.specs.declared.entry.Entry.TheVariants as entry
-use Rattle.redo_line.specs.Entries.{AreWithin, IsNameAt, IsWithin, entries_at, entries_there}
-use Rattle.redo_line.specs.Lines.{AreWholeLines, HasNoLineFeed, line_feed, ended}
+use Rattle.redo_line.specs.Entries.{AreWithin, IsNameAt, IsWithin, entries_at, entries_at_place}
+use Rattle.redo_line.specs.Lines.{AreCompleteLines, HasNoLineFeed, line_feed, ended}
 use Rattle.redo_line.specs.Private.Entries.{AreCounted}
 use Rattle.redo_line.proofs.LineLemmas.{are_lines, ended-free, ended-line, few_lines, rest-free, rest-line}
 use Rattle.redo_name.specs.Names.{IsNormal}
 
--- what others begin with
+-- `front` is a prefix of `whole`.
 abbrev pub IsFront : {A : Type 0} → List A → List A → Type 0
 IsFront {A} front whole = (more : List A) × (whole ≡ front ++ more)
 
--- a range of a front
+-- A range within a prefix.
 range_front : (xs more : List ℕ) (start end : ℕ) → start ≤ end → end ≤ length xs → slice_range (xs ++ more) start end ≡ slice_range xs start end
 range_front xs more start end order within =
     ap (take (end - start)) (drop-append-le start xs more (omega (arith, order, within)))
@@ -44,7 +44,7 @@ module _ (bytes names bytes' names' : List ℕ) (more_bytes : IsFront bytes byte
   still_there (Texts lines start end) within = (
     within.0,
     omega (arith, within.1, front_length bytes bytes' more_bytes),
-    subst (λ bs. AreWholeLines bs lines) (sym (range_grown bytes bytes' start end more_bytes within.0 within.1)) within.2,
+    subst (λ bs. AreCompleteLines bs lines) (sym (range_grown bytes bytes' start end more_bytes within.0 within.1)) within.2,
   )
   still_there (Mention pid how start end) within = name_grown start end within
   still_there (Done pid status start end) within = name_grown start end within
@@ -57,7 +57,7 @@ module _ (bytes names bytes' names' : List ℕ) (more_bytes : IsFront bytes byte
     subst HasNoLineFeed (sym (range_grown bytes bytes' middle end more_bytes within.1 within.2)) within.4,
   )
 
-  still_one : (place : EntryAt) → IsWithin bytes names place → entries_there bytes' names' place ≡ entries_there bytes names place
+  still_one : (place : EntryAt) → IsWithin bytes names place → entries_at_place bytes' names' place ≡ entries_at_place bytes names place
   still_one (Texts lines start end) within = ap (λ bs. map entry.Text (ended bs)) (range_grown bytes bytes' start end more_bytes within.0 within.1)
   still_one (Mention pid how start end) within = ap (λ name. entry.Mention pid how name ∷ []) (range_grown names names' start end more_names within.0 within.1)
   still_one (Done pid status start end) within = ap (λ name. entry.Done pid status name ∷ []) (range_grown names names' start end more_names within.0 within.1)
@@ -75,22 +75,22 @@ module _ (bytes names bytes' names' : List ℕ) (more_bytes : IsFront bytes byte
   still_seen [] within = refl
   still_seen (place ∷ places) within = λ i. still_one place within.0 i ++ still_seen places within.1 i
 
-  -- with one more
+  -- With one more place.
   pub more_within : (places : List EntryAt) (place : EntryAt) → AreWithin bytes names places → IsWithin bytes' names' place → AreWithin bytes' names' (places ++ place ∷ [])
   more_within [] place within one = (one, tt)
   more_within (first ∷ places) place within one = (still_there first within.0, more_within places place within.1 one)
 
-  pub more_seen : (places : List EntryAt) (place : EntryAt) → AreWithin bytes names places → entries_at bytes' names' (places ++ place ∷ []) ≡ entries_at bytes names places ++ entries_there bytes' names' place
-  more_seen [] place within = append-nil (entries_there bytes' names' place)
+  pub more_seen : (places : List EntryAt) (place : EntryAt) → AreWithin bytes names places → entries_at bytes' names' (places ++ place ∷ []) ≡ entries_at bytes names places ++ entries_at_place bytes' names' place
+  more_seen [] place within = append-nil (entries_at_place bytes' names' place)
   more_seen (first ∷ places) place within =
-      (λ i. still_one first within.0 i ++ more_seen places place within.1 i) ∙ sym (append_assoc (entries_there bytes names first) (entries_at bytes names places) (entries_there bytes' names' place))
+      (λ i. still_one first within.0 i ++ more_seen places place within.1 i) ∙ sym (append_assoc (entries_at_place bytes names first) (entries_at bytes names places) (entries_at_place bytes' names' place))
 
 -- ---- a step
 
--- entries that stand in these parts, and other parts that begin with the same bytes and names
+-- Entries in these buffers, and other buffers that begin with the same bytes and names.
 module _ (entries : List Entry) (bytes names : List ℕ) (places : List EntryAt) (count : ℕ) (are : entries_at bytes names places ≡ entries) (counted : AreCounted bytes names places count)
     (bytes' names' : List ℕ) (places' : List EntryAt) (more_bytes : IsFront bytes bytes') (more_names : IsFront names names') where
-  -- the same entries stand there
+  -- Both have the same entries.
   pub same_seen : places' ≡ places → entries_at bytes' names' places' ≡ entries
   same_seen same = ap (entries_at bytes' names') same ∙ still_seen bytes names bytes' names' more_bytes more_names places counted.within ∙ are
 
@@ -101,8 +101,8 @@ module _ (entries : List Entry) (bytes names : List ℕ) (places : List EntryAt)
     few = omega (arith, counted.few, front_length bytes bytes' more_bytes, ap length same);
   }
 
-  -- one or several stand behind them
-  module _ (place : EntryAt) (more : List Entry) (put : places' ≡ places ++ place ∷ []) (is : entries_there bytes' names' place ≡ more) where
+  -- One more place, with one or more entries.
+  module _ (place : EntryAt) (more : List Entry) (put : places' ≡ places ++ place ∷ []) (is : entries_at_place bytes' names' place ≡ more) where
     pub more_are_seen : entries_at bytes' names' places' ≡ entries ++ more
     more_are_seen =
         ap (entries_at bytes' names') put ∙ more_seen bytes names bytes' names' more_bytes more_names places place counted.within ∙ (λ i. are i ++ is i)
@@ -115,8 +115,8 @@ module _ (entries : List Entry) (bytes names : List ℕ) (places : List EntryAt)
       few = omega (arith, counted.few, count_is, few, ap length put, length-append places (place ∷ []));
     }
 
--- a place has entries
-some_there : (bytes names : List ℕ) (place : EntryAt) → IsWithin bytes names place → 0 < length (entries_there bytes names place)
+-- Each place has an entry.
+some_there : (bytes names : List ℕ) (place : EntryAt) → IsWithin bytes names place → 0 < length (entries_at_place bytes names place)
 some_there bytes names (Texts lines start end) within =
     let some = within.2.some in omega (arith, some, within.2.count_is, length-map (ended (slice_range bytes start end)) entry.Text)
 some_there bytes names (Mention pid how start end) within = omega arith
@@ -124,18 +124,18 @@ some_there bytes names (Done pid status start end) within = omega arith
 some_there bytes names (Closing pid status) within = omega arith
 some_there bytes names (Note pid start middle end) within = omega arith
 
--- the only one of entries
+-- The place of the only entry.
 pub only_one : (bytes names : List ℕ) (places : List EntryAt) (entries : List Entry) (place d : EntryAt) → AreWithin bytes names places → entries_at bytes names places ≡ entries → length entries ≡ 1
-    → place ≡ slice_index_or places 0 d → (IsWithin bytes names place) × (entries ≡ entries_there bytes names place)
+    → place ≡ slice_index_or places 0 d → (IsWithin bytes names place) × (entries ≡ entries_at_place bytes names place)
 only_one bytes names [] entries place d within are one is = absurd (let none = ap length are in omega (arith, none, one))
 only_one bytes names (first ∷ []) entries place d within are one is =
-    (subst (IsWithin bytes names) (sym is) within.0, sym are ∙ append-nil (entries_there bytes names first) ∙ ap (entries_there bytes names) (sym is))
+    (subst (IsWithin bytes names) (sym is) within.0, sym are ∙ append-nil (entries_at_place bytes names first) ∙ ap (entries_at_place bytes names) (sym is))
 only_one bytes names (first ∷ second ∷ places) entries place d within are one is =
     let all = ap length are in
     let some = some_there bytes names first within.0 in
     let more = some_there bytes names second within.1.0 in
-    let both = length-append (entries_there bytes names first) (entries_at bytes names (second ∷ places)) in
-    let behind = length-append (entries_there bytes names second) (entries_at bytes names places) in
+    let both = length-append (entries_at_place bytes names first) (entries_at bytes names (second ∷ places)) in
+    let behind = length-append (entries_at_place bytes names second) (entries_at bytes names places) in
     absurd (omega (arith, all, one, some, more, both, behind))
 
 -- ---- a single line
@@ -145,7 +145,7 @@ pub record IsOneLine (bytes : List ℕ) (start end : ℕ) : Type 0 where
   pub no_feed : HasNoLineFeed (slice_range bytes start (end - 1))
   pub is : map entry.Text (ended (slice_range bytes start end)) ≡ entry.Text (slice_range bytes start (end - 1)) ∷ []
 
-pub one_line : (bytes : List ℕ) (lines start end : ℕ) → start ≤ end → end ≤ length bytes → AreWholeLines (slice_range bytes start end) lines
+pub one_line : (bytes : List ℕ) (lines start end : ℕ) → start ≤ end → end ≤ length bytes → AreCompleteLines (slice_range bytes start end) lines
     → length (map entry.Text (ended (slice_range bytes start end))) ≡ 1 → IsOneLine bytes start end
 one_line bytes lines start end order within whole one = by (ended (slice_range bytes start end)) refl
   where
@@ -155,7 +155,7 @@ one_line bytes lines start end order within whole one = by (ended (slice_range b
     by (line ∷ []) found =
         let are = are_lines (slice_range bytes start end) in
         let whole_is : (slice_range bytes start end) ≡ line ++ line_feed ∷ [] =
-        are.whole ∙ (λ i. flat_map (λ l. l ++ line_feed ∷ []) (found i) ++ whole.nothing_behind i) ∙ append-nil _ ∙ append-nil _ in
+        are.whole ∙ (λ i. flat_map (λ l. l ++ line_feed ∷ []) (found i) ++ whole.no_rest i) ∙ append-nil _ ∙ append-nil _ in
         let size = ap length whole_is ∙ length-append line (line_feed ∷ []) in
         let room = length-take (end - start) (drop start bytes) in
         let behind = length-drop start bytes in
@@ -171,7 +171,7 @@ one_line bytes lines start end order within whole one = by (ended (slice_range b
           is = ap (map entry.Text) found ∙ ap (λ l. entry.Text l ∷ []) (sym is);
         }
 
--- ..where it is the line that stands there
+-- The only entry, if it is a line.
 pub only_line : (bytes names : List ℕ) (places : List EntryAt) (entries : List Entry) (lines start end : ℕ) (d : EntryAt) → AreWithin bytes names places → entries_at bytes names places ≡ entries
     → length entries ≡ 1 → Texts lines start end ≡ slice_index_or places 0 d → IsOneLine bytes start end × (end ≤ length bytes) × (entries ≡ entry.Text (slice_range bytes start (end - 1)) ∷ [])
 only_line bytes names places entries lines start end d within are one is =
@@ -179,18 +179,18 @@ only_line bytes names places entries lines start end d within are one is =
     let line = one_line bytes lines start end only.0.0 only.0.1 only.0.2 (ap length (sym only.1) ∙ one) in
     (line, only.0.1, only.1 ∙ line.is)
 
--- a fact of an entry that there was memory for
+-- A fact about an entry, if no allocation failed.
 pub if_ok : (result : Result Entry AllocError) (P Q : Entry → Type 0) → ((entry : Entry) → P entry → Q entry) → IfOk result P → IfOk result Q
 if_ok (Ok entry) P Q more is = more entry is
 if_ok (Err fault) P Q more is = tt
 
--- a range, cut at its end first
+-- A range, truncated at its end first.
 pub range_cut : (bs : List ℕ) (start end : ℕ) → start ≤ end → drop start (take end bs) ≡ slice_range bs start end
 range_cut bs start end order =
     let count : start + (end - start) ≡ end = omega (arith, order) in
     ap (λ n. drop start (take n bs)) (sym count) ∙ drop-take start (end - start) bs
 
--- ---- what was put behind others
+-- ---- appending
 
 pub front_put : (xs more ys : List ℕ) → ys ≡ xs ++ more → IsFront xs ys
 front_put xs more ys is = (more, is)
@@ -220,14 +220,14 @@ module _ (xs more ys : List ℕ) (put : ys ≡ xs ++ more) (start end : ℕ) (st
   pub name_within : IsNormal more → (start ≤ end) × (end ≤ length ys) × IsNormal (slice_range ys start end)
   name_within is_normal = let count = reaches in (in_order, omega (arith, count), subst IsNormal (sym range_put) is_normal)
 
--- lines
-module _ (xs lines ys : List ℕ) (put : ys ≡ xs ++ lines) (start end count : ℕ) (start_is : start ≡ length xs) (end_is : end ≡ length xs + length lines) (whole : AreWholeLines lines count) where
-  pub texts_within : (start ≤ end) × (end ≤ length ys) × AreWholeLines (slice_range ys start end) count
+-- Appending lines.
+module _ (xs lines ys : List ℕ) (put : ys ≡ xs ++ lines) (start end count : ℕ) (start_is : start ≡ length xs) (end_is : end ≡ length xs + length lines) (whole : AreCompleteLines lines count) where
+  pub texts_within : (start ≤ end) × (end ≤ length ys) × AreCompleteLines (slice_range ys start end) count
   texts_within =
       let reach = reaches xs lines ys put start end start_is end_is in (
         in_order xs lines ys put start end start_is end_is,
         omega (arith, reach),
-        subst (λ bs. AreWholeLines bs count) (sym (range_put xs lines ys put start end start_is end_is)) whole,
+        subst (λ bs. AreCompleteLines bs count) (sym (range_put xs lines ys put start end start_is end_is)) whole,
       )
 
   pub texts_are : map entry.Text (ended (slice_range ys start end)) ≡ map entry.Text (ended lines)
@@ -238,12 +238,12 @@ module _ (xs lines ys : List ℕ) (put : ys ≡ xs ++ lines) (start end count : 
       let few = few_lines lines in
       omega (arith, few, length-map (ended lines) entry.Text, ap length put, length-append xs lines)
 
--- one line with its line feed
-pub line_whole : (line : List ℕ) → HasNoLineFeed line → AreWholeLines (line ++ line_feed ∷ []) 1
+-- One line with its line feed.
+pub line_whole : (line : List ℕ) → HasNoLineFeed line → AreCompleteLines (line ++ line_feed ∷ []) 1
 line_whole line free = record {
   count_is = ap length (ended-line line [] free) ∙ ap (λ ls. length (line ∷ ls)) (ended-free [] tt);
   some = omega arith;
-  nothing_behind = rest-line line [] free ∙ rest-free [] tt;
+  no_rest = rest-line line [] free ∙ rest-free [] tt;
 }
 
 module _ (xs line ys zs : List ℕ) (put : ys ≡ xs ++ line) (ended_then : zs ≡ ys ++ line_feed ∷ []) where
@@ -259,7 +259,7 @@ module _ (xs line ys zs : List ℕ) (put : ys ≡ xs ++ line) (ended_then : zs �
 pub line_text : (line : List ℕ) → HasNoLineFeed line → map entry.Text (ended (line ++ line_feed ∷ [])) ≡ entry.Text line ∷ []
 line_text line free = ap (map entry.Text) (ended-line line [] free ∙ ap (λ ls. line ∷ ls) (ended-free [] tt))
 
--- a kind, and a text behind it
+-- Appending a kind, and a text after it.
 module _ (xs kind text ys zs : List ℕ) (put_kind : ys ≡ xs ++ kind) (put_text : zs ≡ ys ++ text) (start middle from end : ℕ)
     (start_is : start ≡ length xs) (middle_is : middle ≡ length xs + length kind) (from_is : from ≡ length ys) (end_is : end ≡ length ys + length text) where
   meets : from ≡ middle

@@ -1,4 +1,4 @@
--- Examples of entries in few pieces of memory, computed: their places, and what stands there.
+-- Examples of entries that share a few buffers, computed: their places, and the entries there.
 use Rattle.std.proofs.Common.{◌≡◌, ℕ, List, [], ◌∷◌, ◌++◌, Some, pos, arith, refl}
 use Rattle.std.specs.Prelude.{codes}
 use Rattle.redo_line.specs.declared.entries.EntryAt.{EntryAt}
@@ -6,11 +6,11 @@ use Rattle.redo_line.specs.declared.entries.EntryAt.TheVariants as at
 use Rattle.redo_line.specs.declared.entries.Layout.{Layout}
 use Rattle.redo_line.specs.declared.entry.Entry.TheVariants.{Text, Mention, Done, Closing, Note}
 use Rattle.redo_line.specs.declared.entry.How.TheVariants.{Made}
-use Rattle.redo_line.specs.Entries.{entries_at, IsNameAt, IsWithin, AreWithin, AreAt, IsLayout}
-use Rattle.redo_line.specs.Lines.{line_feed, AreWholeLines, cutting, ended, rest}
-use Rattle.redo_name.specs.Names.{from_back, normal}
+use Rattle.redo_line.specs.Entries.{entries_at, IsNameAt, IsWithin, AreWithin, AreStoredAt, IsLayout}
+use Rattle.redo_line.specs.Lines.{line_feed, AreCompleteLines, split_lines, ended, rest}
+use Rattle.redo_name.specs.Names.{reduce_suffix, normal}
 
--- two lines and the texts of a note, and two names
+-- Two lines and the kind and text of a note; and two names.
 abbrev bytes : List ℕ
 bytes = codes "ab" ++ line_feed ∷ line_feed ∷ codes "checkx"
 
@@ -21,21 +21,22 @@ abbrev places : List EntryAt
 places = at.Texts 2 0 4 ∷ at.Mention 7 Made 0 1 ∷ at.Done 8 (pos 1) 1 4 ∷ at.Closing 9 (pos 0) ∷ at.Note 6 4 9 10 ∷ []
 
 stand_there : entries_at bytes names places ≡ Text (codes "ab") ∷ Text [] ∷ Mention 7 Made (codes "c") ∷ Done 8 (pos 1) (codes "d/b") ∷ Closing 9 (pos 0) ∷ Note 6 (codes "check") (codes "x") ∷ []
-unfolding cutting ended
+unfolding split_lines ended
 stand_there = refl
 
-are_whole : AreWholeLines (codes "ab" ++ line_feed ∷ line_feed ∷ []) 2
-unfolding cutting ended rest
-are_whole = record { count_is = refl; some = omega arith; nothing_behind = refl }
+are_whole : AreCompleteLines (codes "ab" ++ line_feed ∷ line_feed ∷ []) 2
+unfolding split_lines ended rest
+are_whole = record { count_is = refl; some = omega arith; no_rest = refl }
 
 are_within : AreWithin bytes names places
-unfolding from_back normal
+unfolding reduce_suffix normal
 are_within = (
   (omega arith, omega arith, are_whole),
   ((omega arith, omega arith, refl), ((omega arith, omega arith, refl), (tt, ((omega arith, omega arith, omega arith, ((λ is. absurd (cc)), ((λ is. absurd (cc)), ((λ is. absurd (cc)), ((λ is. absurd (cc)), ((λ is. absurd (cc)), tt))))), ((λ is. absurd (cc)), tt)), tt)))),
 )
 
--- lines of which the last isn't ended, one too many, or none; places in another order, or behind the end; line feeds in a note; and lines behind the end
+-- Not `IsWithin`: lines whose last one isn't ended, one line too many, or none; offsets out of order, or past the end; line feeds
+-- in a note; or lines past the end.
 not_within :
     (IsWithin bytes names (at.Texts 2 0 5) → ⊥)
     × (IsWithin bytes names (at.Texts 3 0 4) → ⊥)
@@ -48,9 +49,9 @@ not_within :
     × (IsWithin (codes "ab" ++ line_feed ∷ []) names (at.Texts 1 0 9) → ⊥)
     × (IsWithin bytes names (at.Mention 7 Made 1 0) → ⊥)
     × (IsWithin bytes names (at.Done 8 (pos 1) 1 0) → ⊥)
-unfolding cutting ended rest
+unfolding split_lines ended rest
 not_within = (
-  (λ is. let same : codes "c" ≡ [] = is.2.nothing_behind in absurd (cc)),
+  (λ is. let same : codes "c" ≡ [] = is.2.no_rest in absurd (cc)),
   (λ is. let count : 2 ≡ 3 = is.2.count_is in omega (arith, count)),
   (λ is. let some = is.2.some in omega (arith, some)),
   (λ is. omega (arith, is.0)),
@@ -64,34 +65,34 @@ not_within = (
 )
 
 no_name : (IsNameAt bytes names 1 0 → ⊥) × (IsNameAt bytes names 0 5 → ⊥) × (IsNameAt bytes (codes "./a") 0 3 → ⊥)
-unfolding from_back normal
+unfolding reduce_suffix normal
 no_name = ((λ is. omega (arith, is.0)), (λ is. omega (arith, is.1)), (λ is. let same : Some (codes "a") ≡ Some (codes "./a") = is.2 in absurd (cc)))
 
-are_at : AreAt bytes names (at.Texts 2 0 4 ∷ []) (Text (codes "ab") ∷ Text [] ∷ [])
-unfolding cutting ended
+are_at : AreStoredAt bytes names (at.Texts 2 0 4 ∷ []) (Text (codes "ab") ∷ Text [] ∷ [])
+unfolding split_lines ended
 are_at = record { are = refl; within = ((omega arith, omega arith, are_whole), tt) }
 
--- a line that a note's text would hold, two lines for one, and one for two
+-- Not `AreStoredAt`: a note with line feeds in its text, one line instead of two, or two lines instead of one.
 not_at :
-    (AreAt bytes names (at.Note 6 0 2 4 ∷ []) (Note 6 (codes "ab") (line_feed ∷ line_feed ∷ []) ∷ []) → ⊥)
-    × (AreAt bytes names (at.Texts 2 0 4 ∷ []) (Text (codes "ab" ++ line_feed ∷ []) ∷ []) → ⊥)
-    × (AreAt bytes names (at.Texts 1 0 3 ∷ []) (Text (codes "ab") ∷ Text [] ∷ []) → ⊥)
-unfolding cutting ended
+    (AreStoredAt bytes names (at.Note 6 0 2 4 ∷ []) (Note 6 (codes "ab") (line_feed ∷ line_feed ∷ []) ∷ []) → ⊥)
+    × (AreStoredAt bytes names (at.Texts 2 0 4 ∷ []) (Text (codes "ab" ++ line_feed ∷ []) ∷ []) → ⊥)
+    × (AreStoredAt bytes names (at.Texts 1 0 3 ∷ []) (Text (codes "ab") ∷ Text [] ∷ []) → ⊥)
+unfolding split_lines ended
 not_at = (
   (λ is. is.within.0.4.0 refl),
   (λ is. let same : Text (codes "ab") ∷ Text [] ∷ [] ≡ Text (codes "ab" ++ line_feed ∷ []) ∷ [] = is.are in absurd (cc)),
   (λ is. let same : Text (codes "ab") ∷ [] ≡ Text (codes "ab") ∷ Text [] ∷ [] = is.are in absurd (cc)),
 )
 
--- the pieces of memory themselves
+-- The buffers themselves.
 abbrev layout : List EntryAt → Layout
 layout places =
     record { bytes = record { ref_ptr = (0, 0); now = bytes }; names = record { ref_ptr = (0, 0); now = names }; places = record { ref_ptr = (0, 0); now = places } }
 
 laid_out : IsLayout (layout (at.Texts 2 0 4 ∷ at.Mention 7 Made 0 1 ∷ [])) (Text (codes "ab") ∷ Text [] ∷ Mention 7 Made (codes "c") ∷ [])
-unfolding cutting ended from_back normal
+unfolding split_lines ended reduce_suffix normal
 laid_out = record { are = refl; within = ((omega arith, omega arith, are_whole), ((omega arith, omega arith, refl), tt)) }
 
 not_laid_out : IsLayout (layout (at.Texts 2 0 4 ∷ [])) [] → ⊥
-unfolding cutting ended
+unfolding split_lines ended
 not_laid_out is = let same : Text (codes "ab") ∷ Text [] ∷ [] ≡ [] = is.are in absurd (cc)

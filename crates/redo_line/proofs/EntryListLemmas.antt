@@ -1,4 +1,4 @@
--- The first fault of a list of entries, each where its line has one: of lists that are joined, and where it stands.
+-- The first fault of a list of optional entries: the fault of concatenated lists, and its index.
 use Rattle.std.proofs.Common.{◌≡◌, ◌⊎◌, inl, inr, ℕ, ◌+◌, ◌<◌, Bool, true, false, List, [], ◌∷◌, ◌++◌, Option, None, Some, length, map, refl, ◌∙◌, ap, arith}
 use Rattle.std.specs.List.{filter_map}
 use Rattle.redo_line.specs.declared.entry.Entry.{Entry}
@@ -7,7 +7,7 @@ use Rattle.redo_line.specs.declared.stream_fault.StreamFault.TheVariants.{BadRec
 use Rattle.redo_line.specs.Log.{closes, first_fault}
 use Rattle.redo_line.specs.Private.Progress.{closed_by}
 
--- of entries without a fault, only their number and the last of them tell what the fault behind them is
+-- After entries without a fault, the next fault depends only on their number and on the last of them.
 pub first_fault-append-none : (closed : Bool) (line : ℕ) (xs ys : List (Option Entry)) → first_fault closed line xs ≡ None
     → first_fault closed line (xs ++ ys) ≡ first_fault (closed_by closed xs) (line + length xs) ys
 unfolding first_fault
@@ -18,7 +18,7 @@ first_fault-append-none false line (Some entry ∷ xs) ys none =
     let e : line + 1 + length xs ≡ line + length (Some entry ∷ xs) = omega arith in
     first_fault-append-none (closes (Some entry)) (line + 1) xs ys none ∙ ap (λ n. first_fault (closed_by (closes (Some entry)) xs) n ys) e
 
--- a fault among the first entries is that of all
+-- A fault among the first entries is the fault of all.
 pub first_fault-append-some : (closed : Bool) (line : ℕ) (xs ys : List (Option Entry)) (fault : StreamFault) → first_fault closed line xs ≡ Some fault
     → first_fault closed line (xs ++ ys) ≡ Some fault
 unfolding first_fault
@@ -27,7 +27,7 @@ first_fault-append-some true line (entry ∷ xs) ys fault some = some
 first_fault-append-some false line (None ∷ xs) ys fault some = some
 first_fault-append-some false line (Some entry ∷ xs) ys fault some = first_fault-append-some (closes (Some entry)) (line + 1) xs ys fault some
 
--- where all entries have no fault, the first of them have none
+-- If all entries have no fault, the first of them have none.
 pub first_fault-front-none : (closed : Bool) (line : ℕ) (xs ys : List (Option Entry)) → first_fault closed line (xs ++ ys) ≡ None → first_fault closed line xs ≡ None
 unfolding first_fault
 first_fault-front-none closed line [] ys none = refl
@@ -35,12 +35,13 @@ first_fault-front-none true line (entry ∷ xs) ys none = none
 first_fault-front-none false line (None ∷ xs) ys none = none
 first_fault-front-none false line (Some entry ∷ xs) ys none = first_fault-front-none (closes (Some entry)) (line + 1) xs ys none
 
--- the last of joined lists tells whether the log is closed
+-- The last entry of concatenated lists decides whether the log is closed.
 pub closed_by-append : (closed : Bool) (xs ys : List (Option Entry)) → closed_by closed (xs ++ ys) ≡ closed_by (closed_by closed xs) ys
 closed_by-append closed [] ys = refl
 closed_by-append closed (entry ∷ xs) ys = closed_by-append (closes entry) xs ys
 
--- one step: the first entry is late where the log is closed, else bad where there is none, and else the others tell
+-- One step: if the log is closed, the first line is after its end; otherwise it is bad if it has no entry; otherwise the others
+-- decide.
 pub first_fault-bad : (line : ℕ) (xs : List (Option Entry)) → first_fault false line (None ∷ xs) ≡ Some (BadRecord line)
 unfolding first_fault
 first_fault-bad line xs = refl
@@ -53,7 +54,7 @@ pub first_fault-nil : (closed : Bool) (line : ℕ) → first_fault closed line [
 unfolding first_fault
 first_fault-nil closed line = refl
 
--- the fault of a line that stands at this place of some lines, of which the first has this number
+-- The fault of the line at this index, if the first line has the number `line`.
 abbrev pub IsFaultAt : ℕ → ℕ → StreamFault → Type 0
 IsFaultAt line place fault = (fault ≡ AfterClose (line + place)) ⊎ (fault ≡ BadRecord (line + place))
 
@@ -61,7 +62,7 @@ next_place : (line place : ℕ) (fault : StreamFault) → IsFaultAt (line + 1) p
 next_place line place fault (inl is) = let e : line + 1 + place ≡ line + (place + 1) = omega arith in inl (is ∙ ap AfterClose e)
 next_place line place fault (inr is) = let e : line + 1 + place ≡ line + (place + 1) = omega arith in inr (is ∙ ap BadRecord e)
 
--- a fault stands within the list
+-- The index of a fault is within the list.
 pub fault_within : (closed : Bool) (line : ℕ) (xs : List (Option Entry)) (fault : StreamFault) → first_fault closed line xs ≡ Some fault
     → (place : ℕ) × (place < length xs) × IsFaultAt line place fault
 unfolding first_fault
@@ -78,7 +79,7 @@ fault_within false line (Some entry ∷ xs) fault some =
     let behind = fault_within (closes (Some entry)) (line + 1) xs fault some in
     (behind.0 + 1, omega arith, next_place line behind.0 fault behind.2)
 
--- where no line is at fault, each has an entry
+-- If no line is invalid, each has an entry.
 pub each_some : (closed : Bool) (line : ℕ) (xs : List (Option Entry)) → first_fault closed line xs ≡ None → map Some (filter_map (λ entry. entry) xs) ≡ xs
 unfolding first_fault
 each_some closed line [] none = refl

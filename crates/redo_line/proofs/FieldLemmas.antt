@@ -4,15 +4,15 @@ use Rattle.std.specs.Prelude.{option_map}
 use Rattle.std.proofs.lemmas.Bool.{and_left, and_right}
 use Rattle.std.proofs.lemmas.Option.{cond_some}
 use Rattle.redo_line.specs.Decimal.{number}
-use Rattle.redo_line.specs.Parts.{parted, behind}
-use Rattle.redo_line.specs.Record.{colon, at_sign, space, is_kind, is_pid, is_time, checked, fields_of}
+use Rattle.redo_line.specs.Parts.{split_once, after_prefix}
+use Rattle.redo_line.specs.Record.{colon, at_sign, space, is_kind, is_pid, is_time, validated, fields_of}
 use Rattle.redo_line.specs.Private.Record.{parts_of, pid_of}
 
 pub if_none : {X : Type 0} (result : Option X) (P : Type 0) → P → IfNone result P
 if_none None P p = p
 if_none (Some x) P p = tt
 
--- a pid that stands for nothing is none
+-- Bytes without a value as a pid are not a pid.
 pub no_number : (pid : List ℕ) → pid_of pid ≡ None → is_pid pid ≡ false
 no_number pid none = by (is_pid pid) none
   where
@@ -20,7 +20,7 @@ no_number pid none = by (is_pid pid) none
     by true none = absurd (cc)
     by false none = refl
 
--- parts that don't fit
+-- Parts that don't fit.
 module _ (kind pid time : List ℕ) where
   pub kind_fails : is_kind kind ≡ false → (is_kind kind && is_pid pid && is_time time) ≡ false
   kind_fails is = and_left (is_kind kind && is_pid pid) (is_time time) (and_left (is_kind kind) (is_pid pid) is)
@@ -32,27 +32,27 @@ module _ (kind pid time : List ℕ) where
   time_fails is = and_right (is_kind kind && is_pid pid) (is_time time) is
 
 module _ (bytes : List ℕ) where
-  pub no_kind : parted colon bytes ≡ None → fields_of bytes ≡ None
+  pub no_kind : split_once colon bytes ≡ None → fields_of bytes ≡ None
   unfolding fields_of
   no_kind is = rw is
 
-  module _ (kind behind_kind : List ℕ) (kind_is : parted colon bytes ≡ Some (kind, behind_kind)) where
-    pub no_pid : parted colon behind_kind ≡ None → fields_of bytes ≡ None
+  module _ (kind behind_kind : List ℕ) (kind_is : split_once colon bytes ≡ Some (kind, behind_kind)) where
+    pub no_pid : split_once colon behind_kind ≡ None → fields_of bytes ≡ None
     unfolding fields_of
     no_pid is = rw (kind_is, is)
 
-    module _ (pid behind_pid : List ℕ) (pid_is : parted colon behind_kind ≡ Some (pid, behind_pid)) where
-      pub no_time : parted at_sign behind_pid ≡ None → fields_of bytes ≡ None
+    module _ (pid behind_pid : List ℕ) (pid_is : split_once colon behind_kind ≡ Some (pid, behind_pid)) where
+      pub no_time : split_once at_sign behind_pid ≡ None → fields_of bytes ≡ None
       unfolding fields_of
       no_time is = rw (kind_is, pid_is, is)
 
-      module _ (time behind_time : List ℕ) (time_is : parted at_sign behind_pid ≡ Some (time, behind_time)) where
-        pub no_text : behind (at_sign ∷ space ∷ []) behind_time ≡ None → fields_of bytes ≡ None
+      module _ (time behind_time : List ℕ) (time_is : split_once at_sign behind_pid ≡ Some (time, behind_time)) where
+        pub no_text : after_prefix (at_sign ∷ space ∷ []) behind_time ≡ None → fields_of bytes ≡ None
         unfolding fields_of
         no_text is = rw (kind_is, pid_is, time_is, is)
 
-        module _ (text : List ℕ) (text_is : behind (at_sign ∷ space ∷ []) behind_time ≡ Some text) where
-          fields_are : fields_of bytes ≡ checked (record { kind = kind; pid = pid; time = time; text = text })
+        module _ (text : List ℕ) (text_is : after_prefix (at_sign ∷ space ∷ []) behind_time ≡ Some text) where
+          fields_are : fields_of bytes ≡ validated (record { kind = kind; pid = pid; time = time; text = text })
           unfolding fields_of
           fields_are = rw (kind_is, pid_is, time_is, text_is)
 

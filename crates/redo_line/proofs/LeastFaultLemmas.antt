@@ -1,4 +1,4 @@
--- The fault among lines is that of the least one that is late or bad, place by place.
+-- The fault of lines is the fault of the first invalid one, index by index.
 use Rattle.std.proofs.Common.{◌≡◌, ◌⊎◌, inl, inr, ℕ, zero, suc, ◌+◌, ◌<◌, Bool, true, false, List, [], ◌∷◌, ◌++◌, Option, None, Some, option_to_list, length, ltb, refl, sym, ◌∙◌, ap, subst, arith}
 use Rattle.std.specs.List.{slice_get}
 use Rattle.std.proofs.lemmas.Bool.{false≢true, ltb-true, ltb-false}
@@ -8,28 +8,28 @@ use Rattle.redo_line.specs.declared.stream_fault.StreamFault.{StreamFault}
 use Rattle.redo_line.specs.declared.stream_fault.StreamFault.TheVariants.{BadRecord, AfterClose}
 use Rattle.redo_line.specs.Entry.{entry_of}
 use Rattle.redo_line.specs.Lines.{ended, rest, unended}
-use Rattle.redo_line.specs.Log.{closes, IsLate, IsBad, IsAtFault, IsLeastFault, line_entries, entries_of, first_fault, line_fault}
+use Rattle.redo_line.specs.Log.{closes, IsAfterClose, IsBadRecord, HasFault, IsFirstFault, line_entries, entries_of, first_fault, line_fault}
 use Rattle.redo_line.proofs.FaultLemmas.{rest_entries}
 
--- at this place stands an entry right behind one that closes the log; `closed` says whether such a one stands before the first
+-- The entry at this index directly follows an entry that closes the log; `closed` is whether such an entry is before the first one.
 abbrev Late : List (Option Entry) → ℕ → Bool → Type 0
 Late [] place closed = ⊥
 Late (entry ∷ entries) zero closed = closed ≡ true
 Late (entry ∷ entries) (suc place) closed = Late entries place (closes entry)
 
--- at this place stands a line without an entry
+-- The line at this index has no entry.
 abbrev Bad : List (Option Entry) → ℕ → Type 0
 Bad [] place = ⊥
 Bad (entry ∷ entries) zero = entry ≡ None
 Bad (entry ∷ entries) (suc place) = Bad entries place
 
--- the fault of such a place, among lines of which the first has this number
+-- The line at this index is invalid with this fault; the first line has the number `line`.
 abbrev AtFault : Bool → ℕ → List (Option Entry) → ℕ → StreamFault → Type 0
 AtFault closed line entries place fault =
     (Late entries place closed × (fault ≡ AfterClose (line + place)))
     ⊎ ((Late entries place closed → ⊥) × Bad entries place × (fault ≡ BadRecord (line + place)))
 
--- no such place
+-- The line at this index is valid.
 abbrev Fine : Bool → List (Option Entry) → ℕ → Type 0
 Fine closed entries place = (Late entries place closed → ⊥) × (Bad entries place → ⊥)
 
@@ -41,7 +41,7 @@ next_place line place entry entries fault (inr is) = let e : line + 1 + place �
 first_fine : (entry : Entry) (entries : List (Option Entry)) → Fine false (Some entry ∷ entries) 0
 first_fine entry entries = (λ is. absurd (false≢true is), λ is. absurd (cc))
 
--- the fault that is found is that of the least such place
+-- The fault that is found is the fault of the first invalid line.
 least_place : (closed : Bool) (line : ℕ) (entries : List (Option Entry)) (fault : StreamFault) → first_fault closed line entries ≡ Some fault
     → (place : ℕ) × AtFault closed line entries place fault × ((earlier : ℕ) → earlier < place → Fine closed entries earlier)
 unfolding first_fault
@@ -62,7 +62,7 @@ least_place false line (Some entry ∷ entries) fault some =
     by place before zero below = first_fine entry entries
     by place before (suc earlier) below = before earlier (omega arith)
 
--- and where none is found, there is no such place
+-- If none is found, each line is valid.
 each_fine : (closed : Bool) (line : ℕ) (entries : List (Option Entry)) → first_fault closed line entries ≡ None → (place : ℕ) → Fine closed entries place
 unfolding first_fault
 each_fine closed line [] is place = (λ late. late, λ bad. bad)
@@ -71,7 +71,8 @@ each_fine false line (None ∷ entries) is place = absurd (cc)
 each_fine false line (Some entry ∷ entries) is zero = first_fine entry entries
 each_fine false line (Some entry ∷ entries) is (suc place) = each_fine (closes (Some entry)) (line + 1) entries is place
 
--- in the entries of lines and of a rest, a late place stands behind a line that closes the log, and a bad one is a line
+-- Among the entries of lines and of a remainder, a `Late` entry follows a line that closes the log, and a `Bad` entry is an ended
+-- line's entry.
 abbrev all_entries : List ℕ → List (List ℕ) → List ℕ → List (Option Entry)
 all_entries target lines last = line_entries target lines ++ rest_entries target last
 
@@ -116,7 +117,7 @@ not_first : (entries : List (Option Entry)) → Late entries 0 false → ⊥
 not_first [] late = late
 not_first (entry ∷ entries) late = false≢true late
 
--- of two numbers
+-- Two numbers are equal, or one is less than the other.
 compared : (m n : ℕ) → (m < n) ⊎ ((m ≡ n) ⊎ (n < m))
 compared m n = by (ltb m n) refl
   where
@@ -128,36 +129,36 @@ compared m n = by (ltb m n) refl
         apart (inl same) = inl (sym same)
         apart (inr more) = inr more
 
--- so such places are the late and the bad lines of the bytes
+-- So the lines at the indexes with `Late` and `Bad` are the lines of the bytes with `IsAfterClose` and `IsBadRecord`.
 module _ (target bytes : List ℕ) where
-  to_late : (place : ℕ) → Late (entries_of target bytes) place false → IsLate target bytes (1 + place)
+  to_late : (place : ℕ) → Late (entries_of target bytes) place false → IsAfterClose target bytes (1 + place)
   to_late zero late = absurd (not_first (entries_of target bytes) late)
   to_late (suc place) late =
       let is = late_line target (ended bytes) (rest bytes) false place late in
       record { place = place; line_is = omega arith; closing = is.0; stands = is.1; closes_it = is.2; follows = is.3 }
 
-  from_late : (line : ℕ) → IsLate target bytes line → (place : ℕ) × (line ≡ 1 + place) × Late (entries_of target bytes) place false
+  from_late : (line : ℕ) → IsAfterClose target bytes line → (place : ℕ) × (line ≡ 1 + place) × Late (entries_of target bytes) place false
   from_late line is =
       let number = is.line_is in
       (suc is.place, omega arith, line_late target (ended bytes) (rest bytes) false is.place is.closing is.stands is.closes_it is.follows)
 
-  to_bad : (place : ℕ) → Bad (entries_of target bytes) place → IsBad target bytes (1 + place)
+  to_bad : (place : ℕ) → Bad (entries_of target bytes) place → IsBadRecord target bytes (1 + place)
   to_bad place bad =
       let is = bad_line target (ended bytes) (rest bytes) place bad in
       record { place = place; line_is = omega arith; text = is.0; stands = is.1; has_none = is.2 }
 
-  from_bad : (line : ℕ) → IsBad target bytes line → (place : ℕ) × (line ≡ 1 + place) × Bad (entries_of target bytes) place
+  from_bad : (line : ℕ) → IsBadRecord target bytes line → (place : ℕ) × (line ≡ 1 + place) × Bad (entries_of target bytes) place
   from_bad line is =
       let number = is.line_is in
       (is.place, omega arith, line_bad target (ended bytes) (rest bytes) is.place is.text is.stands is.has_none)
 
-  not_at_fault : (line : ℕ) → ((place : ℕ) → line ≡ 1 + place → Fine false (entries_of target bytes) place) → (IsLate target bytes line → ⊥) × (IsBad target bytes line → ⊥)
+  not_at_fault : (line : ℕ) → ((place : ℕ) → line ≡ 1 + place → Fine false (entries_of target bytes) place) → (IsAfterClose target bytes line → ⊥) × (IsBadRecord target bytes line → ⊥)
   not_at_fault line fine = (
     λ late. let is = from_late line late in (fine is.0 is.1).0 is.2,
     λ bad. let is = from_bad line bad in (fine is.0 is.1).1 is.2,
   )
 
-  at_fault : (place : ℕ) (fault : StreamFault) → AtFault false 1 (entries_of target bytes) place fault → IsAtFault target bytes (1 + place) fault
+  at_fault : (place : ℕ) (fault : StreamFault) → AtFault false 1 (entries_of target bytes) place fault → HasFault target bytes (1 + place) fault
   at_fault place fault (inl is) = inl (to_late place is.0, is.1)
   at_fault place fault (inr is) = inr (
     λ late.
@@ -169,7 +170,7 @@ module _ (target bytes : List ℕ) where
     is.2,
   )
 
-  pub least_line : (fault : StreamFault) → line_fault target bytes ≡ Some fault → IsLeastFault target bytes fault
+  pub least_line : (fault : StreamFault) → line_fault target bytes ≡ Some fault → IsFirstFault target bytes fault
   least_line fault some =
       let found = least_place false 1 (entries_of target bytes) fault some in
       record {
@@ -178,29 +179,29 @@ module _ (target bytes : List ℕ) where
         none_before = λ earlier below. not_at_fault earlier (λ place is. found.2 place (omega arith));
       }
 
-  pub no_line : line_fault target bytes ≡ None → (line : ℕ) → (IsLate target bytes line → ⊥) × (IsBad target bytes line → ⊥)
+  pub no_line : line_fault target bytes ≡ None → (line : ℕ) → (IsAfterClose target bytes line → ⊥) × (IsBadRecord target bytes line → ⊥)
   no_line is line = not_at_fault line (λ place number. each_fine false 1 (entries_of target bytes) is place)
 
-  -- a line is at fault in one way alone, and one line alone is the least
-  same_way : (line : ℕ) (fault other : StreamFault) → IsAtFault target bytes line fault → IsAtFault target bytes line other → fault ≡ other
+  -- A line is invalid in only one way, and only one line is the first invalid one.
+  same_way : (line : ℕ) (fault other : StreamFault) → HasFault target bytes line fault → HasFault target bytes line other → fault ≡ other
   same_way line fault other (inl late) (inl also) = late.1 ∙ sym also.1
   same_way line fault other (inl late) (inr bad) = absurd (bad.0 late.0)
   same_way line fault other (inr bad) (inl late) = absurd (bad.0 late.0)
   same_way line fault other (inr bad) (inr also) = bad.2 ∙ sym also.2
 
-  is_late_or_bad : (line : ℕ) (fault : StreamFault) → IsAtFault target bytes line fault → ((IsLate target bytes line → ⊥) × (IsBad target bytes line → ⊥)) → ⊥
+  is_late_or_bad : (line : ℕ) (fault : StreamFault) → HasFault target bytes line fault → ((IsAfterClose target bytes line → ⊥) × (IsBadRecord target bytes line → ⊥)) → ⊥
   is_late_or_bad line fault (inl late) never = never.0 late.0
   is_late_or_bad line fault (inr bad) never = never.1 bad.1
 
-  one_least : (fault other : StreamFault) → IsLeastFault target bytes fault → IsLeastFault target bytes other → fault ≡ other
+  one_least : (fault other : StreamFault) → IsFirstFault target bytes fault → IsFirstFault target bytes other → fault ≡ other
   one_least fault other a b = by (compared a.line b.line)
     where
       by : (a.line < b.line) ⊎ ((a.line ≡ b.line) ⊎ (b.line < a.line)) → fault ≡ other
       by (inl before) = absurd (is_late_or_bad a.line fault a.at_fault (b.none_before a.line before))
-      by (inr (inl same)) = same_way b.line fault other (subst (λ n. IsAtFault target bytes n fault) same a.at_fault) b.at_fault
+      by (inr (inl same)) = same_way b.line fault other (subst (λ n. HasFault target bytes n fault) same a.at_fault) b.at_fault
       by (inr (inr behind)) = absurd (is_late_or_bad b.line other b.at_fault (a.none_before b.line behind))
 
-  pub only_least : (fault : StreamFault) → IsLeastFault target bytes fault → line_fault target bytes ≡ Some fault
+  pub only_least : (fault : StreamFault) → IsFirstFault target bytes fault → line_fault target bytes ≡ Some fault
   only_least fault least = by (line_fault target bytes) refl
     where
       by : (found : Option StreamFault) → line_fault target bytes ≡ found → line_fault target bytes ≡ Some fault

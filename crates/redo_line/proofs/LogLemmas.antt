@@ -1,4 +1,4 @@
--- What a log is like, and what the first bytes of a stream tell of it.
+-- Properties of a log, and what the first bytes of a stream determine of it.
 use Rattle.std.proofs.Common.{◌≡◌, inl, inr, ℕ, ◌+◌, ◌-◌, ◌≤◌, Bool, true, false, cond, ltb, List, [], ◌∷◌, ◌++◌, Option, None, Some, IfSome, length, map, take, refl, sym, ◌∙◌, ap, arith}
 use Rattle.std.specs.List.{filter_map}
 use Rattle.std.proofs.lemmas.List.{length-map}
@@ -8,11 +8,11 @@ use Rattle.redo_line.specs.declared.entry.Entry.{Entry}
 use Rattle.redo_line.specs.declared.stream_fault.StreamFault.{StreamFault}
 use Rattle.redo_line.specs.declared.stream_fault.StreamFault.TheVariants.{BadRecord, AfterClose, TooLong, Read}
 use Rattle.redo_line.specs.Entry.{entry_of}
-use Rattle.redo_line.specs.Fault.{ending_fault}
+use Rattle.redo_line.specs.Fault.{end_fault}
 use Rattle.redo_device.specs.Feed.{Stream}
-use Rattle.redo_line.specs.Laws.{IsFront, HasEachEntry, ClosesLast}
+use Rattle.redo_line.specs.Laws.{IsPrefix, HasOneEntryPerLine, ClosesAtEnd}
 use Rattle.redo_line.specs.Lines.{ended, rest}
-use Rattle.redo_line.specs.Log.{stream_of, closes, line_entries, entries_of, first_fault, line_fault, or_else, fault_of, lines_before, part_of, unless_fault, log_of}
+use Rattle.redo_line.specs.Log.{stream_of, closes, line_entries, entries_of, first_fault, line_fault, or_else, fault_of, lines_before, entries_before_fault, unless_fault, log_of}
 use Rattle.redo_line.specs.Private.Progress.{closed_by}
 use Rattle.redo_line.specs.Scan.{so_far, entries_so_far, fault_so_far}
 use Rattle.redo_line.proofs.EntryListLemmas.{first_fault-append-none, first_fault-front-none, IsFaultAt, fault_within, each_some}
@@ -25,10 +25,10 @@ pub if_some : {A : Type 0} (o : Option A) (P : A → Type 0) → ((x : A) → o 
 if_some None P is = tt
 if_some (Some x) P is = is x refl
 
-pub entry_of_each_line : (target : List ℕ) (max_bytes : ℕ) (stream : Stream) → IfSome (log_of target max_bytes stream) (HasEachEntry target stream)
-entry_of_each_line target max_bytes stream = if_some (log_of target max_bytes stream) (HasEachEntry target stream) (an_entry_for_each_line target max_bytes stream)
+pub entry_of_each_line : (target : List ℕ) (max_bytes : ℕ) (stream : Stream) → IfSome (log_of target max_bytes stream) (HasOneEntryPerLine target stream)
+entry_of_each_line target max_bytes stream = if_some (log_of target max_bytes stream) (HasOneEntryPerLine target stream) (an_entry_for_each_line target max_bytes stream)
 
--- behind an entry that closes the log the next one is at fault
+-- The next entry after one that closes the log has a fault.
 closes_last : (closed : Bool) (line : ℕ) (before : List Entry) (entry : Entry) (after : List Entry) → first_fault closed line (map Some (before ++ entry ∷ after)) ≡ None
     → closes (Some entry) ≡ true → after ≡ []
 unfolding first_fault
@@ -40,10 +40,10 @@ closes_last false line [] entry (next ∷ after) none is =
     absurd (cc)
 closes_last false line (first ∷ before) entry after none is = closes_last (closes (Some first)) (line + 1) before entry after none is
 
-pub closing_stands_last : (target : List ℕ) (max_bytes : ℕ) (stream : Stream) → IfSome (log_of target max_bytes stream) ClosesLast
+pub closing_stands_last : (target : List ℕ) (max_bytes : ℕ) (stream : Stream) → IfSome (log_of target max_bytes stream) ClosesAtEnd
 closing_stands_last target max_bytes stream = by (fault_of target max_bytes stream) refl
   where
-    by : (fault : Option StreamFault) → fault_of target max_bytes stream ≡ fault → IfSome (unless_fault fault (filter_map (λ entry. entry) (entries_of target stream.bytes))) ClosesLast
+    by : (fault : Option StreamFault) → fault_of target max_bytes stream ≡ fault → IfSome (unless_fault fault (filter_map (λ entry. entry) (entries_of target stream.bytes))) ClosesAtEnd
     by (Some fault) fault_is = tt
     by None fault_is =
         λ before entry after is closes_it.
@@ -52,13 +52,13 @@ closing_stands_last target max_bytes stream = by (fault_of target max_bytes stre
         (ap (λ es. first_fault false 1 (map Some es)) (sym is) ∙ ap (first_fault false 1) (each_some false 1 (entries_of target stream.bytes) none) ∙ none)
         closes_it
 
--- a fault at the end of a stream leaves all lines before it
+-- All lines are before a fault at the end of a stream.
 all_before : (over fails : Bool) (lines : List (List ℕ)) → lines_before (cond over (Some TooLong) (cond fails (Some Read) None)) lines ≡ lines
 all_before true fails lines = refl
 all_before false true lines = refl
 all_before false false lines = refl
 
--- bytes without a fault, and what stands behind them in a stream
+-- Bytes without a fault, and the bytes after them in a stream.
 module _ (target : List ℕ) (max_bytes : ℕ) (u more : List ℕ) (fails : Bool) (fine : fault_so_far target max_bytes u ≡ None) where
   abbrev stream : Stream
   stream = stream_of (u ++ more) fails
@@ -83,7 +83,7 @@ module _ (target : List ℕ) (max_bytes : ℕ) (u more : List ℕ) (fails : Bool
   lines_are : ended (take max_bytes (u ++ more)) ≡ ended u ++ behind
   lines_are = ap ended front_is ∙ ended-append u within
 
-  -- a line at fault stands behind the lines of the first bytes
+  -- An invalid line is after the lines of the first bytes.
   at_behind : (fault : StreamFault) → line_fault target (u ++ within) ≡ Some fault → (place : ℕ) × IsFaultAt 1 (length (ended u) + place) fault
   at_behind fault some =
       let none = first_fault-front-none false 1 before (rest_entries target (rest u)) fine_u.0 in
@@ -96,12 +96,12 @@ module _ (target : List ℕ) (max_bytes : ℕ) (u more : List ℕ) (fails : Bool
       placed place fault number (inl is) = inl (is ∙ ap AfterClose number)
       placed place fault number (inr is) = inr (is ∙ ap BadRecord number)
 
-  -- so these lines all stand before the fault
+  -- So all these lines are before the fault.
   lines_lead : (others : List (List ℕ)) × (lines_before (fault_of target max_bytes stream) (ended (take max_bytes stream.bytes)) ≡ ended u ++ others)
   lines_lead = by (line_fault target (u ++ within)) refl
     where
-      fault_is : (line : Option StreamFault) → line_fault target (u ++ within) ≡ line → fault_of target max_bytes stream ≡ or_else line (ending_fault max_bytes stream)
-      fault_is line is = ap (λ o. or_else o (ending_fault max_bytes stream)) (ap (line_fault target) front_is ∙ is)
+      fault_is : (line : Option StreamFault) → line_fault target (u ++ within) ≡ line → fault_of target max_bytes stream ≡ or_else line (end_fault max_bytes stream)
+      fault_is line is = ap (λ o. or_else o (end_fault max_bytes stream)) (ap (line_fault target) front_is ∙ is)
 
       taken : (place : ℕ) (fault : StreamFault) → IsFaultAt 1 (length (ended u) + place) fault → lines_before (Some fault) (ended u ++ behind) ≡ ended u ++ take place behind
       taken place fault (inl is) =
@@ -124,13 +124,13 @@ module _ (target : List ℕ) (max_bytes : ℕ) (u more : List ℕ) (fails : Bool
             ∙ all_before (ltb max_bytes (length (u ++ more))) fails (ended (take max_bytes (u ++ more))) ∙ lines_are,
       )
 
-  lead_part : IsFront (found target (ended u)) (found target (lines_before (fault_of target max_bytes stream) (ended (take max_bytes stream.bytes))))
+  lead_part : IsPrefix (found target (ended u)) (found target (lines_before (fault_of target max_bytes stream) (ended (take max_bytes stream.bytes))))
   lead_part = (found target lines_lead.0, ap (found target) lines_lead.1 ∙ filter_map-append (λ line. entry_of target line true) (ended u) lines_lead.0)
 
-  lead_log : IfSome (log_of target max_bytes stream) (IsFront (found target (ended u)))
+  lead_log : IfSome (log_of target max_bytes stream) (IsPrefix (found target (ended u)))
   lead_log = by (fault_of target max_bytes stream)
     where
-      by : (fault : Option StreamFault) → IfSome (unless_fault fault (filter_map (λ entry. entry) (entries_of target (u ++ more)))) (IsFront (found target (ended u)))
+      by : (fault : Option StreamFault) → IfSome (unless_fault fault (filter_map (λ entry. entry) (entries_of target (u ++ more)))) (IsPrefix (found target (ended u)))
       by (Some fault) = tt
       by None = (
         filter_map (λ entry. entry) (entries_of target (rest u ++ more)),
@@ -140,11 +140,11 @@ module _ (target : List ℕ) (max_bytes : ℕ) (u more : List ℕ) (fails : Bool
       )
 
 pub entries_lead_part : (target : List ℕ) (max_bytes : ℕ) (bytes more : List ℕ) (fails : Bool) → fault_so_far target max_bytes bytes ≡ None
-    → IsFront (entries_so_far target max_bytes bytes) (part_of target max_bytes (stream_of (bytes ++ more) fails))
+    → IsPrefix (entries_so_far target max_bytes bytes) (entries_before_fault target max_bytes (stream_of (bytes ++ more) fails))
 entries_lead_part target max_bytes bytes more fails fine =
     rw (fine_part target max_bytes bytes fine (fine_u target max_bytes bytes more fails fine).1) (lead_part target max_bytes bytes more fails fine)
 
 pub entries_lead_log : (target : List ℕ) (max_bytes : ℕ) (bytes more : List ℕ) (fails : Bool) → fault_so_far target max_bytes bytes ≡ None
-    → IfSome (log_of target max_bytes (stream_of (bytes ++ more) fails)) (IsFront (entries_so_far target max_bytes bytes))
+    → IfSome (log_of target max_bytes (stream_of (bytes ++ more) fails)) (IsPrefix (entries_so_far target max_bytes bytes))
 entries_lead_log target max_bytes bytes more fails fine =
     rw (fine_part target max_bytes bytes fine (fine_u target max_bytes bytes more fails fine).1) (lead_log target max_bytes bytes more fails fine)

@@ -1,5 +1,6 @@
--- Examples of streams, computed: the target, how many bytes are allowed, the bytes, whether a failed read ends them,
--- and the log, or the fault and the entries before it.
+-- Examples of logs and faults of streams, computed.
+-- Each has the target, the maximum number of bytes, the bytes, whether a failed read ends them, and the log, or the fault and the
+-- entries before it.
 use Rattle.std.proofs.Common.{◌≡◌, inl, inr, ℕ, Bool, true, false, List, [], ◌∷◌, ◌++◌, None, Some, pos, refl}
 use Rattle.std.specs.Prelude.{codes}
 use Rattle.std.specs.List.{AllByRecursion}
@@ -10,12 +11,12 @@ use Rattle.redo_line.specs.declared.stream_fault.StreamFault.{StreamFault}
 use Rattle.redo_line.specs.declared.stream_fault.StreamFault.TheVariants.{BadRecord, AfterClose, TooLong, Read, OutOfMemory, NotClosed}
 use Rattle.redo_line.specs.Decimal.{number}
 use Rattle.redo_line.specs.Entry.{record_entry, entry_of}
-use Rattle.redo_line.specs.Lines.{line_feed, cutting, ended, rest}
-use Rattle.redo_line.specs.Log.{stream_of, closes, first_fault, fault_of, lines_before, part_of, log_of}
-use Rattle.redo_name.specs.Names.{from_back, normal}
-use Rattle.redo_line.specs.Parts.{parted, behind}
+use Rattle.redo_line.specs.Lines.{line_feed, split_lines, ended, rest}
+use Rattle.redo_line.specs.Log.{stream_of, closes, first_fault, fault_of, lines_before, entries_before_fault, log_of}
+use Rattle.redo_name.specs.Names.{reduce_suffix, normal}
+use Rattle.redo_line.specs.Parts.{split_once, after_prefix}
 use Rattle.redo_line.specs.Record.{fields_of, status_of}
-use Rattle.redo_line.specs.Scan.{Scanned, RefusesFirst}
+use Rattle.redo_line.specs.Scan.{Scanned, FailsAtFirstByte}
 
 abbrev line : List ℕ → List ℕ
 line text = text ++ line_feed ∷ []
@@ -53,7 +54,7 @@ logs =
     []
 
 these_logs : AllByRecursion (λ row. log_of row.target row.max_bytes (stream_of row.bytes false) ≡ Some row.log) logs
-unfolding cutting ended rest first_fault entry_of record_entry fields_of status_of parted behind number normal from_back
+unfolding split_lines ended rest first_fault entry_of record_entry fields_of status_of split_once after_prefix number normal reduce_suffix
 these_logs = (refl, (refl, (refl, (refl, (refl, (refl, (refl, (refl, (refl, (refl, tt))))))))))
 
 record FaultRow : Type 0 where
@@ -88,41 +89,41 @@ faults =
     []
 
 these_faults : AllByRecursion (λ row. fault_of row.target row.max_bytes (stream_of row.bytes row.fails) ≡ Some row.fault) faults
-unfolding cutting ended rest first_fault entry_of record_entry fields_of status_of parted behind number normal from_back
+unfolding split_lines ended rest first_fault entry_of record_entry fields_of status_of split_once after_prefix number normal reduce_suffix
 these_faults = (refl, (refl, (refl, (refl, (refl, (refl, (refl, (refl, (refl, (refl, (refl, (refl, (refl, (refl, (refl, tt)))))))))))))))
 
-these_parts : AllByRecursion (λ row. part_of row.target row.max_bytes (stream_of row.bytes row.fails) ≡ row.part) faults
-unfolding cutting ended rest first_fault entry_of record_entry fields_of status_of parted behind number normal from_back
+these_parts : AllByRecursion (λ row. entries_before_fault row.target row.max_bytes (stream_of row.bytes row.fails) ≡ row.part) faults
+unfolding split_lines ended rest first_fault entry_of record_entry fields_of status_of split_once after_prefix number normal reduce_suffix
 these_parts = (refl, (refl, (refl, (refl, (refl, (refl, (refl, (refl, (refl, (refl, (refl, (refl, (refl, (refl, (refl, tt)))))))))))))))
 
 a_fault_leaves_no_log : log_of (codes "a") most (stream_of bad false) ≡ None
-unfolding cutting ended rest first_fault entry_of record_entry fields_of status_of parted behind number normal from_back
+unfolding split_lines ended rest first_fault entry_of record_entry fields_of status_of split_once after_prefix number normal reduce_suffix
 a_fault_leaves_no_log = refl
 
 a_failed_read_leaves_no_log : log_of (codes "a") most (stream_of (line (codes "x")) true) ≡ None
-unfolding cutting ended rest first_fault entry_of record_entry fields_of status_of parted behind number normal from_back
+unfolding split_lines ended rest first_fault entry_of record_entry fields_of status_of split_once after_prefix number normal reduce_suffix
 a_failed_read_leaves_no_log = refl
 
--- a scan that took a closing record, and one that took as many bytes as it may
+-- A scan that consumed a closing record, and one that consumed as many bytes as allowed.
 abbrev behind_closing : Scanned
-behind_closing = record { target = codes "a"; max_bytes = most; must_close = false; bytes = closing; refused = None }
+behind_closing = record { target = codes "a"; max_bytes = most; must_close = false; bytes = closing; failed_with = None }
 
 abbrev at_the_limit : Scanned
-at_the_limit = record { target = codes "a"; max_bytes = 27; must_close = false; bytes = closing; refused = None }
+at_the_limit = record { target = codes "a"; max_bytes = 27; must_close = false; bytes = closing; failed_with = None }
 
-a_late_byte_is_refused_first : RefusesFirst behind_closing (codes "zz") (AfterClose 2)
-unfolding cutting ended rest first_fault entry_of record_entry fields_of status_of parted behind number normal from_back
-a_late_byte_is_refused_first = record { refused_none = refl; late_or_too_long = inl (2, refl); fault_is = refl }
+a_late_byte_is_refused_first : FailsAtFirstByte behind_closing (codes "zz") (AfterClose 2)
+unfolding split_lines ended rest first_fault entry_of record_entry fields_of status_of split_once after_prefix number normal reduce_suffix
+a_late_byte_is_refused_first = record { not_failed = refl; after_close_or_too_long = inl (2, refl); fault_is = refl }
 
-a_byte_too_many_is_refused_first : RefusesFirst at_the_limit (codes "zz") TooLong
-unfolding cutting ended rest first_fault entry_of record_entry fields_of status_of parted behind number normal from_back
-a_byte_too_many_is_refused_first = record { refused_none = refl; late_or_too_long = inr refl; fault_is = refl }
+a_byte_too_many_is_refused_first : FailsAtFirstByte at_the_limit (codes "zz") TooLong
+unfolding split_lines ended rest first_fault entry_of record_entry fields_of status_of split_once after_prefix number normal reduce_suffix
+a_byte_too_many_is_refused_first = record { not_failed = refl; after_close_or_too_long = inr refl; fault_is = refl }
 
--- only the record that closes the log does
+-- Only the closing record closes the log.
 what_closes : (closes (Some (Closing 7 (pos 1))) ≡ true) × (closes (Some (Done 7 (pos 0) (codes "a"))) ≡ false) × (closes (Some (Note 7 (codes "done") (codes "a"))) ≡ false) × (closes (Some (Text closing)) ≡ false) × (closes None ≡ false)
 what_closes = (refl, refl, refl, refl, refl)
 
--- of three lines, those before a fault
+-- The lines before a fault, among three lines.
 abbrev three : List (List ℕ)
 three = codes "x" ∷ codes "y" ∷ codes "z" ∷ []
 

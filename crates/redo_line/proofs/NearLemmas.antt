@@ -1,4 +1,4 @@
--- The first place of a byte, searched in a part of bytes and then in the rest.
+-- The first index of a byte, looked for in the first bytes and then in the others.
 use Rattle.std.proofs.Common.{◌≡◌, ℕ, ◌+◌, ◌-◌, ◌≤◌, eqb, List, inl, inr, length, drop, get_or, sym, ◌∙◌, ap, subst, arith, zero-le}
 use Rattle.std.proofs.lemmas.Bool.{cases_order, eqb-true}
 use Rattle.std.proofs.lemmas.List.{get_or-drop, length-drop}
@@ -7,7 +7,7 @@ use Rattle.memchr.specs.Find.{Passes, NoneBefore, Nowhere, is_byte}
 abbrev Stands : ℕ → List ℕ → ℕ → Type 0
 Stands byte bytes k = Passes (is_byte byte) bytes k
 
--- one byte more is none
+-- One more byte that isn't it.
 pub none_more : (byte : ℕ) (bytes : List ℕ) (at : ℕ) → Nowhere (Stands byte bytes) 0 at → (get_or bytes at 0 ≡ byte → ⊥) → Nowhere (Stands byte bytes) 0 (at + 1)
 none_more byte bytes at none is_none k low below is =
     elim (cases_order k at) [
@@ -16,7 +16,7 @@ none_more byte bytes at none is_none k low below is =
       | inr (inr behind) ↦ absurd (omega (arith, below, behind))
     ]
 
--- none stands in a part, and the rest was searched
+-- It is not in the first bytes, and the others were searched.
 module _ (byte : ℕ) (bytes left : List ℕ) (near : ℕ) (left_is : left ≡ drop near bytes) (none : Nowhere (Stands byte bytes) 0 near) where
   read : (k : ℕ) → get_or left k 0 ≡ get_or bytes (near + k) 0
   read k = ap (λ (b : List ℕ). get_or b k 0) left_is ∙ get_or-drop near bytes k 0

@@ -1,4 +1,4 @@
--- What digits stand for, from the first one on.
+-- The value of digits, read from the first one on.
 use Rattle.std.proofs.Common.{◌≡◌, ℕ, zero, suc, ◌+◌, ◌-◌, ◌*◌, ◌^◌, ◌≤◌, ◌<◌, true, ◌&&◌, List, [], ◌∷◌, ◌++◌, length, take, get_or, nat_le, refl, sym, ap, ◌∙◌, arith}
 use native.Mathlib.Nat.{pow-le-pow_right}
 use Rattle.std.specs.Char.{is_ascii_digit}
@@ -17,7 +17,7 @@ number-push (first ∷ digits) digit =
     let front = ap (λ p. (first - 48) * p) power in
     omega (arith, front, value)
 
--- each of the digits is one
+-- Each byte is a digit.
 pub digit_at : (digits : List ℕ) (i : ℕ) → list_all is_ascii_digit digits ≡ true → i < length digits → is_ascii_digit (get_or digits i 0) ≡ true
 digit_at [] i all below = absurd (omega (arith, below))
 digit_at (first ∷ digits) zero all below = (and_parts (is_ascii_digit first) _ all).0
@@ -26,7 +26,7 @@ digit_at (first ∷ digits) (suc i) all below = digit_at digits i (and_parts (is
 pub digit_is : (digit : ℕ) → is_ascii_digit digit ≡ true → (48 ≤ digit) × (digit ≤ 57)
 digit_is digit is = (leb-true 48 digit (and_parts (nat_le 48 digit) (nat_le digit 57) is).0, leb-true digit 57 (and_parts (nat_le 48 digit) (nat_le digit 57) is).1)
 
--- digits that were read so far, and what they stand for
+-- The digits read so far, and their value.
 pub record Read (digits : List ℕ) (count : ℕ) (value : ℕ) : Type 0 where
   pub value_is : value ≡ number (take count digits)
   pub below : value + 1 ≤ 10 ^ count

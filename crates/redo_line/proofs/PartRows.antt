@@ -1,14 +1,14 @@
--- Examples of bytes that are cut in two, computed.
+-- Examples of splitting bytes into two parts, computed.
 use Rattle.std.proofs.Common.{◌≡◌, [], None, Some, refl}
 use Rattle.std.specs.Prelude.{codes}
-use Rattle.redo_line.specs.Parts.{parted, behind}
+use Rattle.redo_line.specs.Parts.{split_once, after_prefix}
 
--- at the first colon
-first_bytes : (parted 58 (codes "a:b:c") ≡ Some (codes "a", codes "b:c")) × (parted 58 (codes ":") ≡ Some ([], [])) × (parted 58 (codes "ab") ≡ None) × (parted 58 [] ≡ None)
-unfolding parted
+-- At the first colon.
+first_bytes : (split_once 58 (codes "a:b:c") ≡ Some (codes "a", codes "b:c")) × (split_once 58 (codes ":") ≡ Some ([], [])) × (split_once 58 (codes "ab") ≡ None) × (split_once 58 [] ≡ None)
+unfolding split_once
 first_bytes = (refl, refl, refl, refl)
 
--- behind a front
-fronts : (behind (codes "ab") (codes "abc") ≡ Some (codes "c")) × (behind (codes "ab") (codes "a") ≡ None) × (behind (codes "ab") (codes "acb") ≡ None) × (behind [] (codes "a") ≡ Some (codes "a"))
-unfolding behind
+-- After a prefix.
+fronts : (after_prefix (codes "ab") (codes "abc") ≡ Some (codes "c")) × (after_prefix (codes "ab") (codes "a") ≡ None) × (after_prefix (codes "ab") (codes "acb") ≡ None) × (after_prefix [] (codes "a") ≡ Some (codes "a"))
+unfolding after_prefix
 fronts = (refl, refl, refl, refl)

@@ -6,11 +6,11 @@ use Rattle.redo_line.specs.declared.entry.Entry.{Entry}
 use Rattle.redo_line.specs.declared.entry.Entry.TheVariants.{Text, Mention, Done, Closing, Note}
 use Rattle.redo_line.specs.declared.entry.How.TheVariants.{Made, Waiting, Locked, Unlocked, Unchanged}
 use Rattle.redo_line.specs.Decimal.{number}
-use Rattle.redo_name.specs.Names.{from_back, normal}
-use Rattle.redo_line.specs.Parts.{parted, behind}
+use Rattle.redo_name.specs.Names.{reduce_suffix, normal}
+use Rattle.redo_line.specs.Parts.{split_once, after_prefix}
 use Rattle.redo_name.specs.declared.name.NameFault.TheVariants as name
 use Rattle.redo_line.specs.declared.line.LineFault.TheVariants.{BadRecord, OutOfMemory}
-use Rattle.redo_line.specs.Line.{bad_name}
+use Rattle.redo_line.specs.Line.{line_fault_of_name}
 use Rattle.redo_line.specs.Record.{is_kind, is_time, fields_of, status_of}
 use Rattle.redo_line.specs.Entry.{record_entry, entry_of}
 
@@ -76,34 +76,34 @@ rows =
     []
 
 all_rows : AllByRecursion (λ row. entry_of (codes "all") row.line row.ended ≡ row.entry) rows
-unfolding entry_of record_entry fields_of status_of parted behind number normal from_back
+unfolding entry_of record_entry fields_of status_of split_once after_prefix number normal reduce_suffix
 all_rows = (refl, (refl, (refl, (refl, (refl, (refl, (refl, (refl, (refl, (refl, (refl, (refl, (refl, (refl, (refl, (refl, (refl, (refl, (refl, (refl, (refl, (refl, (refl, (refl, (refl, (refl, (refl, (refl, (refl, (refl, (refl, (refl, (refl, (refl, (refl, (refl, (refl, (refl, (refl, (refl, tt))))))))))))))))))))))))))))))))))))))))
 
--- in the log of another target names are relative to its directory
+-- In the log of another target, names are relative to its directory.
 in_a_directory : entry_of (codes "d/a") (codes "@@REDO:do:7:1@@ ../e//x") true ≡ Some (Mention 7 Made (codes "e/x"))
-unfolding entry_of record_entry fields_of status_of parted behind number normal from_back
+unfolding entry_of record_entry fields_of status_of split_once after_prefix number normal reduce_suffix
 in_a_directory = refl
 
 closes_by_its_resolved_name : entry_of (codes "d/a") (codes "@@REDO:done:7:1@@ 0 ../d/a") true ≡ Some (Closing 7 (pos 0))
-unfolding entry_of record_entry fields_of status_of parted behind number normal from_back
+unfolding entry_of record_entry fields_of status_of split_once after_prefix number normal reduce_suffix
 closes_by_its_resolved_name = refl
 
 not_by_the_name_as_written : entry_of (codes "d/a") (codes "@@REDO:done:7:1@@ 0 d/a") true ≡ Some (Done 7 (pos 0) (codes "d/d/a"))
-unfolding entry_of record_entry fields_of status_of parted behind number normal from_back
+unfolding entry_of record_entry fields_of status_of split_once after_prefix number normal reduce_suffix
 not_by_the_name_as_written = refl
 
--- the parts of a record alone
+-- Single parts of a record.
 kinds : (is_kind (codes "x-y_z") ≡ true) × (is_kind (codes "xY") ≡ false) × (is_kind [] ≡ false)
 kinds = (refl, refl, refl)
 
 times : (is_time (codes "1.5") ≡ true) × (is_time (codes ".5") ≡ false) × (is_time (codes "x.5") ≡ false) × (is_time (codes "1.5.5") ≡ false)
-unfolding parted
+unfolding split_once
 times = (refl, refl, refl, refl)
 
 statuses : (status_of (codes "-123456789") ≡ Some (negsuc 123456788)) × (status_of (codes "-1234567890") ≡ None) × (status_of (codes "--1") ≡ None) × (status_of (codes "123456789") ≡ Some (pos 123456789))
-unfolding status_of behind number
+unfolding status_of after_prefix number
 statuses = (refl, refl, refl, refl)
 
--- what becomes of a record whose name isn't read
-bad_names : (bad_name name.Empty ≡ BadRecord) × (bad_name name.OutOfMemory ≡ OutOfMemory)
+-- The fault of a line whose name can't be resolved.
+bad_names : (line_fault_of_name name.Empty ≡ BadRecord) × (line_fault_of_name name.OutOfMemory ≡ OutOfMemory)
 bad_names = (refl, refl)

@@ -1,4 +1,4 @@
--- What one step of a scan gives, by what its cutter found in the bytes of a piece that are within the limit.
+-- What one step of a scan gives, by the line that was found in the bytes of a chunk within the limit.
 use Rattle.std.proofs.Common.{◌≡◌, ◌⊎◌, inl, inr, ℕ, zero, suc, ◌+◌, ◌-◌, ◌<◌, ◌≤◌, Bool, true, false, List, [], ◌∷◌, ◌++◌, None, Some, Result, Ok, Err, IfErr, IsErrAnd, length, map, get_or, nat_eq, take, drop, refl, sym, ◌∙◌, ap, subst, arith}
 use Rattle.std.specs.List.{AllByRecursion, slice_range, starts_with}
 use Rattle.std.proofs.lemmas.List.{append-nil, length-map, length-take, take_all, take-append-le, take-append-drop, take-take}
@@ -11,43 +11,43 @@ use Rattle.redo_line.specs.declared.stream_fault.StreamFault.TheVariants.{BadRec
 use Rattle.redo_line.specs.Entry.{entry_of}
 use Rattle.redo_line.specs.Lines.{ended, rest}
 use Rattle.redo_line.specs.Log.{closes, first_fault, line_entries}
-use Rattle.redo_line.specs.Scan.{Scanned, EndLines, EndsLine, Finds as FindsOne, FindsMore, entries_so_far}
-use Rattle.redo_line.specs.Private.Progress.{Progress, IsAfter, Finds, TakesAll, Refuses, byte_fault, closed_by, first_byte_fault}
+use Rattle.redo_line.specs.Scan.{Scanned, EndLines, EndsLine, FindsEntry as FindsOne, FindsEntries, entries_so_far}
+use Rattle.redo_line.specs.Private.Progress.{Progress, IsAfter, AdvancesBy, ConsumesAll, FailsWith, byte_fault, closed_by, first_byte_fault}
 use Rattle.redo_line.specs.Private.CutLine.{AreTextLines, Cuts}
-use Rattle.redo_line.specs.Record.{mark}
+use Rattle.redo_line.specs.Record.{record_prefix}
 use Rattle.redo_line.proofs.ScanLemmas.{late_refuses, bad_refuses, after_lines, end_lines, long_refuses, after_rest, ends_none, one_fine}
 use Rattle.redo_line.proofs.EntryListLemmas.{first_fault-fine, first_fault-nil}
 use Rattle.redo_line.proofs.LineLemmas.{ended-append, few_lines, rest-append}
 use Rattle.redo_line.proofs.ReadingLemmas.{is_text}
 
--- a fault that is handed on
+-- A fault that is passed on.
 pub handed_on : {X : Type 0} (result : Result X StreamFault) (given : StreamFault) (P : StreamFault → Type 0) → IsErrAnd result (λ fault. fault ≡ given) → P given → IfErr result P
 handed_on (Ok step) given P is p = tt
 handed_on (Err fault) given P is p = subst P (sym is) p
 
--- a line without an entry is refused, if not for memory
+-- A line without an entry has a fault, unless memory ran out.
 pub no_entry : (given : StreamFault) (number : ℕ) (none : Type 0) (P : StreamFault → Type 0) → (given ≡ OutOfMemory) ⊎ ((given ≡ BadRecord number) × none) → (none → P (BadRecord number)) → (given ≡ OutOfMemory) ⊎ P given
 no_entry given number none P (inl memory) bad = inl memory
 no_entry given number none P (inr is) bad = inr (subst P (sym is.0) (bad is.1))
 
--- no byte ends no line
+-- No bytes end no line.
 cuts_nothing : (kept a : List ℕ) → a ≡ [] → Cuts kept a [] kept
 cuts_nothing kept a none taken is = (
   ap (λ (b : List ℕ). ended (taken ++ b)) none ∙ ap ended (append-nil taken) ∙ sym (append-nil (ended taken)),
   ap (λ (b : List ℕ). rest (taken ++ b)) none ∙ ap rest (append-nil taken) ∙ is,
 )
 
--- The state of the scan as it is seen and as it was taken apart, the bytes taken before, the piece from a place on,
--- and of this the bytes that are within the limit.
+-- `now` is the state as it is modelled, `p` the same state as its fields have it, `u` the bytes consumed before, `left` the chunk
+-- from an offset on, and `a` the bytes of `left` within the limit.
 module _ (now p : Progress) (same : p ≡ now) (u : List ℕ) (after_now : IsAfter now u) (piece left a : List ℕ) (from : ℕ) (left_is : left ≡ drop from piece)
     (a_is : a ≡ take (p.max_bytes - p.taken) left) where
   after : IsAfter p u
   after = subst (λ q. IsAfter q u) (sym same) after_now
 
-  refuses : (fault : StreamFault) → Refuses p u left fault → Refuses now u (drop from piece) fault
-  refuses fault is = subst (λ (l : List ℕ). Refuses now u l fault) left_is (subst (λ q. Refuses q u left fault) same is)
+  refuses : (fault : StreamFault) → FailsWith p u left fault → FailsWith now u (drop from piece) fault
+  refuses fault is = subst (λ (l : List ℕ). FailsWith now u l fault) left_is (subst (λ q. FailsWith q u left fault) same is)
 
-  -- what is known of the first byte
+  -- What is known of the first byte.
   first_is : (byte : ℕ) (bytes : List ℕ) (room : ℕ) (closed : Bool) → left ≡ byte ∷ bytes → p.max_bytes - p.taken ≡ room → p.closed ≡ closed
       → first_byte_fault p left ≡ byte_fault room p.lines closed
   first_is byte bytes room closed some room_is closed_is = ap (first_byte_fault p) some ∙ ap (λ n. byte_fault n p.lines p.closed) room_is ∙ ap (byte_fault room p.lines) closed_is
@@ -55,26 +55,26 @@ module _ (now p : Progress) (same : p ≡ now) (u : List ℕ) (after_now : IsAft
   a_at : (room : ℕ) (bytes : List ℕ) → p.max_bytes - p.taken ≡ room → left ≡ bytes → a ≡ take room bytes
   a_at room bytes room_is some = a_is ∙ ap (λ n. take n left) room_is ∙ ap (take room) some
 
-  -- it is at fault by where it stands
-  pub refuses_first : (fault : StreamFault) → first_byte_fault now left ≡ Some fault → Refuses now u (drop from piece) fault
+  -- The first byte has a fault by its position.
+  pub refuses_first : (fault : StreamFault) → first_byte_fault now left ≡ Some fault → FailsWith now u (drop from piece) fault
   refuses_first fault now_is = refuses fault (by left (p.max_bytes - p.taken) p.closed refl refl refl)
     where
       is : first_byte_fault p left ≡ Some fault
       is = ap (λ q. first_byte_fault q left) same ∙ now_is
 
-      by : (bytes : List ℕ) (room : ℕ) (closed : Bool) → left ≡ bytes → p.max_bytes - p.taken ≡ room → p.closed ≡ closed → Refuses p u left fault
+      by : (bytes : List ℕ) (room : ℕ) (closed : Bool) → left ≡ bytes → p.max_bytes - p.taken ≡ room → p.closed ≡ closed → FailsWith p u left fault
       by [] room closed none room_is closed_is = absurd (let same = ap (first_byte_fault p) none in cc)
       by (byte ∷ bytes) zero closed some room_is closed_is =
           let told : Some TooLong ≡ Some fault = sym (first_is byte bytes zero closed some room_is closed_is) ∙ is in
           let none : a ≡ [] = a_at zero (byte ∷ bytes) room_is some in
           let fewer : length a < length left = omega (arith, ap length none, ap length some) in
-          subst (Refuses p u left) (same_Some TooLong fault told) (long_refuses p u after left a a_is p.kept (cuts_nothing p.kept a none) (inr none) fewer)
+          subst (FailsWith p u left) (same_Some TooLong fault told) (long_refuses p u after left a a_is p.kept (cuts_nothing p.kept a none) (inr none) fewer)
       by (byte ∷ bytes) (suc room) true some room_is closed_is =
           let told : Some (AfterClose (p.lines + 1)) ≡ Some fault = sym (first_is byte bytes (suc room) true some room_is closed_is) ∙ is in
-          subst (Refuses p u left) (same_Some (AfterClose (p.lines + 1)) fault told) (late_refuses p u after left a a_is closed_is byte (take room bytes) (a_at (suc room) (byte ∷ bytes) room_is some))
+          subst (FailsWith p u left) (same_Some (AfterClose (p.lines + 1)) fault told) (late_refuses p u after left a a_is closed_is byte (take room bytes) (a_at (suc room) (byte ∷ bytes) room_is some))
       by (byte ∷ bytes) (suc room) false some room_is closed_is = absurd (let told = sym (first_is byte bytes (suc room) false some room_is closed_is) ∙ is in cc)
 
-  -- it is not
+  -- The first byte has no fault by its position.
   module _ (now_is : first_byte_fault now left ≡ None) where
     is : first_byte_fault p left ≡ None
     is = ap (λ q. first_byte_fault q left) same ∙ now_is
@@ -103,12 +103,12 @@ module _ (now p : Progress) (same : p ≡ now) (u : List ℕ) (after_now : IsAft
           by (inl closed) = closed
           by (inr none) = let size = ap length none in let low = place.0 in let high = place.1 in absurd (omega (arith, size, low, high))
 
-      pub refuses_bad : entry_of p.target line true ≡ None → Refuses now u (drop from piece) (BadRecord (p.lines + 1))
+      pub refuses_bad : entry_of p.target line true ≡ None → FailsWith now u (drop from piece) (BadRecord (p.lines + 1))
       refuses_bad none =
           refuses (BadRecord (p.lines + 1)) (bad_refuses p u after left a a_is (take upto a) (drop upto a) (line ∷ []) cut (sym (take-append-drop upto a)) line refl open_log none)
 
       pub line_found : (entry : Entry) (kept : List ℕ) (closed : Bool) → entry_of p.target line true ≡ Some entry → kept ≡ [] → closed ≡ closes (Some entry)
-          → Finds now (record { target = p.target; max_bytes = p.max_bytes; kept = kept; taken = p.taken + upto; lines = p.lines + 1; closed = closed }) u (slice_range piece from (from + upto)) (entry ∷ [])
+          → AdvancesBy now (record { target = p.target; max_bytes = p.max_bytes; kept = kept; taken = p.taken + upto; lines = p.lines + 1; closed = closed }) u (slice_range piece from (from + upto)) (entry ∷ [])
       line_found entry kept closed entry_is none closed_is =
           let size : length (take upto a) ≡ upto = let few = length-take upto a in let within = place.1 in omega (arith, few, within) in
           let parts = sym (take-append-drop upto a) in
@@ -117,28 +117,28 @@ module _ (now p : Progress) (same : p ≡ now) (u : List ℕ) (after_now : IsAft
           let behind = after_lines p u after left a a_is (take upto a) (drop upto a) (line ∷ []) cut parts (entry ∷ []) are fine kept (p.taken + upto) (p.lines + 1) closed none (ap (λ n. p.taken + n) (sym size)) refl closed_is in
           let ends = end_lines p u after left a a_is (take upto a) (drop upto a) (line ∷ []) cut parts (entry ∷ []) are fine in
           let then : Progress = record { target = p.target; max_bytes = p.max_bytes; kept = kept; taken = p.taken + upto; lines = p.lines + 1; closed = closed } in
-          let finds : Finds p then u (take upto a) (entry ∷ []) = record { after = behind; ends = ends } in
-          subst (λ (s : List ℕ). Finds now then u s (entry ∷ [])) (sym slice_is) (subst (λ (q : Progress). Finds q then u (take upto a) (entry ∷ [])) same finds)
+          let finds : AdvancesBy p then u (take upto a) (entry ∷ []) = record { after = behind; ends = ends } in
+          subst (λ (s : List ℕ). AdvancesBy now then u s (entry ∷ [])) (sym slice_is) (subst (λ (q : Progress). AdvancesBy q then u (take upto a) (entry ∷ [])) same finds)
 
     module _ (kept : List ℕ) (cut : Cuts p.kept a [] kept) where
-      pub refuses_long : length a < length left → Refuses now u (drop from piece) TooLong
+      pub refuses_long : length a < length left → FailsWith now u (drop from piece) TooLong
       refuses_long fewer = refuses TooLong (long_refuses p u after left a a_is kept cut open_or_none fewer)
 
       pub all_taken : length left ≤ length a
-          → TakesAll now (record { target = p.target; max_bytes = p.max_bytes; kept = kept; taken = p.taken + length left; lines = p.lines; closed = p.closed }) u (drop from piece)
+          → ConsumesAll now (record { target = p.target; max_bytes = p.max_bytes; kept = kept; taken = p.taken + length left; lines = p.lines; closed = p.closed }) u (drop from piece)
       all_taken fits =
           let few = ap length a_is ∙ length-take (p.max_bytes - p.taken) left in
           let all : left ≡ a = sym (a_is ∙ take_all (p.max_bytes - p.taken) left (omega (arith, few, fits))) in
           let behind = after_rest p u after left a a_is kept cut open_or_none all (p.taken + length left) refl in
           let ends = ends_none p u after left a a_is kept cut open_or_none all in
           let then : Progress = record { target = p.target; max_bytes = p.max_bytes; kept = kept; taken = p.taken + length left; lines = p.lines; closed = p.closed } in
-          let takes : TakesAll p then u left = record { after = behind; ends = ends } in
-          subst (λ (l : List ℕ). TakesAll now then u l) left_is (subst (λ (q : Progress). TakesAll q then u left) same takes)
+          let takes : ConsumesAll p then u left = record { after = behind; ends = ends } in
+          subst (λ (l : List ℕ). ConsumesAll now then u l) left_is (subst (λ (q : Progress). ConsumesAll q then u left) same takes)
 
--- ---- lines that are text
+-- ---- text lines
 
 module _ (target : List ℕ) where
-  texts_are : (lines : List (List ℕ)) → AllByRecursion (λ line. starts_with nat_eq line mark ≡ false) lines → line_entries target lines ≡ map Some (map Text lines)
+  texts_are : (lines : List (List ℕ)) → AllByRecursion (λ line. starts_with nat_eq line record_prefix ≡ false) lines → line_entries target lines ≡ map Some (map Text lines)
   texts_are [] all = refl
   texts_are (line ∷ lines) all = λ i. is_text target line line true refl all.0 i ∷ texts_are lines all.1 i
 
@@ -150,7 +150,7 @@ texts_close_none : (lines : List (List ℕ)) → closed_by false (map Some (map 
 texts_close_none [] = refl
 texts_close_none (line ∷ lines) = texts_close_none lines
 
--- of a piece from a place on so many bytes are lines that are text, where no line is begun and the log isn't closed
+-- From an offset of a chunk on, `upto` bytes are text lines, no line has begun, and the log isn't closed.
 module _ (now p : Progress) (same : p ≡ now) (u : List ℕ) (after_now : IsAfter now u) (piece left : List ℕ) (from : ℕ) (left_is : left ≡ drop from piece)
     (upto count : ℕ) (are : AreTextLines (take upto left) count) (within : upto ≤ length left) (room_now : now.taken + upto ≤ now.max_bytes) (some : 0 < count) (none_now : now.kept ≡ []) (open_now : now.closed ≡ false) where
   room : p.taken + upto ≤ p.max_bytes
@@ -162,7 +162,7 @@ module _ (now p : Progress) (same : p ≡ now) (u : List ℕ) (after_now : IsAft
   not_closed : p.closed ≡ false
   not_closed = ap (λ (q : Progress). q.closed) same ∙ open_now
 
-  -- they have bytes
+  -- The text lines have bytes.
   pub texts_bytes : 0 < upto
   texts_bytes = let few = few_lines (take upto left) in let size = length-take upto left in omega (arith, are.count_is, some, few, size)
 
@@ -172,7 +172,7 @@ module _ (now p : Progress) (same : p ≡ now) (u : List ℕ) (after_now : IsAft
   abbrev pub text_entries : List Entry
   text_entries = map Text (ended (take upto left))
 
-  pub texts_found : Finds now (record { target = p.target; max_bytes = p.max_bytes; kept = p.kept; taken = p.taken + upto; lines = p.lines + count; closed = p.closed }) u (slice_range piece from (from + upto)) text_entries
+  pub texts_found : AdvancesBy now (record { target = p.target; max_bytes = p.max_bytes; kept = p.kept; taken = p.taken + upto; lines = p.lines + count; closed = p.closed }) u (slice_range piece from (from + upto)) text_entries
   texts_found =
       let slice = take upto left in
       let lines = ended slice in
@@ -182,14 +182,14 @@ module _ (now p : Progress) (same : p ≡ now) (u : List ℕ) (after_now : IsAft
       let parts : a ≡ slice ++ drop upto a = sym (take-append-drop upto a) ∙ ap (λ (b : List ℕ). b ++ drop upto a) front in
       let cut : Cuts p.kept slice lines [] = λ taken is. (
         ended-append taken slice ∙ ap (λ (k : List ℕ). ended taken ++ ended (k ++ slice)) (is ∙ none_kept),
-        rest-append taken slice ∙ ap (λ (k : List ℕ). rest (k ++ slice)) (is ∙ none_kept) ∙ are.nothing_behind,
+        rest-append taken slice ∙ ap (λ (k : List ℕ). rest (k ++ slice)) (is ∙ none_kept) ∙ are.no_rest,
       ) in
       let entries_are = texts_are p.target lines are.texts in
       let fine : first_fault p.closed (p.lines + 1) (map Some text_entries) ≡ None = ap (λ c. first_fault c (p.lines + 1) (map Some text_entries)) not_closed ∙ texts_fine (p.lines + 1) lines in
       let size : length slice ≡ upto = omega (arith, length-take upto left, within) in
       let closed_is : p.closed ≡ closed_by p.closed (map Some text_entries) = not_closed ∙ sym (texts_close_none lines) ∙ ap (λ c. closed_by c (map Some text_entries)) (sym not_closed) in
       let then : Progress = record { target = p.target; max_bytes = p.max_bytes; kept = p.kept; taken = p.taken + upto; lines = p.lines + count; closed = p.closed } in
-      let finds : Finds p then u slice text_entries = record {
+      let finds : AdvancesBy p then u slice text_entries = record {
         after = after_lines p u after left a refl slice (drop upto a) lines cut parts text_entries entries_are fine p.kept (p.taken + upto) (p.lines + count) p.closed none_kept
             (ap (λ n. p.taken + n) (sym size)) (ap (λ n. p.lines + n) (sym are.count_is)) closed_is;
         ends = end_lines p u after left a refl slice (drop upto a) lines cut parts text_entries entries_are fine;
@@ -197,9 +197,9 @@ module _ (now p : Progress) (same : p ≡ now) (u : List ℕ) (after_now : IsAft
       let slice_is : slice_range piece from (from + upto) ≡ slice =
       let whole : from + upto - from ≡ upto = omega arith in
       ap (λ n. take n (drop from piece)) whole ∙ ap (take upto) (sym left_is) in
-      subst (λ (s : List ℕ). Finds now then u s text_entries) (sym slice_is) (subst (λ (q : Progress). Finds q then u slice text_entries) same finds)
+      subst (λ (s : List ℕ). AdvancesBy now then u s text_entries) (sym slice_is) (subst (λ (q : Progress). AdvancesBy q then u slice text_entries) same finds)
 
-  -- so their first byte is not at fault by where it stands
+  -- So the first byte of the text lines has no fault by its position.
   pub texts_at_once : first_byte_fault now (drop from piece) ≡ None
   texts_at_once = ap (first_byte_fault now) (sym left_is) ∙ ap (λ q. first_byte_fault q left) (sym same) ∙ by left (p.max_bytes - p.taken) refl refl
     where
@@ -211,7 +211,7 @@ module _ (now p : Progress) (same : p ≡ now) (u : List ℕ) (after_now : IsAft
 
 -- ---- a single line
 
--- lines whose only entry is this one are one line
+-- Lines with only this entry are one line.
 pub one_ends : (target : List ℕ) (max_bytes : ℕ) (before bytes : List ℕ) (more : List Entry) (entry : Entry) → more ≡ entry ∷ [] → EndLines target max_bytes before bytes more → EndsLine target max_bytes before bytes entry
 one_ends target max_bytes before bytes more entry one ends = by ends.lines refl
   where
@@ -219,14 +219,14 @@ one_ends target max_bytes before bytes more entry one ends = by ends.lines refl
     by [] is = absurd (let are = sym (ap (line_entries target) is) ∙ ends.entries_are ∙ ap (map Some) one in cc)
     by (first ∷ second ∷ lines) is = absurd (let are = sym (ap (line_entries target) is) ∙ ends.entries_are ∙ ap (map Some) one in cc)
     by (line ∷ []) is = record {
-      fine = ends.fine;
+      no_fault = ends.no_fault;
       line = line;
       lines_are = ends.lines_are ∙ ap (λ ls. ended before ++ ls) is;
-      nothing_behind = ends.no_rest;
+      no_rest = ends.no_rest;
       entry_is = ap (λ es. get_or es 0 None) (sym (ap (line_entries target) is) ∙ ends.entries_are ∙ ap (map Some) one);
       entries = ends.entries ∙ ap (λ es. entries_so_far target max_bytes before ++ es) one;
     }
 
-pub one_found : (old new : Scanned) (bytes : List ℕ) (first all : List Entry) (entry : Entry) → first ≡ [] → all ≡ entry ∷ [] → FindsMore old new bytes 1 first all → FindsOne old new bytes entry
+pub one_found : (old new : Scanned) (bytes : List ℕ) (first all : List Entry) (entry : Entry) → first ≡ [] → all ≡ entry ∷ [] → FindsEntries old new bytes 1 first all → FindsOne old new bytes entry
 one_found old new bytes first all entry none is found =
     (found.taken, one_ends old.target old.max_bytes old.bytes bytes found.more entry (ap (λ es. es ++ found.more) (sym none) ∙ sym found.put ∙ is) found.ends)

@@ -1,5 +1,6 @@
--- Examples of streams that have to end with the record that closes their log, computed: the target, how many bytes are
--- allowed, the bytes, whether a failed read ends them, and the log, or the fault and the entries before it.
+-- Examples of streams that must end with their closing record, computed.
+-- Each has the target, the maximum number of bytes, the bytes, whether a failed read ends them, and the log, or the fault and the
+-- entries before it.
 use Rattle.std.proofs.Common.{◌≡◌, ℕ, Bool, true, false, List, [], ◌∷◌, ◌++◌, None, Some, pos, refl}
 use Rattle.std.specs.Prelude.{codes}
 use Rattle.std.specs.List.{AllByRecursion}
@@ -9,11 +10,11 @@ use Rattle.redo_line.specs.declared.stream_fault.StreamFault.{StreamFault}
 use Rattle.redo_line.specs.declared.stream_fault.StreamFault.TheVariants.{BadRecord, AfterClose, TooLong, Read, NotClosed}
 use Rattle.redo_line.specs.Decimal.{number}
 use Rattle.redo_line.specs.Entry.{record_entry, entry_of}
-use Rattle.redo_line.specs.Lines.{line_feed, cutting, ended, rest}
+use Rattle.redo_line.specs.Lines.{line_feed, split_lines, ended, rest}
 use Rattle.redo_line.specs.Log.{stream_of, first_fault}
-use Rattle.redo_line.specs.Source.{Marked, fault_from, log_from, part_from, source, sources, with_stream}
-use Rattle.redo_name.specs.Names.{from_back, normal}
-use Rattle.redo_line.specs.Parts.{parted, behind}
+use Rattle.redo_line.specs.Source.{StreamInput, fault_from, log_from, source_entries_before_fault, source, sources, with_stream}
+use Rattle.redo_name.specs.Names.{reduce_suffix, normal}
+use Rattle.redo_line.specs.Parts.{split_once, after_prefix}
 use Rattle.redo_line.specs.Record.{fields_of, status_of}
 
 abbrev line : List ℕ → List ℕ
@@ -32,7 +33,7 @@ record LogRow : Type 0 where
 abbrev has_log : List ℕ → List Entry → LogRow
 has_log bytes log = record { bytes = bytes; log = log }
 
--- the logs of the target `a`
+-- Logs of the target `a`.
 abbrev logs : List LogRow
 logs =
     has_log (line closing) (Closing 7 (pos 0) ∷ []) ∷
@@ -40,7 +41,7 @@ logs =
     []
 
 these_logs : AllByRecursion (λ row. log_from most (source (codes "a") true (stream_of row.bytes false)) ≡ Some row.log) logs
-unfolding cutting ended rest first_fault entry_of record_entry fields_of status_of parted behind number normal from_back
+unfolding split_lines ended rest first_fault entry_of record_entry fields_of status_of split_once after_prefix number normal reduce_suffix
 these_logs = (refl, (refl, tt))
 
 record FaultRow : Type 0 where
@@ -54,7 +55,7 @@ abbrev has_fault : ℕ → List ℕ → Bool → StreamFault → List Entry → 
 has_fault max_bytes bytes fails fault part =
     record { max_bytes = max_bytes; bytes = bytes; fails = fails; fault = fault; part = part }
 
--- of the target `a`
+-- Faults of the target `a`.
 abbrev faults : List FaultRow
 faults =
     has_fault most (line (codes "x")) false NotClosed (Text (codes "x") ∷ []) ∷
@@ -70,24 +71,24 @@ faults =
     []
 
 these_faults : AllByRecursion (λ row. fault_from row.max_bytes (source (codes "a") true (stream_of row.bytes row.fails)) ≡ Some row.fault) faults
-unfolding cutting ended rest first_fault entry_of record_entry fields_of status_of parted behind number normal from_back
+unfolding split_lines ended rest first_fault entry_of record_entry fields_of status_of split_once after_prefix number normal reduce_suffix
 these_faults = (refl, (refl, (refl, (refl, (refl, (refl, (refl, (refl, (refl, (refl, tt))))))))))
 
-these_parts : AllByRecursion (λ row. part_from row.max_bytes (source (codes "a") true (stream_of row.bytes row.fails)) ≡ row.part) faults
-unfolding cutting ended rest first_fault entry_of record_entry fields_of status_of parted behind number normal from_back
+these_parts : AllByRecursion (λ row. source_entries_before_fault row.max_bytes (source (codes "a") true (stream_of row.bytes row.fails)) ≡ row.part) faults
+unfolding split_lines ended rest first_fault entry_of record_entry fields_of status_of split_once after_prefix number normal reduce_suffix
 these_parts = (refl, (refl, (refl, (refl, (refl, (refl, (refl, (refl, (refl, (refl, tt))))))))))
 
 no_log : log_from most (source (codes "a") true (stream_of (line (codes "x")) false)) ≡ None
-unfolding cutting ended rest first_fault entry_of record_entry fields_of status_of parted behind number normal from_back
+unfolding split_lines ended rest first_fault entry_of record_entry fields_of status_of split_once after_prefix number normal reduce_suffix
 no_log = refl
 
--- where it may end with any line, there is no such fault
+-- If the stream may end with any line, there is no such fault.
 may_end_anywhere : log_from most (source (codes "a") false (stream_of (line (codes "x")) false)) ≡ Some (Text (codes "x") ∷ [])
-unfolding cutting ended rest first_fault entry_of record_entry fields_of status_of parted behind number normal from_back
+unfolding split_lines ended rest first_fault entry_of record_entry fields_of status_of split_once after_prefix number normal reduce_suffix
 may_end_anywhere = refl
 
--- what logs are made from, with numbers in the place of streams
-abbrev marked : Bool → ℕ → Marked ℕ
+-- Sources of logs, with numbers instead of streams.
+abbrev marked : Bool → ℕ → StreamInput ℕ
 marked must_close stream = record { must_close = must_close; stream = stream }
 
 made_from :

@@ -7,15 +7,15 @@ use Rattle.redo_line.specs.declared.record.Kind.{Kind}
 use Rattle.redo_line.specs.declared.record.Kind.TheVariants as kind
 use Rattle.redo_name.specs.Names.{normal}
 use Rattle.redo_line.specs.Decimal.{number}
-use Rattle.redo_line.specs.Parts.{parted, behind}
-use Rattle.redo_line.specs.Record.{mark, space, kind_of, Fields, IsRecord, IsStatus, fields_of, status_of}
+use Rattle.redo_line.specs.Parts.{split_once, after_prefix}
+use Rattle.redo_line.specs.Record.{record_prefix, space, kind_of, Fields, IsRecord, IsStatus, fields_of, status_of}
 
--- a target that is done: in its own log, that closes the log
-abbrev pub done : List ℕ → ℕ → ℤ → List ℕ → Entry
-done target pid status name = if bytes_eq name target then Closing pid status else Done pid status name
+-- The entry of a `done_or_closing` record for the target `name`. If that is the log's own target, the entry closes the log.
+abbrev pub done_or_closing : List ℕ → ℕ → ℤ → List ℕ → Entry
+done_or_closing target pid status name = if bytes_eq name target then Closing pid status else Done pid status name
 
--- what a done record says: a status, a space and a name
-pub record SaysDone (target : List ℕ) (pid : ℕ) (text : List ℕ) (entry : Entry) : Type 0 where
+-- A `done_or_closing` record with this text, which is a status, a space and a name, has this entry in the log of `target`.
+pub record IsDoneEntry (target : List ℕ) (pid : ℕ) (text : List ℕ) (entry : Entry) : Type 0 where
   pub status : List ℕ
   pub value : ℤ
   pub written : List ℕ
@@ -23,54 +23,55 @@ pub record SaysDone (target : List ℕ) (pid : ℕ) (text : List ℕ) (entry : E
   pub whole : text ≡ status ++ space ∷ written
   pub status_is : IsStatus status value
   pub name_is : normal (Some target) written ≡ Some name
-  pub entry_is : entry ≡ done target pid value name
+  pub entry_is : entry ≡ done_or_closing target pid value name
 
--- what a record of this kind, pid and text says in the log of a target
-abbrev pub Says : List ℕ → Kind → List ℕ → ℕ → List ℕ → Entry → Type 0
-Says target (kind.Mention how) name pid text entry = (mentioned : List ℕ) × (normal (Some target) text ≡ Some mentioned) × (entry ≡ Mention pid how mentioned)
-Says target kind.Done name pid text entry = SaysDone target pid text entry
-Says target kind.Note name pid text entry = entry ≡ Note pid name text
+-- A record with this kind, name of its kind, pid and text has this entry in the log of `target`.
+abbrev pub IsEntryOfFields : List ℕ → Kind → List ℕ → ℕ → List ℕ → Entry → Type 0
+IsEntryOfFields target (kind.Mention how) name pid text entry = (mentioned : List ℕ) × (normal (Some target) text ≡ Some mentioned) × (entry ≡ Mention pid how mentioned)
+IsEntryOfFields target kind.Done name pid text entry = IsDoneEntry target pid text entry
+IsEntryOfFields target kind.Note name pid text entry = entry ≡ Note pid name text
 
--- a line that begins with a record's mark, and is ended
+-- Whether a line is ended and begins with the record prefix.
 abbrev pub IsCandidate : List ℕ → Bool → Type 0
-IsCandidate line ended = (ended ≡ true) × ((bytes : List ℕ) × (line ≡ mark ++ bytes))
+IsCandidate line ended = (ended ≡ true) × ((bytes : List ℕ) × (line ≡ record_prefix ++ bytes))
 
--- the entry of a line that is a record
+-- The line is a record, and this is its entry.
 pub record IsRecordEntry (target line : List ℕ) (entry : Entry) : Type 0 where
   pub fields : Fields
   pub fields_are : IsRecord line fields
-  pub says : Says target (kind_of fields.kind) fields.kind (number fields.pid) fields.text entry
+  pub says : IsEntryOfFields target (kind_of fields.kind) fields.kind (number fields.pid) fields.text entry
 
--- A line that is no candidate is text, and a candidate is a record, or has no entry.
+-- This is the entry of the line. A line that is not a candidate is text. A candidate that is not a record has no entry.
 abbrev pub IsEntry : List ℕ → List ℕ → Bool → Entry → Type 0
 IsEntry target line ended entry =
     ((IsCandidate line ended → ⊥) × (entry ≡ Text line))
     ⊎ (IsCandidate line ended × IsRecordEntry target line entry)
 
--- The same, computed.
-abbrev pub done_parted : List ℕ → ℕ → Option (List ℕ × List ℕ) → Option Entry
-done_parted target pid None = None
-done_parted target pid (Some parts) =
-    option_and_then (λ (status : ℤ). option_and_then (λ (name : List ℕ). Some (done target pid status name)) (normal (Some target) parts.1)) (status_of parts.0)
+-- The functions from here on compute the entry of a line. This one does it for a `done_or_closing` record, from its status and its name.
+abbrev pub done_entry : List ℕ → ℕ → Option (List ℕ × List ℕ) → Option Entry
+done_entry target pid None = None
+done_entry target pid (Some parts) =
+    option_and_then (λ (status : ℤ). option_and_then (λ (name : List ℕ). Some (done_or_closing target pid status name)) (normal (Some target) parts.1)) (status_of parts.0)
 
-abbrev pub said : List ℕ → Kind → List ℕ → ℕ → List ℕ → Option Entry
-said target (kind.Mention how) name pid text = option_and_then (λ (mentioned : List ℕ). Some (Mention pid how mentioned)) (normal (Some target) text)
-said target kind.Done name pid text = done_parted target pid (parted space text)
-said target kind.Note name pid text = Some (Note pid name text)
+-- The entry of a record with this kind, name of its kind, pid and text.
+abbrev pub entry_of_fields : List ℕ → Kind → List ℕ → ℕ → List ℕ → Option Entry
+entry_of_fields target (kind.Mention how) name pid text = option_and_then (λ (mentioned : List ℕ). Some (Mention pid how mentioned)) (normal (Some target) text)
+entry_of_fields target kind.Done name pid text = done_entry target pid (split_once space text)
+entry_of_fields target kind.Note name pid text = Some (Note pid name text)
 
--- the entry of a record, from what stands behind its mark
+-- The entry of a record, from the bytes after the record prefix.
 unfoldable pub record_entry : List ℕ → List ℕ → Option Entry
-record_entry target bytes = option_and_then (λ (fields : Fields). said target (kind_of fields.kind) fields.kind (number fields.pid) fields.text) (fields_of bytes)
+record_entry target bytes = option_and_then (λ (fields : Fields). entry_of_fields target (kind_of fields.kind) fields.kind (number fields.pid) fields.text) (fields_of bytes)
 
 abbrev pub line_entry : List ℕ → List ℕ → Option (List ℕ) → Option Entry
 line_entry target line None = Some (Text line)
 line_entry target line (Some bytes) = record_entry target bytes
 
--- what stands behind the mark of a candidate
-abbrev pub behind_mark : List ℕ → Bool → Option (List ℕ)
-behind_mark line false = None
-behind_mark line true = behind mark line
+-- The bytes after the record prefix of a candidate; none if the line is not a candidate.
+abbrev pub candidate_body : List ℕ → Bool → Option (List ℕ)
+candidate_body line false = None
+candidate_body line true = after_prefix record_prefix line
 
--- the entry of a line in the log of a target, if it has one
+-- The entry of a line in the log of `target`, if it has one.
 unfoldable pub entry_of : List ℕ → List ℕ → Bool → Option Entry
-entry_of target line ended = line_entry target line (behind_mark line ended)
+entry_of target line ended = line_entry target line (candidate_body line ended)

@@ -1,4 +1,5 @@
--- What only clauses of private functions cite: it helps to prove the others, and nobody has to believe it.
+-- Definitions that only clauses of private functions cite.
+-- They help to prove the public clauses and are not part of the trusted specification.
 pub mod CutLine
 pub mod Entries
 pub mod Line

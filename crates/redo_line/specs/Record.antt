@@ -1,4 +1,4 @@
--- Records: the lines in which redo says what it does.
+-- Records: the lines of the form `@@REDO:kind:pid:time@@ text`.
 use Rattle.std.specs.Prelude.{◌≡◌, ◌≢◌, ℕ, ◌≤◌, nat_le, Bool, false, ◌==◌, ◌&&◌, ◌||◌, ◌⊎◌, List, [], ◌∷◌, ◌++◌, Option, None, Some, option_and_then, ℤ, pos, neg_ℤ, codes, if◌then◌else◌}
 use Rattle.std.specs.List.{AllByRecursion, list_all}
 use Rattle.std.specs.Str.{bytes_eq}
@@ -6,11 +6,11 @@ use Rattle.redo_line.specs.declared.entry.How.TheVariants.{Made, Waiting, Locked
 use Rattle.redo_line.specs.declared.record.Kind.{Kind}
 use Rattle.redo_line.specs.declared.record.Kind.TheVariants.{Mention, Done, Note}
 use Rattle.redo_line.specs.Decimal.{number, AreDigits, are_digits, number_of}
-use Rattle.redo_line.specs.Parts.{parted, behind}
+use Rattle.redo_line.specs.Parts.{split_once, after_prefix}
 
--- what a record begins with
-abbrev pub mark : List ℕ
-mark = codes "@@REDO:"
+-- The record prefix.
+abbrev pub record_prefix : List ℕ
+record_prefix = codes "@@REDO:"
 
 abbrev pub colon : ℕ
 colon = 58
@@ -18,8 +18,8 @@ colon = 58
 abbrev pub at_sign : ℕ
 at_sign = 64
 
-abbrev pub point : ℕ
-point = 46
+abbrev pub period : ℕ
+period = 46
 
 abbrev pub space : ℕ
 space = 32
@@ -27,24 +27,24 @@ space = 32
 abbrev pub minus : ℕ
 minus = 45
 
-abbrev pub greatest_pid : ℕ
-greatest_pid = 4294967295
+abbrev pub max_pid : ℕ
+max_pid = 4294967295
 
--- a letter from a to z, a minus or a low line
+-- Whether a byte is a letter from `a` to `z`, `-` or `_`.
 abbrev pub IsKindByte : ℕ → Type 0
 IsKindByte byte = ((97 ≤ byte) × (byte ≤ 122)) ⊎ ((byte ≡ 45) ⊎ (byte ≡ 95))
 
--- seconds, and perhaps a part of one behind a point
+-- Whether bytes are a time: seconds, optionally with a fraction after a point.
 abbrev pub IsTime : List ℕ → Type 0
-IsTime time = AreDigits 20 time ⊎ ((seconds fraction : List ℕ) × (time ≡ seconds ++ point ∷ fraction) × AreDigits 20 seconds × AreDigits 9 fraction)
+IsTime time = AreDigits 20 time ⊎ ((seconds fraction : List ℕ) × (time ≡ seconds ++ period ∷ fraction) × AreDigits 20 seconds × AreDigits 9 fraction)
 
--- what a status stands for: digits, perhaps behind a minus
+-- Whether bytes are a status with this value: digits, optionally after a minus.
 abbrev pub IsStatus : List ℕ → ℤ → Type 0
 IsStatus bytes status =
     (AreDigits 9 bytes × (status ≡ pos (number bytes)))
     ⊎ ((digits : List ℕ) × (bytes ≡ minus ∷ digits) × AreDigits 9 digits × (status ≡ neg_ℤ (pos (number digits))))
 
--- what the text of a record is, by the name of its kind
+-- How the text of a record is read, by the name of its kind.
 abbrev pub kind_of : List ℕ → Kind
 kind_of name =
     if bytes_eq name (codes "do") then Mention Made
@@ -55,7 +55,7 @@ kind_of name =
     else if bytes_eq name (codes "done") then Done
     else Note
 
--- a status, a space and a name
+-- The text is a status, a space and a name that isn't empty.
 pub record IsDone (text : List ℕ) : Type 0 where
   pub status : List ℕ
   pub value : ℤ
@@ -64,29 +64,31 @@ pub record IsDone (text : List ℕ) : Type 0 where
   pub status_is : IsStatus status value
   pub some : name ≢ []
 
+-- Whether the text of a record fits its kind.
 abbrev pub FitsKind : Kind → List ℕ → Type 0
 FitsKind (Mention how) text = text ≢ []
 FitsKind Done text = IsDone text
 FitsKind Note text = Unit {0}
 
+-- The parts of a record, without the bytes between them.
 pub record Fields : Type 0 where
   pub kind : List ℕ
   pub pid : List ℕ
   pub time : List ℕ
   pub text : List ℕ
 
--- the line is a record with these fields
+-- The line is a record with these fields.
 pub record IsRecord (line : List ℕ) (fields : Fields) : Type 0 where
-  pub whole : line ≡ mark ++ fields.kind ++ colon ∷ fields.pid ++ colon ∷ fields.time ++ at_sign ∷ at_sign ∷ space ∷ fields.text
+  pub whole : line ≡ record_prefix ++ fields.kind ++ colon ∷ fields.pid ++ colon ∷ fields.time ++ at_sign ∷ at_sign ∷ space ∷ fields.text
   pub kind_some : fields.kind ≢ []
   pub kind_each : AllByRecursion IsKindByte fields.kind
   pub pid_digits : AreDigits 10 fields.pid
-  pub pid_fits : number fields.pid ≤ greatest_pid
+  pub pid_fits : number fields.pid ≤ max_pid
   pub time_is : IsTime fields.time
   pub text_fits : FitsKind (kind_of fields.kind) fields.text
 
--- The same, computed. A record is cut at its first two colons and at the next at sign: of these three parts none
--- may hold such a byte.
+-- The functions from here on compute the fields of a record. A record is split at its first two colons and at the next `@`, because
+-- its kind, its pid and its time can't contain the byte that follows them.
 abbrev pub is_kind_byte : ℕ → Bool
 is_kind_byte byte = (nat_le 97 byte && nat_le byte 122) || byte == 45 || byte == 95
 
@@ -95,34 +97,35 @@ is_kind [] = false
 is_kind (first ∷ others) = list_all is_kind_byte (first ∷ others)
 
 abbrev pub is_pid : List ℕ → Bool
-is_pid pid = are_digits 10 pid && nat_le (number pid) greatest_pid
+is_pid pid = are_digits 10 pid && nat_le (number pid) max_pid
 
-abbrev pub is_time_cut : List ℕ → Option (List ℕ × List ℕ) → Bool
-is_time_cut time None = are_digits 20 time
-is_time_cut time (Some parts) = are_digits 20 parts.0 && are_digits 9 parts.1
+abbrev pub is_time_parts : List ℕ → Option (List ℕ × List ℕ) → Bool
+is_time_parts time None = are_digits 20 time
+is_time_parts time (Some parts) = are_digits 20 parts.0 && are_digits 9 parts.1
 
 abbrev pub is_time : List ℕ → Bool
-is_time time = is_time_cut time (parted point time)
+is_time time = is_time_parts time (split_once period time)
 
-abbrev pub checked : Fields → Option Fields
-checked fields = if is_kind fields.kind && is_pid fields.pid && is_time fields.time then Some fields else None
+abbrev pub validated : Fields → Option Fields
+validated fields = if is_kind fields.kind && is_pid fields.pid && is_time fields.time then Some fields else None
 
--- the fields of a record, from what stands behind its mark
+-- The fields of a record, from the bytes after the record prefix, without a test of whether its text fits its kind.
 unfoldable pub fields_of : List ℕ → Option Fields
 fields_of bytes =
     option_and_then (λ (kind : List ℕ × List ℕ).
     option_and_then (λ (pid : List ℕ × List ℕ).
     option_and_then (λ (time : List ℕ × List ℕ).
     option_and_then (λ (text : List ℕ).
-    checked (record { kind = kind.0; pid = pid.0; time = time.0; text = text }))
-    (behind (at_sign ∷ space ∷ []) time.1))
-    (parted at_sign pid.1))
-    (parted colon kind.1))
-    (parted colon bytes)
+    validated (record { kind = kind.0; pid = pid.0; time = time.0; text = text }))
+    (after_prefix (at_sign ∷ space ∷ []) time.1))
+    (split_once at_sign pid.1))
+    (split_once colon kind.1))
+    (split_once colon bytes)
 
-abbrev pub status_behind : List ℕ → Option (List ℕ) → Option ℤ
-status_behind bytes None = option_and_then (λ (value : ℕ). Some (pos value)) (number_of 9 bytes)
-status_behind bytes (Some digits) = option_and_then (λ (value : ℕ). Some (neg_ℤ (pos value))) (number_of 9 digits)
+abbrev pub signed_status : List ℕ → Option (List ℕ) → Option ℤ
+signed_status bytes None = option_and_then (λ (value : ℕ). Some (pos value)) (number_of 9 bytes)
+signed_status bytes (Some digits) = option_and_then (λ (value : ℕ). Some (neg_ℤ (pos value))) (number_of 9 digits)
 
+-- The value of a status, if it is one.
 unfoldable pub status_of : List ℕ → Option ℤ
-status_of bytes = status_behind bytes (behind (minus ∷ []) bytes)
+status_of bytes = signed_status bytes (after_prefix (minus ∷ []) bytes)

@@ -1,4 +1,4 @@
--- What a scan took, and what it answers.
+-- The model of a scan, and what its calls return.
 use Rattle.std.specs.Prelude.{◌≡◌, ◌≢◌, ◌<◌, ◌≤◌, ℕ, Bool, true, false, ◌⊎◌, List, [], ◌∷◌, ◌++◌, Option, None, Some, Result, Ok, Err, length, map, take, drop, slice_range}
 use Rattle.redo_line.specs.declared.entry.Entry.{Entry}
 use Rattle.redo_line.specs.declared.entry.Entry.TheVariants.{Text}
@@ -9,129 +9,130 @@ use Rattle.redo_line.specs.declared.stream_fault.StreamFault.TheVariants.{AfterC
 use Rattle.redo_device.specs.Feed.{Stream}
 use Rattle.redo_line.specs.Lines.{ended, rest}
 use Rattle.redo_line.specs.Entry.{entry_of}
-use Rattle.redo_line.specs.Log.{stream_of, fault_of, line_entries, part_of}
+use Rattle.redo_line.specs.Log.{stream_of, fault_of, line_entries, entries_before_fault}
 use Rattle.redo_line.specs.Source.{Source, source}
 
--- A scan as contracts see it: of whose log, how many bytes this may have, whether it has to be closed, the bytes that
--- were taken, and what was refused.
+-- What a scan is modelled as: the target of the log, the maximum number of bytes, whether the log must be closed, the bytes
+-- consumed so far, and the fault that was returned, if any.
 pub record Scanned : Type 0 where
   pub target : List ℕ
   pub max_bytes : ℕ
   pub must_close : Bool
   pub bytes : List ℕ
-  pub refused : Option StreamFault
+  pub failed_with : Option StreamFault
 
--- ---- bytes as far as they came
+-- ---- the bytes so far
 
--- behind these no read failed so far
+-- The stream of the bytes so far, after which no read has failed.
 abbrev pub so_far : List ℕ → Stream
 so_far bytes = stream_of bytes false
 
 module _ (target : List ℕ) (max_bytes : ℕ) where
-  -- what the bytes so far are at fault for
+  -- The fault of the bytes so far.
   abbrev pub fault_so_far : List ℕ → Option StreamFault
   fault_so_far bytes = fault_of target max_bytes (so_far bytes)
 
-  -- the entries of the lines that ended so far
+  -- The entries of the lines that ended so far, before the fault if there is one.
   abbrev pub entries_so_far : List ℕ → List Entry
-  entries_so_far bytes = part_of target max_bytes (so_far bytes)
+  entries_so_far bytes = entries_before_fault target max_bytes (so_far bytes)
 
-  -- bytes behind others end one line more, which has this entry, and nothing stands behind it; there is no fault
+  -- `bytes` after `before` end one more line, which has this entry. No byte follows the line, and there is no fault.
   pub record EndsLine (before bytes : List ℕ) (entry : Entry) : Type 0 where
-    pub fine : fault_so_far (before ++ bytes) ≡ None
+    pub no_fault : fault_so_far (before ++ bytes) ≡ None
     pub line : List ℕ
     pub lines_are : ended (before ++ bytes) ≡ ended before ++ line ∷ []
-    pub nothing_behind : rest (before ++ bytes) ≡ []
+    pub no_rest : rest (before ++ bytes) ≡ []
     pub entry_is : entry_of target line true ≡ Some entry
     pub entries : entries_so_far (before ++ bytes) ≡ entries_so_far before ++ entry ∷ []
 
-  -- bytes behind others end lines more, which have these entries, and nothing stands behind the last; there is no fault
+  -- `bytes` after `before` end further lines, which have these entries. No byte follows the last line, and there is no fault.
   pub record EndLines (before bytes : List ℕ) (more : List Entry) : Type 0 where
-    pub fine : fault_so_far (before ++ bytes) ≡ None
+    pub no_fault : fault_so_far (before ++ bytes) ≡ None
     pub lines : List (List ℕ)
     pub lines_are : ended (before ++ bytes) ≡ ended before ++ lines
     pub no_rest : rest (before ++ bytes) ≡ []
     pub entries_are : line_entries target lines ≡ map Some more
     pub entries : entries_so_far (before ++ bytes) ≡ entries_so_far before ++ more
 
-  -- bytes behind others end no line, and there is no fault
-  pub record EndsNone (before bytes : List ℕ) : Type 0 where
-    pub fine : fault_so_far (before ++ bytes) ≡ None
+  -- `bytes` after `before` end no line, and there is no fault.
+  pub record EndsNoLine (before bytes : List ℕ) : Type 0 where
+    pub no_fault : fault_so_far (before ++ bytes) ≡ None
     pub lines : ended (before ++ bytes) ≡ ended before
     pub entries : entries_so_far (before ++ bytes) ≡ entries_so_far before
 
-  -- bytes behind others have this fault, whatever stands behind them, and no entry comes before it
-  pub record AreAtFault (before bytes : List ℕ) (fault : StreamFault) : Type 0 where
+  -- `bytes` after `before` have this fault, and no further entry is before it. More bytes don't change that (law `early_fault`).
+  pub record HaveFault (before bytes : List ℕ) (fault : StreamFault) : Type 0 where
     pub fault_is : fault_so_far (before ++ bytes) ≡ Some fault
     pub entries : entries_so_far (before ++ bytes) ≡ entries_so_far before
 
--- ---- what a scan answers
+-- ---- what a scan returns
 
--- it refused nothing, and the bytes that it took have no fault
-pub record IsFine (scan : Scanned) : Type 0 where
-  pub refused_none : scan.refused ≡ None
+-- The scan has returned no fault, and the bytes that it consumed have none.
+pub record IsFaultFree (scan : Scanned) : Type 0 where
+  pub not_failed : scan.failed_with ≡ None
   pub no_fault : fault_so_far scan.target scan.max_bytes scan.bytes ≡ None
 
--- it took these bytes too
-abbrev pub took : List ℕ → Scanned → Scanned
-took bytes scan = record { target = scan.target; max_bytes = scan.max_bytes; must_close = scan.must_close; bytes = scan.bytes ++ bytes; refused = None }
+-- The scan, once it has also consumed these bytes.
+abbrev pub consume : List ℕ → Scanned → Scanned
+consume bytes scan = record { target = scan.target; max_bytes = scan.max_bytes; must_close = scan.must_close; bytes = scan.bytes ++ bytes; failed_with = None }
 
--- it refused with this fault, and took nothing
-abbrev pub refused_with : StreamFault → Scanned → Scanned
-refused_with fault scan = record { target = scan.target; max_bytes = scan.max_bytes; must_close = scan.must_close; bytes = scan.bytes; refused = Some fault }
+-- The scan, once it has returned this fault, having consumed nothing more.
+abbrev pub fail_with : StreamFault → Scanned → Scanned
+fail_with fault scan = record { target = scan.target; max_bytes = scan.max_bytes; must_close = scan.must_close; bytes = scan.bytes; failed_with = Some fault }
 
--- these bytes were taken: they end one line more, and with it comes its entry
-abbrev pub Finds : Scanned → Scanned → List ℕ → Entry → Type 0
-Finds old new bytes entry = (new ≡ took bytes old) × EndsLine old.target old.max_bytes old.bytes bytes entry
+-- These bytes were consumed. They end one more line, which has this entry.
+abbrev pub FindsEntry : Scanned → Scanned → List ℕ → Entry → Type 0
+FindsEntry old new bytes entry = (new ≡ consume bytes old) × EndsLine old.target old.max_bytes old.bytes bytes entry
 
--- these bytes were taken: they end lines more, one at least and at most so many, whose entries were put behind others
-pub record FindsMore (old new : Scanned) (bytes : List ℕ) (most : ℕ) (first all : List Entry) : Type 0 where
+-- These bytes were consumed. They end further lines, at least one and at most `most`, and the entries of these lines were appended.
+pub record FindsEntries (old new : Scanned) (bytes : List ℕ) (most : ℕ) (first all : List Entry) : Type 0 where
   pub more : List Entry
-  pub taken : new ≡ took bytes old
+  pub taken : new ≡ consume bytes old
   pub ends : EndLines old.target old.max_bytes old.bytes bytes more
   pub some : 0 < length more
   pub few : length more ≤ most
   pub put : all ≡ first ++ more
 
--- these bytes were taken: no line ends in them, and no entry comes
-abbrev pub TakesAll : Scanned → Scanned → List ℕ → Type 0
-TakesAll old new bytes = (new ≡ took bytes old) × EndsNone old.target old.max_bytes old.bytes bytes
+-- These bytes were consumed. No line ends in them, and there is no further entry.
+abbrev pub ConsumesAll : Scanned → Scanned → List ℕ → Type 0
+ConsumesAll old new bytes = (new ≡ consume bytes old) × EndsNoLine old.target old.max_bytes old.bytes bytes
 
--- what bytes are refused with: their fault, or want of memory
-abbrev pub MayRefuse : Scanned → List ℕ → StreamFault → Type 0
-MayRefuse scan bytes fault = (fault ≡ OutOfMemory) ⊎ AreAtFault scan.target scan.max_bytes scan.bytes bytes fault
+-- A step over these bytes may return this fault: the fault of the bytes, or `OutOfMemory`.
+abbrev pub MayFailWith : Scanned → List ℕ → StreamFault → Type 0
+MayFailWith scan bytes fault = (fault ≡ OutOfMemory) ⊎ HaveFault scan.target scan.max_bytes scan.bytes bytes fault
 
--- bytes are refused: none of them was taken. What only the end of the input can tell, a step doesn't.
-pub record Refuses (old new : Scanned) (bytes : List ℕ) (fault : StreamFault) : Type 0 where
-  pub kept : new ≡ refused_with fault old
-  pub told : old.refused ≡ None → MayRefuse old bytes fault
+-- A step returned this fault, stored it, and consumed no bytes. It is never a fault that is known only at the end of the input.
+pub record FailsWith (old new : Scanned) (bytes : List ℕ) (fault : StreamFault) : Type 0 where
+  pub recorded : new ≡ fail_with fault old
+  pub may_fail : old.failed_with ≡ None → MayFailWith old bytes fault
   pub early : (fault ≢ Read) × (fault ≢ NotClosed)
 
--- what a step does with a piece from a place on: it finds the entry of the next line, or takes all, or refuses
+-- What a step does with a chunk from an offset on: it returns the entry of the next line, consumes all bytes, or returns a fault.
 abbrev pub Steps : Scanned → Scanned → List ℕ → ℕ → Result Step StreamFault → Type 0
-Steps old new piece from (Ok (Found entry upto)) = (from < upto) × (upto ≤ length piece) × Finds old new (slice_range piece from upto) entry
-Steps old new piece from (Ok More) = TakesAll old new (drop from piece)
-Steps old new piece from (Err fault) = Refuses old new (drop from piece) fault
+Steps old new piece from (Ok (Found entry upto)) = (from < upto) × (upto ≤ length piece) × FindsEntry old new (slice_range piece from upto) entry
+Steps old new piece from (Ok More) = ConsumesAll old new (drop from piece)
+Steps old new piece from (Err fault) = FailsWith old new (drop from piece) fault
 
--- a byte stands behind the closing record, or past the limit
-abbrev pub IsLateOrTooLong : StreamFault → Type 0
-IsLateOrTooLong fault = ((line : ℕ) × (fault ≡ AfterClose line)) ⊎ (fault ≡ TooLong)
+-- Whether the fault is a byte after the closing record or past the limit.
+abbrev pub IsAfterCloseOrTooLong : StreamFault → Type 0
+IsAfterCloseOrTooLong fault = ((line : ℕ) × (fault ≡ AfterClose line)) ⊎ (fault ≡ TooLong)
 
--- nothing was refused yet, and this is the fault of the bytes taken and one more
-pub record RefusesFirst (scan : Scanned) (bytes : List ℕ) (fault : StreamFault) : Type 0 where
-  pub refused_none : scan.refused ≡ None
-  pub late_or_too_long : IsLateOrTooLong fault
+-- No fault was returned yet, and this is the fault of the bytes consumed and the first of `bytes`: that byte is after the closing
+-- record or past the limit.
+pub record FailsAtFirstByte (scan : Scanned) (bytes : List ℕ) (fault : StreamFault) : Type 0 where
+  pub not_failed : scan.failed_with ≡ None
+  pub after_close_or_too_long : IsAfterCloseOrTooLong fault
   pub fault_is : fault_so_far scan.target scan.max_bytes (scan.bytes ++ take 1 bytes) ≡ Some fault
 
--- the entries of the lines that ended in the bytes taken
+-- The entries of the lines that ended in the bytes consumed.
 abbrev pub entries_in : Scanned → List Entry
 entries_in scan = entries_so_far scan.target scan.max_bytes scan.bytes
 
--- the log that is scanned is made from this, if an end of input stands behind the bytes taken
+-- The source of the log that is scanned, if the input ends after the bytes consumed.
 abbrev pub source_in : Scanned → Source Stream
 source_in scan = source scan.target scan.must_close (so_far scan.bytes)
 
--- the unended line's entry
+-- The entry of the unended line, if there is one.
 abbrev pub text_of : Option (List ℕ) → Option Entry
 text_of None = None
 text_of (Some line) = Some (Text line)

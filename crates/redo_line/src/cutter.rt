@@ -3,26 +3,26 @@ ghost use Rattle.redo_line.specs.Lines.{line_feed, ended, rest, unended};
 ghost use Rattle.redo_line.specs.Cut.{IfLine, IfMore, is_line};
 
 use crate::history::History;
-use crate::line_start::LineStart;
 use crate::line_text::LineText;
+use crate::partial_line::PartialLine;
 use std::alloc::{AllocError, Global};
 use std::marker::Model;
 
-/// What a cutter found in a piece.
+/// What a cutter found in a chunk.
 #[derive(Drop)]
 pub enum Cut {
-    /// A line, and the place in the piece after its line feed.
+    /// A line, and the offset in the chunk after its line feed.
     Line { bytes: LineText, upto: usize },
-    /// No line ends in the rest of the piece, all of which was taken.
+    /// No line ends in the rest of the chunk, and all of it was consumed.
     More,
 }
 
-/// Cuts bytes that come in pieces into lines. A cutter is seen as all bytes that it took. It keeps those
-/// since the last line feed.
+/// Splits bytes that arrive in chunks into lines. A cutter is modelled as all bytes that it consumed. It stores only the
+/// bytes since the last line feed.
 #[derive(Drop)]
 pub struct Cutter {
     alloc: Global,
-    start: LineStart,
+    start: PartialLine,
     history: History,
 }
 
@@ -38,54 +38,54 @@ impl Model for Cutter {
 }
 
 impl Cutter {
-    /// A cutter that took nothing yet. It asks for no memory, and its calls take theirs from `alloc`.
+    /// Creates a cutter that has consumed nothing. This doesn't allocate; later calls allocate from `alloc`.
     pub fn new(alloc: Global) -> Cutter
         ensures { result ≡ [] }
     {
         Cutter {
             alloc,
-            start: LineStart::new(alloc),
-            history: History::none(),
+            start: PartialLine::new(alloc),
+            history: History::empty(),
         }
     }
 
-    /// Takes the bytes of `piece` from the place `from` on, up to the first line feed. Call it
-    /// again with the place that it answered, until it answers `More`; then with the next piece.
+    /// Consumes the bytes of `piece` from the offset `from` up to and including the first line feed.
+    /// Call it again with the returned offset until it returns `More`, and then with the next chunk.
     ///
-    /// A refusal changes nothing: the bytes from `from` on are still to be taken.
+    /// If it fails, nothing changes: the bytes from `from` on are not consumed.
     #[inline]
     pub fn next(&mut self, piece: &[u8], from: usize) -> Result<Cut, AllocError>
         requires { from ≤ length piece.now }
 
-        // A line is answered exactly where a line feed is left in the piece.
+        // A line is returned exactly if the rest of the chunk has a line feed.
         ensures found { IfOk result (λ cut. IsTrue (is_line cut) ↔ Contains (drop from piece.now) line_feed) }
 
-        // The bytes up to the place are taken. They end this line more, and nothing stands behind it.
-        ensures place { IfOk result (λ cut. IfLine cut (λ line upto. (from < upto) × (upto ≤ length piece.now))) }
-        ensures upto { IfOk result (λ cut. IfLine cut (λ line upto. self.new ≡ self.old ++ slice_range piece.now from upto)) }
+        // Then the bytes up to the offset are consumed. They end one more line, which is this one, and no byte follows it.
+        ensures range { IfOk result (λ cut. IfLine cut (λ line upto. (from < upto) × (upto ≤ length piece.now))) }
+        ensures consumed { IfOk result (λ cut. IfLine cut (λ line upto. self.new ≡ self.old ++ slice_range piece.now from upto)) }
         ensures line { IfOk result (λ cut. IfLine cut (λ line upto. ended self.new ≡ ended self.old ++ line ∷ [])) }
         ensures no_rest { IfOk result (λ cut. IfLine cut (λ line upto. rest self.new ≡ [])) }
 
-        // Or all that is left of the piece is taken, and ends no line more.
-        ensures more { IfOk result (λ cut. IfMore cut (self.new ≡ self.old ++ drop from piece.now)) }
+        // Otherwise the rest of the chunk is consumed and ends no further line.
+        ensures rest_consumed { IfOk result (λ cut. IfMore cut (self.new ≡ self.old ++ drop from piece.now)) }
         ensures no_line { IfOk result (λ cut. IfMore cut (ended self.new ≡ ended self.old)) }
-        ensures err { OnErr result (self.new ≡ self.old) }
+        ensures unchanged_on_err { OnErr result (self.new ≡ self.old) }
     {
         match self.start.next_line(&piece[from..])? {
             Some((line, length)) => {
                 let bytes = LineText::from_vec(line.into_vec(self.alloc)?);
                 let upto = from + length;
-                self.history = History::then(&self.history, &piece[from..upto]);
+                self.history = History::extended(&self.history, &piece[from..upto]);
                 Ok(Cut::Line { bytes, upto })
             }
             None => {
-                self.history = History::then(&self.history, &piece[from..]);
+                self.history = History::extended(&self.history, &piece[from..]);
                 Ok(Cut::More)
             }
         }
     }
 
-    /// The bytes after the last line feed, if there are any: the unended line.
+    /// Returns the unended line: the bytes after the last line feed, if there are any.
     pub fn finish(self) -> Option<LineText>
         ensures { result ≡ unended (rest self) }
     {

@@ -3,8 +3,8 @@ ghost use Rattle.std.specs.Char.{is_ascii_digit};
 ghost use Rattle.std.specs.List.{list_all};
 ghost use Rattle.redo_line.specs.Decimal as spec;
 
-/// What decimal digits stand for. It is `None` where there is no digit, where there are more than
-/// `most`, or where a byte is none; leading zeros are digits too. `most` may be up to 19.
+/// Returns the value of decimal digits, or `None` if there are no bytes, if there are more than `most`,
+/// or if a byte is not a digit. Leading zeros count as digits. `most` must be at most 19.
 pub fn read_number(most: usize, digits: &[u8]) -> Option<u64>
     requires { most ≤ 19 }
     ensures value { result ≡ spec.number_of most digits.now }
@@ -17,7 +17,7 @@ pub fn read_number(most: usize, digits: &[u8]) -> Option<u64>
     }
 }
 
-/// Whether these are decimal digits, at least one and at most so many.
+/// Returns whether the bytes are decimal digits, at least one and at most `most`.
 pub fn are_digits(most: usize, bytes: &[u8]) -> bool
     ensures { result ≡ spec.are_digits most bytes.now }
 {
@@ -31,7 +31,7 @@ fn all_digits(bytes: &[u8]) -> bool
 }
 
 fn number(digits: &[u8]) -> u64
-    requires few { length digits.now ≤ 19 }
+    requires at_most { length digits.now ≤ 19 }
     requires all { list_all is_ascii_digit digits.now ≡ true }
     ensures value { result ≡ spec.number digits.now }
     ensures below { result < 10 ^ length digits.now }

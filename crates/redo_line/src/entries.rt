@@ -1,22 +1,23 @@
-//! Entries in few pieces of memory.
+//! Consecutive entries that share a few buffers.
 ghost use Rattle.std.specs.Prelude.{◌≡◌, ◌≤◌, ◌+◌, true, [], ◌∷◌, ◌++◌, length, map, drop, slice_range, IfOk, OnOk, OnErr};
-ghost use Rattle.redo_line.specs.Entries.{AreAt, IsLayout, IsWithin, entries_there};
-ghost use Rattle.redo_line.specs.Lines.{AreWholeLines, HasNoLineFeed, ended};
+ghost use Rattle.redo_line.specs.Entries.{AreStoredAt, IsLayout, IsWithin, entries_at_place};
+ghost use Rattle.redo_line.specs.Lines.{AreCompleteLines, HasNoLineFeed, ended};
 ghost use Rattle.redo_name.specs.Names.{IsNormal};
 ghost use Rattle.redo_line.specs.Private.CutLine.{line_bytes};
 ghost use Rattle.redo_line.specs.declared.entry.Entry.TheVariants.{Text, Mention, Done, Closing, Note};
 
 use crate::entry::{Entry, How};
-use crate::line_start::Line;
 use crate::line_text::LineText;
+use crate::partial_line::Line;
 use redo_name::TargetName;
 use std::alloc::{AllocError, Global};
 use std::marker::Model;
 
-/// Where the texts of lines stand, or of an entry, or its name. Its cases are those of [`Entry`].
+/// One or more text lines, or one other entry: the offsets of its texts or its name in the buffers of a [`Layout`]. The
+/// cases correspond to the cases of [`Entry`].
 #[derive(Clone, Copy, Debug)]
 pub enum EntryAt {
-    /// So many lines that are text, one at least, each with its line feed.
+    /// The number of text lines, at least one, and the offsets of these lines, each with its line feed.
     Texts {
         lines: u16,
         start: usize,
@@ -38,7 +39,7 @@ pub enum EntryAt {
         pid: u32,
         status: i32,
     },
-    /// The text stands behind the kind.
+    /// The kind is from `start` to `middle`, and the text from `middle` to `end`.
     Note {
         pid: u32,
         start: usize,
@@ -47,27 +48,27 @@ pub enum EntryAt {
     },
 }
 
-/// Entries of a log, one behind the other, in few pieces of memory. They are seen as their list.
+/// Consecutive entries of a log that share a few buffers. They are modelled as the list of these entries.
 #[derive(Debug, Drop)]
 pub struct Entries {
-    // Texts and kinds.
+    // Text lines, and the kinds and texts of notes.
     bytes: Vec<u8>,
     names: Vec<u8>,
     places: Vec<EntryAt>,
-    // How many entries there are.
+    // The number of entries. An element of `places` may have several.
     count: usize,
-    // How many bytes the first text asks room for.
+    // The number of bytes for which the first text reserves room.
     room: usize,
 }
 
-/// What entries are made of.
+/// The buffers of consecutive entries.
 #[derive(Clone, Copy)]
 pub struct Layout<'a> {
-    /// Their texts and kinds, one behind the other.
+    /// The text lines, and the kinds and texts of notes, concatenated.
     pub bytes: &'a [u8],
-    /// Their names, one behind the other.
+    /// The names, concatenated.
     pub names: &'a [u8],
-    /// Of lines, or of an entry, where their texts stand, or its name.
+    /// The entries in order, as the offsets of their texts or names. Consecutive text lines may share one element.
     pub places: &'a [EntryAt],
 }
 
@@ -85,7 +86,7 @@ impl Model for Entries {
 }
 
 impl Entries {
-    /// No entries. It asks for no memory.
+    /// Creates an empty list of entries. It doesn't allocate.
     pub fn new(alloc: Global) -> Entries
         ensures { result ≡ [] }
     {
@@ -98,7 +99,7 @@ impl Entries {
         }
     }
 
-    /// No entries, with room for so many. Their first text asks for room for so many bytes.
+    /// Creates an empty list with room for `entries` entries. Its first text reserves room for `bytes` bytes.
     pub fn with_room(alloc: Global, entries: usize, bytes: usize) -> Result<Entries, AllocError>
         ensures { IfOk result (λ run. run ≡ []) }
     {
@@ -111,14 +112,14 @@ impl Entries {
         })
     }
 
-    /// How many there are.
+    /// Returns the number of entries.
     pub fn len(&self) -> usize
         ensures { result ≡ length self.now }
     {
         self.count
     }
 
-    /// What they are made of.
+    /// Returns the buffers.
     pub fn layout(&self) -> Layout<'_>
         ensures { IsLayout result self.now }
     {
@@ -129,14 +130,14 @@ impl Entries {
         }
     }
 
-    /// The pieces of memory: their texts and kinds, their names, and where they stand.
+    /// Returns the buffers themselves: `bytes`, `names` and `places` of the [`Layout`].
     pub fn into_pieces(self) -> (Vec<u8>, Vec<u8>, Vec<EntryAt>)
-        ensures { AreAt result.0.items result.1.items result.2.items self }
+        ensures { AreStoredAt result.0.items result.1.items result.2.items self }
     {
         (self.bytes, self.names, self.places)
     }
 
-    /// The only one, with memory of its own. There has to be one.
+    /// Returns the only entry, with its own buffers. There must be exactly one.
     pub fn into_entry(self, alloc: Global) -> Result<Entry, AllocError>
         requires { length self ≡ 1 }
         ensures { IfOk result (λ entry. self ≡ entry ∷ []) }
@@ -149,17 +150,17 @@ impl Entries {
         } = self;
         match places[0] {
             EntryAt::Texts { start, end, .. } => {
-                let line = part_of(bytes, start, end - 1);
+                let line = keep_range(bytes, start, end - 1);
                 Ok(Entry::Text(LineText::from_vec(line)))
             }
             place => copy_at(alloc, &bytes, &names, place),
         }
     }
 
-    /// Puts an entry behind them. A refusal changes nothing.
+    /// Appends an entry. If it fails, nothing changes.
     pub fn push(&mut self, entry: Entry) -> Result<(), AllocError>
         ensures pushed { OnOk result (self.new ≡ self.old ++ entry ∷ []) }
-        ensures err { OnErr result (self.new ≡ self.old) }
+        ensures unchanged_on_err { OnErr result (self.new ≡ self.old) }
     {
         match entry {
             Entry::Text(line) => self.push_joined(line.into_vec()),
@@ -170,23 +171,23 @@ impl Entries {
         }
     }
 
-    // Puts a line behind them, as text. A refusal changes nothing.
+    // Appends a text line. If it fails, nothing changes.
     pub(crate) fn push_line(&mut self, line: Line<'_>) -> Result<(), AllocError>
         requires { HasNoLineFeed (line_bytes line) }
         ensures pushed { OnOk result (self.new ≡ self.old ++ Text (line_bytes line.entry) ∷ []) }
-        ensures err { OnErr result (self.new ≡ self.old) }
+        ensures unchanged_on_err { OnErr result (self.new ≡ self.old) }
     {
         match line {
-            Line::Within(bytes) => self.push_text(bytes),
-            Line::Joined(bytes) => self.push_joined(bytes),
+            Line::Borrowed(bytes) => self.push_text(bytes),
+            Line::Owned(bytes) => self.push_joined(bytes),
         }
     }
 
-    // Puts so many lines behind them, as texts. A refusal changes nothing.
+    // Appends `count` text lines, each with its line feed. If it fails, nothing changes.
     pub(crate) fn push_lines(&mut self, lines: &[u8], count: u16) -> Result<(), AllocError>
-        requires { AreWholeLines lines.now count }
+        requires { AreCompleteLines lines.now count }
         ensures pushed { OnOk result (self.new ≡ self.old ++ map Text (ended lines.now)) }
-        ensures err { OnErr result (self.new ≡ self.old) }
+        ensures unchanged_on_err { OnErr result (self.new ≡ self.old) }
     {
         let (start, end) = put_with_room(&mut self.bytes, self.room, lines)?;
         self.places.push(EntryAt::Texts {
@@ -201,7 +202,7 @@ impl Entries {
     fn push_text(&mut self, line: &[u8]) -> Result<(), AllocError>
         requires { HasNoLineFeed line.now }
         ensures pushed { OnOk result (self.new ≡ self.old ++ Text line.now ∷ []) }
-        ensures err { OnErr result (self.new ≡ self.old) }
+        ensures unchanged_on_err { OnErr result (self.new ≡ self.old) }
     {
         let (start, _) = put_with_room(&mut self.bytes, self.room, line)?;
         let (_, end) = put(&mut self.bytes, b"\n")?;
@@ -214,13 +215,14 @@ impl Entries {
         Ok(())
     }
 
-    // The first text brings its memory, where there is no room for it.
+    // Appends a text line. If it is the first text and exceeds the room to reserve, its memory becomes the buffer,
+    // without a copy.
     fn push_joined(&mut self, line: Vec<u8>) -> Result<(), AllocError>
         requires { HasNoLineFeed line.items }
         ensures pushed { OnOk result (self.new ≡ self.old ++ Text line.items ∷ []) }
-        ensures err { OnErr result (self.new ≡ self.old) }
+        ensures unchanged_on_err { OnErr result (self.new ≡ self.old) }
     {
-        if !is_first_beyond(&self.bytes, self.room, line.len()) {
+        if !exceeds_initial_room(&self.bytes, self.room, line.len()) {
             return self.push_text(&line);
         }
         self.bytes = line;
@@ -237,7 +239,7 @@ impl Entries {
     pub(crate) fn push_mention(&mut self, pid: u32, how: How, name: &[u8]) -> Result<(), AllocError>
         requires { IsNormal name.now }
         ensures pushed { OnOk result (self.new ≡ self.old ++ Mention pid how name.now ∷ []) }
-        ensures err { OnErr result (self.new ≡ self.old) }
+        ensures unchanged_on_err { OnErr result (self.new ≡ self.old) }
     {
         let (start, end) = put(&mut self.names, name)?;
         self.places.push(EntryAt::Mention {
@@ -253,7 +255,7 @@ impl Entries {
     pub(crate) fn push_done(&mut self, pid: u32, status: i32, name: &[u8]) -> Result<(), AllocError>
         requires { IsNormal name.now }
         ensures pushed { OnOk result (self.new ≡ self.old ++ Done pid status name.now ∷ []) }
-        ensures err { OnErr result (self.new ≡ self.old) }
+        ensures unchanged_on_err { OnErr result (self.new ≡ self.old) }
     {
         let (start, end) = put(&mut self.names, name)?;
         self.places.push(EntryAt::Done {
@@ -268,7 +270,7 @@ impl Entries {
 
     pub(crate) fn push_closing(&mut self, pid: u32, status: i32) -> Result<(), AllocError>
         ensures pushed { OnOk result (self.new ≡ self.old ++ Closing pid status ∷ []) }
-        ensures err { OnErr result (self.new ≡ self.old) }
+        ensures unchanged_on_err { OnErr result (self.new ≡ self.old) }
     {
         self.places.push(EntryAt::Closing { pid, status })?;
         self.count += 1;
@@ -279,7 +281,7 @@ impl Entries {
         requires kind { HasNoLineFeed kind.now }
         requires text { HasNoLineFeed text.now }
         ensures pushed { OnOk result (self.new ≡ self.old ++ Note pid kind.now text.now ∷ []) }
-        ensures err { OnErr result (self.new ≡ self.old) }
+        ensures unchanged_on_err { OnErr result (self.new ≡ self.old) }
     {
         let (start, middle) = put(&mut self.bytes, kind)?;
         let (_, end) = put(&mut self.bytes, text)?;
@@ -294,18 +296,18 @@ impl Entries {
     }
 }
 
-// A part of bytes, in their memory.
-fn part_of(mut bytes: Vec<u8>, start: usize, end: usize) -> Vec<u8>
+// Returns the bytes from `start` to `end`, in the same buffer.
+fn keep_range(mut bytes: Vec<u8>, start: usize, end: usize) -> Vec<u8>
     requires order { start ≤ end }
     requires end { end ≤ length bytes.items }
     ensures { result.items ≡ slice_range bytes.items start end }
 {
     bytes.truncate(end);
-    behind(bytes, start)
+    drop_prefix(bytes, start)
 }
 
-// What stands behind so many bytes, in their memory.
-fn behind(mut bytes: Vec<u8>, count: usize) -> Vec<u8>
+// Returns the bytes after the first `count`, in the same buffer.
+fn drop_prefix(mut bytes: Vec<u8>, count: usize) -> Vec<u8>
     requires { count ≤ length bytes.items }
     ensures { result.items ≡ drop count bytes.items }
 {
@@ -313,11 +315,11 @@ fn behind(mut bytes: Vec<u8>, count: usize) -> Vec<u8>
     bytes
 }
 
-// The entry that stands there alone, with memory of its own; a line is copied apart.
+// Returns a copy of the only entry at a place, with its own buffers.
 fn copy_at(alloc: Global, bytes: &[u8], names: &[u8], place: EntryAt) -> Result<Entry, AllocError>
     requires within { IsWithin bytes.now names.now place }
-    requires alone { length (entries_there bytes.now names.now place) ≡ 1 }
-    ensures { IfOk result (λ entry. entries_there bytes.now names.now place ≡ entry ∷ []) }
+    requires alone { length (entries_at_place bytes.now names.now place) ≡ 1 }
+    ensures { IfOk result (λ entry. entries_at_place bytes.now names.now place ≡ entry ∷ []) }
 {
     match place {
         EntryAt::Texts { start, end, .. } => {
@@ -356,14 +358,14 @@ fn copy_at(alloc: Global, bytes: &[u8], names: &[u8], place: EntryAt) -> Result<
     }
 }
 
-// Whether there are no bytes yet, and these are too many for the room that they would ask for.
-fn is_first_beyond(bytes: &Vec<u8>, room: usize, count: usize) -> bool
+// Returns whether there are no bytes yet, and `count` bytes with a line feed would exceed the room to reserve.
+fn exceeds_initial_room(bytes: &Vec<u8>, room: usize, count: usize) -> bool
     ensures { result ≡ true → bytes.now.items ≡ [] }
 {
     bytes.is_empty() && room <= count
 }
 
-// Puts bytes behind others, of which the first ask for room, and answers where they begin and end.
+// Appends bytes, and returns where they begin and end. The first bytes reserve room for `room` bytes.
 fn put_with_room(
     bytes: &mut Vec<u8>,
     room: usize,
@@ -372,7 +374,7 @@ fn put_with_room(
     ensures start { IfOk result (λ span. span.0 ≡ length bytes.old.items) }
     ensures end { IfOk result (λ span. span.1 ≡ length bytes.old.items + length more.now) }
     ensures put { OnOk result (bytes.new.items ≡ bytes.old.items ++ more.now) }
-    ensures err { OnErr result (bytes.new.items ≡ bytes.old.items) }
+    ensures unchanged_on_err { OnErr result (bytes.new.items ≡ bytes.old.items) }
 {
     if bytes.is_empty() {
         bytes.reserve(room)?;
@@ -380,12 +382,12 @@ fn put_with_room(
     put(bytes, more)
 }
 
-// Puts bytes behind others, and answers where they begin and end.
+// Appends bytes, and returns where they begin and end.
 fn put(bytes: &mut Vec<u8>, more: &[u8]) -> Result<(usize, usize), AllocError>
     ensures start { IfOk result (λ span. span.0 ≡ length bytes.old.items) }
     ensures end { IfOk result (λ span. span.1 ≡ length bytes.old.items + length more.now) }
     ensures put { OnOk result (bytes.new.items ≡ bytes.old.items ++ more.now) }
-    ensures err { OnErr result (bytes.new.items ≡ bytes.old.items) }
+    ensures unchanged_on_err { OnErr result (bytes.new.items ≡ bytes.old.items) }
 {
     let start = bytes.len();
     bytes.extend_from_slice(more)?;

@@ -1,28 +1,28 @@
 use crate::line_text::LineText;
 use redo_name::TargetName;
 
-/// How a record mentions a target: by its kind.
+/// How a record mentions a target. Each value is one kind of record.
 #[derive(Clone, Copy, Debug, PartialEq, Eq)]
 pub enum How {
-    /// `do`: it is made.
+    /// `do`: the target is built.
     Made,
-    /// `waiting`: somebody else makes it, and that is waited for.
+    /// `waiting`: another process builds the target, and the process of this record waits for it.
     Waiting,
-    /// `locked`: it was locked by somebody else.
+    /// `locked`: another process had locked the target.
     Locked,
-    /// `unlocked`: it is locked by nobody else any more.
+    /// `unlocked`: no other process locks the target any more.
     Unlocked,
-    /// `unchanged`: it needed not be made.
+    /// `unchanged`: the target did not need to be built.
     Unchanged,
 }
 
-/// What a line of a log says. Names are resolved, and a pid is that of the process that wrote the record:
+/// The entry of a line of a log. Names are resolved to their normal forms, and `pid` is the pid in the record.
 /// docs/format.md has the rules.
 #[derive(Debug, Drop)]
 pub enum Entry {
-    /// A line that is no record, as it is.
+    /// A line that is not a record, unchanged.
     Text(LineText),
-    /// Another target, or this one, comes up.
+    /// The line mentions a target: another one, or the log's own.
     Mention {
         pid: u32,
         how: How,

@@ -3,8 +3,8 @@ ghost use Rattle.std.specs.Borrow.{ftrue};
 
 use std::marker::Model;
 
-/// The bytes that came so far. It is a list for contracts alone, and takes no bytes: no clause but
-/// those of its two calls ties it to anything.
+/// The bytes consumed so far. The list is a ghost: it exists in contracts alone and takes no
+/// memory. Only the clauses of `empty` and `extended` fix its value.
 #[derive(Drop)]
 pub struct History {
     pub ghost bytes: { List ℕ },
@@ -15,13 +15,13 @@ impl Model for History {
 }
 
 impl History {
-    pub fn none() -> History
+    pub fn empty() -> History
         ensures { result.bytes ≡ [] }
     {
         History {}
     }
 
-    pub fn then(_before: &History, _more: &[u8]) -> History
+    pub fn extended(_before: &History, _more: &[u8]) -> History
         ensures { result.bytes ≡ _before.now.bytes ++ _more.now }
     {
         History {}

@@ -1,38 +1,37 @@
-//! Bytes in, entries out: the cutting of what is read into lines, the records among these, and the
-//! scan of a stream.
+//! Bytes in, entries out: splits bytes into lines, reads the records among them, and scans streams.
 //!
-//! What the layers above use: a [`Scan`] gives the entries of a stream, or its fault and the entries
-//! before it, however the stream was cut into pieces. It stands on a [`Cutter`], which gives the
-//! lines of all the bytes that it took, and on [`read_line`], which gives what a line says. Devices
-//! and names are handed on from the crates that have them.
+//! A [`Scan`] gives the entries of a stream, or its fault and the entries before the fault, however
+//! the stream is divided into chunks. A [`Cutter`] gives only the lines of all bytes that it
+//! consumed, and [`read_line`] gives the entry of one line. Devices and names are re-exported from
+//! `redo_device` and `redo_name`.
 #![tactic(auto)]
 
 mod cutter;
 mod decimal;
 mod entries;
 mod entry;
+mod find;
 mod history;
 mod laws;
+mod leading_text;
 mod line;
-mod line_start;
 mod line_text;
-mod near;
-mod parts;
+mod partial_line;
 mod progress;
 mod record;
 mod resolver;
 mod scan;
+mod split_once;
 mod stream_fault;
-mod texts;
 
 pub use cutter::{Cut, Cutter};
 pub use decimal::read_number;
 pub use entries::{Entries, EntryAt, Layout};
 pub use entry::{Entry, How};
 pub use laws::{
-    an_entry_for_each_line, closing_stands_last, cutting_goes_on, early_fault, entries_stay,
-    entry_of_a_line, failed_read, least_line_at_fault, may_end_with_any_line, one_cutting,
-    one_reading,
+    closing_record_is_last, early_fault_is_final, entries_are_final, entry_is_sound_and_complete,
+    failed_read_is_the_fault, first_faulty_line, one_entry_per_line, record_has_one_parse,
+    splitting_is_incremental, splitting_is_unique, unflagged_log_may_end_anywhere,
 };
 pub use line::{LineFault, read_line};
 pub use line_text::LineText;

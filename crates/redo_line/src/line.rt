@@ -1,9 +1,9 @@
 ghost use Rattle.std.specs.Prelude.{◌≡◌, ◌↔◌, ◌&&◌, true, None, Some, Ok, Err, IfOk, IsTrue, nat_eq};
 ghost use Rattle.std.specs.List.{starts_with};
-ghost use Rattle.redo_line.specs.Parts.{parted};
-ghost use Rattle.redo_line.specs.Record.{mark, space};
-ghost use Rattle.redo_line.specs.Entry.{entry_of, behind_mark, done_parted};
-ghost use Rattle.redo_line.specs.Line.{bad_name};
+ghost use Rattle.redo_line.specs.Parts.{split_once};
+ghost use Rattle.redo_line.specs.Record.{record_prefix, space};
+ghost use Rattle.redo_line.specs.Entry.{entry_of, candidate_body, done_entry};
+ghost use Rattle.redo_line.specs.Line.{line_fault_of_name};
 ghost use Rattle.redo_line.specs.Lines.{HasNoLineFeed};
 ghost use Rattle.redo_line.specs.Private.CutLine.{line_bytes};
 ghost use Rattle.redo_line.specs.Private.Line.{Reads, ReadsInto};
@@ -12,23 +12,23 @@ ghost use Rattle.redo_line.specs.declared.line.LineFault.TheVariants.{BadRecord,
 
 use crate::entries::Entries;
 use crate::entry::Entry;
-use crate::line_start::Line;
 use crate::line_text::LineText;
-use crate::parts::split_at_first;
+use crate::partial_line::Line;
 use crate::record::{Kind, kind_of, read_fields, read_status};
 use crate::resolver::Resolver;
+use crate::split_once::split_at_first;
 use redo_name::{NameFault, TargetName};
 use std::alloc::{AllocError, Global};
 
-// What a record begins with.
-const MARK: &[u8] = b"@@REDO:";
+// The record prefix.
+const RECORD_PREFIX: &[u8] = b"@@REDO:";
 
 /// Why a line has no entry.
 #[derive(Clone, Copy, Debug, PartialEq, Eq)]
 pub enum LineFault {
-    /// The line begins as a record does, and is none.
+    /// The line is ended and begins with the record prefix, but is not a record.
     BadRecord,
-    /// There was no memory.
+    /// An allocation failed.
     OutOfMemory,
 }
 
@@ -41,9 +41,9 @@ impl From<AllocError> for LineFault {
 }
 
 impl From<NameFault> for LineFault {
-    ghost from_gives = { λ name_fault fault. fault ≡ bad_name name_fault };
+    ghost from_gives = { λ name_fault fault. fault ≡ line_fault_of_name name_fault };
 
-    // A record whose name is empty is none.
+    // A line whose name is empty is not a record.
     fn from(fault: NameFault) -> LineFault {
         match fault {
             NameFault::Empty => LineFault::BadRecord,
@@ -52,10 +52,11 @@ impl From<NameFault> for LineFault {
     }
 }
 
-/// What a line says in the log of a target. An ended line that begins with `@@REDO:` is a record,
-/// or refused as `BadRecord`; any other line is text. docs/format.md has the rule.
+/// Returns the entry of a line in the log of a target. An ended line that begins with `@@REDO:` is a
+/// candidate; it fails with `BadRecord` exactly if it is not a record. Any other line is text.
+/// docs/format.md has the rule.
 ///
-/// Text takes no memory: the entry has the line itself.
+/// A text line needs no allocation: its entry takes ownership of the line.
 pub fn read_line(
     alloc: Global,
     target: &TargetName,
@@ -64,36 +65,36 @@ pub fn read_line(
 ) -> Result<Entry, LineFault>
     ensures entry { IfOk result (λ entry. entry_of target.now line ended ≡ Some entry) }
     ensures bad { (result ≡ Err LineFault.BadRecord) ↔ (entry_of target.now line ended ≡ None) }
-    ensures text { behind_mark line ended ≡ None → result ≡ Ok (Text line) }
+    ensures text { candidate_body line ended ≡ None → result ≡ Ok (Text line) }
 {
     if is_candidate(line.bytes(), ended) {
-        read_apart(alloc, target, line.bytes())
+        read_owned(alloc, target, line.bytes())
     } else {
         Ok(Entry::Text(line))
     }
 }
 
-// Whether the line has to be a record.
+// Returns whether the line is a candidate: whether it must be a record.
 fn is_candidate(line: &[u8], ended: bool) -> bool
-    ensures { result ≡ (ended && starts_with nat_eq line.now mark) }
+    ensures { result ≡ (ended && starts_with nat_eq line.now record_prefix) }
 {
-    ended && is_marked(line)
+    ended && has_record_prefix(line)
 }
 
-// Whether the line begins as a record does. Most differ in the first byte.
-pub fn is_marked(line: &[u8]) -> bool
-    ensures { result ≡ starts_with nat_eq line.now mark }
+// Returns whether the line begins with the record prefix. Most lines differ from it in the first byte.
+pub fn has_record_prefix(line: &[u8]) -> bool
+    ensures { result ≡ starts_with nat_eq line.now record_prefix }
 {
     match line.first() {
-        Some(b'@') => line.starts_with(MARK),
+        Some(b'@') => line.starts_with(RECORD_PREFIX),
         _ => false,
     }
 }
 
-// What a record says, in memory of its own.
-fn read_apart(alloc: Global, target: &TargetName, line: &[u8]) -> Result<Entry, LineFault>
-    requires mark { IsTrue (starts_with nat_eq line.now mark) }
-    requires no_feed { HasNoLineFeed line.now }
+// Returns the entry of a record, with its own buffers.
+fn read_owned(alloc: Global, target: &TargetName, line: &[u8]) -> Result<Entry, LineFault>
+    requires record_prefix { IsTrue (starts_with nat_eq line.now record_prefix) }
+    requires no_line_feed { HasNoLineFeed line.now }
     ensures { Reads result (entry_of target.now line.now true) }
 {
     let mut read = Entries::new(alloc);
@@ -103,8 +104,8 @@ fn read_apart(alloc: Global, target: &TargetName, line: &[u8]) -> Result<Entry, 
     Ok(entry)
 }
 
-/// Puts what an ended line says in the log of a target behind entries, and answers whether it closes the log. A
-/// refusal leaves them as they were.
+/// Appends the entry of an ended line in the log of a target to `entries`, and returns whether it closes the log. If it
+/// fails, `entries` are unchanged.
 pub fn read_into(
     entries: &mut Entries,
     names: &mut Resolver,
@@ -112,9 +113,9 @@ pub fn read_into(
     line: Line<'_>,
 ) -> Result<bool, LineFault>
     requires target { names.old.target ≡ target.now }
-    requires no_feed { HasNoLineFeed (line_bytes line) }
+    requires no_line_feed { HasNoLineFeed (line_bytes line) }
     ensures read { ReadsInto result (entry_of target.now (line_bytes line.entry) true) entries.old entries.new }
-    ensures stays { names.new.target ≡ names.old.target }
+    ensures target_unchanged { names.new.target ≡ names.old.target }
 {
     if is_candidate(line.bytes(), true) {
         return read_record(entries, names, target, line.bytes());
@@ -130,12 +131,12 @@ fn read_record(
     line: &[u8],
 ) -> Result<bool, LineFault>
     requires target { names.old.target ≡ target.now }
-    requires mark { IsTrue (starts_with nat_eq line.now mark) }
-    requires no_feed { HasNoLineFeed line.now }
+    requires record_prefix { IsTrue (starts_with nat_eq line.now record_prefix) }
+    requires no_line_feed { HasNoLineFeed line.now }
     ensures read { ReadsInto result (entry_of target.now line.now true) entries.old entries.new }
-    ensures stays { names.new.target ≡ names.old.target }
+    ensures target_unchanged { names.new.target ≡ names.old.target }
 {
-    let Some(fields) = read_fields(&line[MARK.len()..]) else {
+    let Some(fields) = read_fields(&line[RECORD_PREFIX.len()..]) else {
         return Err(LineFault::BadRecord);
     };
     match kind_of(fields.kind) {
@@ -160,8 +161,8 @@ fn read_done(
     text: &[u8],
 ) -> Result<bool, LineFault>
     requires { names.old.target ≡ target.now }
-    ensures read { ReadsInto result (done_parted target.now pid (parted space text.now)) entries.old entries.new }
-    ensures stays { names.new.target ≡ names.old.target }
+    ensures read { ReadsInto result (done_entry target.now pid (split_once space text.now)) entries.old entries.new }
+    ensures target_unchanged { names.new.target ≡ names.old.target }
 {
     let Some((status, name)) = split_at_first(b' ', text) else {
         return Err(LineFault::BadRecord);

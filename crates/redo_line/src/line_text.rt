@@ -4,7 +4,7 @@ ghost use Rattle.redo_line.specs.Lines.{HasNoLineFeed};
 use std::alloc::{AllocError, Global};
 use std::marker::Model;
 
-/// The bytes of a line, or of a part of one. They need be no text, and hold no line feed.
+/// The bytes of a line or of a part of one. They contain no line feed, and need not be text in any encoding.
 #[derive(Debug, Drop)]
 pub struct LineText {
     bytes: Vec<u8>,
@@ -29,7 +29,7 @@ impl LineText {
         LineText { bytes }
     }
 
-    // The same bytes in memory of their own.
+    // Returns an owned copy of these bytes.
     pub(crate) fn copy_of(alloc: Global, bytes: &[u8]) -> Result<LineText, AllocError>
         requires { HasNoLineFeed bytes.now }
         ensures { IfOk result (λ text. text ≡ bytes.now) }
@@ -41,15 +41,15 @@ impl LineText {
 
     pub(crate) fn into_vec(self) -> Vec<u8>
         ensures bytes { result.items ≡ self }
-        ensures no_feed { HasNoLineFeed result.items }
+        ensures no_line_feed { HasNoLineFeed result.items }
     {
         self.bytes
     }
 
-    /// The bytes, as they were read.
+    /// Returns the bytes as they were read.
     pub fn bytes(&self) -> &[u8]
         ensures bytes { result.now ≡ self.now }
-        ensures no_feed { HasNoLineFeed result.now }
+        ensures no_line_feed { HasNoLineFeed result.now }
     {
         &self.bytes
     }

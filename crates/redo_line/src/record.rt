@@ -6,9 +6,9 @@ ghost use Rattle.redo_line.specs.Record as spec;
 
 use crate::decimal::{are_digits, read_number};
 use crate::entry::How;
-use crate::parts::split_at_first;
+use crate::split_once::split_at_first;
 
-// The names of kinds; a record of any other kind is a note.
+// The names of the kinds. A record of any other kind is a note.
 const DO: &[u8] = b"do";
 
 const WAITING: &[u8] = b"waiting";
@@ -21,7 +21,7 @@ const UNCHANGED: &[u8] = b"unchanged";
 
 const DONE: &[u8] = b"done";
 
-/// What the text of a record is.
+/// How the text of a record is read.
 #[derive(Clone, Copy)]
 pub enum Kind {
     Mention(How),
@@ -29,7 +29,7 @@ pub enum Kind {
     Note,
 }
 
-/// The parts of a record that an entry is made of.
+/// The parts of a record from which an entry is made.
 #[derive(Clone, Copy)]
 pub struct Fields<'a> {
     pub kind: &'a [u8],
@@ -37,7 +37,7 @@ pub struct Fields<'a> {
     pub text: &'a [u8],
 }
 
-// Reads a record from what stands behind its mark.
+// Reads a record from the bytes after the record prefix.
 pub fn read_fields(bytes: &[u8]) -> Option<Fields<'_>>
     ensures some { IfSome result (λ read. option_map parts_of (spec.fields_of bytes.now) ≡ Some (read.kind.now, read.pid, read.text.now)) }
     ensures none { IfNone result (spec.fields_of bytes.now ≡ None) }
@@ -76,7 +76,7 @@ fn is_kind_byte(byte: u8) -> bool
     byte.is_ascii_lowercase() || byte == b'-' || byte == b'_'
 }
 
-// What a pid stands for.
+// Returns the value of a pid: one to ten digits whose value fits a `u32`.
 fn read_pid(pid: &[u8]) -> Option<u32>
     ensures { result ≡ pid_of pid.now }
 {
@@ -93,7 +93,7 @@ fn is_time(time: &[u8]) -> bool
     }
 }
 
-// What the text of a record is, by the name of its kind.
+// Returns how the text of a record is read, by the name of its kind.
 pub fn kind_of(name: &[u8]) -> Kind
     ensures { result ≡ spec.kind_of name.now }
 {
@@ -114,7 +114,7 @@ pub fn kind_of(name: &[u8]) -> Kind
     }
 }
 
-// What a status stands for.
+// Returns the value of a status: one to nine digits, optionally after a `-`.
 pub fn read_status(status: &[u8]) -> Option<i32>
     ensures { result ≡ spec.status_of status.now }
 {

@@ -1,4 +1,4 @@
-//! The names of records, which are made normal forms.
+//! Resolves the names in records to normal forms.
 ghost use Rattle.std.specs.Prelude.{◌≡◌, ◌≢◌, ◌↔◌, [], Some, Err, IsTrue, OnOk};
 ghost use Rattle.redo_name.specs.Names.{IsNormal, normal};
 ghost use Rattle.redo_name.specs.declared.name.NameFault.TheVariants.{Empty};
@@ -8,11 +8,11 @@ use std::alloc::Global;
 use std::marker::Model;
 use std::snapshot::Snapshot;
 
-/// Makes the names in the records of a target's log normal forms. It is seen as the target, which is for contracts alone,
-/// and as the normal form that it made last.
+/// Resolves the names in the records of a target's log. It is modelled as the target, which exists in contracts alone,
+/// and the normal form that it computed last.
 #[derive(Drop)]
 pub struct Resolver {
-    // The name that was made one last, if it isn't empty. Records in a row often have one name.
+    // `path` is the normal form of this name, unless the name is empty. Consecutive records often have the same name.
     name: Vec<u8>,
     path: Vec<u8>,
     target: Snapshot<TargetName>,
@@ -29,7 +29,7 @@ impl Model for Resolver {
 }
 
 impl Resolver {
-    /// What makes names normal forms in the log of a target.
+    /// Creates a resolver for the log of a target.
     pub fn new(alloc: Global, target: &TargetName) -> Resolver
         ensures { result.target ≡ target.now }
     {
@@ -40,21 +40,21 @@ impl Resolver {
         }
     }
 
-    /// The normal form that was made last.
+    /// Returns the normal form that was computed last.
     pub fn path(&self) -> &[u8]
         ensures { result.now ≡ self.now.path }
     {
         &self.path
     }
 
-    /// Makes a name a normal form in the log of this target, which has to be the same each time. Only an empty name is
-    /// refused as `Empty`. After a refusal nothing is known of the normal form.
+    /// Computes the normal form of a name in the log of `target`, which must be the same in every call. Fails with `Empty`
+    /// exactly if the name is empty. After an error the last normal form is unspecified.
     pub fn resolve(&mut self, target: &TargetName, name: &[u8]) -> Result<(), NameFault>
         requires { self.old.target ≡ target.now }
         ensures ok { OnOk result (normal (Some target.now) name.now ≡ Some self.new.path) }
         ensures is_normal { OnOk result (IsNormal self.new.path) }
         ensures empty { (result ≡ Err Empty) ↔ (name.now ≡ []) }
-        ensures stays { self.new.target ≡ self.old.target }
+        ensures target_unchanged { self.new.target ≡ self.old.target }
     {
         if self.is_last(name) {
             return Ok(());
@@ -65,9 +65,9 @@ impl Resolver {
         Ok(())
     }
 
-    // Whether the normal form is that of this name.
+    // Returns true only if `path` is the normal form of this name.
     fn is_last(&self, name: &[u8]) -> bool
-        ensures some { IsTrue result → name.now ≢ [] }
+        ensures nonempty { IsTrue result → name.now ≢ [] }
         ensures is { IsTrue result → normal (Some self.now.target) name.now ≡ Some self.now.path }
         ensures is_normal { IsTrue result → IsNormal self.now.path }
     {

@@ -1,7 +1,7 @@
 ghost use Rattle.std.specs.Prelude.{◌≡◌, ◌≢◌, ◌<◌, ◌≤◌, ◌^◌, ◌++◌, [], None, Some, Ok, Err, IfOk, IfErr, IfSome, IfNone, length, drop, slice_range, option_to_list};
 ghost use Rattle.redo_line.specs.Lines.{rest, unended};
 ghost use Rattle.redo_line.specs.Source.{fault_from, log_from};
-ghost use Rattle.redo_line.specs.Scan.{FindsMore, TakesAll, Steps, IsFine, MayRefuse, RefusesFirst, entries_in, refused_with, source_in, text_of};
+ghost use Rattle.redo_line.specs.Scan.{FindsEntries, ConsumesAll, Steps, IsFaultFree, MayFailWith, FailsAtFirstByte, entries_in, fail_with, source_in, text_of};
 ghost use Rattle.redo_line.specs.declared.stream_fault.StreamFault.{StreamFault};
 ghost use Rattle.redo_line.specs.declared.stream_fault.StreamFault.TheVariants.{NotClosed, Read};
 
@@ -14,24 +14,25 @@ use redo_name::TargetName;
 use std::alloc::Global;
 use std::marker::Model;
 
-/// What a scan found in a piece.
+/// What a scan found in a chunk.
 #[derive(Drop)]
 pub enum Step {
-    /// The entry of a line, and the place in the piece after its line feed.
+    /// The entry of a line, and the offset in the chunk after its line feed.
     Found { entry: Entry, upto: usize },
-    /// No line ends in the rest of the piece, all of which was taken.
+    /// No line ends in the rest of the chunk, and all of it was consumed.
     More,
 }
 
-/// Reads the log of a target from a stream that comes in pieces, up to the stream's fault. It is seen
-/// as the bytes that it took, with the target, the limit, and what it refused.
+/// Reads the log of a target from a stream that arrives in chunks, up to the stream's fault. It is
+/// modelled as the bytes that it consumed, with the target, the limit, whether the log must be closed,
+/// and the fault that it returned, if any.
 #[derive(Drop)]
 pub struct Scan {
     alloc: Global,
     progress: Progress,
     must_close: bool,
     history: History,
-    refused: Option<StreamFault>,
+    failed_with: Option<StreamFault>,
 }
 
 impl Model for Scan {
@@ -45,52 +46,52 @@ impl Model for Scan {
       max_bytes = scan.progress.max_bytes;
       must_close = scan.must_close;
       bytes = scan.history.bytes;
-      refused = scan.refused;
+      failed_with = scan.failed_with;
     } };
 
-    ghost invariant = { λ scan. IsScan scan.progress scan.history.bytes scan.refused };
+    ghost invariant = { λ scan. IsScan scan.progress scan.history.bytes scan.failed_with };
 }
 
 impl Scan {
-    /// A scan of the log of a target, which may have `max_bytes` bytes, from 1 to
-    /// 1,099,511,627,776. Where it `must_close`, its stream has to end with the record that closes the log.
-    /// The scan asks for no memory, and its calls take theirs from `alloc`.
+    /// Creates a scan of the log of a target. The log may have at most `max_bytes` bytes, a number from 1
+    /// to 1,099,511,627,776. If `must_close` is set, the stream must end with the closing record. This
+    /// doesn't allocate; later calls allocate from `alloc`.
     pub fn new(alloc: Global, target: TargetName, max_bytes: u64, must_close: bool) -> Scan
         requires at_least { 1 ≤ max_bytes }
         requires at_most { max_bytes ≤ 2 ^ 40 }
         ensures scan { result ≡
-            record { target = target; max_bytes = max_bytes; must_close = must_close; bytes = []; refused = None } }
-        ensures fine { IsFine result }
+            record { target = target; max_bytes = max_bytes; must_close = must_close; bytes = []; failed_with = None } }
+        ensures fault_free { IsFaultFree result }
         ensures none_found { entries_in result ≡ [] }
     {
         Scan {
             alloc,
             progress: Progress::new(alloc, target, max_bytes),
             must_close,
-            history: History::none(),
-            refused: None,
+            history: History::empty(),
+            failed_with: None,
         }
     }
 
-    /// Takes the bytes of `piece` from the place `from` on, up to the end of the first line. Call it
-    /// again with the place that it answered, until it answers `More`; then with the next piece.
+    /// Consumes the bytes of `piece` from the offset `from` up to the end of the first line. Call it
+    /// again with the returned offset until it returns `More`, and then with the next chunk.
     ///
-    /// A stream is refused at the first line that is at fault, or at the first byte past the limit;
-    /// docs/format.md has the rule. `Read` and `NotClosed` are never answered. Whatever was refused, want
-    /// of memory too, is answered to every later call.
+    /// Fails at the first invalid line, or at the first byte past the limit; docs/format.md has the rule.
+    /// It never returns `Read` or `NotClosed`. Once it has returned a fault, including `OutOfMemory`,
+    /// every later call returns the same fault.
     pub fn step(&mut self, piece: &[u8], from: usize) -> Result<Step, StreamFault>
         requires { from ≤ length piece.now }
 
-        // A line ends, and its entry is found; or all that is left of the piece was taken; or its fault is told.
+        // A line ends and its entry is returned, or the rest of the chunk is consumed, or a fault is returned.
         ensures step { Steps self.old self.new piece.now from result }
 
-        // Where the very first byte is late, or one too many, that is answered, without a request for memory.
-        ensures at_once { (fault : StreamFault) → RefusesFirst self.old (drop from piece.now) fault → result ≡ Err fault }
+        // If the first byte is after the closing record or past the limit, that fault is returned, without allocating.
+        ensures immediate { (fault : StreamFault) → FailsAtFirstByte self.old (drop from piece.now) fault → result ≡ Err fault }
 
-        // What was refused is answered to every call.
-        ensures again { (fault : StreamFault) → self.old.refused ≡ Some fault → result ≡ Err fault }
+        // A fault that was returned is returned by every later call.
+        ensures sticky { (fault : StreamFault) → self.old.failed_with ≡ Some fault → result ≡ Err fault }
     {
-        let before = History::then(&self.history, &[]);
+        let before = History::extended(&self.history, &[]);
         let mut read = Entries::new(self.alloc);
         let Some(upto) = self.step_into(piece, from, 1, &mut read)? else {
             return Ok(Step::More);
@@ -99,15 +100,15 @@ impl Scan {
             Ok(entry) => Ok(Step::Found { entry, upto }),
             Err(_) => {
                 self.history = before;
-                self.refused = Some(StreamFault::OutOfMemory);
+                self.failed_with = Some(StreamFault::OutOfMemory);
                 Err(StreamFault::OutOfMemory)
             }
         }
     }
 
-    /// The same, in which the bytes up to the end of several lines may be taken at once, of at most so many. Their
-    /// entries are put behind others, and the place after their line feeds is answered, or `None`, where no line ends.
-    /// Where it is refused the entries stay as they are.
+    /// Does the same as [`Scan::step`], but may consume several lines at once, at most `most`. Appends their entries to
+    /// `entries` and returns the offset after their line feeds, or `None` if no line ends. If it fails, `entries` are
+    /// unchanged.
     pub fn step_into(
         &mut self,
         piece: &[u8],
@@ -118,59 +119,59 @@ impl Scan {
         requires from { from ≤ length piece.now }
         requires most { 1 ≤ most }
 
-        // The bytes up to the place end lines more, which have no fault, and their entries stand last.
-        ensures place { IfOk result (λ found. IfSome found (λ upto. (from < upto) × (upto ≤ length piece.now))) }
+        // The bytes up to the offset end further lines without a fault, and their entries are appended.
+        ensures range { IfOk result (λ found. IfSome found (λ upto. (from < upto) × (upto ≤ length piece.now))) }
         ensures found { IfOk result (λ found. IfSome found (λ upto.
-            FindsMore self.old self.new (slice_range piece.now from upto) most entries.old entries.new)) }
+            FindsEntries self.old self.new (slice_range piece.now from upto) most entries.old entries.new)) }
 
-        // Or all that is left of the piece was taken. It ends no line more, and has no fault.
-        ensures more { IfOk result (λ found. IfNone found (TakesAll self.old self.new (drop from piece.now))) }
-        ensures none { IfOk result (λ found. IfNone found (entries.new ≡ entries.old)) }
+        // Otherwise the rest of the chunk is consumed. It ends no further line and has no fault.
+        ensures rest_consumed { IfOk result (λ found. IfNone found (ConsumesAll self.old self.new (drop from piece.now))) }
+        ensures entries_unchanged { IfOk result (λ found. IfNone found (entries.new ≡ entries.old)) }
 
-        // The bytes have this fault, and no entry more before it.
-        ensures refuses { self.old.refused ≡ None → IfErr result (MayRefuse self.old (drop from piece.now)) }
-        ensures err { IfErr result (λ _. entries.new ≡ entries.old) }
+        // The fault is `OutOfMemory` or the fault of the bytes, with no further entry before it.
+        ensures fault { self.old.failed_with ≡ None → IfErr result (MayFailWith self.old (drop from piece.now)) }
+        ensures unchanged_on_err { IfErr result (λ _. entries.new ≡ entries.old) }
 
-        // Where the very first byte is late, or one too many, that is answered, without a request for memory.
-        ensures at_once { (fault : StreamFault) → RefusesFirst self.old (drop from piece.now) fault → result ≡ Err fault }
+        // If the first byte is after the closing record or past the limit, that fault is returned, without allocating.
+        ensures immediate { (fault : StreamFault) → FailsAtFirstByte self.old (drop from piece.now) fault → result ≡ Err fault }
 
-        // A refusal is kept, and answered to every call.
-        ensures kept { IfErr result (λ fault. self.new ≡ refused_with fault self.old) }
-        ensures again { (fault : StreamFault) → self.old.refused ≡ Some fault → result ≡ Err fault }
-        ensures reads_nothing { IfErr result (λ fault. fault ≢ Read) }
-        ensures early { IfErr result (λ fault. fault ≢ NotClosed) }
+        // A fault is stored, and returned by every later call.
+        ensures recorded { IfErr result (λ fault. self.new ≡ fail_with fault self.old) }
+        ensures sticky { (fault : StreamFault) → self.old.failed_with ≡ Some fault → result ≡ Err fault }
+        ensures never_read { IfErr result (λ fault. fault ≢ Read) }
+        ensures never_not_closed { IfErr result (λ fault. fault ≢ NotClosed) }
     {
-        if let Some(fault) = self.refused {
+        if let Some(fault) = self.failed_with {
             return Err(fault);
         }
         match self.progress.advance(piece, from, most, entries) {
             Ok(Some(upto)) => {
-                self.history = History::then(&self.history, &piece[from..upto]);
+                self.history = History::extended(&self.history, &piece[from..upto]);
                 Ok(Some(upto))
             }
             Ok(None) => {
-                self.history = History::then(&self.history, &piece[from..]);
+                self.history = History::extended(&self.history, &piece[from..]);
                 Ok(None)
             }
             Err(fault) => {
-                self.refused = Some(fault);
+                self.failed_with = Some(fault);
                 Err(fault)
             }
         }
     }
 
-    /// The unended line of all bytes that were taken, as text, or `None` if there is none; or `NotClosed`, where
-    /// the log has to be closed and isn't. What was refused before is answered again.
+    /// Returns the unended line of all bytes consumed, as text, or `None` if there is none. Fails with `NotClosed` if
+    /// the log must be closed and isn't. If the scan failed before, it returns the same fault again.
     pub fn finish(self) -> Result<Option<Entry>, StreamFault>
-        ensures rest { self.refused ≡ None → IfOk result (λ last. last ≡ text_of (unended (rest self.bytes))) }
-        ensures log { self.refused ≡ None →
+        ensures rest { self.failed_with ≡ None → IfOk result (λ last. last ≡ text_of (unended (rest self.bytes))) }
+        ensures log { self.failed_with ≡ None →
             IfOk result (λ last. log_from self.max_bytes (source_in self) ≡ Some (entries_in self ++ option_to_list last)) }
-        ensures not_closed { self.refused ≡ None →
+        ensures not_closed { self.failed_with ≡ None →
             IfErr result (λ fault. (fault ≡ NotClosed) × (fault_from self.max_bytes (source_in self) ≡ Some NotClosed)) }
-        ensures again { (fault : StreamFault) → self.refused ≡ Some fault → result ≡ Err fault }
-        ensures reads_nothing { IfErr result (λ fault. fault ≢ Read) }
+        ensures sticky { (fault : StreamFault) → self.failed_with ≡ Some fault → result ≡ Err fault }
+        ensures never_read { IfErr result (λ fault. fault ≢ Read) }
     {
-        if let Some(refused) = self.refused {
+        if let Some(refused) = self.failed_with {
             return Err(refused);
         }
         if let Some(fault) = self.closing_fault() {
@@ -182,9 +183,9 @@ impl Scan {
         }
     }
 
-    // The fault that is left if an end of input stands behind the bytes taken.
+    // Returns the stream's fault if the input ends after the bytes consumed.
     fn closing_fault(&self) -> Option<StreamFault>
-        requires { self.now.refused ≡ None }
+        requires { self.now.failed_with ≡ None }
         ensures left { result ≡ fault_from self.now.max_bytes (source_in self.now) }
         ensures not_closed { IfSome result (λ fault. fault ≡ NotClosed) }
     {

@@ -3,20 +3,20 @@ ghost use Rattle.std.specs.Prelude.{◌≡◌};
 
 use std::alloc::{AllocError, AllocFailed};
 
-/// Why the log of a stream can't be had. Lines are counted from 1.
+/// Why a stream has no log. Lines are counted from 1.
 #[derive(Clone, Copy, Debug, PartialEq, Eq)]
 pub enum StreamFault {
-    /// The line begins as a record does, and is none.
+    /// The line is ended and begins with the record prefix, but is not a record.
     BadRecord { line: u64 },
-    /// The line stands after the record that closes the log.
+    /// The line is after the closing record.
     AfterClose { line: u64 },
     /// The stream has more bytes than the limit.
     TooLong,
-    /// A read failed; an interrupted read is a failed one.
+    /// A read failed. An interrupted read counts as failed.
     Read,
-    /// There was no memory.
+    /// An allocation failed.
     OutOfMemory,
-    /// The stream has to end with the record that closes its log, and doesn't.
+    /// The stream must end with its closing record, but doesn't.
     NotClosed,
 }
 

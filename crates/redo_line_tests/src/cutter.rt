@@ -1,4 +1,4 @@
-//! A cutter over pieces, call by call.
+//! Tests of a cutter over chunks, call by call.
 use redo_line::{Cut, Cutter};
 use std::process::Abort;
 use std::test::Fail;
@@ -19,7 +19,7 @@ fn expect_bytes(rt: &impl Abort, bytes: &[u8], upto: usize, want: &[u8], place: 
 }
 
 #[test]
-fn a_line_spans_two_pieces(rt: HostRuntime) -> Result<(), Fail> {
+fn cutter_joins_line_across_chunks(rt: HostRuntime) -> Result<(), Fail> {
     let mut cutter = Cutter::new(rt.alloc());
     expect_more(&rt, cutter.next(b"ab", 0)?);
     expect_line(&rt, cutter.next(b"c\nd", 0)?, b"abc", 2);
@@ -34,19 +34,19 @@ fn expect_left(rt: &impl Abort, cutter: Cutter, want: &[u8]) -> Result<(), Fail>
 }
 
 #[test]
-fn a_new_cutter_has_nothing_left(rt: HostRuntime) {
+fn new_cutter_is_empty(rt: HostRuntime) {
     assert!(rt; Cutter::new(rt.alloc()).finish().is_none());
 }
 
 #[test]
-fn an_empty_piece_has_no_line(rt: HostRuntime) -> Result<(), Fail> {
+fn empty_chunk_has_no_line(rt: HostRuntime) -> Result<(), Fail> {
     let mut cutter = Cutter::new(rt.alloc());
     expect_more(&rt, cutter.next(b"", 0)?);
     Ok(())
 }
 
 #[test]
-fn an_empty_line_is_a_line(rt: HostRuntime) -> Result<(), Fail> {
+fn cutter_returns_empty_lines(rt: HostRuntime) -> Result<(), Fail> {
     let mut cutter = Cutter::new(rt.alloc());
     expect_line(&rt, cutter.next(b"\n\n", 0)?, b"", 1);
     expect_line(&rt, cutter.next(b"\n\n", 1)?, b"", 2);
@@ -56,7 +56,7 @@ fn an_empty_line_is_a_line(rt: HostRuntime) -> Result<(), Fail> {
 }
 
 #[test]
-fn white_space_stays(rt: HostRuntime) -> Result<(), Fail> {
+fn cutter_keeps_trailing_whitespace(rt: HostRuntime) -> Result<(), Fail> {
     let mut cutter = Cutter::new(rt.alloc());
     expect_line(&rt, cutter.next(b" a \t\r\n", 0)?, b" a \t\r", 6);
     Ok(())

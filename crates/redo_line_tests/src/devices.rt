@@ -1,4 +1,4 @@
-//! The readers and writers in memory, and those of std under their wrappers.
+//! Tests of the readers and writers in memory, and of the wrappers of std's readers and writers.
 ghost use Rattle.std.specs.Prelude.{◌<◌, length};
 
 use redo_line::{Broken, Feed, Pieces, Reading, Sink, Taker, Writing};
@@ -10,7 +10,7 @@ use std::test::Fail;
 
 static READS: [&[u8]; 4] = [b"", b"abcde", b"", b"f"];
 
-/// A reader that gives these reads, of which two are not empty.
+/// Creates a reader that gives `READS`, two of which are not empty.
 fn two_reads(alloc: Global, fails: bool) -> Result<Pieces, AllocError> {
     let mut reads = Vec::new(alloc);
     for read in &READS {
@@ -31,7 +31,7 @@ fn expect_front(rt: &impl Abort, bytes: &[u8], want: &[u8]) {
 }
 
 #[test]
-fn reads_come_in_turn_and_then_an_end(rt: HostRuntime) -> Result<(), Fail> {
+fn pieces_gives_reads_then_end(rt: HostRuntime) -> Result<(), Fail> {
     let mut reader = two_reads(rt.alloc(), false)?;
     expect_two_reads(&rt, &mut reader);
     expect_read(&rt, &mut reader, b"");
@@ -40,7 +40,7 @@ fn reads_come_in_turn_and_then_an_end(rt: HostRuntime) -> Result<(), Fail> {
 }
 
 #[test]
-fn reads_come_in_turn_and_then_a_failed_one(rt: HostRuntime) -> Result<(), Fail> {
+fn pieces_gives_reads_then_failure(rt: HostRuntime) -> Result<(), Fail> {
     let mut reader = two_reads(rt.alloc(), true)?;
     expect_two_reads(&rt, &mut reader);
     expect_pulled(&rt, &mut reader, Err(Broken));
@@ -60,7 +60,7 @@ fn expect_pulled(rt: &impl Abort, reader: &mut impl Feed, want: Result<usize, Br
 }
 
 #[test]
-fn a_writer_takes_what_it_has_room_for(rt: HostRuntime) -> Result<(), Fail> {
+fn taker_accepts_bytes_up_to_room(rt: HostRuntime) -> Result<(), Fail> {
     let mut writer = Taker::new(rt.alloc(), 5, 3)?;
     expect_pushed(&rt, &mut writer, b"abcd", Ok(3));
     expect_pushed(&rt, &mut writer, b"abcd", Ok(2));
@@ -80,14 +80,14 @@ fn expect_taken(rt: &impl Abort, writer: &Taker, bytes: &[u8]) {
 }
 
 #[test]
-fn a_writer_may_take_nothing(rt: HostRuntime) -> Result<(), Fail> {
+fn taker_may_accept_nothing(rt: HostRuntime) -> Result<(), Fail> {
     let mut writer = Taker::new(rt.alloc(), 5, 0)?;
     expect_pushed(&rt, &mut writer, b"a", Ok(0));
     expect_taken(&rt, &writer, b"");
     Ok(())
 }
 
-/// A device of std that gives or takes one byte, is interrupted, and goes on.
+/// A reader and writer of std that gives or takes one byte in each call; only its second call is interrupted.
 #[derive(Drop)]
 struct Interrupted {
     calls: u32,
@@ -120,7 +120,7 @@ impl Write for Interrupted {
 }
 
 #[test]
-fn an_interrupted_read_is_a_failed_one(rt: HostRuntime) {
+fn interrupted_read_fails(rt: HostRuntime) {
     let mut reader = Reading(Interrupted { calls: 0 });
     expect_pulled(&rt, &mut reader, Ok(1));
     expect_pulled(&rt, &mut reader, Err(Broken));
@@ -128,7 +128,7 @@ fn an_interrupted_read_is_a_failed_one(rt: HostRuntime) {
 }
 
 #[test]
-fn an_interrupted_write_is_a_failed_one(rt: HostRuntime) {
+fn interrupted_write_fails(rt: HostRuntime) {
     let mut writer = Writing(Interrupted { calls: 0 });
     expect_pushed(&rt, &mut writer, b"abc", Ok(1));
     expect_pushed(&rt, &mut writer, b"bc", Err(Broken));

@@ -1,7 +1,7 @@
-//! Lines of a log, and what they say.
-use redo_given::{entry_text, line};
+//! Tests of the lines of a log and their entries.
 use redo_line::{LineFault, TargetName, read_line};
 use redo_logs::EntryRef;
+use redo_test_support::{entry_text, line};
 use std::alloc::Global;
 use std::process::Abort;
 use std::test::Fail;
@@ -34,7 +34,7 @@ static ENTRIES: [(&str, &str); 21] = [
     ("@@REDO:check:7:12345678901234567890@@ b", "note|7|check|b"),
 ];
 
-/// Lines that begin as a record does, and are none.
+/// Candidates that are not records.
 static BAD: [&str; 16] = [
     "@@REDO:",
     "@@REDO:do:7",
@@ -54,7 +54,7 @@ static BAD: [&str; 16] = [
     "@@REDO:done:7:1@@ 1234567890 b",
 ];
 
-/// The entry of a line in the log of a target as a test writes it, or its fault.
+/// Returns the entry of a line in the log of a target, as tests write it, or its fault.
 fn read(
     alloc: Global,
     target: &str,
@@ -95,7 +95,7 @@ fn expect_text(rt: &impl Abort, entry: &str, want: &str, bytes: &str) {
 }
 
 #[test]
-fn a_line_has_this_entry(rt: HostRuntime) -> Result<(), Fail> {
+fn read_line_returns_entry(rt: HostRuntime) -> Result<(), Fail> {
     for (bytes, want) in &ENTRIES {
         expect(&rt, "all", bytes, true, want)?;
     }
@@ -103,7 +103,7 @@ fn a_line_has_this_entry(rt: HostRuntime) -> Result<(), Fail> {
 }
 
 #[test]
-fn a_record_that_does_not_fit_is_bad(rt: HostRuntime) -> Result<(), Fail> {
+fn read_line_rejects_bad_record(rt: HostRuntime) -> Result<(), Fail> {
     for bytes in &BAD {
         let fault = read(rt.alloc(), "all", bytes, true)?.err();
         assert_eq!(rt; fault, Some(LineFault::BadRecord), "{bytes:?}");
@@ -112,7 +112,7 @@ fn a_record_that_does_not_fit_is_bad(rt: HostRuntime) -> Result<(), Fail> {
 }
 
 #[test]
-fn an_unended_line_is_text(rt: HostRuntime) -> Result<(), Fail> {
+fn unended_line_is_text(rt: HostRuntime) -> Result<(), Fail> {
     expect(
         &rt,
         "all",
@@ -135,7 +135,7 @@ static OF_D_A: [(&str, &str); 6] = [
 ];
 
 #[test]
-fn names_are_relative_to_the_directory_of_the_target(rt: HostRuntime) -> Result<(), Fail> {
+fn names_resolve_in_target_directory(rt: HostRuntime) -> Result<(), Fail> {
     for (bytes, want) in &OF_D_A {
         expect(&rt, "d/./a", bytes, true, want)?;
     }

@@ -1,5 +1,5 @@
-//! Tests of lines, devices, names, entries, scans and tables of logs: those that cross crates, or
-//! that need more than one call. They stand here so that no crate below is proved a second time.
+//! Tests of lines, devices, names, entries, scans and tables of logs that cross crates or need more
+//! than one call. They are in this crate so that no lower crate is proved a second time.
 #![tactic(auto)]
 
 #[cfg(test)]

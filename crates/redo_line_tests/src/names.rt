@@ -1,11 +1,11 @@
-//! Normal forms of names, and names as keys of a map.
+//! Tests of normal forms of names, and of names as keys of a map.
 use indexmap::IndexMap;
 use redo_line::{NameFault, TargetName};
 use std::alloc::Global;
 use std::process::Abort;
 use std::test::Fail;
 
-/// The target in whose log a name stands, or none, the name, and its normal form.
+/// The target in whose log a name is, or none; the name; and its normal form.
 static NAMES: [(Option<&str>, &str, &str); 20] = [
     (None, "a//b/./c", "a/b/c"),
     (None, "a/", "a"),
@@ -66,7 +66,7 @@ fn expect_same(rt: &impl Abort, copy: &TargetName, target: &TargetName) {
 }
 
 #[test]
-fn names_have_these_normal_forms(rt: HostRuntime) -> Result<(), Fail> {
+fn resolve_normalizes_name(rt: HostRuntime) -> Result<(), Fail> {
     for (of, name, normal) in &NAMES {
         expect_form(&rt, *of, name, normal)?;
     }
@@ -74,7 +74,7 @@ fn names_have_these_normal_forms(rt: HostRuntime) -> Result<(), Fail> {
 }
 
 #[test]
-fn an_empty_name_has_none(rt: HostRuntime) -> Result<(), Fail> {
+fn resolve_rejects_empty_name(rt: HostRuntime) -> Result<(), Fail> {
     assert_eq!(rt;
         resolved(rt.alloc(), None, "").err(),
         Some(NameFault::Empty)
@@ -87,21 +87,21 @@ fn an_empty_name_has_none(rt: HostRuntime) -> Result<(), Fail> {
 }
 
 #[test]
-fn bytes_that_are_no_text_stay(rt: HostRuntime) -> Result<(), Fail> {
+fn resolve_keeps_non_utf8_bytes(rt: HostRuntime) -> Result<(), Fail> {
     let target = TargetName::resolve(rt.alloc(), None, b"\xff/./\n\x00".as_slice())?;
     assert_eq!(rt; target.bytes(), b"\xff/\n\x00".as_slice());
     Ok(())
 }
 
 #[test]
-fn a_relative_and_an_absolute_name_differ(rt: HostRuntime) -> Result<(), Fail> {
+fn relative_and_absolute_names_differ(rt: HostRuntime) -> Result<(), Fail> {
     let relative = resolved(rt.alloc(), None, "a")?;
     let absolute = resolved(rt.alloc(), None, "/a")?;
     assert!(rt; !relative.same(&absolute));
     Ok(())
 }
 
-/// The map of `d/a` to 1 and of `e` to 2.
+/// Returns a map from `d/a` to 1 and from `e` to 2.
 fn map_of_two(alloc: Global) -> Result<IndexMap<TargetName, u32>, Fail> {
     let mut map = IndexMap::new(alloc);
     insert(alloc, &mut map, "d/a", 1)?;
@@ -120,7 +120,7 @@ fn insert(
 }
 
 #[test]
-fn a_map_finds_a_name_by_its_normal_form(rt: HostRuntime) -> Result<(), Fail> {
+fn map_finds_name_by_normal_form(rt: HostRuntime) -> Result<(), Fail> {
     let map = map_of_two(rt.alloc())?;
     expect_found(&rt, &map)
 }

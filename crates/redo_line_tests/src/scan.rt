@@ -1,7 +1,7 @@
-//! A scan over the pieces of a stream: its entries, or its fault and the entries before it.
-use redo_given::{Cut, cut_into_reads, cuts, entry_text};
+//! Tests of a scan over the chunks of a stream: its entries, or its fault and the entries before it.
 use redo_line::{Entries, Entry, Scan, Step, StreamFault, TargetName};
 use redo_logs::{EntryRef, LogState, LogTable};
+use redo_test_support::{Cut, cut_into_reads, cuts, entry_text};
 use std::alloc::{AllocError, Global};
 use std::process::Abort;
 use std::test::Fail;
@@ -22,7 +22,7 @@ fn add_text(alloc: Global, entries: &mut String, entry: EntryRef<'_>) -> Result<
     entries.push_str("\n")
 }
 
-/// Takes a piece, up to its end or to a fault. Each entry has to end behind the one before.
+/// Steps through a chunk, to its end or to a fault. Each entry must end after the previous one.
 fn take(alloc: Global, scan: &mut Scan, piece: &[u8], scanned: &mut Scanned) -> Result<(), Fail> {
     let mut from = 0;
     for _ in 0..piece.len() + 1 {
@@ -44,7 +44,7 @@ fn take(alloc: Global, scan: &mut Scan, piece: &[u8], scanned: &mut Scanned) -> 
     Err("more entries than bytes".into())
 }
 
-/// A scan of the log of a target, within a limit.
+/// Creates a scan of the log of a target, with a limit.
 fn new_scan(alloc: Global, target: &str, max_bytes: u64) -> Result<Scan, Fail> {
     if max_bytes < 1 || max_bytes > 1 << 40 {
         return Err("no such limit".into());
@@ -63,7 +63,7 @@ fn finish(alloc: Global, scan: Scan, scanned: &mut Scanned) -> Result<(), AllocE
     Ok(())
 }
 
-/// What a scan of these pieces finds.
+/// Returns what a scan of these chunks finds.
 fn scan(alloc: Global, mut scan: Scan, pieces: &[Vec<u8>]) -> Result<Scanned, Fail> {
     let mut scanned = Scanned {
         entries: String::new(alloc),
@@ -76,7 +76,7 @@ fn scan(alloc: Global, mut scan: Scan, pieces: &[Vec<u8>]) -> Result<Scanned, Fa
     Ok(scanned)
 }
 
-/// Takes a piece, up to its end or to a fault, whose entries go into the log of a table together.
+/// Steps through a chunk, to its end or to a fault, and adds its entries together to the first log of a table.
 fn take_together(
     alloc: Global,
     scan: &mut Scan,
@@ -95,8 +95,8 @@ fn take_together(
     Ok(fault)
 }
 
-/// Puts the entries of the lines that end in a piece behind others, of at most three lines in a step. Each step has to
-/// end behind the one before.
+/// Appends the entries of the lines that end in a chunk, of at most three lines in each step. Each step must end after
+/// the previous one.
 fn step_through(
     scan: &mut Scan,
     piece: &[u8],
@@ -116,19 +116,19 @@ fn step_through(
     Err("more entries than bytes".into())
 }
 
-/// What a scan of these pieces finds, whose entries go into a table, those of a piece together.
+/// Returns what a scan of these chunks finds if the entries of each chunk are added together to a table.
 fn scan_together(alloc: Global, mut scan: Scan, pieces: &[Vec<u8>]) -> Result<Scanned, Fail> {
     let mut scanned = take_all_together(alloc, &mut scan, pieces)?;
     finish(alloc, scan, &mut scanned)?;
     Ok(scanned)
 }
 
-/// Takes pieces, up to the last.
+/// Steps through all chunks, without the end of the stream.
 fn take_all_together(alloc: Global, scan: &mut Scan, pieces: &[Vec<u8>]) -> Result<Scanned, Fail> {
     take_into(alloc, scan, pieces, &mut LogTable::new(alloc))
 }
 
-/// The same, into a table that has no log yet.
+/// Does the same with a table that has no log yet.
 fn take_into(
     alloc: Global,
     scan: &mut Scan,
@@ -144,7 +144,7 @@ fn take_into(
     Ok(Scanned { entries, fault })
 }
 
-/// The entries of the first log, each with a line feed.
+/// Returns the entries of the first log, each with a line feed.
 fn first_entries(alloc: Global, table: &LogTable) -> Result<String, AllocError> {
     let mut entries = String::new(alloc);
     for place in 0..usize::MAX {
@@ -156,7 +156,7 @@ fn first_entries(alloc: Global, table: &LogTable) -> Result<String, AllocError> 
     Ok(entries)
 }
 
-/// However the stream is cut into pieces, these are its entries, and this is its fault.
+/// Expects these entries and this fault, however the stream is divided into chunks.
 fn expect(
     rt: &(impl Abort + AllocGlobal),
     target: &str,
@@ -171,7 +171,7 @@ fn expect(
     Ok(())
 }
 
-/// The same of one cut, where entries are found one by one, and where those of a piece are found together.
+/// Expects the same of one division into chunks, with entries found one by one and with all entries of a chunk together.
 fn expect_cut(
     rt: &(impl Abort + AllocGlobal),
     target: &str,
@@ -194,7 +194,7 @@ fn expect_scanned(rt: &impl Abort, scanned: Scanned, entries: &str, fault: Optio
     assert_eq!(rt; (scanned.fault, scanned.entries.as_str()), (fault, entries));
 }
 
-/// A target, its stream, and the entries of it.
+/// A target, its stream, and the stream's entries.
 static ENTRIES: [(&str, &str, &str); 8] = [
     ("all", "", ""),
     ("all", "hello\n", "text|hello\n"),
@@ -215,7 +215,7 @@ static ENTRIES: [(&str, &str, &str); 8] = [
 ];
 
 #[test]
-fn a_stream_has_these_entries(rt: HostRuntime) -> Result<(), Fail> {
+fn scan_returns_entries(rt: HostRuntime) -> Result<(), Fail> {
     for (target, stream, entries) in &ENTRIES {
         expect(&rt, target, 1000, stream, entries, None)?;
     }
@@ -257,7 +257,7 @@ static FAULTS: [(&str, &str, &str, StreamFault); 5] = [
 ];
 
 #[test]
-fn a_stream_has_this_fault_behind_these_entries(rt: HostRuntime) -> Result<(), Fail> {
+fn scan_returns_entries_before_fault(rt: HostRuntime) -> Result<(), Fail> {
     for (target, stream, entries, fault) in &FAULTS {
         expect(&rt, target, 1000, stream, entries, Some(*fault))?;
     }
@@ -268,7 +268,7 @@ const CLOSING: &str = "@@REDO:done:7:1.0000@@ 0 a\n";
 
 const CLOSING_AND_MORE: &str = "@@REDO:done:7:1.0000@@ 0 a\nz";
 
-/// What a target's stream has within a limit: its entries, and its fault.
+/// A target, a limit, the target's stream, and its entries and its fault within the limit.
 type Limited = (
     &'static str,
     u64,
@@ -309,7 +309,7 @@ static LIMITED: [Limited; 10] = [
 ];
 
 #[test]
-fn a_line_counts_as_far_as_its_bytes_are_within_the_limit(rt: HostRuntime) -> Result<(), Fail> {
+fn scan_stops_at_max_bytes(rt: HostRuntime) -> Result<(), Fail> {
     for (target, max_bytes, stream, entries, fault) in &LIMITED {
         expect(&rt, target, *max_bytes, stream, entries, *fault)?;
     }
@@ -317,7 +317,7 @@ fn a_line_counts_as_far_as_its_bytes_are_within_the_limit(rt: HostRuntime) -> Re
 }
 
 #[test]
-fn a_refusal_is_answered_to_every_later_call(rt: HostRuntime) -> Result<(), Fail> {
+fn scan_error_is_sticky(rt: HostRuntime) -> Result<(), Fail> {
     let mut scan = new_scan(rt.alloc(), "all", 100)?;
     expect_more(&rt, &mut scan, b"@@RE");
     for piece in ["DO:do:7\nok\n", "ok\n", ""] {
@@ -327,9 +327,9 @@ fn a_refusal_is_answered_to_every_later_call(rt: HostRuntime) -> Result<(), Fail
     Ok(())
 }
 
-/// Of two lines at most: two of text, the one before a record, the record alone, and the last.
+/// Steps of at most two lines: two text lines, the text line before a record, the record alone, and the last line.
 #[test]
-fn lines_of_text_are_taken_at_once(rt: HostRuntime) -> Result<(), Fail> {
+fn step_into_batches_text_lines(rt: HostRuntime) -> Result<(), Fail> {
     let mut scan = new_scan(rt.alloc(), "all", 100)?;
     let mut read = Entries::new(rt.alloc());
     let piece = b"a\nb\nc\n@@REDO:do:7:1@@ d\ne\n";

@@ -1,7 +1,7 @@
-//! The table of logs: what its calls answer, and what they leave.
-use redo_given::{entry_text, line, logs_text};
+//! Tests of the table of logs: what its calls return, and the logs after them.
 use redo_line::{Entries, Scan, StreamFault, TargetName, read_line};
 use redo_logs::{LogState, LogTable, Numbered, NumberedEntry, TableFault};
+use redo_test_support::{entry_text, line, logs_text};
 use std::alloc::Global;
 use std::process::Abort;
 use std::test::Fail;
@@ -30,7 +30,7 @@ fn add(alloc: Global, table: &mut LogTable, number: u32, text: &str) -> Result<(
     Ok(table.add(number, entry)?)
 }
 
-/// Ends a log, or fails it where there is a fault.
+/// Ends a log, or fails it if there is a fault.
 fn close(table: &mut LogTable, number: u32, fault: Option<StreamFault>) -> Result<(), Fail> {
     if number >= table.len() {
         return Err("no such log".into());
@@ -51,7 +51,7 @@ fn add_all(alloc: Global, table: &mut LogTable, number: u32, texts: &[&str]) -> 
     Ok(())
 }
 
-/// The table has these logs.
+/// Expects these logs in the table.
 fn expect(rt: &(impl Abort + AllocGlobal), table: &LogTable, text: &str) -> Result<(), Fail> {
     expect_text(rt, logs_text(rt.alloc(), table)?.as_str(), text);
     Ok(())
@@ -61,7 +61,7 @@ fn expect_text(rt: &impl Abort, text: &str, want: &str) {
     assert_eq!(rt; text, want);
 }
 
-/// The first fault, and whether all logs have ended.
+/// Expects this first fault, and whether all logs have ended.
 fn expect_ends(
     rt: &impl Abort,
     table: &LogTable,
@@ -104,7 +104,7 @@ fn expect_place(rt: &impl Abort, found: Option<u32>, place: Option<u32>, text: &
     assert_eq!(rt; found, place, "{text}");
 }
 
-/// What is entered into a table, and the answers.
+/// Targets that are entered into a table, and the results.
 static ENTERED: [(&str, Result<u32, TableFault>); 4] = [
     ("a", Ok(0)),
     ("b", Ok(1)),
@@ -113,7 +113,7 @@ static ENTERED: [(&str, Result<u32, TableFault>); 4] = [
 ];
 
 #[test]
-fn logs_are_entered_in_order(rt: HostRuntime) -> Result<(), Fail> {
+fn enter_numbers_logs_in_order(rt: HostRuntime) -> Result<(), Fail> {
     enter_in_order(&rt, &mut LogTable::new(rt.alloc()))
 }
 
@@ -131,7 +131,7 @@ fn expect_len(rt: &impl Abort, table: &LogTable, len: u32) {
     assert_eq!(rt; table.len(), len);
 }
 
-/// What is looked up in the table, and its place.
+/// Targets that are looked up in the table, and the numbers of their logs.
 static FOUND: [(&str, Option<u32>); 3] = [("a", Some(0)), ("b", Some(1)), ("c", None)];
 
 fn find_all(rt: &(impl Abort + AllocGlobal), table: &LogTable) -> Result<(), Fail> {
@@ -142,11 +142,11 @@ fn find_all(rt: &(impl Abort + AllocGlobal), table: &LogTable) -> Result<(), Fai
 }
 
 #[test]
-fn a_log_has_the_entries_that_were_added(rt: HostRuntime) -> Result<(), Fail> {
+fn add_appends_entries_to_log(rt: HostRuntime) -> Result<(), Fail> {
     add_to_both(&rt, &mut LogTable::new(rt.alloc()))
 }
 
-/// Lines that say different things.
+/// Records with different entries.
 static SAID: [&str; 5] = [
     "@@REDO:do:4294967295:1@@ c",
     "@@REDO:done:20:1@@ -2 c",
@@ -168,7 +168,7 @@ fn add_to_both(rt: &(impl Abort + AllocGlobal), table: &mut LogTable) -> Result<
 }
 
 #[test]
-fn an_entry_is_shown_by_its_place(rt: HostRuntime) -> Result<(), Fail> {
+fn entry_returns_entry_by_index(rt: HostRuntime) -> Result<(), Fail> {
     add_one_entry(&rt, &mut LogTable::new(rt.alloc()))
 }
 
@@ -192,7 +192,7 @@ fn expect_entry(rt: &(impl Abort + AllocGlobal), table: &LogTable) -> Result<(),
 }
 
 #[test]
-fn a_log_ends_or_fails(rt: HostRuntime) -> Result<(), Fail> {
+fn end_and_fail_set_log_state(rt: HostRuntime) -> Result<(), Fail> {
     end_and_fail(&rt, &mut LogTable::new(rt.alloc()))
 }
 
@@ -208,7 +208,7 @@ fn end_and_fail(rt: &(impl Abort + AllocGlobal), table: &mut LogTable) -> Result
 }
 
 #[test]
-fn the_first_fault_is_that_of_the_least_number(rt: HostRuntime) -> Result<(), Fail> {
+fn first_fault_has_lowest_number(rt: HostRuntime) -> Result<(), Fail> {
     fail_both(&rt, &mut LogTable::new(rt.alloc()))
 }
 
@@ -222,7 +222,7 @@ fn fail_both(rt: &(impl Abort + AllocGlobal), table: &mut LogTable) -> Result<()
 }
 
 #[test]
-fn all_logs_have_ended(rt: HostRuntime) -> Result<(), Fail> {
+fn all_ended_is_true_for_ended_logs(rt: HostRuntime) -> Result<(), Fail> {
     end_both(&rt, &mut LogTable::new(rt.alloc()))
 }
 
@@ -235,11 +235,11 @@ fn end_both(rt: &(impl Abort + AllocGlobal), table: &mut LogTable) -> Result<(),
 }
 
 #[test]
-fn all_logs_of_an_empty_table_have_ended(rt: HostRuntime) {
+fn all_ended_is_true_for_empty_table(rt: HostRuntime) {
     expect_ends(&rt, &LogTable::new(rt.alloc()), None, true);
 }
 
-/// Adds the entries of the lines of a piece that are text to a log, together.
+/// Adds the entries of a chunk of text lines together to a log.
 fn add_together(alloc: Global, table: &mut LogTable, number: u32, piece: &str) -> Result<(), Fail> {
     if number >= table.len() {
         return Err("no such log".into());
@@ -253,7 +253,8 @@ fn add_together(alloc: Global, table: &mut LogTable, number: u32, piece: &str) -
     Ok(table.add_all(number, read)?)
 }
 
-/// Enters both logs. The first has two texts that came together, then one that came behind the other's, and a mention.
+/// Enters both logs. The first log gets two texts together; after the second log's text it gets one more text, a mention
+/// and an empty text.
 fn enter_lines(alloc: Global, table: &mut LogTable) -> Result<(), Fail> {
     enter_both(alloc, table)?;
     add_together(alloc, table, 0, "x\nyy\n")?;
@@ -261,7 +262,8 @@ fn enter_lines(alloc: Global, table: &mut LogTable) -> Result<(), Fail> {
     add_all(alloc, table, 0, &["z", "@@REDO:do:1:1@@ b", ""])
 }
 
-/// At each entry the lines of the texts that came together, from it on, and how many they are.
+/// The number of a log and the index of an entry; and of the texts that were added together with this entry, the lines
+/// from it on, and their number.
 static LINES: [(u32, usize, &str, usize); 8] = [
     (0, 0, "x\nyy\n", 2),
     (0, 1, "yy\n", 1),
@@ -274,7 +276,7 @@ static LINES: [(u32, usize, &str, usize); 8] = [
 ];
 
 #[test]
-fn lines_of_texts_are_had_together(rt: HostRuntime) -> Result<(), Fail> {
+fn lines_returns_adjacent_texts(rt: HostRuntime) -> Result<(), Fail> {
     expect_lines(&rt, &mut LogTable::new(rt.alloc()))
 }
 
@@ -292,7 +294,7 @@ fn expect_these(rt: &impl Abort, found: (&[u8], usize), want: (&[u8], usize)) {
 }
 
 #[test]
-fn a_mention_has_the_number_of_its_name(rt: HostRuntime) -> Result<(), Fail> {
+fn numbered_entry_has_name_number(rt: HostRuntime) -> Result<(), Fail> {
     expect_mention(&rt, &mut LogTable::new(rt.alloc()))
 }
 

@@ -1,2 +1,2 @@
-mod Answered
 mod FileLemmas
+mod Results

@@ -1,4 +1,4 @@
-pub mod Capture
 pub mod Failure
+pub mod LogFile
 pub mod NamesFile
 pub mod Private

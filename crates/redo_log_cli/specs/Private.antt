@@ -1,3 +1,3 @@
--- What only clauses of private functions cite: it helps to prove the others, and nobody has to believe it.
+-- Definitions that only clauses of private functions cite. They help in proofs and need not be trusted.
 pub mod Opening
 pub mod Program

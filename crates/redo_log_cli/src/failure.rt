@@ -1,30 +1,30 @@
 ghost use Rattle.std.specs.Prelude.{◌≡◌};
 ghost use Rattle.redo_log_cli.specs.declared.failure.Failure.TheVariants.{Memory};
-ghost use Rattle.redo_log_cli.specs.Failure.{status_of, status_of_stream};
+ghost use Rattle.redo_log_cli.specs.Failure.{status_of, stream_status};
 
+use redo_args::WordsFault;
 use redo_index::IndexFault;
 use redo_line::StreamFault;
 use redo_run::RunFault;
-use redo_words::WordsFault;
 use std::alloc::{AllocError, AllocFailed};
 use thiserror::Error;
 
-/// Why the program did not write the whole text. `fault_line` has the line that it prints.
+/// Why the program did not write the whole text. `fault_line` returns the error message.
 #[derive(Clone, Copy, Debug, PartialEq, Eq, Error)]
 pub enum Failure {
-    /// The words of the command line ask for no run.
+    /// The command-line arguments request no run.
     #[error("no run is asked for: {0:?}")]
     Words(WordsFault),
     /// The file `names` is missing, can't be read, or has more than 1,073,741,824 bytes.
     #[error("the index can't be read")]
     NamesRead,
-    /// The index is refused.
+    /// The index is rejected.
     #[error("the index is refused: {0:?}")]
     Index(IndexFault),
     /// The run did not write the whole text.
     #[error("the run did not write the whole text: {0:?}")]
     Run(RunFault),
-    /// There was no memory before the run began.
+    /// An allocation failed before the run began.
     #[error("there is no memory")]
     Memory,
 }
@@ -45,7 +45,7 @@ impl<T: Drop> From<AllocFailed<T>> for Failure {
     }
 }
 
-/// The exit status of a program that ends so. docs/format.md has the table.
+/// Returns the exit status for this failure. docs/redo-log.1 has the table.
 pub fn status(failure: &Failure) -> u8
     ensures { result ≡ status_of failure.now }
 {
@@ -64,7 +64,7 @@ pub fn status(failure: &Failure) -> u8
 }
 
 fn stream_status(fault: StreamFault) -> u8
-    ensures { result ≡ status_of_stream fault }
+    ensures { result ≡ stream_status fault }
 {
     match fault {
         StreamFault::BadRecord { .. } => 4,

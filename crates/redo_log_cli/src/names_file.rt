@@ -1,23 +1,23 @@
 ghost use Rattle.std.specs.Prelude.{◌≡◌, ◌⊎◌, Err, IfOk, IfErr};
 ghost use Rattle.redo_device.specs.Feed.{SomeStream};
 ghost use Rattle.redo_log_cli.specs.declared.failure.Failure.TheVariants.{Memory, NamesRead};
-ghost use Rattle.redo_log_cli.specs.NamesFile.{AreAllOf, CannotBeRead};
+ghost use Rattle.redo_log_cli.specs.NamesFile.{IsCompleteRead, CannotBeRead};
 
 use crate::failure::Failure;
 use redo_line::{Broken, Feed};
 use std::alloc::Global;
 
-// How many bytes the file `names` may have.
-const MOST_BYTES: u64 = 1_073_741_824;
+/// The maximum number of bytes of a log, and of the file `names`.
+pub(crate) const MAX_BYTES: u64 = 1_073_741_824;
 
-// How much is read at once.
+// The size of the buffer for one read.
 const READ_BYTES: usize = 64 * 1024;
 
-/// All bytes of the file `names`, which may have 1,073,741,824. It is `NamesRead` where a read fails, an
-/// interrupted one too, or there are more bytes, and `Memory` where there is none.
+/// Reads all bytes of the file `names`, at most 1,073,741,824. Fails with `NamesRead` if there are more
+/// or if a read fails, even if it was only interrupted, and with `Memory` if an allocation fails.
 pub fn read_names<R: Feed>(alloc: Global, reader: &mut R) -> Result<Vec<u8>, Failure>
-    ensures bytes { IfOk result (λ bytes. SomeStream (R.tells reader.old) (AreAllOf bytes.items)) }
-    ensures unreadable { result ≡ Err Failure.NamesRead → SomeStream (R.tells reader.old) CannotBeRead }
+    ensures bytes { IfOk result (λ bytes. SomeStream (R.contents reader.old) (IsCompleteRead bytes.items)) }
+    ensures unreadable { result ≡ Err Failure.NamesRead → SomeStream (R.contents reader.old) CannotBeRead }
     ensures either { IfErr result (λ failure. (failure ≡ NamesRead) ⊎ (failure ≡ Memory)) }
 {
     let mut room = vec![in alloc; 0u8; READ_BYTES]?;
@@ -28,7 +28,7 @@ pub fn read_names<R: Feed>(alloc: Global, reader: &mut R) -> Result<Vec<u8>, Fai
             Err(Broken) => return Err(Failure::NamesRead),
             Ok(0) => return Ok(bytes),
             Ok(n) => {
-                if n as u64 > MOST_BYTES - bytes.len() as u64 {
+                if n as u64 > MAX_BYTES - bytes.len() as u64 {
                     return Err(Failure::NamesRead);
                 }
                 bytes.extend_from_slice(&buf[..n])?;

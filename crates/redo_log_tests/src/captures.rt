@@ -1,13 +1,13 @@
-//! An index of the targets that a test gives, and a reader for each.
+//! The index of a test's targets, and a reader for each target.
 ghost use Rattle.std.specs.Prelude.{◌≡◌, IfOk, length};
 
-use redo_given::{Cut, Given, reader};
 use redo_line::Pieces;
 use redo_log_cli::{Index, read_index};
+use redo_test_support::{Cut, Given, reader};
 use std::alloc::{AllocError, Global};
 use std::test::Fail;
 
-/// An index of the targets.
+/// Returns an index of the targets.
 pub fn index_of(alloc: Global, given: &[Given<'_>]) -> Result<Index, Fail> {
     let names = names_text(alloc, given)?;
     Ok(read_index(alloc, names.as_bytes())?)
@@ -30,7 +30,7 @@ fn add_name(
     names.push_str(&format!(in alloc; "{number} {name}\n")?)
 }
 
-/// A reader for each target of the index.
+/// Returns a reader for each target of the index.
 pub fn readers_for(
     alloc: Global,
     index: &Index,

@@ -1,12 +1,13 @@
-//! Runs whose writer fails, at each byte and in each call, and runs whose readers fail, at each read.
+//! Tests of runs whose writer fails, at each byte and in each call, and of runs whose readers fail, at each
+//! read.
 ghost use Rattle.std.specs.Prelude.{None};
 
 use crate::run::{Outcome, Want, expect_planned, outcome_of, ran, stream};
 use redo_gather::Plan;
 use redo_gather_tests::cases::{BUILD, BUILD_TEXT, DEEP, MAX_BYTES};
-use redo_given::{Cut, Given, whole};
 use redo_line::{Broken, Sink, StreamFault, Taker};
 use redo_log_cli::RunFault;
+use redo_test_support::{Cut, Given, whole};
 use std::alloc::{AllocError, Global};
 use std::process::Abort;
 use std::sync::Wait;
@@ -15,7 +16,7 @@ use std::thread::Threads;
 
 const CANNOT_WRITE: Want<'static> = Err((RunFault::Write, "redo-log: cannot write\n", 6));
 
-/// The text of the build goes to a writer with so much room.
+/// Checks a run that writes the text of the build to a writer with room for `room` bytes.
 fn expect_room(
     rt: &(impl Abort + AllocGlobal + Threads + Wait + Sync),
     room: usize,
@@ -29,12 +30,12 @@ fn expect_room(
     Ok(())
 }
 
-/// These bytes were written, with so much room or so many calls before the one that fails.
+/// Checks the bytes written. `case` is the room of the writer, or the number of the call that fails.
 fn expect_bytes(rt: &impl Abort, bytes: &[u8], text: &[u8], case: usize) {
     assert_eq!(rt; bytes, text, "{case}");
 }
 
-/// This is answered where the text of the build goes to a writer.
+/// Checks the result of a run that writes the text of the build to this writer.
 fn expect_build(
     rt: &(impl Abort + AllocGlobal + Threads + Wait + Sync),
     want: Want<'_>,
@@ -60,16 +61,16 @@ fn expect_ran(rt: &(impl Abort + AllocGlobal), ran: &Outcome, want: Want<'_>) ->
 }
 
 #[test]
-fn a_writer_that_is_full_ends_a_run(rt: HostRuntime) -> Result<(), Fail> {
+fn full_writer_ends_run(rt: HostRuntime) -> Result<(), Fail> {
     let text = BUILD_TEXT.as_bytes();
     assert_eq!(rt; text.len(), 70);
-    expect_fronts(&rt, text)?;
+    expect_prefixes(&rt, text)?;
     expect_room(&rt, text.len(), 3, Ok(BUILD_TEXT), text)?;
     expect_room(&rt, text.len(), 0, CANNOT_WRITE, b"")
 }
 
-/// A writer with room for a front of the text alone holds that front.
-fn expect_fronts(
+/// Checks that a writer with room for only a prefix of the text holds that prefix.
+fn expect_prefixes(
     rt: &(impl Abort + AllocGlobal + Threads + Wait + Sync),
     text: &[u8],
 ) -> Result<(), Fail> {
@@ -79,7 +80,7 @@ fn expect_fronts(
     Ok(())
 }
 
-/// A writer that takes one byte in each call but one, which fails.
+/// A writer that takes one byte in each call, except one call, which fails.
 #[derive(Drop)]
 struct FailingOnce {
     taken: Vec<u8>,
@@ -88,7 +89,7 @@ struct FailingOnce {
 }
 
 impl Sink for FailingOnce {
-    ghost tells = { λ _. None };
+    ghost written = { λ _. None };
 
     fn push(&mut self, bytes: &[u8]) -> Result<usize, Broken> {
         self.calls = self.calls.saturating_add(1);
@@ -105,7 +106,7 @@ impl Sink for FailingOnce {
     }
 }
 
-/// The text of the build goes to a writer that fails in this call and in no other.
+/// Checks a run that writes the text of the build to a writer that fails only in the call `fails_at`.
 fn expect_failing_once(
     rt: &(impl Abort + AllocGlobal + Threads + Wait + Sync),
     fails_at: usize,
@@ -129,7 +130,7 @@ fn expect_calls(rt: &impl Abort, out: &FailingOnce, calls: usize) {
 }
 
 #[test]
-fn nothing_is_written_behind_a_failed_write(rt: HostRuntime) -> Result<(), Fail> {
+fn run_writes_nothing_after_failed_write(rt: HostRuntime) -> Result<(), Fail> {
     let text = BUILD_TEXT.as_bytes();
     for before in 0..text.len() {
         let call = before.saturating_add(1);
@@ -139,7 +140,8 @@ fn nothing_is_written_behind_a_failed_write(rt: HostRuntime) -> Result<(), Fail>
     expect_failing_once(&rt, more, Ok(BUILD_TEXT), text, text.len())
 }
 
-/// Some streams of the build fail behind so many bytes, read one by one, and nothing is written.
+/// Checks a run in which reads of some streams of the build fail, each after the given number of bytes. The
+/// bytes are read one by one. Nothing is written.
 fn expect_failed_reads(
     rt: &(impl Abort + AllocGlobal + Threads + Wait + Sync),
     behind: [Option<usize>; 3],
@@ -153,26 +155,26 @@ fn expect_failed_reads(
     Ok(())
 }
 
-/// The build, of which these streams fail behind so many bytes.
+/// Returns the streams of the build. Reads of some of them fail after the given number of bytes.
 fn failing_build(
     alloc: Global,
     behind: [Option<usize>; 3],
 ) -> Result<Vec<Given<'static>>, AllocError> {
     let mut given = Vec::new(alloc);
     for ((name, stream), bytes) in BUILD.iter().zip(&behind) {
-        given.push((*name, front(stream, *bytes), bytes.is_some()))?;
+        given.push((*name, prefix(stream, *bytes), bytes.is_some()))?;
     }
     Ok(given)
 }
 
-/// So many bytes of the stream, or all.
-fn front(stream: &str, bytes: Option<usize>) -> &str {
+/// Returns the first `bytes` bytes of the stream, or all of them.
+fn prefix(stream: &str, bytes: Option<usize>) -> &str {
     let front = bytes.and_then(|bytes| stream.get(..bytes));
     front.unwrap_or(stream)
 }
 
 #[test]
-fn each_failed_read_is_told_and_nothing_written(rt: HostRuntime) -> Result<(), Fail> {
+fn run_reports_failed_read(rt: HostRuntime) -> Result<(), Fail> {
     expect_lengths(&rt);
     let told = stream(0, StreamFault::Read, "redo-log: all: cannot be read\n", 5);
     for bytes in 0..114 {
@@ -186,7 +188,7 @@ fn each_failed_read_is_told_and_nothing_written(rt: HostRuntime) -> Result<(), F
     expect_failed_reads(&rt, [None, Some(0), Some(0)], told)
 }
 
-/// How long the streams are that fail behind each byte.
+/// Checks the lengths of the streams that fail after each of their bytes.
 fn expect_lengths(rt: &impl Abort) {
     let [(_, all), _, (_, last)] = BUILD;
     assert_eq!(rt; (all.len(), last.len()), (113, 5));

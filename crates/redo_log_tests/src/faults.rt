@@ -1,6 +1,6 @@
-//! What a failure is told as: its line and its status.
+//! Tests of failures: their error messages and exit statuses.
 ghost use Rattle.std.specs.Prelude.{◌<◌, IsTrue};
-ghost use Rattle.redo_log_cli.specs.Failure.{IfOfStream, IfOfWord};
+ghost use Rattle.redo_log_cli.specs.Failure.{IfStreamFailure, IfUnknownFailure};
 
 use redo_line::StreamFault;
 use redo_log_cli::{
@@ -10,20 +10,21 @@ use std::alloc::{AllocError, Global};
 use std::process::Abort;
 use std::test::Fail;
 
-/// With the targets `d/a` and `b`, and the words `x/../d/a`, nothing, and one of bytes that are no text.
-fn expect_told(
+/// Checks the error message and the status of a failure. The targets are `d/a` and `b`. The arguments are
+/// `x/../d/a`, an empty one, and bytes that aren't valid text.
+fn expect_message(
     rt: &(impl Abort + AllocGlobal),
     failure: Failure,
     want: &[u8],
     number: u8,
 ) -> Result<(), Fail> {
-    let line = line_told(rt.alloc(), &failure)?;
+    let line = message_of(rt.alloc(), &failure)?;
     expect_line(rt, &failure, &line, want);
     expect_status(rt, &failure, number);
     Ok(())
 }
 
-fn line_told(alloc: Global, failure: &Failure) -> Result<Vec<u8>, Fail> {
+fn message_of(alloc: Global, failure: &Failure) -> Result<Vec<u8>, Fail> {
     let index = read_index(alloc, b"7 ./d//a\n1 b\n".as_slice())?;
     line_with(alloc, failure, &index)
 }
@@ -61,10 +62,10 @@ fn expect_status(rt: &impl Abort, failure: &Failure, number: u8) {
     assert_eq!(rt; status(failure), number, "{failure:?}");
 }
 
-/// Whether the number of a stream and the place of a word are below these.
+/// Returns whether a stream's number and an argument's position are in range.
 fn has_places(failure: &Failure, streams: u32, words: usize) -> bool
-    ensures number { IsTrue result → IfOfStream failure.now (λ number. number < streams) }
-    ensures place { IsTrue result → IfOfWord failure.now (λ place. place < words) }
+    ensures stream_in_range { IsTrue result → IfStreamFailure failure.now (λ number. number < streams) }
+    ensures argument_in_range { IsTrue result → IfUnknownFailure failure.now (λ place. place < words) }
 {
     match *failure {
         Failure::Run(RunFault::Stream { number, .. }) => number < streams,
@@ -75,8 +76,8 @@ fn has_places(failure: &Failure, streams: u32, words: usize) -> bool
 
 const NO_MEMORY: &[u8] = b"redo-log: out of memory\n";
 
-/// A failure, the line of it and the status.
-static TOLD: &[(Failure, &[u8], u8)] = &[
+/// A failure, its error message and its status.
+static MESSAGES: &[(Failure, &[u8], u8)] = &[
     (Failure::Words(WordsFault::Help), b"", 0),
     (
         Failure::Words(WordsFault::Refused),
@@ -116,14 +117,14 @@ static TOLD: &[(Failure, &[u8], u8)] = &[
 ];
 
 #[test]
-fn each_failure_has_its_line_and_its_status(rt: HostRuntime) -> Result<(), Fail> {
-    for (failure, line, number) in TOLD {
-        expect_told(&rt, *failure, line, *number)?;
+fn failure_has_message_and_status(rt: HostRuntime) -> Result<(), Fail> {
+    for (failure, line, number) in MESSAGES {
+        expect_message(&rt, *failure, line, *number)?;
     }
     Ok(())
 }
 
-/// The place of a word that is unknown, and the line.
+/// The position of an unknown argument, and the error message.
 static UNKNOWN: &[(usize, &[u8])] = &[
     (0, b"redo-log: x/../d/a: not known\n"),
     (1, b"redo-log: : not known\n"),
@@ -131,15 +132,15 @@ static UNKNOWN: &[(usize, &[u8])] = &[
 ];
 
 #[test]
-fn an_unknown_word_is_told_as_it_was_given(rt: HostRuntime) -> Result<(), Fail> {
+fn unknown_target_is_reported_verbatim(rt: HostRuntime) -> Result<(), Fail> {
     for (place, line) in UNKNOWN {
         let failure = Failure::Run(RunFault::Unknown { place: *place });
-        expect_told(&rt, failure, line, 24)?;
+        expect_message(&rt, failure, line, 24)?;
     }
     Ok(())
 }
 
-/// The number of a stream, its fault, the line and the status.
+/// The number of a stream, its fault, the error message and the status.
 static OF_STREAMS: &[(u32, StreamFault, &[u8], u8)] = &[
     (
         0,
@@ -162,11 +163,11 @@ static OF_STREAMS: &[(u32, StreamFault, &[u8], u8)] = &[
 ];
 
 #[test]
-fn the_fault_of_a_stream_is_told_with_its_name(rt: HostRuntime) -> Result<(), Fail> {
+fn stream_fault_message_names_target(rt: HostRuntime) -> Result<(), Fail> {
     for (number, fault, line, status) in OF_STREAMS {
         let (number, fault) = (*number, *fault);
         let failure = Failure::Run(RunFault::Stream { number, fault });
-        expect_told(&rt, failure, line, *status)?;
+        expect_message(&rt, failure, line, *status)?;
     }
     Ok(())
 }

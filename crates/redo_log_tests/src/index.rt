@@ -1,4 +1,4 @@
-//! Indexes: what they list, and which line is refused.
+//! Tests of indexes: what they list, and which line is rejected.
 use redo_line::TargetName;
 use redo_log_cli::{Index, IndexFault, read_index};
 use std::alloc::Global;
@@ -15,15 +15,15 @@ static LISTED: &[(&str, &[(u32, &str)])] = &[
     ("1 !a\n", &[(1, "!a")]),
 ];
 
-/// An index, and of each of its lines whether it is marked.
-static MARKED: &[(&str, &[bool])] = &[
+/// An index, and the must-close flag of each line.
+static FLAGGED: &[(&str, &[bool])] = &[
     ("!1 a\n2 b\n", &[true, false]),
     ("1 a\n!2 b", &[false, true]),
     ("1 !a\n", &[false]),
 ];
 
 /// An index, and its fault.
-static REFUSED: &[(&str, IndexFault)] = &[
+static REJECTED: &[(&str, IndexFault)] = &[
     ("1 a\n2 ./a\n", IndexFault::NameTwice { line: 2 }),
     ("1 a\n1 b\n", IndexFault::FidTwice { line: 2 }),
     ("1 a\n1 a\n", IndexFault::FidTwice { line: 2 }),
@@ -41,7 +41,7 @@ static REFUSED: &[(&str, IndexFault)] = &[
 ];
 
 #[test]
-fn an_index_lists_its_lines(rt: HostRuntime) -> Result<(), Fail> {
+fn index_lists_targets(rt: HostRuntime) -> Result<(), Fail> {
     for (bytes, entries) in LISTED {
         expect_listed(&rt, bytes, entries)?;
     }
@@ -49,21 +49,21 @@ fn an_index_lists_its_lines(rt: HostRuntime) -> Result<(), Fail> {
 }
 
 #[test]
-fn a_marked_line_tells_that_its_stream_must_close(rt: HostRuntime) -> Result<(), Fail> {
-    for (bytes, marks) in MARKED {
-        expect_marks(&rt, bytes, marks)?;
+fn flag_sets_must_close(rt: HostRuntime) -> Result<(), Fail> {
+    for (bytes, flags) in FLAGGED {
+        expect_flags(&rt, bytes, flags)?;
     }
     Ok(())
 }
 
-fn expect_marks(rt: &(impl Abort + AllocGlobal), bytes: &str, marks: &[bool]) -> Result<(), Fail> {
+fn expect_flags(rt: &(impl Abort + AllocGlobal), bytes: &str, flags: &[bool]) -> Result<(), Fail> {
     let index = read_index(rt.alloc(), bytes.as_bytes())?;
-    let found = index.marks(rt.alloc())?;
-    assert_eq!(rt; found.as_slice(), marks, "{bytes:?}");
+    let found = index.must_close_flags(rt.alloc())?;
+    assert_eq!(rt; found.as_slice(), flags, "{bytes:?}");
     Ok(())
 }
 
-/// The index of these bytes lists these numbers and names.
+/// Checks that the index in these bytes lists these numbers and names.
 fn expect_listed(
     rt: &(impl Abort + AllocGlobal),
     bytes: &str,
@@ -87,19 +87,19 @@ fn expect_entries(
     Ok(())
 }
 
-/// What the index lists at this place.
+/// Checks what the index lists at this position.
 fn expect_entry(rt: &impl Abort, index: &Index, i: u32, number: u32, name: &str) {
     assert!(rt; i < index.len());
     expect_number(rt, index.fid(i), number, name);
     assert_eq!(rt; index.name(i).bytes(), name.as_bytes());
 }
 
-/// This is the number of the target of this name.
+/// Checks the number of the target with this name.
 fn expect_number(rt: &impl Abort, found: u32, number: u32, name: &str) {
     assert_eq!(rt; found, number, "{name:?}");
 }
 
-/// The index finds the target of this name at this place.
+/// Checks that the index finds the target with this name at this position.
 fn expect_found(
     rt: &(impl Abort + AllocGlobal),
     index: &Index,
@@ -112,8 +112,8 @@ fn expect_found(
 }
 
 #[test]
-fn the_least_bad_line_is_refused_with_its_first_cause(rt: HostRuntime) -> Result<(), Fail> {
-    for (bytes, fault) in REFUSED {
+fn read_index_reports_first_fault(rt: HostRuntime) -> Result<(), Fail> {
+    for (bytes, fault) in REJECTED {
         assert_eq!(rt; fault_of(rt.alloc(), bytes), Some(*fault), "{bytes:?}");
     }
     Ok(())
@@ -124,14 +124,14 @@ fn fault_of(alloc: Global, bytes: &str) -> Option<IndexFault> {
 }
 
 #[test]
-fn a_target_that_is_not_listed_is_not_found(rt: HostRuntime) -> Result<(), Fail> {
+fn find_returns_none_for_unlisted_target(rt: HostRuntime) -> Result<(), Fail> {
     let other = TargetName::resolve(rt.alloc(), None, b"b")?;
     expect_not_listed(&rt, "1 a\n2 b/c\n", 2, &other)?;
     expect_nothing_listed(&rt, &other);
     Ok(())
 }
 
-/// The index of these bytes lists so many targets, and not this one.
+/// Checks that the index in these bytes lists `len` targets, and not this one.
 fn expect_not_listed(
     rt: &(impl Abort + AllocGlobal),
     bytes: &str,
@@ -143,12 +143,12 @@ fn expect_not_listed(
     Ok(())
 }
 
-/// A new index lists no target, and so not this one.
+/// Checks that a new index lists no target, and so not this one.
 fn expect_nothing_listed(rt: &(impl Abort + AllocGlobal), other: &TargetName) {
     expect_not_found(rt, &Index::new(rt.alloc()), 0, other);
 }
 
-/// The index lists so many targets, and not this one.
+/// Checks that the index lists `len` targets, and not this one.
 fn expect_not_found(rt: &impl Abort, index: &Index, len: u32, other: &TargetName) {
     assert_eq!(rt; index.len(), len);
     assert_eq!(rt; index.find(other), None);

@@ -1,5 +1,5 @@
-//! Tests of the command: its words, its index, its runs and its failures. They stand here so that no
-//! crate below is proved a second time.
+//! Tests of the command: its arguments, its index, its runs and its failures. They are in a crate of
+//! their own so that the crates that they use are not proved a second time.
 #![tactic(auto)]
 
 #[cfg(test)]

@@ -1,16 +1,16 @@
-//! Runs of many logs: each of them at fault, and each mentioning the next.
+//! Tests of runs with many logs: each with a fault, or each mentioning the target of the next.
 use crate::run::{expect_planned, ran, stream};
 use redo_gather::Plan;
 use redo_gather_tests::cases::{DEEP, MAX_BYTES, PLAIN};
-use redo_given::{Cut, Given};
 use redo_line::{StreamFault, Taker};
+use redo_test_support::{Cut, Given};
 use std::alloc::{AllocError, Global};
 use std::process::Abort;
 use std::sync::Wait;
 use std::test::Fail;
 use std::thread::Threads;
 
-/// Names of four digits, in order.
+/// Returns names of four digits, in order.
 fn numbers(alloc: Global, count: usize) -> Result<Vec<String>, AllocError> {
     let mut names = Vec::new(alloc);
     for number in 1000..count.saturating_add(1000) {
@@ -20,13 +20,13 @@ fn numbers(alloc: Global, count: usize) -> Result<Vec<String>, AllocError> {
 }
 
 #[test]
-fn the_first_of_many_bad_logs_is_told(rt: HostRuntime) -> Result<(), Fail> {
+fn run_reports_first_of_many_bad_logs(rt: HostRuntime) -> Result<(), Fail> {
     let names = numbers(rt.alloc(), 64)?;
     let given = bad_logs(rt.alloc(), &names)?;
-    expect_first_told(&rt, &given)
+    expect_first_fault(&rt, &given)
 }
 
-/// A log for each name, whose first line is at fault.
+/// Returns a stream for each name. Its first line is a bad record.
 fn bad_logs(alloc: Global, names: &[String]) -> Result<Vec<Given<'_>>, AllocError> {
     let mut given = Vec::new(alloc);
     for name in names {
@@ -35,20 +35,20 @@ fn bad_logs(alloc: Global, names: &[String]) -> Result<Vec<Given<'_>>, AllocErro
     Ok(given)
 }
 
-fn expect_first_told(
+fn expect_first_fault(
     rt: &(impl Abort + AllocGlobal + Threads + Wait + Sync),
     given: &[Given<'_>],
 ) -> Result<(), Fail> {
     let fault = StreamFault::BadRecord { line: 1 };
-    let told = stream(0, fault, "redo-log: 1000: line 1: bad record\n", 4);
+    let fault = stream(0, fault, "redo-log: 1000: line 1: bad record\n", 4);
     let plan = Plan::new(64, 1, MAX_BYTES)?;
     for cut in [Cut::InReadsOf(1), Cut::InReadsOf(1000)] {
-        expect_planned(rt, given, cut, &plan, &PLAIN, &["1063"], told)?;
+        expect_planned(rt, given, cut, &plan, &PLAIN, &["1063"], fault)?;
     }
     Ok(())
 }
 
-/// Streams of which each mentions the target of the next, and the last has a line.
+/// Returns a chain of streams: each one mentions the target of the next. The last one has a text line.
 fn chain(alloc: Global, names: &[String]) -> Result<Vec<String>, AllocError> {
     let mut streams = Vec::new(alloc);
     for name in names.iter().skip(1) {
@@ -62,11 +62,11 @@ fn mention(alloc: Global, name: &str) -> Result<String, AllocError> {
     format!(in alloc; "@@REDO:do:1:1@@ {name}\n")
 }
 
-/// The end of the chain's text, behind the spaces of its last log's line.
+/// The end of the chain's text, after the spaces of the last redo line.
 const LAST: &str = "3999\nend\n";
 
 #[test]
-fn a_chain_of_logs_is_shown_to_its_end(rt: HostRuntime) -> Result<(), Fail> {
+fn run_shows_chain_of_3000_logs(rt: HostRuntime) -> Result<(), Fail> {
     let names = numbers(rt.alloc(), 3000)?;
     let streams = chain(rt.alloc(), &names)?;
     expect_chain(&rt, &names, &streams)
@@ -93,7 +93,7 @@ fn logs<'a>(
     Ok(given)
 }
 
-/// A run of the chain's first log writes the whole text.
+/// Checks that a run that requests the first target of the chain writes the whole text.
 fn expect_shown(
     rt: &(impl Abort + AllocGlobal + Threads + Wait + Sync),
     given: &[Given<'_>],
@@ -116,7 +116,7 @@ fn expect_no_fault(
     Ok(())
 }
 
-// The line of the last of 3,000 logs has 6,000 spaces, and its log has one line.
+// The redo line of the last of 3,000 targets has 6,000 spaces. The last log has one line.
 fn expect_end_of_chain(rt: &impl Abort, text: &[u8]) {
     assert_eq!(rt; text.len(), 9_030_004);
     let (front, end) = text.split_at(text.len().saturating_sub(LAST.len()));

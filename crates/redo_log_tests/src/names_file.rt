@@ -1,22 +1,22 @@
-//! The bytes of the file `names`.
-use redo_given::{Cut, reader};
+//! Tests of reading the file `names`.
 use redo_log_cli::{Failure, read_names};
+use redo_test_support::{Cut, reader};
 use std::alloc::{AllocError, Global};
 use std::process::Abort;
 use std::test::Fail;
 
-/// Bytes, and how many of them a read gives.
-static WHOLE: &[(&str, usize)] = &[("1 all\n", 1), ("1 all\n", 2), ("1 all\n", 1000), ("", 1)];
+/// Bytes, and the size of a read.
+static COMPLETE: &[(&str, usize)] = &[("1 all\n", 1), ("1 all\n", 2), ("1 all\n", 1000), ("", 1)];
 
 #[test]
-fn all_bytes_are_read(rt: HostRuntime) -> Result<(), Fail> {
-    for (bytes, size) in WHOLE {
+fn read_names_returns_all_bytes(rt: HostRuntime) -> Result<(), Fail> {
+    for (bytes, size) in COMPLETE {
         expect_read(&rt, bytes, *size)?;
     }
     Ok(())
 }
 
-/// All of these bytes are read, in reads of such a size.
+/// Checks that all of these bytes are read, in reads of this size.
 fn expect_read(rt: &(impl Abort + AllocGlobal), bytes: &str, size: usize) -> Result<(), Fail> {
     let names = names_of(rt.alloc(), bytes, size)?;
     assert_eq!(rt; names.as_slice(), bytes.as_bytes());
@@ -27,7 +27,7 @@ fn names_of(alloc: Global, bytes: &str, size: usize) -> Result<Vec<u8>, Fail> {
     Ok(read(alloc, bytes, false, size)??)
 }
 
-/// What is read of these bytes, in reads of such a size.
+/// Reads these bytes as the file `names`, in reads of this size.
 fn read(
     alloc: Global,
     bytes: &str,
@@ -38,19 +38,19 @@ fn read(
     Ok(read_names(alloc, &mut names))
 }
 
-/// The bytes before a failed read, and how many of them a read gives.
-static CUT_SHORT: &[(&str, usize)] = &[("", 1), ("1 all\n", 1), ("1 all\n", 1000)];
+/// The bytes before a failed read, and the size of a read.
+static TRUNCATED: &[(&str, usize)] = &[("", 1), ("1 all\n", 1), ("1 all\n", 1000)];
 
 #[test]
-fn a_failed_read_is_told(rt: HostRuntime) -> Result<(), Fail> {
-    for (bytes, size) in CUT_SHORT {
-        let fault = fault_behind(rt.alloc(), bytes, *size)?;
+fn read_names_reports_failed_read(rt: HostRuntime) -> Result<(), Fail> {
+    for (bytes, size) in TRUNCATED {
+        let fault = fault_after(rt.alloc(), bytes, *size)?;
         assert_eq!(rt; fault, Some(Failure::NamesRead), "{bytes:?}");
     }
     Ok(())
 }
 
-/// The failure where a read fails behind these bytes.
-fn fault_behind(alloc: Global, bytes: &str, size: usize) -> Result<Option<Failure>, AllocError> {
+/// Returns the failure if a read fails after these bytes.
+fn fault_after(alloc: Global, bytes: &str, size: usize) -> Result<Option<Failure>, AllocError> {
     Ok(read(alloc, bytes, true, size)?.err())
 }

@@ -1,4 +1,4 @@
-//! Runs: the streams of all targets of an index, the words that ask, and the text or the fault.
+//! Tests of runs: from the streams of all targets of an index, and the arguments, to the text or the fault.
 ghost use Rattle.std.specs.Prelude.{◌≡◌, ◌<◌, IfOk, length};
 ghost use Rattle.redo_run.specs.RunFault.{IfStreamFault, IfUnknown};
 
@@ -8,9 +8,9 @@ use redo_gather_tests::cases::{
     ASKED, BY_PIDS, CHOSEN, Case, LOGS, MAX_BYTES, MENTIONS, PLAIN, STATUSES,
 };
 use redo_gather_tests::gate::{Event, Hold, Holding};
-use redo_given::{Answer, Cut, Given, Script, cuts, whole};
 use redo_line::{Pieces, Sink, StreamFault, Taker};
 use redo_log_cli::{Failure, Index, RunFault, fault_line, read_index, run, status};
+use redo_test_support::{Answer, Cut, Given, Script, cuts, whole};
 use redo_view::Options;
 use std::alloc::{AllocError, Global};
 use std::process::Abort;
@@ -19,7 +19,7 @@ use std::sync::atomic::{AtomicU64, Ordering};
 use std::test::Fail;
 use std::thread::Threads;
 
-/// What a run answered, and what the program would print of it and end with.
+/// The result of a run, and the error message and exit status that the program would end with.
 #[derive(Debug, Drop, PartialEq, Eq)]
 pub struct Outcome {
     pub answer: Result<(), RunFault>,
@@ -27,7 +27,7 @@ pub struct Outcome {
     pub status: u8,
 }
 
-/// What a run is asked for.
+/// What a run is asked.
 #[derive(Clone, Copy)]
 struct Request<'a> {
     plan: &'a Plan,
@@ -35,7 +35,7 @@ struct Request<'a> {
     words: &'a [Vec<u8>],
 }
 
-/// Runs with these readers.
+/// Runs over these streams, cut into reads in this way.
 pub fn ran(
     rt: &(impl AllocGlobal + Threads + Wait + Sync),
     given: &[Given<'_>],
@@ -65,7 +65,7 @@ fn ran_as_requested(
     ran_over(rt, &index, given, cut, request, out)
 }
 
-/// Runs over the streams of the index's targets.
+/// Runs over these streams with this index.
 fn ran_over(
     rt: &(impl AllocGlobal + Threads + Wait + Sync),
     index: &Index,
@@ -90,18 +90,18 @@ fn ran_with(
     let alloc = rt.alloc();
     let (plan, options, words) = (request.plan, request.options, request.words);
     let answer = run(rt, alloc, index, readers, plan, options, words, &Free, out);
-    told(alloc, answer, index, words)
+    outcome_of_run(alloc, answer, index, words)
 }
 
-/// The answer of a run of these words, with what is told of it.
-fn told(
+/// Returns the result of a run with these arguments, with its error message and status.
+fn outcome_of_run(
     alloc: Global,
     answer: Result<(), RunFault>,
     index: &Index,
     words: &[Vec<u8>],
 ) -> Result<Outcome, AllocError>
-    requires number { IfStreamFault answer (λ number _. number < length index.now) }
-    requires place { IfUnknown answer (λ place. place < length words.now) }
+    requires stream_in_range { IfStreamFault answer (λ number _. number < length index.now) }
+    requires argument_in_range { IfUnknown answer (λ place. place < length words.now) }
 {
     let (line, status) = match answer {
         Ok(()) => (Vec::new(alloc), 0),
@@ -125,14 +125,14 @@ fn words(alloc: Global, asked: &[&str]) -> Result<Vec<Vec<u8>>, AllocError> {
     Ok(words)
 }
 
-/// The text of a run, or its fault, the line of it and the status.
+/// The text of a run, or its fault with the error message and the status.
 pub type Want<'a> = Result<&'a str, (RunFault, &'a str, u8)>;
 
 /// Numbers of senders, and capacities.
 static PLANS: &[(u32, u32)] = &[(1, 1), (1, 64), (2, 1), (2, 64), (64, 1), (64, 64)];
 
-/// However the streams are cut into reads, and whoever reads them, this is answered, and the text or
-/// nothing written.
+/// Checks the result of a run, and that it writes the text or nothing, however the streams are cut into
+/// reads, and for several numbers of senders and capacities.
 fn expect_run(
     rt: &(impl Abort + AllocGlobal + Threads + Wait + Sync),
     given: &[Given<'_>],
@@ -149,7 +149,7 @@ fn expect_run(
     Ok(())
 }
 
-/// However the streams are cut into reads, this is answered.
+/// Checks the result of a run, however the streams are cut into reads.
 fn expect_cut(
     rt: &(impl Abort + AllocGlobal + Threads + Wait + Sync),
     given: &[Given<'_>],
@@ -182,7 +182,7 @@ pub fn expect_planned(
     Ok(())
 }
 
-/// What is wanted, and the text that is written.
+/// Returns the expected outcome, and the text to be written.
 pub fn outcome_of<'a>(alloc: Global, want: Want<'a>) -> Result<(Outcome, &'a str), AllocError> {
     let (answer, line, status, text) = match want {
         Ok(text) => (Ok(()), "", 0, text),
@@ -202,7 +202,7 @@ fn expect_outcome(rt: &impl Abort, ran: &Outcome, want: &Outcome, written: &[u8]
     assert_eq!(rt; written, text);
 }
 
-/// A run writes the text of each case.
+/// Checks that a run writes the text of each case.
 fn expect_texts(
     rt: &(impl Abort + AllocGlobal + Threads + Wait + Sync),
     cases: &[Case],
@@ -222,7 +222,7 @@ fn expect_text(
     expect_run(rt, &given, MAX_BYTES, options, asked, Ok(text))
 }
 
-// The tables that are gone over, as statics: a constant is written out wherever it is named.
+// The tables that tests iterate over are statics, because a constant is expanded wherever it is named.
 static OF_LOGS: &[Case] = &LOGS;
 
 static OF_MENTIONS: &[Case] = &MENTIONS;
@@ -236,7 +236,7 @@ static OF_STATUSES: &[Case] = &STATUSES;
 static OF_PIDS: &[Case] = &BY_PIDS;
 
 #[test]
-fn a_run_writes_the_text_of_its_logs(rt: HostRuntime) -> Result<(), Fail> {
+fn run_writes_text_of_logs(rt: HostRuntime) -> Result<(), Fail> {
     expect_texts(&rt, OF_LOGS)?;
     expect_texts(&rt, OF_MENTIONS)?;
     expect_texts(&rt, OF_ASKING)?;
@@ -261,7 +261,7 @@ fn unknown<'a>(place: usize, line: &'a str) -> Want<'a> {
     Err((RunFault::Unknown { place }, line, 24))
 }
 
-/// Two streams, and the number of the one that is told, its fault, the line and the status.
+/// Two streams, the number of the one whose fault is reported, the fault, the error message and the status.
 type AtFault = (
     &'static [Given<'static>],
     u32,
@@ -323,7 +323,7 @@ static AT_FAULT: &[AtFault] = &[
 ];
 
 #[test]
-fn a_stream_at_fault_is_told_and_nothing_written(rt: HostRuntime) -> Result<(), Fail> {
+fn run_reports_stream_fault(rt: HostRuntime) -> Result<(), Fail> {
     for (given, number, fault, line, status) in AT_FAULT {
         let want = stream(*number, *fault, line, *status);
         expect_run(&rt, given, 1000, &PLAIN, &["all"], want)?;
@@ -349,7 +349,7 @@ const AFTER_CLOSE: Want<'static> = Err((
     4,
 ));
 
-/// The stream of `a`, a limit, and what a run answers within it.
+/// The stream of `a`, the maximum number of bytes, and the result of a run.
 static LIMITED: &[(&str, u64, Want<'static>)] = &[
     ("abc\n", 4, Ok("redo  a\nabc\n")),
     ("abc\nd", 4, TOO_LONG),
@@ -360,7 +360,7 @@ static LIMITED: &[(&str, u64, Want<'static>)] = &[
 ];
 
 #[test]
-fn a_stream_may_have_so_many_bytes(rt: HostRuntime) -> Result<(), Fail> {
+fn run_limits_stream_bytes(rt: HostRuntime) -> Result<(), Fail> {
     for (text, max_bytes, want) in LIMITED {
         let given = [("a", *text, false)];
         expect_run(&rt, &given, *max_bytes, &PLAIN, &["a"], *want)?;
@@ -368,7 +368,7 @@ fn a_stream_may_have_so_many_bytes(rt: HostRuntime) -> Result<(), Fail> {
     Ok(())
 }
 
-/// What a log at fault is asked for, the place of the unknown word, and the line.
+/// The arguments of a run whose log has a fault, the position of the unknown argument, and the error message.
 static UNKNOWN: &[(&[&str], usize, &str)] = &[
     (&["all", "nope"], 1, "redo-log: nope: not known\n"),
     (&["nope", "none"], 0, "redo-log: nope: not known\n"),
@@ -382,7 +382,7 @@ static UNKNOWN: &[(&[&str], usize, &str)] = &[
 ];
 
 #[test]
-fn an_unknown_word_is_told_before_a_fault(rt: HostRuntime) -> Result<(), Fail> {
+fn unknown_target_precedes_stream_fault(rt: HostRuntime) -> Result<(), Fail> {
     for (asked, place, line) in UNKNOWN {
         let want = unknown(*place, line);
         expect_run(&rt, &[("all", BAD, false)], 1000, &PLAIN, asked, want)?;
@@ -392,7 +392,7 @@ fn an_unknown_word_is_told_before_a_fault(rt: HostRuntime) -> Result<(), Fail> {
 }
 
 #[test]
-fn no_reader_is_asked_where_a_word_is_unknown(rt: HostRuntime) -> Result<(), Fail> {
+fn run_reads_nothing_for_unknown_target(rt: HostRuntime) -> Result<(), Fail> {
     let reads = AtomicU64::new(0);
     let answer = answer_of_counted(&rt, &reads)?;
     assert_eq!(rt; answer, Err(RunFault::Unknown { place: 0 }));
@@ -400,7 +400,7 @@ fn no_reader_is_asked_where_a_word_is_unknown(rt: HostRuntime) -> Result<(), Fai
     Ok(())
 }
 
-/// What a run answers to `nope`, where the reads of the one stream are counted.
+/// Returns the result of a run that requests `nope`. It counts the reads of the only stream.
 fn answer_of_counted(
     rt: &(impl AllocGlobal + Threads + Wait + Sync),
     reads: &AtomicU64,
@@ -449,7 +449,7 @@ fn answer_to_nope(
     ))
 }
 
-/// Words, and what is written of two logs.
+/// Arguments, and the text of two logs.
 static RELATIVE: &[(&[&str], &str)] = &[
     (&["d/./a"], "redo  d/a\nA\n"),
     (&["x/..//d/a", "/e", "d/a"], "redo  d/a\nA\nredo  /e\nE\n"),
@@ -457,7 +457,7 @@ static RELATIVE: &[(&[&str], &str)] = &[
 ];
 
 #[test]
-fn a_word_is_a_name_relative_to_the_base(rt: HostRuntime) -> Result<(), Fail> {
+fn run_resolves_targets_from_base(rt: HostRuntime) -> Result<(), Fail> {
     let given = [("d/a", "A\n", false), ("/e", "E\n", false)];
     for (asked, text) in RELATIVE {
         expect_run(&rt, &given, 1000, &PLAIN, asked, Ok(text))?;
@@ -465,9 +465,9 @@ fn a_word_is_a_name_relative_to_the_base(rt: HostRuntime) -> Result<(), Fail> {
     Ok(())
 }
 
-// Each stream's second line is read only once the other's first one was taken.
+// Each stream's second line is read only after the first line of the other stream was taken.
 #[test]
-fn a_run_reads_and_takes_its_streams_side_by_side(rt: HostRuntime) -> Result<(), Fail> {
+fn run_reads_streams_concurrently(rt: HostRuntime) -> Result<(), Fail> {
     let read = |stream| Event::BeforeRead { stream, turn: 2 };
     let taken = |stream| Event::Taken { stream, lines: 1 };
     let gate = Holding::new([Hold::new(read(0), taken(1)), Hold::new(read(1), taken(0))]);
@@ -479,7 +479,7 @@ fn a_run_reads_and_takes_its_streams_side_by_side(rt: HostRuntime) -> Result<(),
 /// Two streams of two lines.
 const PAIR: [Given<'static>; 2] = [("p", "p1\np2\n", false), ("q", "q1\nq2\n", false)];
 
-/// A run under this gate writes the logs of the two streams.
+/// Checks that a run with this gate writes the logs of the two streams.
 fn expect_pair_shown(
     rt: &(impl Abort + AllocGlobal + Threads + Wait + Sync),
     gate: &Holding,
@@ -504,7 +504,7 @@ fn answer_to_pair(
     answer_side_by_side(rt, gate, &index, &words, out)
 }
 
-/// What a run of the two streams by two senders answers, a line at once.
+/// Returns the result of a run over the two streams by two senders, which read one line at a time.
 fn answer_side_by_side(
     rt: &(impl AllocGlobal + Threads + Wait + Sync),
     gate: &Holding,
@@ -531,10 +531,10 @@ const A_IS_OPEN: Want<'static> = Err((
     4,
 ));
 
-/// An index, the streams of `a` and `b`, how many bytes each may have, and what is answered where `a` is asked for.
-type Marked = (&'static str, &'static [Given<'static>], u64, Want<'static>);
+/// An index, the streams of `a` and `b`, the maximum number of bytes of each, and the result of a run that requests `a`.
+type FlaggedCase = (&'static str, &'static [Given<'static>], u64, Want<'static>);
 
-static MARKED: &[Marked] = &[
+static FLAGGED: &[FlaggedCase] = &[
     (
         "!1 a\n2 b\n",
         &[("a", CLOSING, false), ("b", "", false)],
@@ -618,16 +618,16 @@ static MARKED: &[Marked] = &[
 ];
 
 #[test]
-fn a_stream_that_must_close_and_is_open_is_told(rt: HostRuntime) -> Result<(), Fail> {
-    for (index, given, max_bytes, want) in MARKED {
+fn run_reports_open_flagged_log(rt: HostRuntime) -> Result<(), Fail> {
+    for (index, given, max_bytes, want) in FLAGGED {
         for senders in [1, 2, 64] {
-            expect_marked(&rt, index, given, *max_bytes, senders, *want)?;
+            expect_flagged(&rt, index, given, *max_bytes, senders, *want)?;
         }
     }
     Ok(())
 }
 
-fn expect_marked(
+fn expect_flagged(
     rt: &(impl Abort + AllocGlobal + Threads + Wait + Sync),
     index: &str,
     given: &[Given<'_>],

@@ -1,10 +1,10 @@
-//! The words of the command line: what they ask for, and which are refused.
+//! Tests of the command-line arguments: the jobs that they describe, and which ones are rejected.
 use redo_log_cli::{Job, WordsFault, help_text, read_words};
 use redo_view::Options;
 use std::process::Abort;
 use std::test::Fail;
 
-/// What a job has, with its targets as text.
+/// The parts of a job, with its targets as text.
 #[derive(Clone, Copy)]
 struct Want<'a> {
     options: Options,
@@ -56,7 +56,7 @@ const BOTH_LETTERS: Options = Options {
     debug_pids: false,
 };
 
-/// Without options, and without targets yet.
+/// A job without options. Its targets are still missing.
 const PLAIN_JOB: Want<'static> = Want {
     options: PLAIN,
     dir: ".",
@@ -94,7 +94,7 @@ fn expect_job(
     Ok(())
 }
 
-/// The words are refused with this fault.
+/// Checks that the arguments fail with this fault.
 fn expect_fault(
     rt: &(impl Abort + AllocGlobal),
     words: &[&str],
@@ -133,12 +133,12 @@ fn expect_names(rt: &impl Abort, targets: &[Vec<u8>], names: &[&str]) {
     }
 }
 
-/// The target has this name, which is one of these.
+/// Checks the name of a target. `names` are all names expected.
 fn expect_target(rt: &impl Abort, target: &[u8], name: &str, names: &[&str]) {
     assert_eq!(rt; target, name.as_bytes(), "{names:?}");
 }
 
-/// Words, and the targets among them.
+/// Arguments, and the targets among them.
 static TARGETS: &[(&[&str], &[&str])] = &[
     (&["all"], &["all"]),
     (&["b", "a", "b"], &["b", "a", "b"]),
@@ -152,14 +152,14 @@ static TARGETS: &[(&[&str], &[&str])] = &[
 ];
 
 #[test]
-fn words_that_are_no_options_are_targets(rt: HostRuntime) -> Result<(), Fail> {
+fn other_arguments_are_targets(rt: HostRuntime) -> Result<(), Fail> {
     for (words, targets) in TARGETS {
         expect_job(&rt, words, &plain(targets))?;
     }
     Ok(())
 }
 
-/// Each option is set.
+/// A job with each option set.
 const EACH_SET: Want<'static> = Want {
     options: ALL_SET,
     dir: "d",
@@ -186,7 +186,7 @@ const GREATEST: Want<'static> = Want {
     ..PLAIN_JOB
 };
 
-/// Words, and the job that is read of them.
+/// Arguments, and the job that they describe.
 static JOBS: &[(&[&str], Want<'static>)] = &[
     (
         &[
@@ -226,7 +226,7 @@ static JOBS: &[(&[&str], Want<'static>)] = &[
 ];
 
 #[test]
-fn options_are_read(rt: HostRuntime) -> Result<(), Fail> {
+fn options_set_job(rt: HostRuntime) -> Result<(), Fail> {
     for (words, want) in JOBS {
         expect_job(&rt, words, want)?;
     }
@@ -246,7 +246,7 @@ const THREE_OPTIONS: Want<'static> = Want {
     ..PLAIN_JOB
 };
 
-/// Words, and the job that is read of them.
+/// Arguments, and the job that they describe.
 static AMONG_TARGETS: &[(&[&str], Want<'static>)] = &[
     (&["-r", "a", "b"], ONE_OPTION),
     (&["a", "-r", "b"], ONE_OPTION),
@@ -257,14 +257,14 @@ static AMONG_TARGETS: &[(&[&str], Want<'static>)] = &[
 ];
 
 #[test]
-fn options_stand_among_targets(rt: HostRuntime) -> Result<(), Fail> {
+fn options_may_follow_targets(rt: HostRuntime) -> Result<(), Fail> {
     for (words, want) in AMONG_TARGETS {
         expect_job(&rt, words, want)?;
     }
     Ok(())
 }
 
-/// Words, and the directory that they name.
+/// Arguments, and the directory that they name.
 static DIRECTORIES: &[(&[&str], &str)] = &[
     (&["--dir=", "a"], ""),
     (&["--dir", "", "a"], ""),
@@ -274,7 +274,7 @@ static DIRECTORIES: &[(&[&str], &str)] = &[
 ];
 
 #[test]
-fn a_directory_is_taken_as_it_is(rt: HostRuntime) -> Result<(), Fail> {
+fn dir_is_not_normalized(rt: HostRuntime) -> Result<(), Fail> {
     for (words, dir) in DIRECTORIES {
         let want = Want {
             dir,
@@ -285,7 +285,7 @@ fn a_directory_is_taken_as_it_is(rt: HostRuntime) -> Result<(), Fail> {
     Ok(())
 }
 
-static REFUSED: &[&[&str]] = &[
+static REJECTED: &[&[&str]] = &[
     &[],
     &["--"],
     &["-r"],
@@ -320,8 +320,8 @@ static REFUSED: &[&[&str]] = &[
 ];
 
 #[test]
-fn words_are_refused(rt: HostRuntime) -> Result<(), Fail> {
-    for words in REFUSED {
+fn bad_arguments_are_rejected(rt: HostRuntime) -> Result<(), Fail> {
+    for words in REJECTED {
         expect_fault(&rt, words, WordsFault::Refused)?;
     }
     Ok(())
@@ -336,17 +336,17 @@ static HELP: &[&[&str]] = &[
 ];
 
 #[test]
-fn help_is_asked_for(rt: HostRuntime) -> Result<(), Fail> {
+fn help_is_recognized(rt: HostRuntime) -> Result<(), Fail> {
     for words in HELP {
         expect_fault(&rt, words, WordsFault::Help)?;
     }
     // The first fault counts.
     expect_fault(&rt, &["--force", "--help"], WordsFault::Refused)?;
-    // Behind `--` it is a target.
+    // After `--` it is a target.
     expect_job(&rt, &["--", "--help"], &plain(&["--help"]))
 }
 
-/// What stands in the help text.
+/// Parts of the help text.
 static HELP_PARTS: &[&str] = &[
     "Usage: redo-log [OPTIONS] <TARGET>...\n",
     "-r, --recursive",
@@ -369,7 +369,7 @@ static HELP_PARTS: &[&str] = &[
 ];
 
 #[test]
-fn the_help_text_tells_each_option_and_status(rt: HostRuntime) -> Result<(), Fail> {
+fn help_text_lists_options_and_statuses(rt: HostRuntime) -> Result<(), Fail> {
     let text = help_text(rt.alloc())?;
     expect_parts(&rt, &text);
     assert!(rt; text.ends_with("not listed\n"));

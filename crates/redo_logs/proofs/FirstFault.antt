@@ -7,86 +7,86 @@ use Rattle.redo_line.specs.declared.stream_fault.StreamFault.{StreamFault}
 use Rattle.redo_logs.specs.declared.log_state.LogState.{LogState}
 use Rattle.redo_logs.specs.declared.log_state.LogState.TheVariants.{Running, Ended, Failed}
 use Rattle.redo_logs.specs.declared.log_table.Log.{Log as Stored}
-use Rattle.redo_logs.specs.Logs.{Log, IsTable, most, fault_in, least_fault, first_failed}
+use Rattle.redo_logs.specs.Logs.{Log, IsTable, max_logs, fault_in, lowest_fault, first_failed}
 use Rattle.redo_logs.proofs.LeastFault.{behind_one}
-use Rattle.redo_logs.specs.Private.Kept.{Parts}
+use Rattle.redo_logs.specs.Private.Store.{Parts}
 use Rattle.redo_logs.specs.Private.Stored.{log_of, logs_of}
 
--- what each of these says of a fault
+-- The fault of each log, if it has one.
 abbrev faults_of : List Stored → List (Option StreamFault)
 faults_of left = map (λ (stored : Stored). fault_in stored.state) left
 
--- so many places further
+-- A fault, with a position that is greater by `number`.
 abbrev behind : ℕ → Option (ℕ × StreamFault) → Option (ℕ × StreamFault)
 behind number first = option_map (λ (found : ℕ × StreamFault). (number + found.0, found.1)) first
 
--- the first logs, as many as this number, have not failed, and these are left
+-- The state of the search: the first `number` logs have not failed, and `left` are the logs after them.
 pub record Searched (logs : List Log) (number : ℕ) (left : List Stored) : Type 0 where
-  pub size : number + length left ≤ most
-  pub answer : first_failed logs ≡ behind number (least_fault (faults_of left))
+  pub size : number + length left ≤ max_logs
+  pub answer : first_failed logs ≡ behind number (lowest_fault (faults_of left))
 
--- one place further and so many are one more
+-- Adding one and then `number` to the position adds `number + 1`.
 behind-behind_one : (number : ℕ) (first : Option (ℕ × StreamFault)) → behind number (behind_one first) ≡ behind (number + 1) first
 behind-behind_one number None = refl
 behind-behind_one number (Some found) = ap (λ n. Some (n, found.1)) (omega arith)
 
--- no place further changes nothing
+-- Adding 0 to the position changes nothing.
 behind_none : (first : Option (ℕ × StreamFault)) → behind 0 first ≡ first
 behind_none None = refl
 behind_none (Some found) = ap (λ n. Some (n, found.1)) (omega arith)
 
--- the first log that failed is the first value that says so
-faults_stored : (parts : Parts) (stored : List Stored) → first_failed (logs_of parts stored) ≡ least_fault (faults_of stored)
-faults_stored parts stored = ap least_fault (same stored)
+-- The first log that failed is the first stored log with a fault.
+faults_stored : (parts : Parts) (stored : List Stored) → first_failed (logs_of parts stored) ≡ lowest_fault (faults_of stored)
+faults_stored parts stored = ap lowest_fault (same stored)
   where
     same : (logs : List Stored) → map fault_in (map (λ (log : Log). log.state) (logs_of parts logs)) ≡ faults_of logs
     same [] = refl
     same (log ∷ logs) = ap (λ faults. fault_in log.state ∷ faults) (same logs)
 
--- a log that hasn't failed has no fault
+-- A log that hasn't failed has no fault.
 no_fault : (state : LogState) → ((fault : StreamFault) → state ≡ Failed fault → ⊥) → fault_in state ≡ None
 no_fault Running not_failed = refl
 no_fault Ended not_failed = refl
 no_fault (Failed fault) not_failed = absurd (not_failed fault refl)
 
--- at the start all are left
+-- At the start all logs are left.
 pub searched_none : (parts : Parts) (stored : List Stored) (logs : List Log) → logs_of parts stored ≡ logs → IsTable (logs_of parts stored) → Searched logs 0 stored
 searched_none parts stored logs is table =
     record {
       size = let size = table.size in omega (arith, length-map stored (log_of parts));
-      answer = ap first_failed (sym is) ∙ faults_stored parts stored ∙ sym (behind_none (least_fault (faults_of stored)));
+      answer = ap first_failed (sym is) ∙ faults_stored parts stored ∙ sym (behind_none (lowest_fault (faults_of stored)));
     }
 
 module _ (logs : List Log) (number : ℕ) (left : List Stored) (so_far : Searched logs number left) where
   module _ (stored : Stored) (others : List Stored) (is : left ≡ stored ∷ others) where
-    -- the answer looks at the next log first
-    here : first_failed logs ≡ behind number (least_fault (fault_in stored.state ∷ faults_of others))
-    here = so_far.answer ∙ ap (λ values. behind number (least_fault (faults_of values))) is
+    -- The result is the next log's fault, or else the first fault after it.
+    here : first_failed logs ≡ behind number (lowest_fault (fault_in stored.state ∷ faults_of others))
+    here = so_far.answer ∙ ap (λ values. behind number (lowest_fault (faults_of values))) is
 
-    -- there is room for one number more
-    pub more : number + 1 ≤ most
+    -- The next number is in range.
+    pub more : number + 1 ≤ max_logs
     more = let size = so_far.size in omega (arith, ap length is)
 
-    -- if the next log has failed, it is the answer
+    -- If the next log has failed, it is the result.
     pub found : (fault : StreamFault) → stored.state ≡ Failed fault → Some (number, fault) ≡ first_failed logs
     found fault failed =
-        ap (λ n. Some (n, fault)) (omega arith) ∙ sym (here ∙ ap (λ state. behind number (least_fault (fault_in state ∷ faults_of others))) failed)
+        ap (λ n. Some (n, fault)) (omega arith) ∙ sym (here ∙ ap (λ state. behind number (lowest_fault (fault_in state ∷ faults_of others))) failed)
 
-    -- if it hasn't, the search goes on
+    -- If it hasn't, the search goes on.
     pub searched_one : ((fault : StreamFault) → stored.state ≡ Failed fault → ⊥) → Searched logs (number + 1) others
     searched_one not_failed =
         record {
           size = let size = so_far.size in omega (arith, ap length is);
           answer =
-              here ∙ ap (λ first. behind number (least_fault (first ∷ faults_of others))) (no_fault stored.state not_failed)
-              ∙ behind-behind_one number (least_fault (faults_of others));
+              here ∙ ap (λ first. behind number (lowest_fault (first ∷ faults_of others))) (no_fault stored.state not_failed)
+              ∙ behind-behind_one number (lowest_fault (faults_of others));
         }
 
-  -- if no log is left, there is no answer
+  -- If no log is left, the result is none.
   pub none_found : left ≡ [] → None ≡ first_failed logs
-  none_found is = sym (so_far.answer ∙ ap (λ values. behind number (least_fault (faults_of values))) is)
+  none_found is = sym (so_far.answer ∙ ap (λ values. behind number (lowest_fault (faults_of values))) is)
 
--- the log at a place is the first of those from there on
+-- The log at a position is the first log from there on.
 pub left_at : (logs : List Stored) (place : ℕ) (log : Stored) → place < length logs → log ≡ get_or logs place log → drop place logs ≡ log ∷ drop (place + 1) logs
 left_at logs place log within is =
     let next : suc place ≡ place + 1 = omega arith in

@@ -1,4 +1,4 @@
--- The first line of bytes.
+-- The first line of some bytes.
 use Rattle.std.proofs.Common.{◌≡◌, ℕ, ◌+◌, ◌<◌, List, [], ◌∷◌, ◌++◌, length, take, drop, sym, ◌∙◌, ap, arith}
 use Rattle.std.proofs.lemmas.List.{append_assoc, take-append-drop}
 use Rattle.memchr.specs.Find.{Passes, NoneBefore, Nowhere, is_byte}
@@ -16,18 +16,18 @@ module _ (bytes : List ℕ) (at : ℕ) (found : NoneBefore (Passes (is_byte line
       sym (take-append-drop (at + 1) bytes) ∙ ap (λ (b : List ℕ). b ++ drop (at + 1) bytes) (upto_feed bytes at found.0.high found.1)
       ∙ append_assoc (take at bytes) (line_feed ∷ []) (drop (at + 1) bytes)
 
-  -- the lines are that up to the first line feed, and those behind it
+  -- The lines are the bytes before the first line feed, and the lines after it.
   pub first_ended : ended bytes ≡ take at bytes ∷ ended (drop (at + 1) bytes)
   first_ended = ap ended parts ∙ ended-line (take at bytes) (drop (at + 1) bytes) free
 
   pub rest_behind : rest bytes ≡ rest (drop (at + 1) bytes)
   rest_behind = ap rest parts ∙ rest-line (take at bytes) (drop (at + 1) bytes) free
 
--- without a line feed there is no line
+-- Without a line feed there is no line.
 pub no_line : (bytes : List ℕ) → Nowhere (Passes (is_byte line_feed) bytes) 0 (length bytes) → 0 < length (ended bytes) → ⊥
 no_line bytes nowhere some = let none = ap length (ended-free bytes (holds_none bytes nowhere)) in omega (arith, none, some)
 
--- the lines behind one more
+-- The lines that are left after one more line was skipped.
 module _ (bytes left : List ℕ) (upto at : ℕ) (counter : ℕ) (left_is : left ≡ drop upto bytes)
     (found : NoneBefore (Passes (is_byte line_feed) left) 0 (length left) at × Passes (is_byte line_feed) left at) where
   behind_is : drop (upto + (at + 1)) bytes ≡ drop (at + 1) left

@@ -1,4 +1,4 @@
--- One log more in a table.
+-- Adding one log to a table.
 use Rattle.std.proofs.Common.{◌≡◌, ◌≢◌, ℕ, zero, suc, ◌+◌, ◌-◌, ◌≤◌, ◌<◌, Bool, true, false, cond, eqb, ltb, nat_eq, List, [], ◌∷◌, ◌++◌, Option, None, Some, is_some, length, take, replicate, get_or, slice_get, slice_set, position, refl, sym, ap, ◌∙◌, subst, arith}
 use Rattle.std.specs.Cmp.Lexicographic.{pointwise, same_text}
 use Rattle.std.specs.List.{AllByRecursion, IsDistinct, flat_map, list_any, position_from}
@@ -11,13 +11,13 @@ use Rattle.std.proofs.lemmas.Map.Keys.{IsDistinct-push, apart_from_distinct}
 use Rattle.redo_line.proofs.PlaceLemmas.{some_place, first_passes}
 use Rattle.redo_logs.specs.declared.log_state.LogState.TheVariants.{Running}
 use Rattle.redo_logs.specs.declared.log_table.Log.{Log as Stored}
-use Rattle.redo_logs.specs.Logs.{Log, IsTable, most, new_log, targets_of, place_of}
+use Rattle.redo_logs.specs.Logs.{Log, IsTable, max_logs, new_log, targets_of, log_number}
 use Rattle.redo_logs.specs.Numbering.{name_at}
-use Rattle.redo_logs.specs.Private.Kept.{IsNamed, Parts, Within, seen}
+use Rattle.redo_logs.specs.Private.Store.{HasNumber, Parts, Within, denotes}
 use Rattle.redo_logs.specs.Private.Stored.{IsLogWithin, IsStored, log_of, logs_of}
 
--- a table with room takes the log of a new target
-IsTable-grown : (logs : List Log) (target : List ℕ) → IsTable logs → length logs < most → list_any (pointwise nat_eq target) (targets_of logs) ≡ false
+-- A new target can be added to a table that isn't full.
+IsTable-grown : (logs : List Log) (target : List ℕ) → IsTable logs → length logs < max_logs → list_any (pointwise nat_eq target) (targets_of logs) ≡ false
     → IsTable (logs ++ new_log target ∷ [])
 IsTable-grown logs target table room absent =
     record {
@@ -27,7 +27,7 @@ IsTable-grown logs target table room absent =
           (IsDistinct-push nat_list_eq_equiv (targets_of logs) target table.targets_differ absent);
     }
 
--- one more that doesn't pass changes no place
+-- An appended element that doesn't pass changes no position.
 module _ {A : Type 0} (p : A → Bool) (x : A) (fails : p x ≡ false) where
   others_from : (i : ℕ) (xs : List A) → position_from p i (xs ++ x ∷ []) ≡ position_from p i xs
   others_from i [] = ap (λ b. cond b (Some i) None) fails
@@ -36,7 +36,7 @@ module _ {A : Type 0} (p : A → Bool) (x : A) (fails : p x ≡ false) where
   position_others : (xs : List A) → position p (xs ++ x ∷ []) ≡ position p xs
   position_others xs = position_from-zero p (xs ++ x ∷ []) ∙ others_from 0 xs ∙ sym (position_from-zero p xs)
 
--- what is found passes
+-- The element that is found passes.
 module _ {A : Type 0} (p : A → Bool) (d : A) where
   record Found (i n : ℕ) (xs : List A) : Type 0 where
     pub place : ℕ
@@ -54,8 +54,8 @@ module _ {A : Type 0} (p : A → Bool) (d : A) where
           let rest = others is in
           record { place = suc rest.place; is = let behind = rest.is in omega (arith, behind); below = let below = rest.below in omega (arith, below); passes = rest.passes }
 
--- a name that was found is that of its number
-pub found_name : (names : List (List ℕ)) (name : List ℕ) (number : ℕ) → position (pointwise nat_eq name) names ≡ Some number → IsNamed names number name
+-- The position at which a name is found is its number.
+pub found_name : (names : List (List ℕ)) (name : List ℕ) (number : ℕ) → position (pointwise nat_eq name) names ≡ Some number → HasNumber names number name
 found_name names name number is =
     let found = found_from (pointwise nat_eq name) [] 0 number names (sym (position_from-zero (pointwise nat_eq name) names) ∙ is) in
     let same : found.place ≡ number = let place = found.is in omega (arith, place) in
@@ -64,15 +64,15 @@ found_name names name number is =
       is = ap (λ n. get_or names n []) (sym same) ∙ sym (same_text name (get_or names found.place []) (sym found.passes));
     }
 
--- a name that stands at a number is that of this number
+-- A name that equals the name at a position has this position as its number.
 pub name_there : (names : List (List ℕ)) (name other : List ℕ) (number : ℕ) →
-    slice_get names number ≡ Some other → true ≡ pointwise nat_eq other name → IsNamed names number name
+    slice_get names number ≡ Some other → true ≡ pointwise nat_eq other name → HasNumber names number name
 name_there names name other number at is = record {
   below = slice_get_within names number other at;
   is = get_or_from_slice_get names number other [] at ∙ same_text other name is;
 }
 
--- ---- places
+-- ---- the numbers of logs
 
 abbrev none : Option ℕ
 none = None
@@ -82,7 +82,7 @@ none_left zero i = refl
 none_left (suc n) zero = refl
 none_left (suc n) (suc i) = none_left n i
 
--- more places, where nothing is
+-- Growing `places` by items without a number changes no number.
 pub padded : (places : List (Option ℕ)) (n number : ℕ) → length places ≤ n → get_or (take n places ++ replicate (n - length places) None) number None ≡ get_or places number None
 padded places n number room = ap (λ front. get_or (front ++ replicate (n - length places) None) number None) (take_all n places room) ∙ by (ltb number (length places)) refl
   where
@@ -94,7 +94,7 @@ padded places n number room = ap (λ front. get_or (front ++ replicate (n - leng
         ∙ none_left (n - length places) (number - length places) ∙ sym (get_or_past places number None behind)
 
 module _ (parts : Parts) (logs : List Stored) (places : List (Option ℕ)) where
-  -- other places that tell the same
+  -- Other `places` with the same numbers.
   pub placed_stored : (others : List (Option ℕ)) → length others ≤ length parts.names → ((number : ℕ) → get_or others number None ≡ get_or places number None) → IsStored parts logs places → IsStored parts logs others
   placed_stored others within same stored = record {
     table = stored.table;
@@ -104,7 +104,7 @@ module _ (parts : Parts) (logs : List Stored) (places : List (Option ℕ)) where
     are_places = λ number below. same number ∙ stored.are_places number below;
   }
 
-  -- names with other numbers are others
+  -- Names with different numbers differ.
   differ : (one other : ℕ) → IsDistinct (pointwise nat_eq) parts.names → one < length parts.names → other < length parts.names → one ≢ other
       → pointwise nat_eq (name_at parts.names one) (name_at parts.names other) ≡ false
   differ one other distinct below below' not_same = by (ltb one other) refl
@@ -122,15 +122,15 @@ module _ (parts : Parts) (logs : List Stored) (places : List (Option ℕ)) where
     abbrev target : List ℕ
     target = name_at parts.names number
 
-    -- the log that is stored behind the others
+    -- The log that is stored last.
     pub one_stored : logs_of parts (logs ++ log ∷ []) ≡ logs_of parts logs ++ new_log target ∷ []
     one_stored =
         map_push (log_of parts) logs log
-        ∙ (λ i. logs_of parts logs ++ record { target = name_at parts.names (name_is i); entries = flat_map (seen parts) (empty i); state = running i } ∷ [])
+        ∙ (λ i. logs_of parts logs ++ record { target = name_at parts.names (name_is i); entries = flat_map (denotes parts) (empty i); state = running i } ∷ [])
 
-    module _ (stored : IsStored parts logs places) (below : number < length parts.names) (room : length logs < most) (has_place : number < length places)
-        (absent : place_of target (logs_of parts logs) ≡ None) where
-      -- a table with one log more
+    module _ (stored : IsStored parts logs places) (below : number < length parts.names) (room : length logs < max_logs) (has_place : number < length places)
+        (absent : log_number target (logs_of parts logs) ≡ None) where
+      -- The table with one log more.
       pub one_more : IsStored parts (logs ++ log ∷ []) (slice_set places number (Some (length logs)))
       one_more =
           record {
@@ -155,7 +155,7 @@ module _ (parts : Parts) (logs : List Stored) (places : List (Option ℕ)) where
           count = length-map (logs_of parts logs) (λ (l : Log). l.target) ∙ length-map logs (log_of parts)
 
           placed : (other : ℕ) → other < length parts.names → (same : Bool) → eqb other number ≡ same
-              → get_or (slice_set places number (Some (length logs))) other None ≡ place_of (name_at parts.names other) (logs_of parts (logs ++ log ∷ []))
+              → get_or (slice_set places number (Some (length logs))) other None ≡ log_number (name_at parts.names other) (logs_of parts (logs ++ log ∷ []))
           placed other below' true is =
               let same = eqb-true other number is in
               ap (λ n. get_or (slice_set places number (Some (length logs))) n None) same

@@ -1,11 +1,11 @@
 pub mod ChangedLemmas
+mod Checkpoints
 mod FirstFault
 mod FirstLines
 mod Growing
 mod Keeping
 mod KeepingAll
 pub mod LeastFault
-mod Marks
 mod Shifting
 mod Storing
 mod TableRows

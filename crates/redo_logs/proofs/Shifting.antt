@@ -1,11 +1,11 @@
--- Entries whose texts stand behind others.
+-- Entries whose texts follow others in a block.
 use Rattle.std.proofs.Common.{◌≡◌, ℕ, zero, suc, ◌+◌, ◌-◌, List, [], ◌∷◌, Result, Ok, Err, IfOk, take, drop, slice_get, slice_range, refl, sym, ap, ◌∙◌, arith}
 use Rattle.redo_line.specs.declared.entry.Entry.{Entry}
-use Rattle.redo_logs.specs.declared.kept.Record.{Record}
-use Rattle.redo_logs.specs.Private.Kept.{Parts, seen}
+use Rattle.redo_logs.specs.declared.store.PackedEntries.{PackedEntries}
+use Rattle.redo_logs.specs.Private.Store.{Parts, denotes}
 
 module _ (shift : ℕ) where
-  -- a place behind so many bytes
+  -- The element at a position, counted from `shift`.
   pub get_shifted : {A : Type 0} (whole : List A) (at : ℕ) → slice_get whole (shift + at) ≡ slice_get (drop shift whole) at
   get_shifted {A} whole at = by shift whole
     where
@@ -26,13 +26,13 @@ module _ (shift : ℕ) where
       by (suc count) [] = none (suc count + start) ∙ sym (none start)
       by (suc count) (x ∷ xs) = let next : suc count + start ≡ suc (count + start) = omega arith in ap (λ n. drop n (x ∷ xs)) next ∙ by count xs
 
-  -- a range behind them
+  -- A range, counted from `shift`.
   pub range_shifted : (whole : List ℕ) (start end : ℕ) → slice_range whole (shift + start) (shift + end) ≡ slice_range (drop shift whole) start end
   range_shifted whole start end =
       let count : shift + end - (shift + start) ≡ end - start = omega arith in
       ap (λ n. take n (drop (shift + start) whole)) count ∙ ap (take (end - start)) (drop_twice whole start)
 
--- what is kept is seen as the same
-pub note_then : {E : Type 0} (result : Result Record E) (parts : Parts) (first second : List Entry) → IfOk result (λ kept. seen parts kept ≡ first) → first ≡ second → IfOk result (λ kept. seen parts kept ≡ second)
+-- A `PackedEntries` denotes the same entries.
+pub note_then : {E : Type 0} (result : Result PackedEntries E) (parts : Parts) (first second : List Entry) → IfOk result (λ kept. denotes parts kept ≡ first) → first ≡ second → IfOk result (λ kept. denotes parts kept ≡ second)
 note_then (Ok kept) parts first second is same = is ∙ same
 note_then (Err fault) parts first second is same = is

@@ -1,19 +1,19 @@
--- What the law says of the first fault.
+-- What the law `lowest_fault` states about the first fault.
 use Rattle.std.specs.Prelude.{◌≡◌, ℕ, ◌<◌, List, Option, None, Some, slice_get}
 use Rattle.redo_line.specs.declared.stream_fault.StreamFault.{StreamFault}
-use Rattle.redo_logs.specs.Logs.{least_fault}
+use Rattle.redo_logs.specs.Logs.{lowest_fault}
 
 module _ (faults : List (Option StreamFault)) where
-  -- it stands at its place
-  abbrev pub StandsThere : Type 0
-  StandsThere = (place : ℕ) (fault : StreamFault) → least_fault faults ≡ Some (place, fault) → slice_get faults place ≡ Some (Some fault)
+  -- The position that is found has the fault that is found.
+  abbrev pub IsAtIndex : Type 0
+  IsAtIndex = (place : ℕ) (fault : StreamFault) → lowest_fault faults ≡ Some (place, fault) → slice_get faults place ≡ Some (Some fault)
 
-  -- no place before it has a fault
+  -- No position before it has a fault.
   abbrev pub NoneBefore : Type 0
   NoneBefore =
-      (place : ℕ) (fault : StreamFault) (earlier : ℕ) → least_fault faults ≡ Some (place, fault) → earlier < place
+      (place : ℕ) (fault : StreamFault) (earlier : ℕ) → lowest_fault faults ≡ Some (place, fault) → earlier < place
       → slice_get faults earlier ≡ Some None
 
-  -- where there is none, no place has a fault
-  abbrev pub NoneMissed : Type 0
-  NoneMissed = (place : ℕ) (fault : StreamFault) → least_fault faults ≡ None → slice_get faults place ≡ Some (Some fault) → ⊥
+  -- If none is found, no position has a fault.
+  abbrev pub NoFaultMissed : Type 0
+  NoFaultMissed = (place : ℕ) (fault : StreamFault) → lowest_fault faults ≡ None → slice_get faults place ≡ Some (Some fault) → ⊥

@@ -1,4 +1,4 @@
--- What only clauses of private functions cite: it helps to prove the others, and nobody has to believe it.
-pub mod Kept
-pub mod Records
+-- Definitions that only clauses of private functions cite. They help in proofs and need not be trusted.
+pub mod PackedLog
+pub mod Store
 pub mod Stored

@@ -1,15 +1,14 @@
 ghost use Rattle.std.specs.Prelude.{◌≡◌};
-ghost use Rattle.redo_logs.specs.EntryRef.{entry_seen};
+ghost use Rattle.redo_logs.specs.EntryRef.{entry_value};
 
 use redo_line::{Entry, How, TargetName};
 
-/// An entry of a log in a table, whose names and texts stay where they are. Its cases are those of
-/// [`Entry`].
+/// An entry of a log, with borrowed names and texts. It has the same variants as [`Entry`].
 #[derive(Clone, Copy, Debug)]
 pub enum EntryRef<'a> {
-    /// A line that is no record, as it is.
+    /// A text line, without its line feed.
     Text(&'a [u8]),
-    /// Another target, or this one, comes up.
+    /// A mention of another target, or of the log's own.
     Mention {
         pid: u32,
         how: How,
@@ -21,7 +20,7 @@ pub enum EntryRef<'a> {
         status: i32,
         name: &'a TargetName,
     },
-    /// The log's own target is done, which closes the log.
+    /// The closing record: the log's own target is done, with this status.
     Closing {
         pid: u32,
         status: i32,
@@ -35,9 +34,9 @@ pub enum EntryRef<'a> {
 }
 
 impl<'a> EntryRef<'a> {
-    /// The same entry, borrowed.
+    /// Borrows an entry.
     pub fn of(entry: &'a Entry) -> EntryRef<'a>
-        ensures { entry_seen result ≡ entry.now }
+        ensures { entry_value result ≡ entry.now }
     {
         match entry {
             Entry::Text(line) => EntryRef::Text(line.bytes()),

@@ -1,21 +1,20 @@
-//! The logs of a run: for each target what its log says, and whether it still grows.
+//! The logs of a run: for each target the entries of its log, and whether more may follow.
 //!
-//! What the layers above use: a [`LogTable`] is a list of logs, each with its target, its entries and
-//! its state. How they are kept is nobody's business.
+//! A [`LogTable`] is a list of logs, each with its target, its entries and its state. How it stores them is private.
 #![tactic(auto)]
 
 mod entry_ref;
-mod kept;
 mod laws;
 mod lines;
 mod log_state;
 mod log_table;
 mod numbered;
-mod records;
+mod packed_log;
+mod store;
 mod table_fault;
 
 pub use entry_ref::EntryRef;
-pub use laws::least_fault;
+pub use laws::lowest_fault_is_first;
 pub use log_state::LogState;
 pub use log_table::LogTable;
 pub use numbered::{Numbered, NumberedEntry};

@@ -1,11 +1,11 @@
-//! Lines, each with its line feed.
+//! Functions that find lines which end with a line feed.
 ghost use Rattle.std.specs.Prelude.{◌≡◌, ◌≤◌, ◌<◌, Some, length, drop, slice_get};
 ghost use Rattle.redo_line.specs.Lines.{ended, rest};
 
 use memchr::memchr;
 
-/// What stands behind so many lines, which there have to be.
-pub fn behind_lines(bytes: &[u8], count: usize) -> &[u8]
+/// Returns the bytes after the first `count` lines. There must be that many lines.
+pub fn skip_lines(bytes: &[u8], count: usize) -> &[u8]
     requires { count ≤ length (ended bytes.now) }
     ensures lines { ended result.now ≡ drop count (ended bytes.now) }
     ensures last { rest result.now ≡ rest bytes.now }
@@ -20,7 +20,7 @@ pub fn behind_lines(bytes: &[u8], count: usize) -> &[u8]
     &bytes[upto..]
 }
 
-/// The first line, which there has to be.
+/// Returns the first line, without its line feed. There must be one.
 pub fn first_line(bytes: &[u8]) -> &[u8]
     requires { 0 < length (ended bytes.now) }
     ensures { slice_get (ended bytes.now) 0 ≡ Some result.now }

@@ -1,12 +1,12 @@
 use redo_line::StreamFault;
 
-/// Whether a log still grows.
+/// The state of a log.
 #[derive(Clone, Copy, Debug, PartialEq, Eq)]
 pub enum LogState {
-    /// More entries may come.
+    /// More entries may follow.
     Running,
-    /// The log is whole.
+    /// The log is complete.
     Ended,
-    /// The log can't be had whole.
+    /// The log can't be completed, because its stream has this fault.
     Failed(StreamFault),
 }

@@ -3,49 +3,49 @@ ghost use Rattle.std.specs.Prelude.{None, Some, Err, IfOk, OnOk, OnErr, OnSome, 
 ghost use Rattle.std.specs.List.{list_all};
 ghost use Rattle.std.specs.Option.{option_map};
 ghost use Rattle.redo_logs.specs.declared.log_state.LogState.TheVariants.{Running, Ended, Failed};
-ghost use Rattle.redo_logs.specs.EntryRef.{entry_seen};
-ghost use Rattle.redo_logs.specs.Logs.{IsTable, most, new_log, with_entries, with_entry, with_state, changed};
-ghost use Rattle.redo_logs.specs.Logs.{targets_of, states_of, place_of, entry_at, first_failed, has_ended};
+ghost use Rattle.redo_logs.specs.EntryRef.{entry_value};
+ghost use Rattle.redo_logs.specs.Logs.{IsTable, max_logs, new_log, with_entries, with_entry, with_state, update_log};
+ghost use Rattle.redo_logs.specs.Logs.{targets_of, states_of, log_number, entry_at, first_failed, has_ended};
 
 use crate::entry_ref::EntryRef;
-use crate::kept::Kept;
 use crate::log_state::LogState;
 use crate::numbered::Numbered;
-use crate::records::Records;
+use crate::packed_log::PackedLog;
+use crate::store::Store;
 use crate::table_fault::TableFault;
 use redo_line::{Entries, Entry, HashKeys, StreamFault, TargetName};
 use std::alloc::{AllocError, Global};
 use std::marker::Model;
 
-// How many logs a table may hold.
-const MOST: usize = 1_048_575;
+// The maximum number of logs in a table.
+const MAX_LOGS: usize = 1_048_575;
 
 #[derive(Drop)]
 pub struct Log {
     // The number of its target's name.
     pub name: usize,
-    pub records: Records,
+    pub records: PackedLog,
     pub state: LogState,
 }
 
-/// The logs of a run, numbered from 0 in the order in which their targets were entered. No target has
-/// two logs, and there are at most 1,048,575.
+/// The logs of a run, numbered from 0 in the order in which they were added. No target has two logs, and there are at
+/// most 1,048,575.
 pub struct LogTable {
     alloc: Global,
-    kept: Kept,
+    store: Store,
     logs: Vec<Log>,
-    // By the number of a name, the number of its log. Behind the last place no name has one.
-    places: Vec<Option<u32>>,
+    // The number of the log of each name's target, by the name's number. A name past the end has no log.
+    log_of_name: Vec<Option<u32>>,
 }
 
-// A derived one would be written out wherever a table is let go, and proved there.
+// This is written by hand: a derived `drop` would be expanded, and proved, wherever a table is dropped.
 impl Drop for LogTable {
     fn drop(self) {
         let LogTable {
             alloc: _,
-            kept: _kept,
+            store: _kept,
             logs: _logs,
-            places: _places,
+            log_of_name: _places,
         } = self;
     }
 }
@@ -58,111 +58,110 @@ impl Model for LogTable {
 
     ghost use Rattle.redo_logs.specs.Private.Stored.{IsStored, logs_of};
 
-    ghost view = { λ table. logs_of table.kept table.logs.items };
+    ghost view = { λ table. logs_of table.store table.logs.items };
 
-    ghost invariant = { λ table. IsStored table.kept table.logs.items table.places.items };
+    ghost invariant = { λ table. IsStored table.store table.logs.items table.log_of_name.items };
 }
 
 impl LogTable {
-    /// A table without a log. It asks for no memory, and its calls take theirs from `alloc`. Whoever may choose the names
-    /// that its logs mention can choose them so that look-ups are slow: [`LogTable::with_keys`] is for these.
+    /// Creates an empty table. This does not allocate; later calls allocate from `alloc`. The names in logs can be
+    /// chosen to collide, which makes look-ups slow: use [`LogTable::with_keys`] if somebody else may choose them.
     pub fn new(alloc: Global) -> LogTable
         ensures { result ≡ [] }
     {
         LogTable::with_keys(alloc, HashKeys::fixed())
     }
 
-    /// The same, in which names are looked up by a hash with these keys. What it answers doesn't depend on them.
+    /// Like [`LogTable::new`], but hashes names with these keys. The results of calls don't depend on the keys.
     pub fn with_keys(alloc: Global, keys: HashKeys) -> LogTable
         ensures { result ≡ [] }
     {
         LogTable {
             alloc,
-            kept: Kept::new(alloc, keys),
+            store: Store::new(alloc, keys),
             logs: Vec::new(alloc),
-            places: Vec::new(alloc),
+            log_of_name: Vec::new(alloc),
         }
     }
 
-    /// Enters the log of a target, which is empty and running, and answers its number. A refusal
-    /// changes nothing.
+    /// Adds an empty, running log for a target, and returns its number. If this fails, nothing changes.
     pub fn enter(&mut self, target: TargetName) -> Result<u32, TableFault>
         ensures number { IfOk result (λ number. number ≡ length self.old) }
         ensures entered { OnOk result (self.new ≡ self.old ++ new_log target ∷ []) }
-        ensures room { OnOk result (length self.old < most) }
-        ensures twice { (result ≡ Err TableFault.Twice) ↔ IsSome (place_of target self.old) }
-        ensures full { (result ≡ Err TableFault.Full) ↔ ((place_of target self.old ≡ None) × (length self.old ≡ most)) }
-        ensures err { OnErr result (self.new ≡ self.old) }
+        ensures room { OnOk result (length self.old < max_logs) }
+        ensures duplicate { (result ≡ Err TableFault.Twice) ↔ IsSome (log_number target self.old) }
+        ensures full { (result ≡ Err TableFault.Full) ↔ ((log_number target self.old ≡ None) × (length self.old ≡ max_logs)) }
+        ensures unchanged_on_err { OnErr result (self.new ≡ self.old) }
     {
         if self.find(&target).is_some() {
             return Err(TableFault::Twice);
         }
-        if self.logs.len() == MOST {
+        if self.logs.len() == MAX_LOGS {
             return Err(TableFault::Full);
         }
         Ok(self.enter_new(target)?)
     }
 
-    // The same for a target that has no log yet, where there is room for one more.
+    // Like `enter`, for a target that has no log. The table must not be full.
     fn enter_new(&mut self, target: TargetName) -> Result<u32, AllocError>
-        requires absent { place_of target self.old ≡ None }
-        requires room { length self.old < most }
+        requires absent { log_number target self.old ≡ None }
+        requires room { length self.old < max_logs }
         ensures number { IfOk result (λ number. number ≡ length self.old) }
         ensures entered { OnOk result (self.new ≡ self.old ++ new_log target ∷ []) }
-        ensures err { OnErr result (self.new ≡ self.old) }
+        ensures unchanged_on_err { OnErr result (self.new ≡ self.old) }
     {
         let number = self.logs.len() as u32;
-        let name = self.kept.number_of(target)?;
-        make_room(&mut self.places, self.kept.len())?;
+        let name = self.store.intern(target)?;
+        grow_to(&mut self.log_of_name, self.store.len())?;
         self.logs.push(Log {
             name,
-            records: Records::new(self.alloc),
+            records: PackedLog::new(self.alloc),
             state: LogState::Running,
         })?;
-        self.places[name] = Some(number);
+        self.log_of_name[name] = Some(number);
         Ok(number)
     }
 
-    /// Adds an entry to a log, which has to be running. A refusal changes nothing.
+    /// Adds an entry to a log, which must be running. If this fails, nothing changes.
     pub fn add(&mut self, stream: u32, entry: Entry) -> Result<(), AllocError>
         requires running { slice_get (states_of self.old) stream ≡ Some Running }
-        ensures added { OnOk result (self.new ≡ changed stream (with_entry entry) self.old) }
-        ensures err { OnErr result (self.new ≡ self.old) }
+        ensures added { OnOk result (self.new ≡ update_log stream (with_entry entry) self.old) }
+        ensures unchanged_on_err { OnErr result (self.new ≡ self.old) }
     {
-        let record = self.kept.keep(entry)?;
+        let record = self.store.store(entry)?;
         self.logs[stream as usize].records.push(record)?;
         Ok(())
     }
 
-    /// Adds entries to a log, which has to be running. A refusal changes nothing. Where their texts are many, these
-    /// stay in the memory that they have.
+    /// Adds entries to a log, which must be running. If this fails, nothing changes. Large texts that fill their
+    /// buffer well aren't copied: the table takes ownership of the buffer.
     pub fn add_all(&mut self, stream: u32, entries: Entries) -> Result<(), AllocError>
         requires running { slice_get (states_of self.old) stream ≡ Some Running }
-        ensures added { OnOk result (self.new ≡ changed stream (with_entries entries) self.old) }
-        ensures err { OnErr result (self.new ≡ self.old) }
+        ensures added { OnOk result (self.new ≡ update_log stream (with_entries entries) self.old) }
+        ensures unchanged_on_err { OnErr result (self.new ≡ self.old) }
     {
-        let records = self.kept.keep_all(self.alloc, entries)?;
+        let records = self.store.store_all(self.alloc, entries)?;
         self.logs[stream as usize].records.append(&records)?;
         Ok(())
     }
 
-    /// Ends a log, which has to be running.
+    /// Ends a log, which must be running. It is complete then.
     pub fn end(&mut self, stream: u32)
         requires running { slice_get (states_of self.old) stream ≡ Some Running }
-        ensures { self.new ≡ changed stream (with_state Ended) self.old }
+        ensures { self.new ≡ update_log stream (with_state Ended) self.old }
     {
         self.logs[stream as usize].state = LogState::Ended;
     }
 
-    /// Notes that a log, which has to be running, can't be had whole. Its entries stay.
+    /// Sets the state of a log, which must be running, to failed with this fault. Its entries stay.
     pub fn fail(&mut self, stream: u32, fault: StreamFault)
         requires running { slice_get (states_of self.old) stream ≡ Some Running }
-        ensures { self.new ≡ changed stream (with_state (Failed fault)) self.old }
+        ensures { self.new ≡ update_log stream (with_state (Failed fault)) self.old }
     {
         self.logs[stream as usize].state = LogState::Failed(fault);
     }
 
-    /// How many logs there are.
+    /// Returns the number of logs.
     pub fn len(&self) -> u32
         ensures len { result ≡ length self.now }
         ensures table { IsTable self.now }
@@ -170,22 +169,22 @@ impl LogTable {
         self.logs.len() as u32
     }
 
-    /// The number of a target's log, if it has one. The look-up is by hash.
+    /// Returns the number of a target's log, if it has one. The look-up is by hash.
     pub fn find(&self, target: &TargetName) -> Option<u32>
-        ensures { result ≡ place_of target.now self.now }
+        ensures { result ≡ log_number target.now self.now }
     {
         self.numbered().find(target)
     }
 
-    /// The target of the log number `i`, which there has to be.
+    /// Returns the target of log `i`, which must exist.
     pub fn name(&self, i: u32) -> &TargetName
         requires { i < length self.now }
         ensures { slice_get (targets_of self.now) i ≡ Some result.now }
     {
-        self.kept.name(self.logs[i as usize].name)
+        self.store.name(self.logs[i as usize].name)
     }
 
-    /// The state of the log number `i`, which there has to be.
+    /// Returns the state of log `i`, which must exist.
     pub fn state(&self, i: u32) -> LogState
         requires { i < length self.now }
         ensures { slice_get (states_of self.now) i ≡ Some result }
@@ -193,17 +192,17 @@ impl LogTable {
         self.logs[i as usize].state
     }
 
-    /// The entry number `k` of the log number `i`, both counted from 0, if there is one.
+    /// Returns entry `k` of log `i`, if there is one. Logs and entries are counted from 0.
     pub fn entry(&self, i: u32, k: usize) -> Option<EntryRef<'_>>
-        ensures entry { option_map entry_seen result ≡ entry_at i k self.now }
-        ensures fits { OnSome result (k < 2 ^ 63) }
+        ensures entry { option_map entry_value result ≡ entry_at i k self.now }
+        ensures no_overflow { OnSome result (k < 2 ^ 63) }
     {
         let log = self.logs.get(i as usize)?;
         let (one, place) = log.records.find(k)?;
-        Some(self.kept.show(one, place))
+        Some(self.store.load(one, place))
     }
 
-    /// The least number of a log that failed, and its fault, if one did.
+    /// Returns the lowest number of a failed log, and its fault, if a log failed.
     pub fn first_fault(&self) -> Option<(u32, StreamFault)>
         ensures { result ≡ first_failed self.now }
     {
@@ -217,14 +216,14 @@ impl LogTable {
         None
     }
 
-    /// The same logs, with a number for each name. It asks for no memory.
+    /// Borrows the logs, with a number for each name. It does not allocate.
     pub fn numbered(&self) -> Numbered<'_>
         ensures { result.logs ≡ self.now }
     {
-        Numbered::new(&self.kept, &self.logs, &self.places)
+        Numbered::new(&self.store, &self.logs, &self.log_of_name)
     }
 
-    /// Whether every log has ended, as those of the empty table have.
+    /// Returns whether every log has ended; true for an empty table.
     pub fn all_ended(&self) -> bool
         ensures { result ≡ list_all has_ended self.now }
     {
@@ -234,8 +233,8 @@ impl LogTable {
     }
 }
 
-// So many places at least; the new ones are none.
-fn make_room(places: &mut Vec<Option<u32>>, count: usize) -> Result<(), AllocError>
+// Grows `places` to at least `count` items. New items are `None`.
+fn grow_to(places: &mut Vec<Option<u32>>, count: usize) -> Result<(), AllocError>
     ensures room { OnOk result (count ≤ length places.new.items) }
     ensures within { length places.old.items ≤ count → length places.new.items ≤ count }
     ensures same { (number : ℕ) → slice_index_or places.new.items number None ≡ slice_index_or places.old.items number None }

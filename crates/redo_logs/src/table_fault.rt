@@ -3,14 +3,14 @@ ghost use Rattle.redo_logs.specs.declared.table_fault.TableFault.TheVariants.{Ou
 
 use std::alloc::{AllocError, AllocFailed};
 
-/// Why a target can't be entered. The first of these causes counts.
+/// Why a log can't be added. If several causes apply, the first in this order is reported.
 #[derive(Clone, Copy, Debug, PartialEq, Eq)]
 pub enum TableFault {
-    /// The table has a log of this target.
+    /// The table has a log of this target already.
     Twice,
     /// The table holds 1,048,575 logs.
     Full,
-    /// There was no memory.
+    /// An allocation failed.
     OutOfMemory,
 }
 

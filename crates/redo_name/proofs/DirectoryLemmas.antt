@@ -1,15 +1,15 @@
--- What a name is relative to, and the bytes of its normal form.
+-- The directory that a name is relative to, and the bytes of its normal form.
 use Rattle.std.proofs.Common.{◌≡◌, ℕ, ◌<◌, Bool, true, false, cond, eqb, List, [], ◌∷◌, ◌++◌, Option, Some, ◌⊎◌, inl, inr, length, take, refl, sym, ◌∙◌, ap, arith}
 use Rattle.std.specs.List.{AllByRecursion, onto_first, join_with_byte}
 use Rattle.std.proofs.lemmas.Bool.{eqb-true, eqb-false}
 use Rattle.std.proofs.lemmas.List.{append-nil, take_at}
-use Rattle.redo_name.specs.Names.{slash, segments, is_absolute, without_last, from_back, left_of, written, directory_of, normal, HasNoSlash}
-use Rattle.redo_name.specs.Private.Path.{built, StandsFor, StandsForMore, Adds}
+use Rattle.redo_name.specs.Names.{slash, segments, is_absolute, without_last, reduce_suffix, remaining_segments, join_segments, directory_of, normal, HasNoSlash}
+use Rattle.redo_name.specs.Private.Path.{built, Represents, RepresentsExtended, Adds}
 use Rattle.redo_name.proofs.NameLemmas.{cut, cut-cons, cut-free, cut-each, left_again, left_some}
 use Rattle.redo_name.proofs.SegmentLemmas.{Some_first, cut-some}
 use Rattle.redo_name.proofs.PathLemmas.{AfterSlash, WithoutSlash, join_some}
 
--- the segments of what stands before a slash and behind it
+-- The segments before and after a slash.
 cut-slash_by : (byte : ℕ) (front more : List ℕ) (is : Bool) → eqb byte slash ≡ is → Some_first (cut front) → cut (front ++ slash ∷ more) ≡ cut front ++ cut more
     → cut (byte ∷ (front ++ slash ∷ more)) ≡ cut (byte ∷ front) ++ cut more
 cut-slash_by byte front more true is some rest =
@@ -30,7 +30,7 @@ without_last-push [] last = refl
 without_last-push (part ∷ []) last = refl
 without_last-push (part ∷ next ∷ parts) last = ap (λ ps. part ∷ ps) (without_last-push (next ∷ parts) last)
 
--- a name has a last slash, or none
+-- A name has no slash, or a last one.
 abbrev LastSlash : List ℕ → Type 0
 LastSlash name = HasNoSlash name ⊎ ((front : List ℕ) × (last : List ℕ) × HasNoSlash last × (name ≡ front ++ slash ∷ last))
 
@@ -43,80 +43,80 @@ last_slash : (name : List ℕ) → LastSlash name
 last_slash [] = inl tt
 last_slash (byte ∷ name) = last_slash_by byte name (eqb byte slash) refl (last_slash name)
 
--- an empty directory adds nothing
-pub no_directory : (behind : List (List ℕ)) → from_back ([] ∷ behind) ≡ from_back behind
-unfolding from_back
+-- An empty directory adds nothing.
+pub no_directory : (behind : List (List ℕ)) → reduce_suffix ([] ∷ behind) ≡ reduce_suffix behind
+unfolding reduce_suffix
 no_directory behind = refl
 
--- what stands above the last slash of a target's name has the segments of its directory
+-- The bytes before the last slash of a target's name have the segments of its directory.
 directory_by : (target : List ℕ) (above : ℕ) (found : List ℕ) → AfterSlash target above found → WithoutSlash target above found → LastSlash target
-    → (behind : List (List ℕ)) → from_back (segments (take above target) ++ behind) ≡ from_back (without_last (segments target) ++ behind)
+    → (behind : List (List ℕ)) → reduce_suffix (segments (take above target) ++ behind) ≡ reduce_suffix (without_last (segments target) ++ behind)
 directory_by target above found after without (inl free) behind =
-    ap (λ (n : ℕ). from_back (segments (take n target) ++ behind)) (without free).0 ∙ no_directory behind ∙ ap (λ ps. from_back (without_last ps ++ behind)) (sym (cut-free target free))
+    ap (λ (n : ℕ). reduce_suffix (segments (take n target) ++ behind)) (without free).0 ∙ no_directory behind ∙ ap (λ ps. reduce_suffix (without_last ps ++ behind)) (sym (cut-free target free))
 directory_by target above found after without (inr (front, last, free, is)) behind =
     let above_is = (after front last free is).0 in
     let front_is : take above target ≡ front = ap (λ (n : ℕ). take n target) above_is ∙ ap (take (length front)) is ∙ take_at front (slash ∷ last) (length front) refl in
-    ap (λ b. from_back (segments b ++ behind)) front_is
-    ∙ ap (λ ps. from_back (ps ++ behind)) (sym (without_last-push (cut front) last) ∙ ap without_last (sym (cut-last front last free) ∙ ap cut (sym is)))
+    ap (λ b. reduce_suffix (segments b ++ behind)) front_is
+    ∙ ap (λ ps. reduce_suffix (ps ++ behind)) (sym (without_last-push (cut front) last) ∙ ap without_last (sym (cut-last front last free) ∙ ap cut (sym is)))
 
 pub directory_is : (target : List ℕ) (above : ℕ) (found : List ℕ) → AfterSlash target above found → WithoutSlash target above found
-    → (behind : List (List ℕ)) → from_back (segments (take above target) ++ behind) ≡ from_back (without_last (segments target) ++ behind)
+    → (behind : List (List ℕ)) → reduce_suffix (segments (take above target) ++ behind) ≡ reduce_suffix (without_last (segments target) ++ behind)
 directory_is target above found after without behind = directory_by target above found after without (last_slash target) behind
 
--- a path begins with no segment
-pub at_start : (absolute : Bool) → StandsFor absolute [] []
+-- The empty path has no segments.
+pub at_start : (absolute : Bool) → Represents absolute [] []
 at_start true = record { ups = 0; kept = []; left = record { is = refl; root = λ is. refl; ordinary = tt; each = tt }; bytes = refl }
 at_start false = record { ups = 0; kept = []; left = record { is = refl; root = λ is. refl; ordinary = tt; each = tt }; bytes = refl }
 
--- the bytes of segments, with the root or where one stands if there are none
+-- The name of segments: their path, or `/` or `.` if there are none.
 flat_joined : (part : List ℕ) (parts : List (List ℕ)) → built true (part ∷ parts) ≡ slash ∷ join_with_byte slash (part ∷ parts)
 flat_joined part [] = append-nil (slash ∷ part)
 flat_joined part (next ∷ parts) = ap (λ b. (slash ∷ part) ++ b) (flat_joined next parts)
 
-pub written_some : (absolute : Bool) (parts : List (List ℕ)) → 0 < length (built absolute parts) → written absolute parts ≡ built absolute parts
+pub written_some : (absolute : Bool) (parts : List (List ℕ)) → 0 < length (built absolute parts) → join_segments absolute parts ≡ built absolute parts
 written_some true [] some = absurd (omega arith)
 written_some true (part ∷ parts) some = sym (flat_joined part parts)
 written_some false [] some = absurd (omega arith)
 written_some false (part ∷ parts) some = refl
 
-written_none_by : (absolute : Bool) (parts : List (List ℕ)) → AllByRecursion (λ part. 0 < length part) parts → built absolute parts ≡ [] → written absolute parts ≡ cond absolute slash 46 ∷ []
+written_none_by : (absolute : Bool) (parts : List (List ℕ)) → AllByRecursion (λ part. 0 < length part) parts → built absolute parts ≡ [] → join_segments absolute parts ≡ cond absolute slash 46 ∷ []
 written_none_by true [] some is = refl
 written_none_by true (part ∷ parts) some is = cc
 written_none_by false [] some is = refl
 written_none_by false (part ∷ parts) some is = let size = join_some part parts some.0 in absurd (omega (arith, ap length is))
 
-normal_some : (of : Option (List ℕ)) (name : List ℕ) → 0 < length name
-    → normal of name ≡ Some (written (directory_of (is_absolute name) of).0 (left_of (directory_of (is_absolute name) of).0 (from_back ((directory_of (is_absolute name) of).1 ++ segments name))))
+normal_some : (target : Option (List ℕ)) (name : List ℕ) → 0 < length name
+    → normal target name ≡ Some (join_segments (directory_of (is_absolute name) target).0 (remaining_segments (directory_of (is_absolute name) target).0 (reduce_suffix ((directory_of (is_absolute name) target).1 ++ segments name))))
 unfolding normal
-normal_some of [] some = absurd (omega arith)
-normal_some of (byte ∷ name) some = refl
+normal_some target [] some = absurd (omega arith)
+normal_some target (byte ∷ name) some = refl
 
-module _ (of : Option (List ℕ)) (name directory first path : List ℕ) (absolute : Bool) (some : 0 < length name) (absolute_is : absolute ≡ (directory_of (is_absolute name) of).0)
-    (directory_are : (behind : List (List ℕ)) → from_back (segments directory ++ behind) ≡ from_back ((directory_of (is_absolute name) of).1 ++ behind))
+module _ (target : Option (List ℕ)) (name directory first path : List ℕ) (absolute : Bool) (some : 0 < length name) (absolute_is : absolute ≡ (directory_of (is_absolute name) target).0)
+    (directory_are : (behind : List (List ℕ)) → reduce_suffix (segments directory ++ behind) ≡ reduce_suffix ((directory_of (is_absolute name) target).1 ++ behind))
     (adds_directory : Adds absolute [] (segments directory) first) (adds_name : Adds absolute first (segments name) path) where
-  abbrev above : StandsForMore absolute [] (segments directory) first
+  abbrev above : RepresentsExtended absolute [] (segments directory) first
   above = adds_directory (cut-each directory) [] (at_start absolute)
 
-  abbrev whole : StandsForMore absolute above.parts (segments name) path
+  abbrev whole : RepresentsExtended absolute above.parts (segments name) path
   whole = adds_name (cut-each name) above.parts above.stands
 
-  -- the segments that the path stands for are those that are left
-  left_are : whole.parts ≡ left_of absolute (from_back ((directory_of (is_absolute name) of).1 ++ segments name))
+  -- The path represents the segments of the normal form.
+  left_are : whole.parts ≡ remaining_segments absolute (reduce_suffix ((directory_of (is_absolute name) target).1 ++ segments name))
   left_are =
       let none = append-nil (segments name) in
-      sym (left_again absolute whole.parts whole.stands.ups whole.stands.kept whole.stands.left) ∙ ap (λ ps. left_of absolute (from_back ps)) (sym (append-nil whole.parts)) ∙ whole.leaves []
-      ∙ ap (λ ps. left_of absolute (from_back (above.parts ++ ps))) none ∙ above.leaves (segments name) ∙ ap (left_of absolute) (directory_are (segments name))
+      sym (left_again absolute whole.parts whole.stands.ups whole.stands.kept whole.stands.left) ∙ ap (λ ps. remaining_segments absolute (reduce_suffix ps)) (sym (append-nil whole.parts)) ∙ whole.leaves []
+      ∙ ap (λ ps. remaining_segments absolute (reduce_suffix (above.parts ++ ps))) none ∙ above.leaves (segments name) ∙ ap (remaining_segments absolute) (directory_are (segments name))
 
-  pub normal_is_written : normal of name ≡ Some (written absolute whole.parts)
+  pub normal_is_written : normal target name ≡ Some (join_segments absolute whole.parts)
   normal_is_written =
-      normal_some of name some ∙ ap (λ a. Some (written a (left_of a (from_back ((directory_of (is_absolute name) of).1 ++ segments name))))) (sym absolute_is)
-      ∙ ap (λ ps. Some (written absolute ps)) (sym left_are)
+      normal_some target name some ∙ ap (λ a. Some (join_segments a (remaining_segments a (reduce_suffix ((directory_of (is_absolute name) target).1 ++ segments name))))) (sym absolute_is)
+      ∙ ap (λ ps. Some (join_segments absolute ps)) (sym left_are)
 
-  pub normal_is_path : 0 < length path → normal of name ≡ Some path
+  pub normal_is_path : 0 < length path → normal target name ≡ Some path
   normal_is_path nonempty =
       let size : 0 < length (built absolute whole.parts) = omega (arith, ap length whole.stands.bytes) in
       normal_is_written ∙ ap Some (written_some absolute whole.parts size ∙ sym whole.stands.bytes)
 
-  pub normal_is_single : path ≡ [] → normal of name ≡ Some (cond absolute slash 46 ∷ [])
+  pub normal_is_single : path ≡ [] → normal target name ≡ Some (cond absolute slash 46 ∷ [])
   normal_is_single none =
       normal_is_written ∙ ap Some (written_none_by absolute whole.parts (left_some absolute whole.parts whole.stands.ups whole.stands.kept whole.stands.left) (sym whole.stands.bytes ∙ none))

@@ -1,17 +1,17 @@
--- Examples of normal forms, computed: a target in whose log the name stands, or none, the name, and its normal form.
+-- Rows of normal forms: the target in whose log the name is, or none; the name; and its normal form.
 use Rattle.std.proofs.Common.{◌≡◌, ℕ, List, [], ◌∷◌, Option, None, Some, refl}
 use Rattle.std.specs.Prelude.{codes}
 use Rattle.std.specs.List.{AllByRecursion}
 use Rattle.redo_name.specs.Laws.{IsOrdinary, IsRelative}
-use Rattle.redo_name.specs.Names.{dot, dot_dot, from_back, normal, HasNoSlash, IsNormal}
+use Rattle.redo_name.specs.Names.{dot, dot_dot, reduce_suffix, normal, HasNoSlash, IsNormal}
 
 record Row : Type 0 where
-  of : Option (List ℕ)
+  target : Option (List ℕ)
   name : List ℕ
   value : Option (List ℕ)
 
 abbrev row : Option (List ℕ) → List ℕ → Option (List ℕ) → Row
-row of name value = record { of = of; name = name; value = value }
+row target name value = record { target = target; name = name; value = value }
 
 abbrev rows : List Row
 rows =
@@ -35,16 +35,16 @@ rows =
     row (Some (codes ".")) (codes "b") (Some (codes "b")) ∷
     row (Some (codes "..")) (codes "b") (Some (codes "b")) ∷ []
 
-computed : AllByRecursion (λ r. normal r.of r.name ≡ r.value) rows
-unfolding from_back normal
+computed : AllByRecursion (λ r. normal r.target r.name ≡ r.value) rows
+unfolding reduce_suffix normal
 computed = (refl, (refl, (refl, (refl, (refl, (refl, (refl, (refl, (refl, (refl, (refl, (refl, (refl, (refl, (refl, (refl, (refl, (refl, (refl, tt)))))))))))))))))))
 
--- a normal form is its own, and no other name is
+-- A normal form is its own normal form; other names are not.
 normal_forms : IsNormal (codes "../a/b") × IsNormal (codes "/") × IsNormal (codes ".") × (IsNormal (codes "a/") → ⊥) × (IsNormal [] → ⊥)
-unfolding from_back normal
+unfolding reduce_suffix normal
 normal_forms = (refl, refl, refl, (λ is. cc), (λ is. cc))
 
--- the premises of the laws hold where they should, and nowhere else
+-- The premises of the laws hold for the names that they are meant for, and not for others.
 premises : HasNoSlash (codes "a.b") × IsRelative (codes "a/b") × IsOrdinary (codes "..a")
 premises = (((λ same. cc), ((λ same. cc), ((λ same. cc), tt))), ((λ same. cc), refl), ((λ same. cc), (λ same. cc), (λ same. cc)))
 

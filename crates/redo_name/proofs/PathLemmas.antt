@@ -1,4 +1,4 @@
--- How a path that is made from the front stands for segments.
+-- How a path that is built from the front represents segments.
 use Rattle.std.proofs.Common.{◌≡◌, ◌≢◌, ℕ, zero, suc, ◌+◌, ◌-◌, ◌<◌, Bool, true, false, cond, eqb, List, [], ◌∷◌, ◌++◌, None, Some, ◌⊎◌, inl, inr, length, take, drop, get_or, replicate, refl, sym, ◌∙◌, ap, subst, arith, add-one, zero-le}
 use Rattle.std.specs.List.{AllByRecursion, join_with_byte}
 use Rattle.std.proofs.lemmas.Bool.{eq-eqb, eqb-true, cases_order, false≢true}
@@ -6,11 +6,11 @@ use Rattle.std.proofs.lemmas.List.{append_assoc, append-nil, length-append, get_
 use Rattle.std.proofs.lemmas.List.Concat.{flat_map-append}
 use Rattle.std.proofs.lemmas.List.Elements.{All-from_recursion}
 use Rattle.memchr.specs.Find.{Passes, Nowhere, NoneAfter, is_byte}
-use Rattle.redo_name.specs.Names.{slash, dot_dot, Kind, Skipped, Upward, Ordinary, segment_kind, from_back, left_of, with_segment, taken_off, HasNoSlash}
-use Rattle.redo_name.specs.Private.Path.{built, StandsFor, StandsForMore, Adds, EndsSo, with_separator}
-use Rattle.redo_name.proofs.NameLemmas.{Each, AllOrdinary, from_back-cons, from_back-behind, each-append, each-upward, left_some}
+use Rattle.redo_name.specs.Names.{slash, dot_dot, SegmentKind, Skipped, Upward, Ordinary, segment_kind, reduce_suffix, remaining_segments, with_segment, push_or_cancel, HasNoSlash}
+use Rattle.redo_name.specs.Private.Path.{built, Represents, RepresentsExtended, Adds, CanPop, with_separator}
+use Rattle.redo_name.proofs.NameLemmas.{Each, AllOrdinary, reduce_suffix-cons, reduce_suffix-behind, each-append, each-upward, left_some}
 
--- the last slash stands before what holds none
+-- If `last` has no slash, the last slash of `front/last` directly follows `front`.
 pub last_place : (front last : List ℕ) (at : ℕ) → HasNoSlash last → at < length (front ++ slash ∷ last) → Passes (is_byte slash) (front ++ slash ∷ last) at
     → Nowhere (Passes (is_byte slash) (front ++ slash ∷ last)) (at + 1) (length (front ++ slash ∷ last)) → at ≡ length front
 last_place front last at free below here after =
@@ -27,7 +27,7 @@ last_place front last at free below here after =
           absurd (All-from_recursion (λ (byte : ℕ). byte ≢ slash) last free k 0 (omega arith) (sym read ∙ eqb-true (get_or name at 0) slash here))
     ]
 
--- what was found in a name by its last slash
+-- The index `at` of the last slash splits a name into `front` and `last`.
 abbrev Splits : List ℕ → List ℕ → List ℕ → ℕ → Type 0
 Splits front last name at = (at ≡ length front) × (take (length name - (at + 1)) (drop (at + 1) name) ≡ last)
 
@@ -50,7 +50,7 @@ no_slash_found name front last is nowhere =
     moved (length front) zero-le (omega (arith, length-append front (slash ∷ last)))
     (eq-eqb (get_or (front ++ slash ∷ last) (length front) 0) slash (get_or_at front slash last 0 (length front) refl))
 
--- a list is empty, or has a last element
+-- A list is empty or has a last element.
 snoc : {X : Type 0} (xs : List X) → (xs ≡ []) ⊎ ((ys : List X) × (y : X) × (xs ≡ ys ++ y ∷ []))
 snoc [] = inl refl
 snoc (x ∷ xs) = elim (snoc xs) [
@@ -58,7 +58,7 @@ snoc (x ∷ xs) = elim (snoc xs) [
   | inr more ↦ inr (x ∷ more.0, more.1, ap (λ zs. x ∷ zs) more.2)
 ]
 
--- one segment more
+-- Appending one segment.
 join-push : (part : List ℕ) (parts : List (List ℕ)) (last : List ℕ) → join_with_byte slash ((part ∷ parts) ++ last ∷ []) ≡ join_with_byte slash (part ∷ parts) ++ slash ∷ last
 join-push part [] last = refl
 join-push part (next ∷ parts) last =
@@ -67,7 +67,7 @@ join-push part (next ∷ parts) last =
 flat-push : (parts : List (List ℕ)) (last : List ℕ) → built true (parts ++ last ∷ []) ≡ built true parts ++ slash ∷ last
 flat-push parts last = flat_map-append (λ part. slash ∷ part) parts (last ∷ []) ∙ ap (λ (b : List ℕ). built true parts ++ slash ∷ b) (append-nil last)
 
--- no list of segments that are left makes empty bytes, but the empty one
+-- If no segment is empty, only the empty list of segments gives an empty path.
 pub join_some : (part : List ℕ) (parts : List (List ℕ)) → 0 < length part → 0 < length (join_with_byte slash (part ∷ parts))
 join_some part [] some = some
 join_some part (next ∷ parts) some = omega (arith, length-append part (slash ∷ join_with_byte slash (next ∷ parts)))
@@ -79,7 +79,7 @@ built-push false (byte ∷ path) [] last some is = cc
 built-push false [] (part ∷ parts) last some is = let size = join_some part parts some.0 in absurd (omega (arith, ap length is))
 built-push false (byte ∷ path) (part ∷ parts) last some is = append_assoc (byte ∷ path) (slash ∷ []) last ∙ ap (λ (p : List ℕ). p ++ slash ∷ last) is ∙ sym (join-push part parts last)
 
--- what `last_segment` ensures of the place and the segment
+-- What `last_segment` ensures about the length and the segment that it returns.
 abbrev pub AfterSlash : List ℕ → ℕ → List ℕ → Type 0
 AfterSlash path above last = (front behind : List ℕ) → HasNoSlash behind → path ≡ front ++ slash ∷ behind → (above ≡ length front) × (last ≡ behind)
 
@@ -106,7 +106,7 @@ behind_slash front last path built_front above found free is after same =
     let a = after front last free is in
     (a.1, ap (λ (n : ℕ). take n path) a.0 ∙ ap (take (length front)) is ∙ take_at front (slash ∷ last) (length front) refl ∙ same)
 
--- the last segment of a path, and what stands before it
+-- The last segment of a path, and the bytes before it.
 pub path_last : (absolute : Bool) (path : List ℕ) (parts : List (List ℕ)) (last : List ℕ) (above : ℕ) (found : List ℕ) → Each (parts ++ last ∷ []) → path ≡ built absolute (parts ++ last ∷ [])
     → AfterSlash path above found → WithoutSlash path above found → (found ≡ last) × (take above path ≡ built absolute parts)
 path_last true path parts last above found each is after without =
@@ -116,12 +116,12 @@ path_last false path [] last above found each is after without =
 path_last false path (part ∷ parts) last above found each is after without =
     behind_slash (built false (part ∷ parts)) last path (built false (part ∷ parts)) above found (last_of_each HasNoSlash (part ∷ parts) last each) (is ∙ join-push part parts last) after refl
 
--- several `..` end in one
+-- A list of at least one `..` ends in `..`.
 upward-snoc : (ups : ℕ) → replicate (suc ups) dot_dot ≡ replicate ups dot_dot ++ dot_dot ∷ []
 upward-snoc zero = refl
 upward-snoc (suc ups) = ap (λ ps. dot_dot ∷ ps) (upward-snoc ups)
 
--- a path with a segment has a byte
+-- A path with a segment is not empty.
 built-some : (absolute : Bool) (parts : List (List ℕ)) (last : List ℕ) → NoneEmpty (parts ++ last ∷ []) → 0 < length (built absolute (parts ++ last ∷ []))
 built-some true [] last some = omega arith
 built-some true (part ∷ parts) last some = omega arith
@@ -131,7 +131,7 @@ built-some false (part ∷ parts) last some = join_some part (parts ++ last ∷ 
 each_upward : (ups : ℕ) → Each (replicate ups dot_dot)
 each_upward ups = subst Each (append-nil (replicate ups dot_dot)) (each-upward ups [] tt)
 
--- a path of `..` alone ends in one
+-- A path that is not empty and has only segments `..` ends in `..`.
 only_upward : (absolute : Bool) (ups : ℕ) {path : List ℕ} → (absolute ≡ true → ups ≡ 0) → path ≡ built absolute (replicate ups dot_dot) → 0 < length path
     → (above : ℕ) (found : List ℕ) → AfterSlash path above found → WithoutSlash path above found → (segment_kind found ≡ Upward → ⊥) → ⊥
 only_upward true zero root is some above found after without ordinary = omega (arith, ap length is)
@@ -143,8 +143,8 @@ only_upward false (suc ups) {path} root is some above found after without ordina
     let last = path_last false path (replicate ups dot_dot) dot_dot above found each (is ∙ ap (built false) split) after without in
     ordinary (ap segment_kind last.0)
 
-module _ (absolute : Bool) (path : List ℕ) (parts : List (List ℕ)) (stands : StandsFor absolute path parts) where
-  -- the segments before the last one that is kept
+module _ (absolute : Bool) (path : List ℕ) (parts : List (List ℕ)) (stands : Represents absolute path parts) where
+  -- The segments before the last ordinary one.
   abbrev fronts : List (List ℕ) → List (List ℕ)
   fronts kept = replicate stands.ups dot_dot ++ kept
 
@@ -162,7 +162,7 @@ module _ (absolute : Bool) (path : List ℕ) (parts : List (List ℕ)) (stands :
   last_ordinary : (kept : List (List ℕ)) (last : List ℕ) → stands.kept ≡ kept ++ last ∷ [] → segment_kind last ≡ Ordinary
   last_ordinary kept last is = last_of_each (λ part. segment_kind part ≡ Ordinary) kept last (subst AllOrdinary is stands.left.ordinary)
 
-  -- an empty path has no segment, and a path that ends in `..` none but such
+  -- An empty path has no ordinary segment, and neither has a path that ends in `..`.
   pub empty_path : path ≡ [] → stands.kept ≡ []
   empty_path none = elim (snoc stands.kept) [
     | inl is ↦ is
@@ -187,20 +187,20 @@ module _ (absolute : Bool) (path : List ℕ) (parts : List (List ℕ)) (stands :
     | inr more ↦ (more.0, more.1, more.2, (ends more.0 more.1 more.2 above found after without).1)
   ]
 
--- how segments go that are added
-stands_same : (absolute : Bool) (path : List ℕ) (parts more : List (List ℕ)) → StandsFor absolute path parts
-    → ((behind : List (List ℕ)) → left_of absolute (from_back (parts ++ behind)) ≡ left_of absolute (from_back (parts ++ (more ++ behind)))) → StandsForMore absolute parts more path
+-- Segments that leave the path unchanged.
+stands_same : (absolute : Bool) (path : List ℕ) (parts more : List (List ℕ)) → Represents absolute path parts
+    → ((behind : List (List ℕ)) → remaining_segments absolute (reduce_suffix (parts ++ behind)) ≡ remaining_segments absolute (reduce_suffix (parts ++ (more ++ behind)))) → RepresentsExtended absolute parts more path
 stands_same absolute path parts more stands leaves = record { parts = parts; stands = stands; leaves = leaves }
 
--- one that changes nothing
+-- A skipped segment changes nothing.
 pub adds_skipped : (absolute : Bool) (path segment : List ℕ) → segment_kind segment ≡ Skipped → Adds absolute path (segment ∷ []) path
 adds_skipped absolute path segment skipped each parts stands =
     stands_same absolute path parts (segment ∷ []) stands
-    (λ behind. ap (left_of absolute) (from_back-behind parts behind (segment ∷ behind) (sym (from_back-cons segment behind Skipped skipped))))
+    (λ behind. ap (remaining_segments absolute) (reduce_suffix-behind parts behind (segment ∷ behind) (sym (reduce_suffix-cons segment behind Skipped skipped))))
 
--- one that stays
-module _ (absolute : Bool) (path segment : List ℕ) (parts : List (List ℕ)) (stands : StandsFor absolute path parts) (free : HasNoSlash segment) where
-  stays : (ups : ℕ) (kept : List (List ℕ)) → parts ++ segment ∷ [] ≡ replicate ups dot_dot ++ kept → (absolute ≡ true → ups ≡ 0) → AllOrdinary kept → StandsForMore absolute parts (segment ∷ []) (with_separator absolute path ++ segment)
+-- A segment that is kept.
+module _ (absolute : Bool) (path segment : List ℕ) (parts : List (List ℕ)) (stands : Represents absolute path parts) (free : HasNoSlash segment) where
+  stays : (ups : ℕ) (kept : List (List ℕ)) → parts ++ segment ∷ [] ≡ replicate ups dot_dot ++ kept → (absolute ≡ true → ups ≡ 0) → AllOrdinary kept → RepresentsExtended absolute parts (segment ∷ []) (with_separator absolute path ++ segment)
   stays ups kept is root ordinary = record {
     parts = parts ++ segment ∷ [];
     stands = record {
@@ -209,7 +209,7 @@ module _ (absolute : Bool) (path segment : List ℕ) (parts : List (List ℕ)) (
       left = record { is = is; root = root; ordinary = ordinary; each = each-append parts (segment ∷ []) stands.left.each (free, tt) };
       bytes = built-push absolute path parts segment (left_some absolute parts stands.ups stands.kept stands.left) stands.bytes;
     };
-    leaves = λ behind. ap (λ (ps : List (List ℕ)). left_of absolute (from_back ps)) (append_assoc parts (segment ∷ []) behind);
+    leaves = λ behind. ap (λ (ps : List (List ℕ)). remaining_segments absolute (reduce_suffix ps)) (append_assoc parts (segment ∷ []) behind);
   }
 
 pub adds_ordinary : (absolute : Bool) (path segment : List ℕ) → segment_kind segment ≡ Ordinary → Adds absolute path (segment ∷ []) (with_separator absolute path ++ segment)
@@ -218,7 +218,7 @@ adds_ordinary absolute path segment ordinary each parts stands =
     (ap (λ ps. ps ++ segment ∷ []) stands.left.is ∙ append_assoc (replicate stands.ups dot_dot) stands.kept (segment ∷ [])) (λ is. stands.left.root is)
     (both_of_each (λ part. segment_kind part ≡ Ordinary) stands.kept (segment ∷ []) stands.left.ordinary (ordinary, tt))
 
--- what goes up is `..`
+-- A segment of the kind `Upward` is `..`.
 one_byte : (is : Bool) → cond is Skipped Ordinary ≡ Upward → ⊥
 one_byte true h = cc
 one_byte false h = cc
@@ -234,13 +234,13 @@ upward-is (a ∷ []) is = absurd (one_byte (eqb a 46) is)
 upward-is (a ∷ b ∷ []) is = two_bytes a b (eqb a 46) (eqb b 46) refl refl is
 upward-is (a ∷ b ∷ c ∷ others) is = cc
 
--- it takes off the segment before it
-taken : (last segment : List ℕ) (behind : List (List ℕ)) → segment_kind last ≡ Ordinary → segment_kind segment ≡ Upward → from_back (last ∷ segment ∷ behind) ≡ from_back behind
+-- `..` removes the ordinary segment before it.
+taken : (last segment : List ℕ) (behind : List (List ℕ)) → segment_kind last ≡ Ordinary → segment_kind segment ≡ Upward → reduce_suffix (last ∷ segment ∷ behind) ≡ reduce_suffix behind
 taken last segment behind ordinary upward =
-    from_back-cons last (segment ∷ behind) Ordinary ordinary ∙ ap (with_segment Ordinary last) (from_back-cons segment behind Upward upward)
-    ∙ ap (λ (n : ℕ). taken_off last (from_back behind).kept n) (add-one (from_back behind).count)
+    reduce_suffix-cons last (segment ∷ behind) Ordinary ordinary ∙ ap (with_segment Ordinary last) (reduce_suffix-cons segment behind Upward upward)
+    ∙ ap (λ (n : ℕ). push_or_cancel last (reduce_suffix behind).kept n) (add-one (reduce_suffix behind).count)
 
-pub adds_removed : (absolute : Bool) (path segment : List ℕ) (above : ℕ) → EndsSo path (Some above) → segment_kind segment ≡ Upward → Adds absolute path (segment ∷ []) (take above path)
+pub adds_removed : (absolute : Bool) (path segment : List ℕ) (above : ℕ) → CanPop path (Some above) → segment_kind segment ≡ Upward → Adds absolute path (segment ∷ []) (take above path)
 adds_removed absolute path segment above ends_so upward each parts stands =
     let found = ends_so absolute parts stands in
     let kept = found.0 in let last = found.1 in
@@ -259,23 +259,23 @@ adds_removed absolute path segment above ends_so upward each parts stands =
         };
         bytes = found.3;
       };
-      leaves = λ behind. ap (left_of absolute) (
-          from_back-behind front behind (last ∷ segment ∷ behind) (sym (taken last segment behind ordinary upward))
-          ∙ ap from_back (sym (append_assoc front (last ∷ []) (segment ∷ behind)) ∙ ap (λ ps. ps ++ (segment ∷ behind)) (sym split)));
+      leaves = λ behind. ap (remaining_segments absolute) (
+          reduce_suffix-behind front behind (last ∷ segment ∷ behind) (sym (taken last segment behind ordinary upward))
+          ∙ ap reduce_suffix (sym (append_assoc front (last ∷ []) (segment ∷ behind)) ∙ ap (λ ps. ps ++ (segment ∷ behind)) (sym split)));
     }
 
--- above the root there is nothing
-at_root : (segment : List ℕ) (behind : List (List ℕ)) → segment_kind segment ≡ Upward → left_of true (from_back behind) ≡ left_of true (from_back (segment ∷ behind))
-at_root segment behind upward = ap (λ b. b.kept) (sym (from_back-cons segment behind Upward upward))
+-- At the root `..` changes nothing.
+at_root : (segment : List ℕ) (behind : List (List ℕ)) → segment_kind segment ≡ Upward → remaining_segments true (reduce_suffix behind) ≡ remaining_segments true (reduce_suffix (segment ∷ behind))
+at_root segment behind upward = ap (λ b. b.kept) (sym (reduce_suffix-cons segment behind Upward upward))
 
-pub adds_at_root : (path segment : List ℕ) → EndsSo path None → segment_kind segment ≡ Upward → Adds true path (segment ∷ []) path
+pub adds_at_root : (path segment : List ℕ) → CanPop path None → segment_kind segment ≡ Upward → Adds true path (segment ∷ []) path
 adds_at_root path segment ends_so upward each parts stands =
     let none : parts ≡ [] = stands.left.is ∙ ap (λ (n : ℕ). replicate n dot_dot ++ stands.kept) (stands.left.root refl) ∙ ends_so true parts stands in
     stands_same true path parts (segment ∷ []) stands
-    (λ behind. ap (λ ps. left_of true (from_back (ps ++ behind))) none ∙ at_root segment behind upward ∙ ap (λ ps. left_of true (from_back (ps ++ (segment ∷ behind)))) (sym none))
+    (λ behind. ap (λ ps. remaining_segments true (reduce_suffix (ps ++ behind))) none ∙ at_root segment behind upward ∙ ap (λ ps. remaining_segments true (reduce_suffix (ps ++ (segment ∷ behind)))) (sym none))
 
--- a relative name keeps it where nothing can be taken off
-pub adds_upward : (path segment : List ℕ) → EndsSo path None → segment_kind segment ≡ Upward → Adds false path (segment ∷ []) (with_separator false path ++ segment)
+-- A relative path keeps `..` if there is no ordinary segment to remove.
+pub adds_upward : (path segment : List ℕ) → CanPop path None → segment_kind segment ≡ Upward → Adds false path (segment ∷ []) (with_separator false path ++ segment)
 adds_upward path segment ends_so upward each parts stands =
     let none = ends_so false parts stands in
     let only : parts ≡ replicate stands.ups dot_dot = stands.left.is ∙ ap (λ ks. replicate stands.ups dot_dot ++ ks) none ∙ append-nil (replicate stands.ups dot_dot) in
@@ -283,22 +283,22 @@ adds_upward path segment ends_so upward each parts stands =
     (ap (λ ps. ps ++ segment ∷ []) only ∙ ap (λ s. replicate stands.ups dot_dot ++ s ∷ []) (upward-is segment upward) ∙ sym (upward-snoc stands.ups) ∙ sym (append-nil (replicate (suc stands.ups) dot_dot)))
     (λ is. absurd (false≢true is)) tt
 
--- whatever is no other kind stays
+-- A segment that is neither skipped nor `..` is ordinary.
 pub ordinary_else : (segment : List ℕ) → (segment_kind segment ≡ Skipped → ⊥) → (segment_kind segment ≡ Upward → ⊥) → segment_kind segment ≡ Ordinary
 ordinary_else segment not_skipped not_upward = else (segment_kind segment) refl not_skipped not_upward
   where
-    else : (kind : Kind) → segment_kind segment ≡ kind → (segment_kind segment ≡ Skipped → ⊥) → (segment_kind segment ≡ Upward → ⊥) → segment_kind segment ≡ Ordinary
+    else : (kind : SegmentKind) → segment_kind segment ≡ kind → (segment_kind segment ≡ Skipped → ⊥) → (segment_kind segment ≡ Upward → ⊥) → segment_kind segment ≡ Ordinary
     else Skipped is a b = absurd (a is)
     else Upward is a b = absurd (b is)
     else Ordinary is a b = is
 
--- segments of which some were added, and the rest is still to come
+-- Some of the segments `all` were added; the segments `rest` are left.
 pub record Halfway (absolute : Bool) (before all rest : List (List ℕ)) (path : List ℕ) : Type 0 where
   pub parts : List (List ℕ)
-  pub stands : StandsFor absolute path parts
-  pub leaves : (behind : List (List ℕ)) → left_of absolute (from_back (parts ++ (rest ++ behind))) ≡ left_of absolute (from_back (before ++ (all ++ behind)))
+  pub stands : Represents absolute path parts
+  pub leaves : (behind : List (List ℕ)) → remaining_segments absolute (reduce_suffix (parts ++ (rest ++ behind))) ≡ remaining_segments absolute (reduce_suffix (before ++ (all ++ behind)))
 
-pub none_yet : (absolute : Bool) (before all : List (List ℕ)) (path : List ℕ) → StandsFor absolute path before → Halfway absolute before all all path
+pub none_yet : (absolute : Bool) (before all : List (List ℕ)) (path : List ℕ) → Represents absolute path before → Halfway absolute before all all path
 none_yet absolute before all path stands = record { parts = before; stands = stands; leaves = λ behind. refl }
 
 pub one_more : (absolute : Bool) (before all rest : List (List ℕ)) (segment path after : List ℕ) → HasNoSlash segment → Halfway absolute before all (segment ∷ rest) path → Adds absolute path (segment ∷ []) after
@@ -310,5 +310,5 @@ one_more absolute before all rest segment path after free half adds =
       leaves = λ behind. more.leaves (rest ++ behind) ∙ half.leaves behind;
     }
 
-pub all_added : (absolute : Bool) (before all : List (List ℕ)) (path : List ℕ) → Halfway absolute before all [] path → StandsForMore absolute before all path
+pub all_added : (absolute : Bool) (before all : List (List ℕ)) (path : List ℕ) → Halfway absolute before all [] path → RepresentsExtended absolute before all path
 all_added absolute before all path half = record { parts = half.parts; stands = half.stands; leaves = half.leaves }

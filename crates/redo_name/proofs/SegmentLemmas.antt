@@ -1,4 +1,4 @@
--- The segments of bytes, by their first slash.
+-- The segments of a name, by its first slash.
 use Rattle.std.proofs.Common.{◌≡◌, ◌≢◌, ℕ, ◌+◌, ◌<◌, Bool, true, false, eqb, List, [], ◌∷◌, ◌++◌, length, take, drop, get_or, refl, sym, subst, ◌∙◌, ap, arith, le_refl}
 use Rattle.std.specs.List.{onto_first}
 use Rattle.std.proofs.lemmas.Bool.{eq-eqb, eqb-true}
@@ -8,7 +8,7 @@ use Rattle.memchr.specs.Find.{Passes, NoneBefore, Nowhere, is_byte}
 use Rattle.redo_name.specs.Names.{slash, segments, HasNoSlash}
 use Rattle.redo_name.proofs.NameLemmas.{cut, cut-at, cut-cons}
 
--- a list of segments has a first one
+-- There is a first segment.
 abbrev pub Some_first : List (List ℕ) → Type 0
 Some_first parts = (first : List ℕ) × (others : List (List ℕ)) × (parts ≡ first ∷ others)
 
@@ -20,7 +20,7 @@ pub cut-some : (bytes : List ℕ) → Some_first (cut bytes)
 cut-some [] = ([], [], refl)
 cut-some (byte ∷ bytes) = some_by byte bytes (eqb byte slash) refl (cut-some bytes)
 
--- no slash stands before the first place of one
+-- The bytes before the first slash contain none.
 pub free_before : (bytes : List ℕ) (n : ℕ) → Nowhere (Passes (is_byte slash) bytes) 0 n → HasNoSlash (take n bytes)
 free_before bytes n nowhere =
     recursion_from_All (λ (byte : ℕ). byte ≢ slash) (take n bytes) (λ k d below is.
@@ -28,11 +28,11 @@ free_before bytes n nowhere =
     let read : get_or (take n bytes) k d ≡ get_or bytes k 0 = let in_front : k < n = inside.0 in let in_bytes : k < length bytes = inside.1 in get_or-take n bytes k d in_front ∙ get_or_default bytes k d 0 in_bytes in
     nowhere k (omega arith) inside.0 (eq-eqb (get_or bytes k 0) slash (sym read ∙ is)))
 
--- bytes in which none is found have none
+-- Bytes in which no slash is found contain none.
 pub holds_none : (bytes : List ℕ) → Nowhere (Passes (is_byte slash) bytes) 0 (length bytes) → HasNoSlash bytes
 holds_none bytes nowhere = subst HasNoSlash (take_all (length bytes) bytes (le_refl (length bytes))) (free_before bytes (length bytes) nowhere)
 
--- the first segment stands before the first slash, and the others behind it
+-- The first segment is before the first slash, and the others are after it.
 pub cut_first : (bytes : List ℕ) (at : ℕ) → NoneBefore (Passes (is_byte slash) bytes) 0 (length bytes) at × Passes (is_byte slash) bytes at
     → segments bytes ≡ take at bytes ∷ segments (drop (at + 1) bytes)
 cut_first bytes at found =

@@ -1,27 +1,27 @@
--- What the laws say of names, where it takes more than a line.
+-- Definitions that state the laws about names.
 use Rattle.std.specs.Prelude.{◌≡◌, ◌≢◌, ℕ, false, List, ◌∷◌, [], ◌++◌, None, Some, replicate}
-use Rattle.redo_name.specs.Names.{slash, dot, dot_dot, from_back, is_absolute, normal}
+use Rattle.redo_name.specs.Names.{slash, dot, dot_dot, reduce_suffix, is_absolute, normal}
 
--- a segment that names something itself
+-- Whether a segment is neither empty nor `.` nor `..`.
 abbrev pub IsOrdinary : List ℕ → Type 0
 IsOrdinary segment = (segment ≢ []) × (segment ≢ dot) × (segment ≢ dot_dot)
 
--- a segment that changes nothing, wherever it stands
-abbrev pub Goes : List ℕ → Type 0
-Goes segment = (front behind : List (List ℕ)) → from_back (front ++ segment ∷ behind) ≡ from_back (front ++ behind)
+-- The segment can be removed, wherever it is: the result stays the same.
+abbrev pub IsDropped : List ℕ → Type 0
+IsDropped segment = (front behind : List (List ℕ)) → reduce_suffix (front ++ segment ∷ behind) ≡ reduce_suffix (front ++ behind)
 
--- a segment that is gone where `..` stands right behind it
-abbrev pub GoesWithUpward : List ℕ → Type 0
-GoesWithUpward segment = (front behind : List (List ℕ)) → from_back (front ++ segment ∷ dot_dot ∷ behind) ≡ from_back (front ++ behind)
+-- The segment can be removed together with a `..` directly after it: the result stays the same.
+abbrev pub IsCancelled : List ℕ → Type 0
+IsCancelled segment = (front behind : List (List ℕ)) → reduce_suffix (front ++ segment ∷ dot_dot ∷ behind) ≡ reduce_suffix (front ++ behind)
 
--- so many `..`, and these segments behind them, all stay
-abbrev pub Stay : ℕ → List (List ℕ) → Type 0
-Stay ups kept = from_back (replicate ups dot_dot ++ kept) ≡ record { kept = kept; count = ups }
+-- `ups` segments `..` and the segments `kept` after them are all kept.
+abbrev pub AreKept : ℕ → List (List ℕ) → Type 0
+AreKept ups kept = reduce_suffix (replicate ups dot_dot ++ kept) ≡ record { kept = kept; count = ups }
 
--- a name that is relative to where it stands
+-- Whether a name is neither empty nor absolute.
 abbrev pub IsRelative : List ℕ → Type 0
 IsRelative name = (name ≢ []) × (is_absolute name ≡ false)
 
--- a name in the log of a target in a directory is that of the directory and the name
-abbrev pub StandsIn : List ℕ → List ℕ → List ℕ → Type 0
-StandsIn front last name = normal (Some (front ++ slash ∷ last)) name ≡ normal None (front ++ slash ∷ name)
+-- In the log of the target `front/last`, `name` has the normal form of `front/name`.
+abbrev pub ResolvesIn : List ℕ → List ℕ → List ℕ → Type 0
+ResolvesIn front last name = normal (Some (front ++ slash ∷ last)) name ≡ normal None (front ++ slash ∷ name)

@@ -2,92 +2,97 @@
 use Rattle.std.specs.Prelude.{◌≡◌, ◌≢◌, ℕ, zero, suc, ◌+◌, Bool, true, false, ◌==◌, List, [], ◌∷◌, ◌++◌, Option, None, Some, replicate, if◌then◌else◌}
 use Rattle.std.specs.List.{AllByRecursion, slice_split, join_with_byte}
 
--- the byte between the segments of a name
+-- The byte between the segments of a name.
 abbrev pub slash : ℕ
 slash = 47
 
--- bytes without a slash, as those of a segment
+-- Whether no byte is a slash, as in a segment.
 abbrev pub HasNoSlash : List ℕ → Type 0
 HasNoSlash bytes = AllByRecursion (λ byte. byte ≢ slash) bytes
 
--- the segment that names what it stands in
+-- The segment `.`, the directory itself.
 abbrev pub dot : List ℕ
 dot = 46 ∷ []
 
--- the segment that names what lies above
+-- The segment `..`, the parent directory.
 abbrev pub dot_dot : List ℕ
 dot_dot = 46 ∷ 46 ∷ []
 
--- the parts of a name between slashes
+-- The segments of a name: its parts between slashes.
 abbrev pub segments : List ℕ → List (List ℕ)
 segments name = slice_split (λ byte. byte == slash) name
 
--- a name that begins with a slash
+-- Whether a name begins with a slash.
 abbrev pub is_absolute : List ℕ → Bool
 is_absolute [] = false
 is_absolute (byte ∷ bytes) = byte == slash
 
--- all segments but the last one: of a target's name, those of its directory
+-- All segments except the last. For a target's name, these are the segments of its directory.
 abbrev pub without_last : List (List ℕ) → List (List ℕ)
 without_last [] = []
 without_last (segment ∷ []) = []
 without_last (segment ∷ next ∷ others) = segment ∷ without_last (next ∷ others)
 
--- what a segment is for a normal form
-pub data Kind : Type 0 where
-  Skipped : Kind
-  Upward : Kind
-  Ordinary : Kind
+-- What a segment is for the normal form: empty or `.` (skipped), `..` (upward), or any other (ordinary).
+pub data SegmentKind : Type 0 where
+  Skipped : SegmentKind
+  Upward : SegmentKind
+  Ordinary : SegmentKind
 
-abbrev pub segment_kind : List ℕ → Kind
+abbrev pub segment_kind : List ℕ → SegmentKind
 segment_kind [] = Skipped
 segment_kind (a ∷ []) = if a == 46 then Skipped else Ordinary
 segment_kind (a ∷ b ∷ []) = if a == 46 then (if b == 46 then Upward else Ordinary) else Ordinary
 segment_kind (a ∷ b ∷ c ∷ others) = Ordinary
 
--- Segments that were gone over from the back: those that stay, and for how many of `..` none was found to take off.
-pub record Behind : Type 0 where
+-- The state of processing segments from the last to the first: the segments kept, and the number of `..` that haven't removed a
+-- segment yet.
+pub record Suffix : Type 0 where
   pub kept : List (List ℕ)
   pub count : ℕ
 
--- an ordinary segment is taken off by a `..` behind it, if one is left; else it stays
-abbrev pub taken_off : List ℕ → List (List ℕ) → ℕ → Behind
-taken_off segment kept zero = record { kept = segment ∷ kept; count = 0 }
-taken_off segment kept (suc count) = record { kept = kept; count = count }
+-- Processes an ordinary segment. A `..` after it removes it if one is left; otherwise the segment is kept.
+abbrev pub push_or_cancel : List ℕ → List (List ℕ) → ℕ → Suffix
+push_or_cancel segment kept zero = record { kept = segment ∷ kept; count = 0 }
+push_or_cancel segment kept (suc count) = record { kept = kept; count = count }
 
-abbrev pub with_segment : Kind → List ℕ → Behind → Behind
+-- Processes one segment: takes the state of the segments after it and returns the state that includes it.
+abbrev pub with_segment : SegmentKind → List ℕ → Suffix → Suffix
 with_segment Skipped segment behind = behind
 with_segment Upward segment behind = record { kept = behind.kept; count = behind.count + 1 }
-with_segment Ordinary segment behind = taken_off segment behind.kept behind.count
+with_segment Ordinary segment behind = push_or_cancel segment behind.kept behind.count
 
-unfoldable pub from_back : List (List ℕ) → Behind
-from_back [] = record { kept = []; count = 0 }
-from_back (segment ∷ others) = with_segment (segment_kind segment) segment (from_back others)
+-- The state of all these segments.
+unfoldable pub reduce_suffix : List (List ℕ) → Suffix
+reduce_suffix [] = record { kept = []; count = 0 }
+reduce_suffix (segment ∷ others) = with_segment (segment_kind segment) segment (reduce_suffix others)
 
--- At the root nothing lies above. A relative name keeps as many `..` at its front as are left.
-abbrev pub left_of : Bool → Behind → List (List ℕ)
-left_of true behind = behind.kept
-left_of false behind = replicate behind.count dot_dot ++ behind.kept
+-- The segments of the normal form. A relative name keeps the remaining `..` at its front. An absolute name drops them, because the
+-- root has no parent directory.
+abbrev pub remaining_segments : Bool → Suffix → List (List ℕ)
+remaining_segments true behind = behind.kept
+remaining_segments false behind = replicate behind.count dot_dot ++ behind.kept
 
--- segments joined by single slashes; the empty list is the root, or where one stands
-abbrev pub written : Bool → List (List ℕ) → List ℕ
-written true left = slash ∷ join_with_byte slash left
-written false [] = dot
-written false (segment ∷ others) = join_with_byte slash (segment ∷ others)
+-- The name of these segments, joined by single slashes. The name of no segments is `/` if absolute, otherwise `.`.
+abbrev pub join_segments : Bool → List (List ℕ) → List ℕ
+join_segments true left = slash ∷ join_with_byte slash left
+join_segments false [] = dot
+join_segments false (segment ∷ others) = join_with_byte slash (segment ∷ others)
 
--- the directory that a name is relative to, if it is: whether it is absolute, and its segments
+-- The directory in which a name is resolved: whether it is absolute, and its segments. For an absolute name that is the root. For a
+-- relative name it is the directory of the target in whose log the name is, or the base directory if the name is in no log.
 abbrev pub directory_of : Bool → Option (List ℕ) → Bool × List (List ℕ)
-directory_of true of = (true, [])
+directory_of true target = (true, [])
 directory_of false None = (false, [])
 directory_of false (Some target) = (is_absolute target, without_last (segments target))
 
--- The normal form of a name that stands in the log of a target, or of one that stands alone. The empty name has none.
+-- The normal form of a name in the log of the target `of`, or of a name in no log. The empty name has none.
 unfoldable pub normal : Option (List ℕ) → List ℕ → Option (List ℕ)
-normal of [] = None
-normal of (byte ∷ bytes) =
-    let directory = directory_of (is_absolute (byte ∷ bytes)) of in
-    Some (written directory.0 (left_of directory.0 (from_back (directory.1 ++ segments (byte ∷ bytes)))))
+normal target [] = None
+normal target (byte ∷ bytes) =
+    let directory = directory_of (is_absolute (byte ∷ bytes)) target in
+    Some (join_segments directory.0 (remaining_segments directory.0 (reduce_suffix (directory.1 ++ segments (byte ∷ bytes)))))
 
--- a name that is its own normal form
+-- Whether a name is its own normal form.
 abbrev pub IsNormal : List ℕ → Type 0
 IsNormal name = normal None name ≡ Some name

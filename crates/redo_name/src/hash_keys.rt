@@ -1,26 +1,27 @@
 use std::hash::{BuildHasher, DefaultHasher, RandomState};
 use std::random::RandomSource;
 
-/// How the hash of a name begins. Where it begins by chance, nobody can choose names that fall together in a table,
-/// which would make its look-ups slow. What a table answers doesn't depend on it.
+/// The keys with which names are hashed, stored as the initial state of a hasher. If the keys are random, nobody can
+/// choose names that collide in a table, which would make its look-ups slow. The results of a table don't depend on the
+/// keys.
 #[derive(Clone, Copy)]
 pub struct HashKeys {
-    begun: DefaultHasher,
+    hasher: DefaultHasher,
 }
 
 impl HashKeys {
-    /// Those that are the same in each run.
+    /// Returns keys that are the same in every run.
     pub fn fixed() -> HashKeys {
         HashKeys {
-            begun: DefaultHasher::new(),
+            hasher: DefaultHasher::new(),
         }
     }
 
-    /// Those that the system gives by chance; the fixed ones where it has none to give.
-    pub fn by_chance(rt: &impl RandomSource) -> HashKeys {
+    /// Returns random keys from the system, or the fixed keys if the system provides none.
+    pub fn random(rt: &impl RandomSource) -> HashKeys {
         match RandomState::new(rt) {
             Ok(state) => HashKeys {
-                begun: state.build_hasher(),
+                hasher: state.build_hasher(),
             },
             Err(_) => HashKeys::fixed(),
         }
@@ -30,9 +31,9 @@ impl HashKeys {
 impl BuildHasher for HashKeys {
     type Hasher = DefaultHasher;
 
-    ghost build_hasher = { λ keys. keys.begun };
+    ghost build_hasher = { λ keys. keys.hasher };
 
     fn build_hasher(&self) -> DefaultHasher {
-        self.begun
+        self.hasher
     }
 }

@@ -1,7 +1,7 @@
 //! The names of targets, in normal form.
 //!
-//! What the layers above use: a [`TargetName`] is always a normal form, with lawful equality and hash,
-//! and [`TargetName::resolve`] gives that of any name. [`HashKeys`] are what its hash begins with.
+//! A [`TargetName`] is always a normal form. Its equality is an equivalence relation, and equal names have equal hashes.
+//! [`TargetName::resolve`] computes the normal form of any name. [`HashKeys`] are the keys with which names are hashed.
 #![tactic(auto)]
 
 mod hash_keys;
@@ -10,5 +10,5 @@ mod name;
 mod normal_form;
 
 pub use hash_keys::HashKeys;
-pub use laws::{directory_of_a_name, normal_form_of_normal_form, segments_of_a_name};
+pub use laws::{base_directory_rules, normal_form_is_idempotent, segment_rules};
 pub use name::{NameFault, TargetName, resolve_to};

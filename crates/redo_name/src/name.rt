@@ -18,7 +18,7 @@ use std::marker::Model;
 pub enum NameFault {
     /// The name is empty.
     Empty,
-    /// There was no memory.
+    /// An allocation failed.
     OutOfMemory,
 }
 
@@ -30,7 +30,7 @@ impl From<AllocError> for NameFault {
     }
 }
 
-/// The name of a target, in normal form. It is seen as its bytes.
+/// The name of a target, in normal form. It is modelled as its bytes.
 #[derive(Debug, Drop)]
 pub struct TargetName {
     bytes: Vec<u8>,
@@ -48,25 +48,25 @@ impl Model for TargetName {
 }
 
 impl TargetName {
-    /// The normal form of a name. With `of` the name stands in the log of that target, and is
-    /// relative to the directory of it; without, it stands alone. An absolute name stands for
-    /// itself. The form is lexical: docs/format.md has the rule.
+    /// Returns the normal form of a name. If `of` is given, the name is from the log of that target
+    /// and relative to the target's directory; otherwise it is relative to the base directory. An
+    /// absolute name doesn't depend on `of`. The normal form is lexical; docs/format.md has the rule.
     ///
-    /// Only an empty name is refused as `Empty`.
+    /// Fails with `Empty` exactly if the name is empty.
     pub fn resolve(
         alloc: Global,
-        of: Option<&TargetName>,
+        target: Option<&TargetName>,
         name: &[u8],
     ) -> Result<TargetName, NameFault>
-        ensures ok { IfOk result (λ target. normal (option_copied of.entry) name.now ≡ Some target) }
+        ensures ok { IfOk result (λ resolved. normal (option_copied target.entry) name.now ≡ Some resolved) }
         ensures empty { (result ≡ Err NameFault.Empty) ↔ (name.now ≡ []) }
     {
         let mut bytes = Vec::new(alloc);
-        resolve_to(&mut bytes, of, name)?;
+        resolve_to(&mut bytes, target, name)?;
         Ok(TargetName { bytes })
     }
 
-    /// The name that is this normal form.
+    /// Returns the name with these bytes, which must be a normal form.
     pub fn of_normal(alloc: Global, bytes: &[u8]) -> Result<TargetName, AllocError>
         requires { IsNormal bytes.now }
         ensures { IfOk result (λ name. name ≡ bytes.now) }
@@ -76,7 +76,7 @@ impl TargetName {
         })
     }
 
-    /// The bytes of the name, which are a normal form.
+    /// Returns the bytes of the name, which are a normal form.
     pub fn bytes(&self) -> &[u8]
         ensures bytes { result.now ≡ self.now }
         ensures normal { IsNormal self.now }
@@ -84,14 +84,14 @@ impl TargetName {
         &self.bytes
     }
 
-    /// Whether it is the same target: the names are equal byte for byte.
+    /// Returns whether both names are equal byte for byte, and so name the same target.
     pub fn same(&self, other: &TargetName) -> bool
         ensures { IsTrue result ↔ (self.now ≡ other.now) }
     {
         self == other
     }
 
-    /// The same name again.
+    /// Returns an owned copy of the name.
     pub fn copy(&self, alloc: Global) -> Result<TargetName, AllocError>
         ensures { IfOk result (λ copy. copy ≡ self.now) }
     {
@@ -99,55 +99,63 @@ impl TargetName {
     }
 }
 
-/// Makes a path the normal form of a name, by the rule of [`TargetName::resolve`], whatever it was
-/// before. The path then makes a name by [`TargetName::of_normal`].
+/// Replaces the contents of `path` by the normal form of a name, by the rule of [`TargetName::resolve`].
+/// [`TargetName::of_normal`] makes a name from these bytes.
 ///
-/// Only an empty name is refused as `Empty`. After a refusal nothing is known of the path, and it
-/// may be used again.
-pub fn resolve_to(path: &mut Vec<u8>, of: Option<&TargetName>, name: &[u8]) -> Result<(), NameFault>
-    ensures ok { OnOk result (normal (option_copied of.entry) name.now ≡ Some path.new.items) }
+/// Fails with `Empty` exactly if the name is empty. After an error the contents of `path` are
+/// unspecified, and it may be used again.
+pub fn resolve_to(
+    path: &mut Vec<u8>,
+    target: Option<&TargetName>,
+    name: &[u8],
+) -> Result<(), NameFault>
+    ensures ok { OnOk result (normal (option_copied target.entry) name.now ≡ Some path.new.items) }
     ensures is_normal { OnOk result (IsNormal path.new.items) }
     ensures empty { (result ≡ Err NameFault.Empty) ↔ (name.now ≡ []) }
 {
     if name.is_empty() {
         return Err(NameFault::Empty);
     }
-    normal_form(path, of, name)?;
+    normal_form(path, target, name)?;
     Ok(())
 }
 
-fn normal_form(path: &mut Vec<u8>, of: Option<&TargetName>, name: &[u8]) -> Result<(), AllocError>
-    requires some { 0 < length name.now }
-    ensures { OnOk result (normal (option_copied of.entry) name.now ≡ Some path.new.items) }
+fn normal_form(
+    path: &mut Vec<u8>,
+    target: Option<&TargetName>,
+    name: &[u8],
+) -> Result<(), AllocError>
+    requires nonempty { 0 < length name.now }
+    ensures { OnOk result (normal (option_copied target.entry) name.now ≡ Some path.new.items) }
 {
-    let (absolute, directory) = directory(of, name);
+    let (absolute, directory) = directory(target, name);
     let room = directory.len().saturating_add(name.len()).saturating_add(1);
     path.clear();
     path.reserve(room)?;
     add_segments(path, absolute, directory)?;
     add_segments(path, absolute, name)?;
     if path.is_empty() {
-        path.push(own_name(absolute))?;
+        path.push(root_or_dot(absolute))?;
     }
     Ok(())
 }
 
-// The name of the root, or of where a relative name stands.
-fn own_name(absolute: bool) -> u8
+// Returns the single byte of a normal form without segments: `/` for the root, `.` for the base directory.
+fn root_or_dot(absolute: bool) -> u8
     ensures { result ≡ (if absolute then 47 else 46) }
 {
     if absolute { b'/' } else { b'.' }
 }
 
-// What a name is relative to: whether that is absolute, and the directory's name.
-fn directory<'a>(of: Option<&'a TargetName>, name: &[u8]) -> (bool, &'a [u8])
-    ensures absolute { result.0 ≡ (directory_of (is_absolute name.now) (option_copied of.entry)).0 }
-    ensures segments { LeavesSame (segments result.1.now) (directory_of (is_absolute name.now) (option_copied of.entry)).1 }
+// Returns the directory that a name is relative to: whether it is absolute, and its name.
+fn directory<'a>(target: Option<&'a TargetName>, name: &[u8]) -> (bool, &'a [u8])
+    ensures absolute { result.0 ≡ (directory_of (is_absolute name.now) (option_copied target.entry)).0 }
+    ensures segments { LeavesSame (segments result.1.now) (directory_of (is_absolute name.now) (option_copied target.entry)).1 }
 {
     if begins_with_slash(name) {
         return (true, b"");
     }
-    match of {
+    match target {
         None => (false, b""),
         Some(target) => {
             let bytes = target.bytes();

@@ -1,8 +1,8 @@
-//! The way of a normal form from the front: the segments that stay so far are kept as the bytes of
-//! the name that they make, without the first slash of a relative one.
+//! Builds a normal form from the front. A path holds the segments kept so far, each after a slash;
+//! a relative path has no slash before its first segment.
 ghost use Rattle.std.specs.Prelude.{◌≡◌, ℕ, ◌↔◌, ◌<◌, ◌≤◌, List, [], ◌∷◌, ◌++◌, IsTrue, IfNone, IfSome, OnOk, length, take};
 ghost use Rattle.redo_name.specs.Names.{slash, segment_kind, Skipped, Upward, segments, HasNoSlash};
-ghost use Rattle.redo_name.specs.Private.Path.{Adds, EndsSo, with_separator};
+ghost use Rattle.redo_name.specs.Private.Path.{Adds, CanPop, with_separator};
 
 use bstr::ByteSlice;
 use memchr::memrchr;
@@ -21,7 +21,7 @@ pub fn add_segments(path: &mut Vec<u8>, absolute: bool, name: &[u8]) -> Result<(
     Ok(())
 }
 
-// What stands before the first slash, and behind it, if there is one.
+// Returns the bytes before and after the first slash, if there is one.
 fn first_segment(name: &[u8]) -> Option<(&[u8], &[u8])>
     ensures first { IfSome result (λ parts. segments name.now ≡ parts.0.now ∷ segments parts.1.now) }
     ensures free { IfSome result (λ parts. HasNoSlash parts.0.now) }
@@ -41,16 +41,17 @@ fn add_segment(path: &mut Vec<u8>, absolute: bool, segment: &[u8]) -> Result<(),
         return Ok(());
     }
     if is_upward(segment) {
-        return add_upward(path, absolute, segment);
+        return apply_upward(path, absolute, segment);
     }
     push_segment(path, absolute, segment)
 }
 
-// Goes up: the last segment goes, if it can be taken off. Above the root there is nothing.
-fn add_upward(path: &mut Vec<u8>, absolute: bool, segment: &[u8]) -> Result<(), AllocError>
+// Adds `..`, which removes the last segment if there is one other than `..`. Without such a segment an absolute path
+// stays unchanged, because the root has no parent directory, and `..` is appended to a relative path.
+fn apply_upward(path: &mut Vec<u8>, absolute: bool, segment: &[u8]) -> Result<(), AllocError>
     ensures { OnOk result (segment_kind segment.now ≡ Upward → Adds absolute path.old.items (segment.now ∷ []) path.new.items) }
 {
-    match above_last(path) {
+    match parent_len(path) {
         Some(above) => {
             path.truncate(above);
             Ok(())
@@ -60,9 +61,9 @@ fn add_upward(path: &mut Vec<u8>, absolute: bool, segment: &[u8]) -> Result<(), 
     }
 }
 
-// How many bytes of a path stand before its last segment, if there is one that can be taken off.
-fn above_last(path: &[u8]) -> Option<usize>
-    ensures { EndsSo path.now result }
+// Returns the length of a path without its last segment and the slash before it; `None` if `..` can't remove a segment.
+fn parent_len(path: &[u8]) -> Option<usize>
+    ensures { CanPop path.now result }
 {
     let (above, last) = last_segment(path);
     if path.is_empty() || is_upward(last) {
@@ -92,8 +93,8 @@ fn is_upward(segment: &[u8]) -> bool
     segment == b"..".as_slice()
 }
 
-/// What stands behind the last slash, and how many bytes stand before it. Without a slash it is
-/// all, with nothing before it.
+/// Returns the number of bytes before the last slash, and the bytes after it. Without a slash
+/// these are 0 and the whole name.
 pub fn last_segment(name: &[u8]) -> (usize, &[u8])
     ensures slash { (front last : List ℕ) → HasNoSlash last → name.now ≡ front ++ slash ∷ last →
         (result.0 ≡ length front) × (result.1.now ≡ last) }

@@ -1,3 +1,3 @@
-mod AskedRows
+mod ArgumentsRows
 mod LimitsRows
 mod PlanRows

@@ -5,11 +5,11 @@ use Rattle.redo_options.specs.Plan.{IsPlan, Numbers}
 abbrev plan : ℕ → ℕ → ℕ → Numbers
 plan senders capacity max_bytes = record { senders = senders; capacity = capacity; max_bytes = max_bytes }
 
-least : IsPlan (plan 1 1 1)
-least = record { senders_are = (omega arith, omega arith); capacity_is = (omega arith, omega arith); max_bytes_is = (omega arith, omega arith) }
+min_plan : IsPlan (plan 1 1 1)
+min_plan = record { senders_are = (omega arith, omega arith); capacity_is = (omega arith, omega arith); max_bytes_is = (omega arith, omega arith) }
 
-greatest : IsPlan (plan 64 65536 1099511627776)
-greatest = record { senders_are = (omega arith, omega arith); capacity_is = (omega arith, omega arith); max_bytes_is = (omega arith, omega arith) }
+max_plan : IsPlan (plan 64 65536 1099511627776)
+max_plan = record { senders_are = (omega arith, omega arith); capacity_is = (omega arith, omega arith); max_bytes_is = (omega arith, omega arith) }
 
 no_sender : IsPlan (plan 0 1 1) → ⊥
 no_sender is = let within = is.senders_are.0 in omega (arith, within)

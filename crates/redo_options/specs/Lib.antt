@@ -1,3 +1,3 @@
-pub mod Asked
+pub mod Arguments
 pub mod Limits
 pub mod Plan

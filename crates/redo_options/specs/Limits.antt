@@ -1,12 +1,12 @@
--- The limits of the numbers of a run.
+-- The limits of the number of senders and of the mailbox's capacity.
 use Rattle.std.specs.Prelude.{ℕ, ◌≤◌}
 
--- from one number to another
-abbrev pub IsWithin : ℕ → ℕ → ℕ → Type 0
-IsWithin least greatest number = (least ≤ number) × (number ≤ greatest)
+-- Whether `number` is in the range from `least` to `greatest`, both included.
+abbrev pub IsInRange : ℕ → ℕ → ℕ → Type 0
+IsInRange min max number = (min ≤ number) × (number ≤ max)
 
-abbrev pub AreSenders : ℕ → Type 0
-AreSenders senders = IsWithin 1 64 senders
+abbrev pub IsSenderCount : ℕ → Type 0
+IsSenderCount senders = IsInRange 1 64 senders
 
 abbrev pub IsCapacity : ℕ → Type 0
-IsCapacity capacity = IsWithin 1 65536 capacity
+IsCapacity capacity = IsInRange 1 65536 capacity

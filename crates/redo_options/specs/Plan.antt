@@ -1,17 +1,17 @@
 -- The numbers of a plan, and their limits.
 use Rattle.std.specs.Prelude.{ℕ, ◌^◌}
-use Rattle.redo_options.specs.Limits.{AreSenders, IsCapacity, IsWithin}
+use Rattle.redo_options.specs.Limits.{IsSenderCount, IsCapacity, IsInRange}
 
 pub record Numbers : Type 0 where
   pub senders : ℕ
   pub capacity : ℕ
   pub max_bytes : ℕ
 
--- how many bytes a stream may have
+-- Whether `max_bytes` is allowed as the size limit of a stream.
 abbrev pub IsByteLimit : ℕ → Type 0
-IsByteLimit max_bytes = IsWithin 1 (2 ^ 40) max_bytes
+IsByteLimit max_bytes = IsInRange 1 (2 ^ 40) max_bytes
 
 pub record IsPlan (numbers : Numbers) : Type 0 where
-  pub senders_are : AreSenders numbers.senders
+  pub senders_are : IsSenderCount numbers.senders
   pub capacity_is : IsCapacity numbers.capacity
   pub max_bytes_is : IsByteLimit numbers.max_bytes

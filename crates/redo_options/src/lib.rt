@@ -1,5 +1,4 @@
-//! What a run is asked to show, the plan by which its streams are gathered, the limits of its numbers, and its words as
-//! bytes.
+//! What a text shows, the plan of a run with the limits of its numbers, and command-line arguments as bytes.
 #![tactic(auto)]
 
 mod options;

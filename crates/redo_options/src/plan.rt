@@ -1,29 +1,29 @@
 ghost use Rattle.std.specs.Prelude.{◌≡◌, ◌↔◌, Err, IfOk};
-ghost use Rattle.redo_options.specs.Limits.{AreSenders, IsCapacity};
+ghost use Rattle.redo_options.specs.Limits.{IsSenderCount, IsCapacity};
 ghost use Rattle.redo_options.specs.Plan.{IsByteLimit};
 
 use std::marker::Model;
 
-// The greatest numbers that a plan may have.
+// The maximum of each number of a plan.
 const MOST_SENDERS: u32 = 64;
 
 const MOST_CAPACITY: u32 = 65_536;
 
 const MOST_BYTES: u64 = 1 << 40;
 
-/// Why a plan is refused: this number is out of its limits. The first of these causes counts.
+/// Why a plan is rejected: this number is out of range. If several are, the first in this order is reported.
 #[derive(Clone, Copy, Debug, PartialEq, Eq)]
 pub enum PlanFault {
     /// There are no senders, or more than 64.
     Senders,
-    /// The mailbox has room for no item, or for more than 65,536.
+    /// The mailbox's capacity is 0, or greater than 65,536.
     Capacity,
-    /// A stream may have no byte, or more than 1,099,511,627,776.
+    /// The size limit of a stream is 0 bytes, or greater than 1,099,511,627,776.
     MaxBytes,
 }
 
-/// With how many senders streams are gathered, through a mailbox of what capacity, and how many bytes
-/// a stream may have. Each number is in its limits.
+/// The number of senders that read the streams, the capacity of the mailbox and the size limit of a stream in bytes.
+/// Each number is in range.
 #[derive(Clone, Copy, Debug)]
 pub struct Plan {
     senders: u32,
@@ -44,13 +44,14 @@ impl Model for Plan {
 }
 
 impl Plan {
-    /// A plan with 1 to 64 senders, a capacity of 1 to 65,536 items, and 1 to 1,099,511,627,776 bytes
-    /// for each stream.
+    /// Creates a plan with 1 to 64 senders, a capacity of 1 to 65,536 items and a size limit of 1 to
+    /// 1,099,511,627,776 bytes for each stream.
     pub fn new(senders: u32, capacity: u32, max_bytes: u64) -> Result<Plan, PlanFault>
         ensures plan { IfOk result (λ plan. plan ≡ record { senders = senders; capacity = capacity; max_bytes = max_bytes }) }
-        ensures senders { (result ≡ Err PlanFault.Senders) ↔ (AreSenders senders → ⊥) }
-        ensures capacity { (result ≡ Err PlanFault.Capacity) ↔ (AreSenders senders × (IsCapacity capacity → ⊥)) }
-        ensures max_bytes { (result ≡ Err PlanFault.MaxBytes) ↔ (AreSenders senders × IsCapacity capacity × (IsByteLimit max_bytes → ⊥)) }
+        ensures senders { (result ≡ Err PlanFault.Senders) ↔ (IsSenderCount senders → ⊥) }
+        ensures capacity { (result ≡ Err PlanFault.Capacity) ↔ (IsSenderCount senders × (IsCapacity capacity → ⊥)) }
+        ensures max_bytes { (result ≡ Err PlanFault.MaxBytes)
+            ↔ (IsSenderCount senders × IsCapacity capacity × (IsByteLimit max_bytes → ⊥)) }
     {
         if senders < 1 || senders > MOST_SENDERS {
             return Err(PlanFault::Senders);
@@ -68,15 +69,15 @@ impl Plan {
         })
     }
 
-    /// How many senders read the streams.
+    /// Returns the number of senders.
     pub fn senders(&self) -> u32
         ensures value { result ≡ self.now.senders }
-        ensures limits { AreSenders result }
+        ensures limits { IsSenderCount result }
     {
         self.senders
     }
 
-    /// How many items the mailbox has room for.
+    /// Returns the capacity of the mailbox: the number of items that it holds at most.
     pub fn capacity(&self) -> u32
         ensures value { result ≡ self.now.capacity }
         ensures limits { IsCapacity result }
@@ -84,7 +85,7 @@ impl Plan {
         self.capacity
     }
 
-    /// How many bytes a stream may have.
+    /// Returns the number of bytes that a stream has at most.
     pub fn max_bytes(&self) -> u64
         ensures value { result ≡ self.now.max_bytes }
         ensures limits { IsByteLimit result }

@@ -1,4 +1,4 @@
-mod Answering
 mod Finding
+mod OutcomeRows
+mod Results
 mod RunRows
-mod ShownRows

@@ -1,4 +1,4 @@
--- Examples of runs, computed: the targets with their streams, the words that ask, and the answer.
+-- Examples of runs, computed: the targets with their streams, the arguments, and the result.
 use Rattle.std.proofs.Common.{◌≡◌, ℕ, Bool, true, false, List, [], ◌∷◌, ◌++◌, Some, Result, Ok, Err, map, refl}
 use Rattle.std.specs.Prelude.{codes}
 use Rattle.std.specs.Fmt.{digits}
@@ -7,16 +7,16 @@ use Rattle.redo_line.specs.declared.stream_fault.StreamFault.TheVariants.{BadRec
 use Rattle.redo_line.specs.Decimal.{number}
 use Rattle.redo_line.specs.Entry.{record_entry, entry_of}
 use Rattle.redo_device.specs.Feed.{Stream}
-use Rattle.redo_line.specs.Source.{Marked}
-use Rattle.redo_line.specs.Lines.{line_feed, cutting, ended, rest}
+use Rattle.redo_line.specs.Source.{StreamInput}
+use Rattle.redo_line.specs.Lines.{line_feed, split_lines, ended, rest}
 use Rattle.redo_line.specs.Log.{stream_of, first_fault}
-use Rattle.redo_name.specs.Names.{from_back, normal}
-use Rattle.redo_line.specs.Parts.{parted, behind}
+use Rattle.redo_name.specs.Names.{reduce_suffix, normal}
+use Rattle.redo_line.specs.Parts.{split_once, after_prefix}
 use Rattle.redo_line.specs.Record.{fields_of, status_of}
-use Rattle.redo_view.specs.Expansion.{opened_within, opened_log}
+use Rattle.redo_view.specs.Expansion.{show_log_within, show_log}
 use Rattle.redo_run.specs.declared.run_fault.RunFault.{RunFault}
 use Rattle.redo_run.specs.declared.run_fault.RunFault.TheVariants.{Unknown, Stream as OfStream}
-use Rattle.redo_run.specs.Run.{Question, answer}
+use Rattle.redo_run.specs.Run.{Request, result_of, find_targets}
 
 abbrev line : List ℕ → List ℕ
 line text = text ++ line_feed ∷ []
@@ -27,44 +27,44 @@ bad = line (codes "@@REDO:do:7")
 abbrev closing : List ℕ
 closing = line (codes "@@REDO:done:7:1.0000@@ 0 a")
 
-abbrev Answer : Type 0
-Answer = Result (List ℕ) RunFault
+abbrev RunResult : Type 0
+RunResult = Result (List ℕ) RunFault
 
 record Row : Type 0 where
-  question : Question
-  streams : List (Marked Stream)
-  answer_is : Answer
+  request : Request
+  streams : List (StreamInput Stream)
+  result : RunResult
 
-abbrev whole : List ℕ → Marked Stream
+abbrev whole : List ℕ → StreamInput Stream
 whole bytes = record { must_close = false; stream = stream_of bytes false }
 
--- ..that has to end with the record that closes its log
-abbrev closed : List ℕ → Marked Stream
+-- The same with the must-close flag.
+abbrev closed : List ℕ → StreamInput Stream
 closed bytes = record { must_close = true; stream = stream_of bytes false }
 
--- targets, streams that no failed read ends, whether mentions are opened, at most so many bytes, and words
-abbrev asks : List (List ℕ) → List (List ℕ) → Bool → ℕ → List (List ℕ) → Answer → Row
-asks targets streams recursive max_bytes words answer_is =
+-- A run with these targets, streams that no failed read ends, option `recursive`, maximum number of bytes and arguments.
+abbrev asks : List (List ℕ) → List (List ℕ) → Bool → ℕ → List (List ℕ) → RunResult → Row
+asks targets streams recursive max_bytes arguments result =
     record {
-      question = record { targets = targets; max_bytes = max_bytes; options = record { recursive = recursive; unchanged = false; details = true; debug_locks = false; debug_pids = false }; words = words };
+      request = record { targets = targets; max_bytes = max_bytes; options = record { recursive = recursive; unchanged = false; details = true; debug_locks = false; debug_pids = false }; arguments = arguments };
       streams = map whole streams;
-      answer_is = answer_is;
+      result = result;
     }
 
--- the target `all` alone
-abbrev all_asks : List ℕ → ℕ → List (List ℕ) → Answer → Row
-all_asks stream max_bytes words answer_is = asks (codes "all" ∷ []) (stream ∷ []) false max_bytes words answer_is
+-- A run whose only target is `all`.
+abbrev all_asks : List ℕ → ℕ → List (List ℕ) → RunResult → Row
+all_asks stream max_bytes arguments result = asks (codes "all" ∷ []) (stream ∷ []) false max_bytes arguments result
 
-abbrev a_asks : List ℕ → ℕ → Answer → Row
-a_asks stream max_bytes answer_is = asks (codes "a" ∷ []) (stream ∷ []) false max_bytes (codes "a" ∷ []) answer_is
+abbrev a_asks : List ℕ → ℕ → RunResult → Row
+a_asks stream max_bytes result = asks (codes "a" ∷ []) (stream ∷ []) false max_bytes (codes "a" ∷ []) result
 
--- the streams of `a` and `b`, asked for `a`
-abbrev marked_asks : Marked Stream → Marked Stream → Answer → Row
-marked_asks a b answer_is =
+-- A run with the streams of `a` and `b` that requests `a`.
+abbrev flagged_asks : StreamInput Stream → StreamInput Stream → RunResult → Row
+flagged_asks a b result =
     record {
-      question = record { targets = codes "a" ∷ codes "b" ∷ []; max_bytes = 1000; options = record { recursive = false; unchanged = false; details = true; debug_locks = false; debug_pids = false }; words = codes "a" ∷ [] };
+      request = record { targets = codes "a" ∷ codes "b" ∷ []; max_bytes = 1000; options = record { recursive = false; unchanged = false; details = true; debug_locks = false; debug_pids = false }; arguments = codes "a" ∷ [] };
       streams = a ∷ b ∷ [];
-      answer_is = answer_is;
+      result = result;
     }
 
 abbrev all : List (List ℕ)
@@ -79,33 +79,46 @@ rows =
     asks (codes "d/a" ∷ codes "e/x" ∷ []) (line (codes "@@REDO:do:7:1.0000@@ ../e//x") ∷ line (codes "q") ∷ []) true 1000 (codes "d/./a" ∷ []) (
     Ok (line (codes "redo  d/a") ++ line (codes "redo    e/x") ++ line (codes "q"))
     ) ∷
-    -- a stream at fault
+    -- a stream with a fault
     all_asks (line (codes "ok") ++ bad) 1000 all (Err (OfStream 0 (BadRecord 2))) ∷
     a_asks (closing ++ codes "z") 1000 (Err (OfStream 0 (AfterClose 2))) ∷
     a_asks closing 1000 (Ok (line (codes "redo  a"))) ∷
     asks (codes "a" ∷ codes "b" ∷ []) (line (codes "ok") ∷ bad ∷ []) false 1000 (codes "a" ∷ []) (Err (OfStream 1 (BadRecord 1))) ∷
-    -- at its limit
+    -- a stream with the maximum number of bytes, and one with more
     all_asks (line (codes "abc")) 4 all (Ok (line (codes "redo  all") ++ line (codes "abc"))) ∷
     all_asks (line (codes "abc") ++ codes "d") 4 all (Err (OfStream 0 TooLong)) ∷
-    -- a word that is unknown, with a stream at fault or without
+    -- an unknown argument, with and without a stream that has a fault
     all_asks bad 1000 (codes "all" ∷ codes "nope" ∷ []) (Err (Unknown 1)) ∷
     all_asks bad 1000 ([] ∷ []) (Err (Unknown 0)) ∷
     asks [] [] false 1000 (codes "a" ∷ []) (Err (Unknown 0)) ∷
-    -- a stream that has to be closed
-    marked_asks (closed closing) (whole []) (Ok (line (codes "redo  a"))) ∷
-    marked_asks (closed (line (codes "x"))) (whole bad) (Err (OfStream 0 NotClosed)) ∷
-    marked_asks (whole (line (codes "x"))) (closed []) (Err (OfStream 1 NotClosed)) ∷
-    marked_asks (closed (closing ++ codes "z")) (whole []) (Err (OfStream 0 (AfterClose 2))) ∷
+    -- an empty argument names no target, not even the target `.`
+    asks (codes "." ∷ []) ([] ∷ []) false 1000 (codes "./" ∷ []) (Ok (line (codes "redo  ."))) ∷
+    asks (codes "." ∷ []) ([] ∷ []) false 1000 ([] ∷ []) (Err (Unknown 0)) ∷
+    -- the order of the arguments is the order of the text
+    asks (codes "a" ∷ codes "b" ∷ []) (line (codes "x") ∷ line (codes "y") ∷ []) false 1000 (codes "b" ∷ codes "a" ∷ []) (
+    Ok (line (codes "redo  b") ++ line (codes "y") ++ line (codes "redo  a") ++ line (codes "x"))
+    ) ∷
+    -- a stream with the must-close flag
+    flagged_asks (closed closing) (whole []) (Ok (line (codes "redo  a"))) ∷
+    flagged_asks (closed (line (codes "x"))) (whole bad) (Err (OfStream 0 NotClosed)) ∷
+    flagged_asks (whole (line (codes "x"))) (closed []) (Err (OfStream 1 NotClosed)) ∷
+    flagged_asks (closed (closing ++ codes "z")) (whole []) (Err (OfStream 0 (AfterClose 2))) ∷
     []
 
-these_answers : AllByRecursion (λ row. answer row.question row.streams ≡ Some row.answer_is) rows
-unfolding cutting ended rest first_fault entry_of record_entry fields_of status_of parted behind number normal from_back opened_within opened_log digits
-these_answers = (refl, (refl, (refl, (refl, (refl, (refl, (refl, (refl, (refl, (refl, (refl, (refl, (refl, (refl, (refl, (refl, (refl, (refl, tt))))))))))))))))))
+these_results : AllByRecursion (λ row. result_of row.request row.streams ≡ Some row.result) rows
+unfolding split_lines ended rest first_fault entry_of record_entry fields_of status_of split_once after_prefix number normal reduce_suffix show_log_within show_log digits
+these_results = (refl, (refl, (refl, (refl, (refl, (refl, (refl, (refl, (refl, (refl, (refl, (refl, (refl, (refl, (refl, (refl, (refl, (refl, (refl, (refl, (refl, tt)))))))))))))))))))))
 
--- a failed read counts behind the bytes before it
+-- The targets that arguments name are in the order of the arguments, and each is there as often as an argument names it.
+names_of_arguments :
+    find_targets (codes "a" ∷ codes "b" ∷ codes "c" ∷ []) (codes "./b" ∷ codes "a" ∷ codes "b" ∷ codes "c" ∷ []) ≡ codes "b" ∷ codes "a" ∷ codes "b" ∷ codes "c" ∷ []
+unfolding reduce_suffix normal
+names_of_arguments = refl
+
+-- A failed read is the fault if the bytes before it have none, although a later stream has a fault.
 failed_reads :
-    (answer (record { targets = codes "a" ∷ codes "b" ∷ []; max_bytes = 1000; options = record { recursive = false; unchanged = false; details = true; debug_locks = false; debug_pids = false }; words = codes "a" ∷ [] }) (
+    (result_of (record { targets = codes "a" ∷ codes "b" ∷ []; max_bytes = 1000; options = record { recursive = false; unchanged = false; details = true; debug_locks = false; debug_pids = false }; arguments = codes "a" ∷ [] }) (
     record { must_close = false; stream = stream_of (line (codes "x")) true } ∷ whole bad ∷ []
     ) ≡ Some (Err (OfStream 0 Read)))
-unfolding cutting ended rest first_fault entry_of record_entry fields_of status_of parted behind number normal from_back
+unfolding split_lines ended rest first_fault entry_of record_entry fields_of status_of split_once after_prefix number normal reduce_suffix
 failed_reads = refl

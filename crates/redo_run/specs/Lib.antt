@@ -1,4 +1,4 @@
+pub mod Outcome
 pub mod Private
 pub mod Run
 pub mod RunFault
-pub mod Shown

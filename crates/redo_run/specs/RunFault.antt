@@ -1,4 +1,4 @@
--- The faults of a run, and facts of one kind of them.
+-- The faults of a run, and statements about one kind of them.
 use Rattle.std.specs.Prelude.{ℕ, Result, Ok, Err}
 use Rattle.redo_line.specs.declared.stream_fault.StreamFault.{StreamFault}
 use Rattle.redo_gather.specs.declared.gather_fault.GatherFault.{GatherFault}
@@ -6,11 +6,12 @@ use Rattle.redo_gather.specs.declared.gather_fault.GatherFault.TheVariants as ga
 use Rattle.redo_run.specs.declared.run_fault.RunFault.{RunFault}
 use Rattle.redo_run.specs.declared.run_fault.RunFault.TheVariants.{Unknown, Stream, OutOfMemory, Write}
 
--- what the fault of a gathering is for the run
-abbrev pub fault_of_gathering : GatherFault → RunFault
-fault_of_gathering (gather.Stream number fault) = Stream number fault
-fault_of_gathering gather.OutOfMemory = OutOfMemory
+-- The fault of a run whose gathering fails with this fault.
+abbrev pub run_fault_of_gather : GatherFault → RunFault
+run_fault_of_gather (gather.Stream number fault) = Stream number fault
+run_fault_of_gather gather.OutOfMemory = OutOfMemory
 
+-- `P` holds of the number and the fault, if the run failed because of a stream.
 abbrev pub IfStreamFault : Result (Unit {0}) RunFault → (ℕ → StreamFault → Type 0) → Type 0
 IfStreamFault (Ok done) P = Unit {0}
 IfStreamFault (Err (Unknown place)) P = Unit {0}
@@ -18,6 +19,7 @@ IfStreamFault (Err (Stream number fault)) P = P number fault
 IfStreamFault (Err OutOfMemory) P = Unit {0}
 IfStreamFault (Err Write) P = Unit {0}
 
+-- `P` holds of the position, if the run failed because of an unknown argument.
 abbrev pub IfUnknown : Result (Unit {0}) RunFault → (ℕ → Type 0) → Type 0
 IfUnknown (Ok done) P = Unit {0}
 IfUnknown (Err (Unknown place)) P = P place
@@ -25,10 +27,10 @@ IfUnknown (Err (Stream number fault)) P = Unit {0}
 IfUnknown (Err OutOfMemory) P = Unit {0}
 IfUnknown (Err Write) P = Unit {0}
 
--- a fact of a fault that is told in place of a text: that of a word or of a stream
-abbrev pub IfTold : Result (Unit {0}) RunFault → (RunFault → Type 0) → Type 0
-IfTold (Ok done) P = Unit {0}
-IfTold (Err (Unknown place)) P = P (Unknown place)
-IfTold (Err (Stream number fault)) P = P (Stream number fault)
-IfTold (Err OutOfMemory) P = Unit {0}
-IfTold (Err Write) P = Unit {0}
+-- `P` holds of the fault, if the run failed because of an unknown argument or of a stream. Then there is no text.
+abbrev pub IfRejected : Result (Unit {0}) RunFault → (RunFault → Type 0) → Type 0
+IfRejected (Ok done) P = Unit {0}
+IfRejected (Err (Unknown place)) P = P (Unknown place)
+IfRejected (Err (Stream number fault)) P = P (Stream number fault)
+IfRejected (Err OutOfMemory) P = Unit {0}
+IfRejected (Err Write) P = Unit {0}

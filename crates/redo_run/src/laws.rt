@@ -1,14 +1,14 @@
 //! Laws about the definitions alone: their contracts are theorems, and their bodies are empty.
 ghost use Rattle.std.specs.Prelude.{List, IsSome};
 ghost use Rattle.redo_device.specs.Feed.{Stream};
-ghost use Rattle.redo_line.specs.Source.{Marked};
-ghost use Rattle.redo_run.specs.Run.{Question, answer};
+ghost use Rattle.redo_line.specs.Source.{StreamInput};
+ghost use Rattle.redo_run.specs.Run.{Request, result_of};
 
 use redo_gather::logs_unless_fault;
 
-/// A run has an answer for all streams: a text, or the fault that is told in its place.
-pub fn an_answer_for_each_run()
-    ensures { (question : Question) (streams : List (Marked Stream)) → IsSome (answer question streams) }
+/// Every run has a result, whatever its streams are: a text, or the fault that is returned instead.
+pub fn run_has_a_result()
+    ensures { (request : Request) (streams : List (StreamInput Stream)) → IsSome (result_of request streams) }
 {
     logs_unless_fault();
 }

@@ -1,13 +1,13 @@
-//! A run: from the streams of all targets, and the words that ask for some of them, to one text.
+//! A run turns the streams of all targets, and the arguments that request some of them, into one text.
 //!
-//! [`run`] looks the words up in an index, gathers the logs of the streams, and shows them at the
-//! targets asked for, or tells a [`RunFault`].
+//! [`run`] looks the arguments up in an index, gathers the logs of the streams, and shows the logs of
+//! the requested targets. If it fails, it returns a [`RunFault`].
 #![tactic(auto)]
 
 mod laws;
 mod run_fault;
 mod running;
 
-pub use laws::an_answer_for_each_run;
+pub use laws::run_has_a_result;
 pub use run_fault::RunFault;
 pub use running::run;

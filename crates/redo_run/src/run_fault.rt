@@ -1,24 +1,25 @@
 ghost use Rattle.std.specs.Prelude.{◌≡◌};
 ghost use Rattle.redo_run.specs.declared.run_fault.RunFault.TheVariants.{OutOfMemory};
-ghost use Rattle.redo_run.specs.RunFault.{fault_of_gathering};
+ghost use Rattle.redo_run.specs.RunFault.{run_fault_of_gather};
 
 use redo_gather::GatherFault;
 use redo_line::StreamFault;
 use std::alloc::{AllocError, AllocFailed};
 
-/// Why a run showed nothing, or not the whole text. A word that is unknown is told before a stream that
-/// is at fault.
+/// Why a run showed nothing, or not the whole text. An unknown argument takes precedence over a stream
+/// with a fault.
 #[derive(Clone, Copy, Debug, PartialEq, Eq)]
 pub enum RunFault {
-    /// The word at this place names no target, or is empty; places are counted from 0, and it is the
-    /// least one. Nothing was written.
+    /// The argument at this position names no target, or is empty. Positions are counted from 0, and it
+    /// is the first such argument. Nothing was written.
     Unknown { place: usize },
-    /// The log of this stream can't be had; streams are counted from 0, and it is the least-numbered
-    /// one. `run` never tells want of memory so. Nothing was written.
+    /// The stream with this number has a fault, and no log. Streams are counted from 0, and it is the
+    /// lowest-numbered one with a fault. `run` never reports a failed allocation this way. Nothing was
+    /// written.
     Stream { number: u32, fault: StreamFault },
-    /// There was no memory. A front of the text was written, perhaps nothing.
+    /// An allocation failed. A prefix of the text was written, possibly an empty one.
     OutOfMemory,
-    /// Writing failed. A front of the text was written, perhaps nothing.
+    /// A write failed. A prefix of the text was written, possibly an empty one.
     Write,
 }
 
@@ -39,7 +40,7 @@ impl<T: Drop> From<AllocFailed<T>> for RunFault {
 }
 
 impl From<GatherFault> for RunFault {
-    ghost from_gives = { λ gathering fault. fault ≡ fault_of_gathering gathering };
+    ghost from_gives = { λ gathering fault. fault ≡ run_fault_of_gather gathering };
 
     fn from(fault: GatherFault) -> RunFault {
         match fault {

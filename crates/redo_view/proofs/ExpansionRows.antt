@@ -1,4 +1,4 @@
--- Examples of expansions, computed: the logs, the options, the targets asked for, and the text.
+-- Examples of expansions, computed: the logs, the options, the requested targets, and the text.
 use Rattle.std.proofs.Common.{◌≡◌, ℕ, Bool, true, false, List, [], ◌∷◌, ◌++◌, pos, negsuc, refl}
 use Rattle.std.specs.Prelude.{codes, nat_eq}
 use Rattle.std.specs.Fmt.{digits}
@@ -11,7 +11,7 @@ use Rattle.redo_line.specs.Lines.{line_feed}
 use Rattle.redo_logs.specs.declared.log_state.LogState.TheVariants.{Ended}
 use Rattle.redo_logs.specs.Logs.{Log}
 use Rattle.redo_options.specs.declared.options.Options.{Options}
-use Rattle.redo_view.specs.Expansion.{is_among, opened_within, opened_log, expanded, expansion}
+use Rattle.redo_view.specs.Expansion.{is_among, show_log_within, show_log, expand, expansion}
 use Rattle.redo_view.specs.Text.{entry_text}
 
 abbrev line : List ℕ → List ℕ
@@ -42,11 +42,11 @@ deep = with true false true false
 record Row : Type 0 where
   logs : List Log
   options : Options
-  asked : List (List ℕ)
+  requested : List (List ℕ)
   text : List ℕ
 
 abbrev shows : List Log → Options → List (List ℕ) → List ℕ → Row
-shows logs options asked text = record { logs = logs; options = options; asked = asked; text = text }
+shows logs options requested text = record { logs = logs; options = options; requested = requested; text = text }
 
 abbrev all : List ℕ
 all = codes "all"
@@ -69,11 +69,11 @@ rows =
     shows (log all (Mention 7 Made a ∷ Mention 7 Waiting x ∷ Text (codes "end") ∷ []) ∷ log a (Mention 7 Made x ∷ []) ∷ log x (Text (codes "X") ∷ []) ∷ []) (with true false true true) (all ∷ []) (
     line (codes "redo  all") ++ line (codes "redo    a") ++ line (codes "redo      x") ++ line (codes "X") ++ line (codes "redo    x (WAITING)") ++ line (codes "end")
     ) ∷
-    -- a mention names, and an asking opens
+    -- without `recursive`, a mention only names its target; a request opens its log
     shows (log a (Mention 7 Made b ∷ []) ∷ log b (Text (codes "B") ∷ []) ∷ []) plain (a ∷ b ∷ a ∷ []) (line (codes "redo  a") ++ line (codes "redo    b") ++ line (codes "redo  b") ++ line (codes "B")) ∷
     shows (log a (Mention 7 Unchanged b ∷ Note 7 (codes "check") b ∷ Text (codes "t") ∷ []) ∷ log b (Text (codes "B") ∷ []) ∷ []) (with true false false false) (a ∷ []) (line (codes "redo  a") ++ line (codes "redo    (b)")) ∷
     shows (log a (Mention 7 Unchanged b ∷ Note 7 (codes "check") b ∷ Text (codes "t") ∷ []) ∷ log b (Text (codes "B") ∷ []) ∷ []) (with true true false false) (a ∷ []) (line (codes "redo  a") ++ line (codes "redo    b") ++ line (codes "redo    (b)")) ∷
-    -- `unchanged` opens too, and has a line of its own
+    -- `unchanged` records open logs too if they count as mentions, and have a suffix with `debug_locks`
     shows (log a (Mention 7 Unchanged b ∷ []) ∷ log b (Text (codes "B") ∷ []) ∷ []) (with true true true false) (a ∷ []) (line (codes "redo  a") ++ line (codes "redo    b") ++ line (codes "B")) ∷
     shows (log a (Mention 7 Unchanged b ∷ []) ∷ []) (with false true true true) (a ∷ []) (line (codes "redo  a") ++ line (codes "redo    b (unchanged)")) ∷
     shows (log a (Mention 7 Unchanged b ∷ []) ∷ []) (with false false true true) (a ∷ []) (line (codes "redo  a")) ∷
@@ -96,7 +96,7 @@ rows =
     line (codes "redo  all") ++ line (codes "redo    c (exit -11)") ++ line (codes "redo    d (exit 7)")
     ) ∷
     shows (log a (Done 7 (pos 0) b ∷ Closing 7 (pos 3) ∷ []) ∷ []) plain (a ∷ []) (line (codes "redo  a")) ∷
-    -- each redo line with the pid of its own record, on the left of six places, and no other line with one
+    -- each redo line begins with the pid of its record, padded to six bytes, and other lines have no pid
     shows (log all (Mention 7 Made a ∷ Note 4294967295 (codes "check") a ∷ Note 12 (codes "warning") (codes "w") ∷ Text (codes "t") ∷ []) ∷ []) (with_pids plain) (all ∷ []) (
     line (codes "-      redo  all") ++ line (codes "7      redo    a") ++ line (codes "4294967295 redo    (a)") ++ line (codes "redo: w") ++ line (codes "t")
     ) ∷
@@ -116,36 +116,36 @@ rows =
     ) ∷
     []
 
-these_texts : AllByRecursion (λ row. expansion row.logs row.options row.asked ≡ row.text) rows
-unfolding opened_within opened_log digits
+these_texts : AllByRecursion (λ row. expansion row.logs row.options row.requested ≡ row.text) rows
+unfolding show_log_within show_log digits
 these_texts = (refl, (refl, (refl, (refl, (refl, (refl, (refl, (refl, (refl, (refl, (refl, (refl, (refl, (refl, (refl, (refl, (refl, (refl, (refl, (refl, tt))))))))))))))))))))
 
--- a name is one of others if it is the same as one of them, with each byte
+-- A name is among others if all its bytes equal the bytes of one of them.
 among : (is_among a (b ∷ a ∷ []) ≡ true) × (is_among a (b ∷ x ∷ []) ≡ false) × (is_among a [] ≡ false) × (is_among a (all ∷ []) ≡ false)
 among = (refl, refl, refl, refl)
 
--- what was named and opened in the end, each in the order in which it was
+-- Which targets are named and which logs are opened in the end, each in order.
 abbrev in_a_circle : List Log
 in_a_circle = log a (Mention 7 Made b ∷ Mention 7 Made x ∷ []) ∷ log b (Mention 7 Made a ∷ []) ∷ []
 
-named_in_order : ((expanded in_a_circle deep (a ∷ [])).named ≡ a ∷ b ∷ x ∷ []) × ((expanded in_a_circle plain (b ∷ [])).named ≡ b ∷ a ∷ [])
-unfolding opened_within opened_log
+named_in_order : ((expand in_a_circle deep (a ∷ [])).named ≡ a ∷ b ∷ x ∷ []) × ((expand in_a_circle plain (b ∷ [])).named ≡ b ∷ a ∷ [])
+unfolding show_log_within show_log
 named_in_order = (refl, refl)
 
-opened_in_order : ((expanded in_a_circle deep (b ∷ a ∷ [])).opened ≡ b ∷ a ∷ []) × ((expanded in_a_circle plain (a ∷ b ∷ a ∷ [])).opened ≡ a ∷ b ∷ [])
-unfolding opened_within opened_log
+opened_in_order : ((expand in_a_circle deep (b ∷ a ∷ [])).opened ≡ b ∷ a ∷ []) × ((expand in_a_circle plain (a ∷ b ∷ a ∷ [])).opened ≡ a ∷ b ∷ [])
+unfolding show_log_within show_log
 opened_in_order = (refl, refl)
 
--- none of them twice
-opened_once : IsDistinct (pointwise nat_eq) (expanded in_a_circle deep (a ∷ b ∷ a ∷ [])).opened
-unfolding IsDistinct opened_within opened_log
+-- No log is opened twice.
+opened_once : IsDistinct (pointwise nat_eq) (expand in_a_circle deep (a ∷ b ∷ a ∷ [])).opened
+unfolding IsDistinct show_log_within show_log
 opened_once = ((refl, tt), (tt, tt))
 
--- an entry that mentions a target has no text of its own
+-- `entry_text` has no text for a mention.
 no_text : entry_text plain 1 (Mention 7 Made a) ≡ []
 no_text = refl
 
--- of two logs of one target, which no table has, the first one is shown
+-- If two logs have the same target, which no table has, the first one is shown.
 the_first_of_two : expansion (log a (Text b ∷ []) ∷ log a (Text x ∷ []) ∷ []) plain (a ∷ []) ≡ line (codes "redo  a") ++ line b
-unfolding opened_within opened_log
+unfolding show_log_within show_log
 the_first_of_two = refl

@@ -1,6 +1,8 @@
--- The expansion of logs at the targets asked for: these targets are gone over in order, each log of theirs is opened, and its
--- entries are gone over in order. Where an entry mentions a target, the log of that target is opened in its midst, one level
--- deeper, unless it was opened before. Each step takes what was shown before it and gives what is shown after it.
+-- The expansion: the text of the requested targets' logs, with the logs that they mention nested in them.
+--
+-- The requested targets are shown in order, each with its log. Showing a log shows its entries in order. When an entry
+-- mentions a target whose log has not been shown yet, that log is shown at this point, one level deeper. Each function takes
+-- the state before and returns the state after.
 use Rattle.std.specs.Prelude.{ℕ, zero, suc, ◌+◌, Bool, true, not, ◌&&◌, List, [], ◌∷◌, ◌++◌, None, Some, length, nat_eq, if◌then◌else◌}
 use Rattle.std.specs.List.{list_any}
 use Rattle.std.specs.Cmp.Lexicographic.{pointwise}
@@ -10,113 +12,115 @@ use Rattle.redo_line.specs.declared.entry.How.{How}
 use Rattle.redo_line.specs.declared.entry.How.TheVariants.{Unchanged}
 use Rattle.redo_logs.specs.Logs.{Log, targets_of}
 use Rattle.redo_options.specs.declared.options.Options.{Options}
-use Rattle.redo_view.specs.Text.{redo_line, remark, entry_text}
+use Rattle.redo_view.specs.Text.{redo_line, mention_suffix, entry_text}
 
--- what was shown so far: the targets that were named, those whose logs were opened, in the order in which they were,
--- and the text
-pub record Shown : Type 0 where
+-- The state: the targets named and the targets whose logs were opened, both in order of occurrence, and the text so far.
+pub record ViewState : Type 0 where
   pub named : List (List ℕ)
   pub opened : List (List ℕ)
   pub text : List ℕ
 
+-- Whether `name` is in `names`.
 abbrev pub is_among : List ℕ → List (List ℕ) → Bool
 is_among name names = list_any (pointwise nat_eq name) names
 
--- a name behind the others, if it isn't among them
-abbrev pub with_name : List ℕ → List (List ℕ) → List (List ℕ)
-with_name name names = if is_among name names then names else names ++ name ∷ []
+-- Appends `name` to `names` unless it is there already.
+abbrev pub insert_name : List ℕ → List (List ℕ) → List (List ℕ)
+insert_name name names = if is_among name names then names else names ++ name ∷ []
 
-abbrev pub with_text : List ℕ → Shown → Shown
-with_text text shown = record { named = shown.named; opened = shown.opened; text = shown.text ++ text }
+-- Appends `text` to the text.
+abbrev pub append_text : List ℕ → ViewState → ViewState
+append_text text state = record { named = state.named; opened = state.opened; text = state.text ++ text }
 
--- ---- a mention, without the log that it opens
+-- ---- mentions
 
--- a record that mentions a target
-abbrev pub mentions : Options → How → Bool
-mentions options Unchanged = options.unchanged
-mentions options how = true
+-- Whether a record of this kind counts as a mention. `unchanged` does so only with `options.unchanged`.
+abbrev pub is_mention : Options → How → Bool
+is_mention options Unchanged = options.unchanged
+is_mention options how = true
 
--- the line of a mention: its own, or that of the target, once
+-- The redo line of a mention. With `debug_locks` every mention has one, with its suffix; otherwise only if the target is not
+-- named yet.
 abbrev pub mention_text : Options → ℕ → ℕ → How → List ℕ → List (List ℕ) → List ℕ
 mention_text options depth pid how name named =
-    if options.debug_locks then redo_line options depth (Some pid) (name ++ remark how)
+    if options.debug_locks then redo_line options depth (Some pid) (name ++ mention_suffix how)
     else if is_among name named then [] else redo_line options depth (Some pid) name
 
--- the mention's line is shown, and its target is named
-abbrev pub mention : Options → ℕ → ℕ → How → List ℕ → Shown → Shown
-mention options depth pid how name shown = record {
-  named = with_name name shown.named;
-  opened = shown.opened;
-  text = shown.text ++ mention_text options depth pid how name shown.named;
+-- Writes the mention's line and marks its target as named. Does not open the target's log.
+abbrev pub show_mention_line : Options → ℕ → ℕ → How → List ℕ → ViewState → ViewState
+show_mention_line options depth pid how name state = record {
+  named = insert_name name state.named;
+  opened = state.opened;
+  text = state.text ++ mention_text options depth pid how name state.named;
 }
 
--- ---- a log
+-- ---- logs
 
--- the entries of a target's log
-abbrev pub log_of : List ℕ → List Log → List Entry
-log_of target [] = []
-log_of target (log ∷ logs) = if pointwise nat_eq target log.target then log.entries else log_of target logs
+-- The entries of `target`'s log; none if it has no log.
+abbrev pub entries_of_target : List ℕ → List Log → List Entry
+entries_of_target target [] = []
+entries_of_target target (log ∷ logs) = if pointwise nat_eq target log.target then log.entries else entries_of_target target logs
 
--- the log of a target is begun: the target is named and opened
-abbrev pub begun : List ℕ → Shown → Shown
-begun target shown = record { named = with_name target shown.named; opened = shown.opened ++ target ∷ []; text = shown.text }
+-- Marks `target` as named and its log as opened.
+abbrev pub begin_log : List ℕ → ViewState → ViewState
+begin_log target state = record { named = insert_name target state.named; opened = state.opened ++ target ∷ []; text = state.text }
 
--- How logs are opened: of which target, how deep, what was shown before, and what is shown once the whole log was.
-abbrev pub Opening : Type 0
-Opening = List ℕ → ℕ → Shown → Shown
+-- A function that shows the log of a target: from the target, the depth and the state before, it computes the state after.
+abbrev pub ShowLog : Type 0
+ShowLog = List ℕ → ℕ → ViewState → ViewState
 
 module _ (logs : List Log) (options : Options) where
-  -- whether the log of a mentioned target is opened: it is there, and wasn't opened before
-  abbrev pub opens : List ℕ → Shown → Bool
-  opens name shown = options.recursive && is_among name (targets_of logs) && not (is_among name shown.opened)
+  -- Whether a mention of `name` opens its log: with `recursive`, if the target has a log that was not opened before.
+  abbrev pub should_open : List ℕ → ViewState → Bool
+  should_open name state = options.recursive && is_among name (targets_of logs) && not (is_among name state.opened)
 
-  -- What follows says what entries do, once it is known how the logs are opened that they mention: by `open_mentioned`.
+  -- The next three functions are parameterized by `show_nested`, which shows the log of a mentioned target.
 
-  -- behind a mention: its line is shown and its target named, and then the target's log is opened, one level deeper
-  abbrev pub after_mention : Opening → ℕ → ℕ → How → List ℕ → Shown → Shown
-  after_mention open_mentioned depth pid how name shown =
-      let mentioned = mention options depth pid how name shown in
-      if opens name mentioned then open_mentioned name (depth + 1) mentioned else mentioned
+  -- Shows a mention: its line, then its target's log one level deeper, if the mention opens it.
+  abbrev pub show_mention : ShowLog → ℕ → ℕ → How → List ℕ → ViewState → ViewState
+  show_mention show_nested depth pid how name state =
+      let mentioned = show_mention_line options depth pid how name state in
+      if should_open name mentioned then show_nested name (depth + 1) mentioned else mentioned
 
-  -- behind one entry
-  abbrev pub after_entry : Opening → ℕ → Entry → Shown → Shown
-  after_entry open_mentioned depth (Mention pid how name) shown =
-      if mentions options how then after_mention open_mentioned depth pid how name shown else shown
-  after_entry open_mentioned depth entry shown = with_text (entry_text options depth entry) shown
+  -- Shows one entry.
+  abbrev pub show_entry : ShowLog → ℕ → Entry → ViewState → ViewState
+  show_entry show_nested depth (Mention pid how name) state =
+      if is_mention options how then show_mention show_nested depth pid how name state else state
+  show_entry show_nested depth entry state = append_text (entry_text options depth entry) state
 
-  -- behind entries, in order
-  abbrev pub after_entries : Opening → ℕ → List Entry → Shown → Shown
-  after_entries open_mentioned depth [] shown = shown
-  after_entries open_mentioned depth (entry ∷ entries) shown =
-      after_entries open_mentioned depth entries (after_entry open_mentioned depth entry shown)
+  -- Shows entries in order.
+  abbrev pub show_entries : ShowLog → ℕ → List Entry → ViewState → ViewState
+  show_entries show_nested depth [] state = state
+  show_entries show_nested depth (entry ∷ entries) state =
+      show_entries show_nested depth entries (show_entry show_nested depth entry state)
 
-  -- The log of a target: it is begun, and its entries are gone over, where the logs that they mention are opened in the same
-  -- way. So that this ends, only so many levels of logs are opened one inside the other, and nothing is shown below them.
-  unfoldable pub opened_within : ℕ → Opening
-  opened_within zero target depth shown = shown
-  opened_within (suc levels) target depth shown = after_entries (opened_within levels) depth (log_of target logs) (begun target shown)
+  -- Shows the log of a target, nesting at most `levels` logs; below them nothing is shown. The bound makes the recursion
+  -- terminate.
+  unfoldable pub show_log_within : ℕ → ShowLog
+  show_log_within zero target depth state = state
+  show_log_within (suc levels) target depth state = show_entries (show_log_within levels) depth (entries_of_target target logs) (begin_log target state)
 
-  -- No log is opened twice, so one level more than there are logs is never used up: the law `opening_a_log` has the sentence
-  -- above without a word on levels, and says that it holds of nothing else.
-  unfoldable pub opened_log : Opening
-  opened_log target depth shown = opened_within (length logs + 1) target depth shown
+  -- Shows the log of a target. No log is opened twice, so `length logs + 1` levels always suffice. The law `show_log_equation`
+  -- states this function's equation without levels, and that no other function satisfies it.
+  unfoldable pub show_log : ShowLog
+  show_log target depth state = show_log_within (length logs + 1) target depth state
 
-  -- ---- the targets asked for
+  -- ---- requested targets
 
-  -- behind a target that is asked for: nothing is shown if its log was opened before, and else its line, at depth 0, and its log
-  abbrev pub after_one : List ℕ → Shown → Shown
-  after_one target shown =
-      if is_among target shown.opened then shown else opened_log target 1 (with_text (redo_line options 0 None target) shown)
+  -- Shows one requested target: its line at depth 0 and its log, or nothing if its log was opened before.
+  abbrev pub show_target : List ℕ → ViewState → ViewState
+  show_target target state =
+      if is_among target state.opened then state else show_log target 1 (append_text (redo_line options 0 None target) state)
 
-  -- behind targets that are asked for, in order
-  abbrev pub after_asked : List (List ℕ) → Shown → Shown
-  after_asked [] shown = shown
-  after_asked (target ∷ targets) shown = after_asked targets (after_one target shown)
+  -- Shows the requested targets in order.
+  abbrev pub show_targets : List (List ℕ) → ViewState → ViewState
+  show_targets [] state = state
+  show_targets (target ∷ targets) state = show_targets targets (show_target target state)
 
-  -- all that is shown of the targets asked for
-  abbrev pub expanded : List (List ℕ) → Shown
-  expanded asked = after_asked asked (record { named = []; opened = []; text = [] })
+  -- The state after all requested targets.
+  abbrev pub expand : List (List ℕ) → ViewState
+  expand requested = show_targets requested (record { named = []; opened = []; text = [] })
 
-  -- the text of the logs at the targets asked for
+  -- The expansion: the text of the logs at the requested targets.
   abbrev pub expansion : List (List ℕ) → List ℕ
-  expansion asked = (expanded asked).text
+  expansion requested = (expand requested).text

@@ -1,7 +1,7 @@
 pub mod Expansion
 pub mod Laws
 pub mod Private
-pub mod Reached
+pub mod Reachable
 pub mod Text
 pub mod View
 pub mod Written

@@ -1,24 +1,24 @@
-//! The texts of entries, written part by part.
+//! Writes the texts of entries, part by part.
 ghost use Rattle.std.specs.Prelude.{◌≡◌, ◌<◌, ◌^◌, ◌++◌, [], Some, codes, decimal, if◌then◌else◌};
 ghost use Rattle.redo_line.specs.Lines.{with_line_feed};
 ghost use Rattle.redo_device.specs.Sink.{Writes};
-ghost use Rattle.redo_logs.specs.EntryRef.{entry_seen};
-ghost use Rattle.redo_view.specs.Private.Step.{StandsAlone};
-ghost use Rattle.redo_view.specs.Text.{spaces, in_six_places, pid_column, indent, redo_line, remark, exit_text, note_text, entry_text};
-ghost use Rattle.redo_view.specs.Private.Remarks.{exit_remark, check_text};
+ghost use Rattle.redo_logs.specs.EntryRef.{entry_value};
+ghost use Rattle.redo_view.specs.Private.EntryEffect.{IsDoneOrNote};
+ghost use Rattle.redo_view.specs.Text.{spaces, pad_to_six, pid_column, indent, redo_line, mention_suffix, exit_text, note_text, entry_text};
+ghost use Rattle.redo_view.specs.Private.EntryParts.{exit_suffix, check_text};
 
 use itoa::Buffer;
 use redo_line::{Broken, How, Sink, TargetName, push_all};
 use redo_logs::EntryRef;
 use redo_options::Options;
 
-// What redo lines begin with, up to a depth of 31.
+// The beginning of a redo line, up to a depth of 31.
 const INDENT: &[u8] = b"redo                                                                ";
 
-// As many spaces are written at once.
+// Spaces are written in parts of at most this length.
 const SPACES: &[u8] = &[b' '; 4096];
 
-/// Writes the text of an entry that is neither a text nor a mention.
+/// Writes the text of an entry that is neither a text line nor a mention.
 pub fn write_entry<W: Sink>(
     options: &Options,
     depth: usize,
@@ -26,8 +26,8 @@ pub fn write_entry<W: Sink>(
     out: &mut W,
 ) -> Result<(), Broken>
     requires depth { depth < 2 ^ 60 }
-    requires alone { StandsAlone (entry_seen entry) }
-    ensures { Writes (W.tells out.old) (W.tells out.new) (entry_text options.now depth (entry_seen entry.entry)) result }
+    requires done_or_note { IsDoneOrNote (entry_value entry) }
+    ensures { Writes (W.written out.old) (W.written out.new) (entry_text options.now depth (entry_value entry.entry)) result }
 {
     match entry {
         EntryRef::Done { pid, status, name } => write_exit(options, depth, pid, status, name, out),
@@ -37,9 +37,9 @@ pub fn write_entry<W: Sink>(
     }
 }
 
-/// Writes lines that are no records, each with its line feed.
+/// Writes text lines, each with its line feed, if details are shown.
 pub fn write_lines<W: Sink>(options: &Options, lines: &[u8], out: &mut W) -> Result<(), Broken>
-    ensures { Writes (W.tells out.old) (W.tells out.new) (if options.now.details then lines.now else []) result }
+    ensures { Writes (W.written out.old) (W.written out.new) (if options.now.details then lines.now else []) result }
 {
     if options.details {
         push_all(out, lines)
@@ -48,7 +48,7 @@ pub fn write_lines<W: Sink>(options: &Options, lines: &[u8], out: &mut W) -> Res
     }
 }
 
-/// Writes a mention's own line.
+/// Writes a mention's line as `debug_locks` shows it: the name and its suffix.
 pub fn write_mention<W: Sink>(
     options: &Options,
     depth: usize,
@@ -58,13 +58,14 @@ pub fn write_mention<W: Sink>(
     out: &mut W,
 ) -> Result<(), Broken>
     requires { depth < 2 ^ 60 }
-    ensures { Writes (W.tells out.old) (W.tells out.new) (redo_line options.now depth (Some pid) (name.now ++ remark how)) result }
+    ensures { Writes (W.written out.old) (W.written out.new) (redo_line options.now depth (Some pid) (name.now ++ mention_suffix how))
+        result }
 {
-    begin_line(options, depth, pid, name.bytes(), out)?;
-    push_all(out, ended_remark(how))
+    begin_redo_line(options, depth, pid, name.bytes(), out)?;
+    push_all(out, ended_mention_suffix(how))
 }
 
-/// Writes the line of a target: of a record with this pid, or of one that is asked for.
+/// Writes the redo line of a target: for a record with this pid, or without a pid for a requested target.
 pub fn write_target<W: Sink>(
     options: &Options,
     depth: usize,
@@ -73,15 +74,15 @@ pub fn write_target<W: Sink>(
     out: &mut W,
 ) -> Result<(), Broken>
     requires { depth < 2 ^ 60 }
-    ensures { Writes (W.tells out.old) (W.tells out.new) (redo_line options.now depth pid name.now) result }
+    ensures { Writes (W.written out.old) (W.written out.new) (redo_line options.now depth pid name.now) result }
 {
-    write_begin(options, depth, pid, out)?;
+    write_redo_prefix(options, depth, pid, out)?;
     end_line(name.bytes(), out)
 }
 
-// What stands behind the name in a mention's line, up to its end.
-fn ended_remark(how: How) -> &'static [u8]
-    ensures { result.now ≡ with_line_feed (remark how) }
+// Returns what follows the name in a mention's redo line, including the line feed.
+fn ended_mention_suffix(how: How) -> &'static [u8]
+    ensures { result.now ≡ with_line_feed (mention_suffix how) }
 {
     match how {
         How::Made => b"\n",
@@ -101,18 +102,18 @@ fn write_exit<W: Sink>(
     out: &mut W,
 ) -> Result<(), Broken>
     requires { depth < 2 ^ 60 }
-    ensures { Writes (W.tells out.old) (W.tells out.new) (exit_text options.now depth pid status name.now) result }
+    ensures { Writes (W.written out.old) (W.written out.new) (exit_text options.now depth pid status name.now) result }
 {
     if status == 0 {
         return Ok(());
     }
-    begin_line(options, depth, pid, name.bytes(), out)?;
-    end_exit(status, out)
+    begin_redo_line(options, depth, pid, name.bytes(), out)?;
+    write_exit_suffix(status, out)
 }
 
-// Writes the end of the line of a target that failed.
-fn end_exit<W: Sink>(status: i32, out: &mut W) -> Result<(), Broken>
-    ensures { Writes (W.tells out.old) (W.tells out.new) (with_line_feed (exit_remark status)) result }
+// Writes the end of a failed target's line.
+fn write_exit_suffix<W: Sink>(status: i32, out: &mut W) -> Result<(), Broken>
+    ensures { Writes (W.written out.old) (W.written out.new) (with_line_feed (exit_suffix status)) result }
 {
     let mut buffer = Buffer::new();
     push_all(out, b" (exit ")?;
@@ -129,7 +130,7 @@ fn write_note<W: Sink>(
     out: &mut W,
 ) -> Result<(), Broken>
     requires { depth < 2 ^ 60 }
-    ensures { Writes (W.tells out.old) (W.tells out.new) (note_text options.now depth pid kind.now text.now) result }
+    ensures { Writes (W.written out.old) (W.written out.new) (note_text options.now depth pid kind.now text.now) result }
 {
     if kind == b"check".as_slice() {
         write_check(options, depth, pid, text, out)
@@ -139,7 +140,7 @@ fn write_note<W: Sink>(
 }
 
 fn write_other_note<W: Sink>(text: &[u8], out: &mut W) -> Result<(), Broken>
-    ensures { Writes (W.tells out.old) (W.tells out.new) (codes "redo: " ++ with_line_feed text.now) result }
+    ensures { Writes (W.written out.old) (W.written out.new) (codes "redo: " ++ with_line_feed text.now) result }
 {
     push_all(out, b"redo: ")?;
     end_line(text, out)
@@ -153,15 +154,15 @@ fn write_check<W: Sink>(
     out: &mut W,
 ) -> Result<(), Broken>
     requires { depth < 2 ^ 60 }
-    ensures { Writes (W.tells out.old) (W.tells out.new) (check_text options.now depth pid text.now) result }
+    ensures { Writes (W.written out.old) (W.written out.new) (check_text options.now depth pid text.now) result }
 {
-    begin_line(options, depth, pid, b"(", out)?;
+    begin_redo_line(options, depth, pid, b"(", out)?;
     push_all(out, text)?;
     push_all(out, b")\n")
 }
 
-// Writes the beginning of a redo line of a record with this pid, and of its text.
-fn begin_line<W: Sink>(
+// Writes the beginning of a redo line for a record with this pid, and the beginning of its text.
+fn begin_redo_line<W: Sink>(
     options: &Options,
     depth: usize,
     pid: u32,
@@ -169,36 +170,36 @@ fn begin_line<W: Sink>(
     out: &mut W,
 ) -> Result<(), Broken>
     requires { depth < 2 ^ 60 }
-    ensures { Writes (W.tells out.old) (W.tells out.new) (pid_column options.now (Some pid) ++ indent depth ++ text.now) result }
+    ensures { Writes (W.written out.old) (W.written out.new) (pid_column options.now (Some pid) ++ indent depth ++ text.now) result }
 {
-    write_begin(options, depth, Some(pid), out)?;
+    write_redo_prefix(options, depth, Some(pid), out)?;
     push_all(out, text)
 }
 
-// Writes the end of a line.
+// Writes the rest of a line, and a line feed.
 fn end_line<W: Sink>(text: &[u8], out: &mut W) -> Result<(), Broken>
-    ensures { Writes (W.tells out.old) (W.tells out.new) (with_line_feed text.now) result }
+    ensures { Writes (W.written out.old) (W.written out.new) (with_line_feed text.now) result }
 {
     push_all(out, text)?;
     push_all(out, b"\n")
 }
 
-// Writes what a redo line has in front of its text.
-fn write_begin<W: Sink>(
+// Writes what precedes the text of a redo line.
+fn write_redo_prefix<W: Sink>(
     options: &Options,
     depth: usize,
     pid: Option<u32>,
     out: &mut W,
 ) -> Result<(), Broken>
     requires { depth < 2 ^ 60 }
-    ensures { Writes (W.tells out.old) (W.tells out.new) (pid_column options.now pid ++ indent depth) result }
+    ensures { Writes (W.written out.old) (W.written out.new) (pid_column options.now pid ++ indent depth) result }
 {
     write_pid(options, pid, out)?;
     write_indent(depth, out)
 }
 
 fn write_pid<W: Sink>(options: &Options, pid: Option<u32>, out: &mut W) -> Result<(), Broken>
-    ensures { Writes (W.tells out.old) (W.tells out.new) (pid_column options.now pid) result }
+    ensures { Writes (W.written out.old) (W.written out.new) (pid_column options.now pid) result }
 {
     if !options.debug_pids {
         return Ok(());
@@ -210,15 +211,15 @@ fn write_pid<W: Sink>(options: &Options, pid: Option<u32>, out: &mut W) -> Resul
 }
 
 fn write_number<W: Sink>(pid: u32, out: &mut W) -> Result<(), Broken>
-    ensures { Writes (W.tells out.old) (W.tells out.new) (in_six_places (decimal pid) ++ spaces 1) result }
+    ensures { Writes (W.written out.old) (W.written out.new) (pad_to_six (decimal pid) ++ spaces 1) result }
 {
     let mut buffer = Buffer::new();
     write_column(buffer.format(pid).as_bytes(), out)
 }
 
-// Writes a text on the left of six places, or of as many as it has, and a space behind them.
+// Writes a text, padded with spaces to six bytes if it is shorter, and then one space.
 fn write_column<W: Sink>(text: &[u8], out: &mut W) -> Result<(), Broken>
-    ensures { Writes (W.tells out.old) (W.tells out.new) (in_six_places text.now ++ spaces 1) result }
+    ensures { Writes (W.written out.old) (W.written out.new) (pad_to_six text.now ++ spaces 1) result }
 {
     push_all(out, text)?;
     write_spaces(7 - text.len().min(6), out)
@@ -226,7 +227,7 @@ fn write_column<W: Sink>(text: &[u8], out: &mut W) -> Result<(), Broken>
 
 fn write_indent<W: Sink>(depth: usize, out: &mut W) -> Result<(), Broken>
     requires { depth < 2 ^ 60 }
-    ensures { Writes (W.tells out.old) (W.tells out.new) (indent depth) result }
+    ensures { Writes (W.written out.old) (W.written out.new) (indent depth) result }
 {
     let count = 2 + 2 * depth;
     let some = count.min(64);
@@ -235,7 +236,7 @@ fn write_indent<W: Sink>(depth: usize, out: &mut W) -> Result<(), Broken>
 }
 
 fn write_spaces<W: Sink>(count: usize, out: &mut W) -> Result<(), Broken>
-    ensures { Writes (W.tells out.old) (W.tells out.new) (spaces count) result }
+    ensures { Writes (W.written out.old) (W.written out.new) (spaces count) result }
 {
     let mut left = count;
     while left > 0 {

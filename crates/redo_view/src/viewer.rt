@@ -3,28 +3,28 @@ ghost use Rattle.std.specs.List.{list_all};
 ghost use Rattle.redo_logs.specs.Logs.{has_ended, targets_of};
 ghost use Rattle.redo_view.specs.declared.viewer.ViewFault.TheVariants.{Unknown, Write, OutOfMemory};
 ghost use Rattle.redo_view.specs.Expansion.{is_among, expansion};
-ghost use Rattle.redo_view.specs.Private.Shown.{IsSeen, nothing};
-ghost use Rattle.redo_view.specs.Private.Step.{Fits};
-ghost use Rattle.redo_view.specs.Private.Viewing.{Keeps, ShowsAsked, Wrote};
-ghost use Rattle.redo_view.specs.View.{unknown_among};
-ghost use Rattle.redo_view.specs.Written.{WroteAll, WroteFront, WroteNothing, WroteUntilFailed};
+ghost use Rattle.redo_view.specs.Private.Progress.{MatchesFlags, initial_state};
+ghost use Rattle.redo_view.specs.Private.EntryEffect.{Fits};
+ghost use Rattle.redo_view.specs.Private.Viewing.{KeepsContext, ShowedTargetOrFailed, Wrote};
+ghost use Rattle.redo_view.specs.View.{find_unknown};
+ghost use Rattle.redo_view.specs.Written.{WroteAll, WrotePrefix, WroteNothing, WroteUntilFailed};
 
-use crate::step::Seen;
+use crate::entry::Visited;
 use crate::texts::write_target;
 use redo_line::{Broken, Sink, TargetName};
 use redo_logs::{LogTable, Numbered};
 use redo_options::Options;
 use std::alloc::{AllocError, AllocFailed, Global};
 
-/// Why logs aren't shown, or not their whole text.
+/// Why the text wasn't written, or not completely.
 #[derive(Clone, Copy, Debug, PartialEq, Eq)]
 pub enum ViewFault {
-    /// The target asked for at this place has no log; places are counted from 0, and it is the least
-    /// one. Nothing was written.
+    /// The requested target at this position has no log. Positions are counted from 0, and it is the lowest such
+    /// position. Nothing was written.
     Unknown { place: usize },
-    /// Writing failed. A front of the text was written, perhaps nothing.
+    /// A write failed. A prefix of the text was written, possibly nothing.
     Write,
-    /// There was no memory. A front of the text was written, perhaps nothing.
+    /// An allocation failed. A prefix of the text was written, possibly nothing.
     OutOfMemory,
 }
 
@@ -52,65 +52,67 @@ impl<T: Drop> From<AllocFailed<T>> for ViewFault {
     }
 }
 
-/// What shows logs: how they are shown, what was shown so far, and where the text goes.
+/// The state of showing logs: how they are shown, what was shown so far, and where the text goes.
 #[derive(Drop)]
 pub struct Viewer<'a, W> {
     pub alloc: Global,
     pub logs: &'a Numbered<'a>,
     pub options: Options,
-    pub seen: &'a mut Seen,
+    pub visited: &'a mut Visited,
     pub out: &'a mut W,
 }
 
-/// Writes the text of logs, all of which have to have ended, at the targets asked for: for each the
-/// line that names it, and its log, unless that was shown before. docs/viewing.md has the rules.
+/// Writes the text of a table's logs for the requested targets. All logs must have ended. For each target the text
+/// has its line and its log, unless the log was shown before. docs/viewing.md has the rules.
 ///
-/// Whether each target has a log is known before a byte is written, and before memory is asked for. A
-/// write that fails or takes no byte ends it, and nothing is written behind it. `out` isn't flushed.
-/// Logs that are shown one inside the other take memory, and no stack.
+/// Whether each target has a log is checked before a byte is written and before memory is allocated. A write that
+/// fails or takes no byte ends the call, and nothing is written after it. `out` isn't flushed. Nested logs take
+/// memory, but no stack.
 pub fn view<W: Sink>(
     alloc: Global,
     table: &LogTable,
     options: &Options,
-    asked: &[TargetName],
+    requested: &[TargetName],
     out: &mut W,
 ) -> Result<(), ViewFault>
     requires { list_all has_ended table.now ≡ true }
 
-    // The whole text was written, and no other byte.
-    ensures ok { OnOk result (WroteAll (W.tells out.old) (W.tells out.new) (expansion table.now options.now asked.now)) }
-    ensures known { OnOk result (unknown_among table.now asked.now ≡ None) }
+    // The whole text was written, and nothing else.
+    ensures ok { OnOk result (WroteAll (W.written out.old) (W.written out.new) (expansion table.now options.now requested.now)) }
+    ensures known { OnOk result (find_unknown table.now requested.now ≡ None) }
 
     // A target is unknown exactly if it has no log, and then nothing was written.
-    ensures unknown { (place : ℕ) → (result ≡ Err (Unknown place)) ↔ (unknown_among table.now asked.now ≡ Some place) }
-    ensures unwritten { (place : ℕ) → result ≡ Err (Unknown place) → WroteNothing (W.tells out.old) (W.tells out.new) }
+    ensures unknown { (place : ℕ) → (result ≡ Err (Unknown place)) ↔ (find_unknown table.now requested.now ≡ Some place) }
+    ensures nothing_written { (place : ℕ) → result ≡ Err (Unknown place) → WroteNothing (W.written out.old) (W.written out.new) }
 
-    // The writer failed, once, behind a front of the text.
-    ensures write { result ≡ Err Write → WroteUntilFailed (W.tells out.old) (W.tells out.new) (expansion table.now options.now asked.now) }
+    // The writer failed, once, after a prefix of the text.
+    ensures write { result ≡ Err Write →
+        WroteUntilFailed (W.written out.old) (W.written out.new) (expansion table.now options.now requested.now) }
 
-    // There was no memory: a front of the text was written, and the writer didn't fail.
-    ensures memory { result ≡ Err OutOfMemory → WroteFront (W.tells out.old) (W.tells out.new) (expansion table.now options.now asked.now) }
+    // An allocation failed: a prefix of the text was written, and the writer didn't fail.
+    ensures memory { result ≡ Err OutOfMemory →
+        WrotePrefix (W.written out.old) (W.written out.new) (expansion table.now options.now requested.now) }
 {
-    if let Some(place) = unknown_place(table, asked) {
+    if let Some(place) = find_unknown(table, requested) {
         return Err(ViewFault::Unknown { place });
     }
     let logs = table.numbered();
-    let mut seen = Seen::new(alloc, &logs)?;
+    let mut visited = Visited::new(alloc, &logs)?;
     let mut viewer = Viewer {
         alloc,
         logs: &logs,
         options: *options,
-        seen: &mut seen,
+        visited: &mut visited,
         out,
     };
-    viewer.show_asked(asked)
+    viewer.show_targets(requested)
 }
 
-// The least place of a target that has no log.
-fn unknown_place(table: &LogTable, asked: &[TargetName]) -> Option<usize>
-    ensures { result ≡ unknown_among table.now asked.now }
+// Returns the lowest position of a target that has no log.
+fn find_unknown(table: &LogTable, requested: &[TargetName]) -> Option<usize>
+    ensures { result ≡ find_unknown table.now requested.now }
 {
-    asked.iter().position(
+    requested.iter().position(
         |name: &TargetName| -> bool
             ensures { result ≡ not (is_among name.now (targets_of table.entry.now)) }
         { table.find(name).is_none() },
@@ -118,15 +120,15 @@ fn unknown_place(table: &LogTable, asked: &[TargetName]) -> Option<usize>
 }
 
 impl<W: Sink> Viewer<'_, W> {
-    // Shows the targets asked for, each of which has a log, before anything else.
-    fn show_asked(&mut self, asked: &[TargetName]) -> Result<(), ViewFault>
-        requires known { unknown_among self.old.logs.now.logs asked.now ≡ None }
-        requires fits { Fits self.old.logs.now self.old.seen.now }
-        requires first { IsSeen self.old.logs.now self.old.seen.now nothing }
-        ensures kept { Keeps self.old self.new }
-        ensures wrote { Wrote W.tells self.old self.new (expansion self.old.logs.now.logs self.old.options asked.now) result }
+    // Shows the requested targets, each of which must have a log. Nothing may have been shown before.
+    fn show_targets(&mut self, requested: &[TargetName]) -> Result<(), ViewFault>
+        requires known { find_unknown self.old.logs.now.logs requested.now ≡ None }
+        requires fits { Fits self.old.logs.now self.old.visited.now }
+        requires initial { MatchesFlags self.old.logs.now self.old.visited.now initial_state }
+        ensures context { KeepsContext self.old self.new }
+        ensures wrote { Wrote W.written self.old self.new (expansion self.old.logs.now.logs self.old.options requested.now) result }
     {
-        for name in asked {
+        for name in requested {
             self.show_target(name)?;
         }
         Ok(())
@@ -135,13 +137,13 @@ impl<W: Sink> Viewer<'_, W> {
     // Shows the line and the log of a target, unless its log was opened before.
     fn show_target(&mut self, name: &TargetName) -> Result<(), ViewFault>
         requires known { is_among name.now (targets_of self.old.logs.now.logs) ≡ true }
-        requires fits { Fits self.old.logs.now self.old.seen.now }
-        ensures { ShowsAsked W.tells name.now self.old self.new result }
+        requires fits { Fits self.old.logs.now self.old.visited.now }
+        ensures { ShowedTargetOrFailed W.written name.now self.old self.new result }
     {
         let Some(number) = self.logs.find(name) else {
             unreachable!()
         };
-        if self.seen.opened[number as usize] {
+        if self.visited.opened[number as usize] {
             return Ok(());
         }
         write_target(&self.options, 0, None, name, self.out)?;

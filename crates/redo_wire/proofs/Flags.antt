@@ -1,12 +1,12 @@
--- Flags, one for each number: which ends were met.
+-- Flags, one for each number: whether its end was met.
 use Rattle.std.proofs.Common.{◌≡◌, ◌⊎◌, inl, inr, ◌↔◌, ℕ, zero, suc, ◌<◌, Bool, true, false, List, [], ◌∷◌, Some, length, slice_get, slice_set, refl, sym, ◌∙◌, arith}
 use Rattle.std.specs.List.{list_all}
-use Rattle.redo_wire.specs.Mailbox.{IsAmong, Met}
+use Rattle.redo_wire.specs.Mailbox.{IsMet, Met}
 
 abbrev IsSet : List Bool → ℕ → Type 0
 IsSet flags number = slice_get flags number ≡ Some true
 
--- a flag more
+-- One more flag is set.
 set_more : (flags : List Bool) (at number : ℕ) → at < length flags → IsSet (slice_set flags at true) number ↔ ((at ≡ number) ⊎ IsSet flags number)
 set_more [] at number within = absurd (omega (arith, within))
 set_more (flag ∷ flags) zero zero within = (λ is. inl refl, λ either. refl)
@@ -36,14 +36,14 @@ set_more (flag ∷ flags) (suc at) (suc number) within =
       ],
     )
 
--- the flags tell which ends were met
+-- The flags say which ends were met.
 abbrev pub Tell : ℕ → List Bool → List Met → Type 0
-Tell senders flags met = (number : ℕ) → number < senders → IsSet flags number ↔ IsAmong number met
+Tell senders flags met = (number : ℕ) → number < senders → IsSet flags number ↔ IsMet number met
 
 pub none_set : (senders : ℕ) (flags : List Bool) → ((number : ℕ) → number < senders → slice_get flags number ≡ Some false) → Tell senders flags []
 none_set senders flags none number below = (λ is. same (sym (none number below) ∙ is), λ among. absurd among)
   where
-    same : Some false ≡ Some true → IsAmong number []
+    same : Some false ≡ Some true → IsMet number []
     same is = cc
 
 pub one_set : (senders : ℕ) (flags : List Bool) (met : List Met) (end : Met) → length flags ≡ senders → end.0 < senders → Tell senders flags met → Tell senders (slice_set flags end.0 true) (end ∷ met)
@@ -80,7 +80,7 @@ all_set (false ∷ flags) = (λ is. absurd (no is), λ all. same (all zero (omeg
     same is = cc
 
 pub all_are_met : (senders : ℕ) (flags : List Bool) (met : List Met) → length flags ≡ senders → Tell senders flags met
-    → list_all (λ flag. flag) flags ≡ true ↔ ((number : ℕ) → number < senders → IsAmong number met)
+    → list_all (λ flag. flag) flags ≡ true ↔ ((number : ℕ) → number < senders → IsMet number met)
 all_are_met senders flags met count tell =
     let all = all_set flags in (
       λ is number below. (tell number below).0 (all.0 is number (omega (arith, count, below))),

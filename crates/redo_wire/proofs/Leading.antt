@@ -1,10 +1,10 @@
--- Where the steps of the mailbox lead, and what they need.
+-- The states that the steps of the mailbox lead to, and what the steps require.
 use Rattle.std.proofs.Common.{◌≡◌, ℕ, ◌+◌, ◌<◌, List, [], ◌∷◌, ◌++◌, length, refl, sym, ap, subst, ◌∙◌, inl, inr, arith}
 use Rattle.std.proofs.lemmas.Bool.Decides.{eqb_tells}
 use Rattle.std.proofs.lemmas.List.{append-nil, length-append}
 use Rattle.redo_wire.specs.declared.item.Item.{Item}
-use Rattle.redo_wire.specs.Machine.{IsStep, IsThere, Meets, Posts, Splits, State, Takes, of}
-use Rattle.redo_wire.proofs.Steps.{of-other, of-own}
+use Rattle.redo_wire.specs.Machine.{IsStep, IsLive, Meets, Posts, AddsEnd, State, Takes, items_of}
+use Rattle.redo_wire.proofs.Steps.{items_of-other, items_of-own}
 
 module _ (capacity senders : ℕ) where
   pub can_split : (before : State) → before.made < senders → before.posted before.made ≡ [] → (after : State) × (after.made ≡ before.made + 1) × IsStep capacity senders before after
@@ -14,7 +14,7 @@ module _ (capacity senders : ℕ) where
     inl (record { unmade = unmade; none_posted = none; made = refl; met = refl; items = (refl, refl, λ sender. refl) }),
   )
 
-  pub can_post : (item : Item) (before : State) → item.sender < senders → IsThere item.sender before → length before.queued < capacity
+  pub can_post : (item : Item) (before : State) → item.sender < senders → IsLive item.sender before → length before.queued < capacity
       → (after : State) × (after.queued ≡ before.queued ++ item ∷ []) × (after.posted item.sender ≡ before.posted item.sender ++ item ∷ []) × IsStep capacity senders before after
   can_post item before below there room = (
     after,
@@ -27,16 +27,16 @@ module _ (capacity senders : ℕ) where
       after = record {
         taken = before.taken;
         queued = before.queued ++ item ∷ [];
-        posted = λ sender. before.posted sender ++ of sender (item ∷ []);
+        posted = λ sender. before.posted sender ++ items_of sender (item ∷ []);
         made = before.made;
         met = before.met;
       }
 
       posted : after.posted item.sender ≡ before.posted item.sender ++ item ∷ []
-      posted = ap (λ items. before.posted item.sender ++ items) (of-own item.sender item refl)
+      posted = ap (λ items. before.posted item.sender ++ items) (items_of-own item.sender item refl)
 
       others : (other : ℕ) → (other ≡ item.sender → ⊥) → after.posted other ≡ before.posted other
-      others other differ = ap (λ items. before.posted other ++ items) (of-other other item (λ is. differ (sym is))) ∙ append-nil (before.posted other)
+      others other differ = ap (λ items. before.posted other ++ items) (items_of-other other item (λ is. differ (sym is))) ∙ append-nil (before.posted other)
 
   pub can_take : (item : Item) (behind : List Item) (before : State) → before.queued ≡ item ∷ behind
       → (after : State) × (after.taken ≡ before.taken ++ item ∷ []) × (after.queued ≡ behind) × IsStep capacity senders before after
@@ -50,16 +50,16 @@ module _ (capacity senders : ℕ) where
   pub can_find_nothing : (before : State) → before.queued ≡ [] → IsStep capacity senders before before
   can_find_nothing before none = inr (inr (inr (inl (none, refl))))
 
-  pub can_meet : (sender : ℕ) (before : State) → IsThere sender before → (after : State) × (after.met ≡ sender ∷ before.met) × IsStep capacity senders before after
+  pub can_meet : (sender : ℕ) (before : State) → IsLive sender before → (after : State) × (after.met ≡ sender ∷ before.met) × IsStep capacity senders before after
   can_meet sender before there = (
     record { taken = before.taken; queued = before.queued; posted = before.posted; made = before.made; met = sender ∷ before.met },
     refl,
     inr (inr (inr (inr (sender, record { there = there; made = refl; met = refl; items = (refl, refl, λ sender. refl) })))),
   )
 
--- ---- one state behind a step
+-- ---- one state after a step
 
-pub one_split : (senders : ℕ) (before one other : State) → Splits senders before one → Splits senders before other → one ≡ other
+pub one_split : (senders : ℕ) (before one other : State) → AddsEnd senders before one → AddsEnd senders before other → one ≡ other
 one_split senders before one other first second = λ i. record {
   taken = (first.items.0 ∙ sym second.items.0) i;
   queued = (first.items.1 ∙ sym second.items.1) i;
@@ -110,9 +110,9 @@ one_meet sender before one other first second = λ i. record {
   met = (first.met ∙ sym second.met) i;
 }
 
--- ---- what steps need
+-- ---- what steps require
 
--- a list isn't one that is longer by an item
+-- A list differs from a list that has one more item.
 no_longer : {X : Type 0} (x : X) (xs : List X) → xs ≡ x ∷ xs → ⊥
 no_longer x xs is = omega (arith, ap length is)
 
@@ -124,9 +124,9 @@ module _ (capacity senders : ℕ) where
   nothing_queued state (inr (inr (inr (inl nothing)))) = nothing.0
   nothing_queued state (inr (inr (inr (inr meets)))) = absurd (no_longer meets.0 state.met meets.1.met)
 
-  pub posts_while_there : (sender : ℕ) (before after : State) → IsStep capacity senders before after → (IsThere sender before → ⊥) → after.posted sender ≡ before.posted sender
+  pub posts_while_there : (sender : ℕ) (before after : State) → IsStep capacity senders before after → (IsLive sender before → ⊥) → after.posted sender ≡ before.posted sender
   posts_while_there sender before after (inl splits) away = splits.items.2 sender
-  posts_while_there sender before after (inr (inl posts)) away = posts.4.others sender (λ same. away (subst (λ number. IsThere number before) (sym same) posts.3))
+  posts_while_there sender before after (inr (inl posts)) away = posts.4.others sender (λ same. away (subst (λ number. IsLive number before) (sym same) posts.3))
   posts_while_there sender before after (inr (inr (inl takes))) away = takes.1.posted sender
   posts_while_there sender before after (inr (inr (inr (inl nothing)))) away = ap (λ state. state.posted sender) nothing.1
   posts_while_there sender before after (inr (inr (inr (inr meets)))) away = meets.1.items.2 sender

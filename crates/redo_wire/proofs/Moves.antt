@@ -1,4 +1,4 @@
--- Each move of a pass keeps the rule.
+-- Each step of a pass keeps the rule.
 use Rattle.std.proofs.Common.{◌≡◌, ◌≢◌, ◌⊎◌, inl, inr, ℕ, zero, suc, ◌+◌, ◌<◌, ◌≤◌, nat_eq, cond, List, [], ◌∷◌, ◌++◌, map, Option, None, Some, length, refl, sym, ap, ◌∙◌, subst, arith, zero-le, le_refl}
 use Rattle.std.specs.List.{AllByRecursion}
 use Rattle.std.proofs.lemmas.Bool.{eq-eqb}
@@ -13,11 +13,11 @@ use Rattle.crossbeam_channel.specs.Fifo.{Pushes, Pops, Forks, Merges, Learns}
 use Rattle.redo_wire.specs.declared.item.Item.{Item}
 use Rattle.redo_wire.specs.declared.rule.View.{View}
 use Rattle.redo_wire.specs.declared.rule.View.TheVariants.{Idle, Starting, Posting, Taking}
-use Rattle.redo_wire.specs.Machine.{IsFront, IsReached, Posts, State, Takes, of}
-use Rattle.redo_wire.specs.Mailbox.{Met, left_of}
-use Rattle.redo_wire.specs.Private.Rule.{Fits, FitsPosting, FitsStarting, FitsTaking, IsMet, KnowsMet, KnowsOf, KnowsPost, KnowsStep, Rules, with_got, with_put}
+use Rattle.redo_wire.specs.Machine.{IsPrefix, IsReached, Posts, State, Takes, items_of}
+use Rattle.redo_wire.specs.Mailbox.{Met, pending_count}
+use Rattle.redo_wire.specs.Private.Rule.{Fits, FitsPosting, FitsStarting, FitsTaking, IsMetEnd, KnowsMet, KnowsOf, KnowsPost, KnowsStep, Invariant, with_got, with_put}
 use Rattle.redo_wire.proofs.Counting.{left_within}
-use Rattle.redo_wire.proofs.Steps.{lawful_reached, of-append, of-other, of-own, reached_first, reached_next}
+use Rattle.redo_wire.proofs.Steps.{lawful_reached, items_of-append, items_of-other, items_of-own, reached_first, reached_next}
 
 -- ---- lists of views
 
@@ -40,19 +40,19 @@ all_snoc F [] last all own (suc pass) view there = absurd (some-ne-none view (sy
 all_snoc F (first ∷ views) last all own zero view there = all zero view there
 all_snoc F (first ∷ views) last all own (suc pass) view there = all_snoc (λ at. F (suc at)) views last (λ at v is. all (suc at) v is) own pass view there
 
--- what holds of all, and what follows of each
+-- If `P` implies `Q` and holds of all, then `Q` holds of all.
 all_map : (P Q : Met → Type 0) → ((met : Met) → P met → Q met) → (list : List Met) → AllByRecursion P list → AllByRecursion Q list
 all_map P Q f [] all = tt
 all_map P Q f (met ∷ list) all = (f met all.0, all_map P Q f list all.1)
 
--- what holds of each number
+-- A property of the number of each met end holds of all numbers.
 numbers_all : (P : ℕ → Type 0) (list : List Met) → AllByRecursion (λ (m : Met). P m.0) list → AllByRecursion P (map (λ (m : Met). m.0) list)
 numbers_all P [] all = tt
 numbers_all P (met ∷ list) all = (all.0, numbers_all P list all.1)
 
 -- ---- seats
 
--- a seat more, or one less
+-- The seats, with the seat of one number replaced.
 abbrev seat_with : (ℕ → Option ℕ) → ℕ → Option ℕ → ℕ → Option ℕ
 seat_with seat number own other = cond (nat_eq other number) own (seat other)
 
@@ -65,19 +65,19 @@ seated_else seat number own other differ = elim (eqb_tells other number) [
   | inr apart ↦ ap (λ b. cond b own (seat other)) apart.0
 ]
 
--- who has a seat isn't who has none, and a seat is one pass's
+-- A number with a seat isn't a number without one, and a seat has one pass.
 not_free : (seat : ℕ → Option ℕ) (number other pass : ℕ) → seat number ≡ Some pass → seat other ≡ None → other ≢ number
 not_free seat number other pass taken free same = none-some pass (sym free ∙ ap seat same ∙ taken)
 
 one_pass : (seat : ℕ → Option ℕ) (number other pass another : ℕ) → seat number ≡ Some pass → seat other ≡ Some another → another ≢ pass → other ≢ number
 one_pass seat number other pass another mine theirs apart same = let both : Some another ≡ Some pass = sym theirs ∙ ap seat same ∙ mine in apart (cc)
 
--- ---- the beginning
+-- ---- a new mailbox
 
 abbrev empty : State
 empty = record { taken = []; queued = []; posted = λ number. []; made = 0; met = [] }
 
-pub begins : Rules [] (Starting ∷ [])
+pub begins : Invariant [] (Starting ∷ [])
 begins = record {
   capacity = 0;
   senders = 0;
@@ -91,7 +91,7 @@ begins = record {
       (record { reads = refl; nobody = λ number. refl; none_queued = refl });
 }
 
-pub sizes : (capacity senders pass : ℕ) → Forks Rules pass Starting (Taking capacity senders 0 [] []) Idle
+pub sizes : (capacity senders pass : ℕ) → Forks Invariant pass Starting (Taking capacity senders 0 [] []) Idle
 sizes capacity senders pass items views rules at =
     let mine : FitsStarting rules.capacity rules.senders rules.reader rules.seat rules.state pass = rules.fit pass Starting at in
     record {
@@ -119,10 +119,10 @@ sizes capacity senders pass items views rules at =
     stays mine other (Posting limit sized number put) differ fits = absurd (none-some other (sym (mine.nobody number) ∙ fits.seated))
     stays mine other (Taking limit sized made got met) differ fits = absurd (differ (fits.reads ∙ sym mine.reads))
 
--- ---- an end more
+-- ---- an end is split off
 
 pub ends : (capacity senders made pass : ℕ) (got : List Item) (met : List Met) → made < senders
-    → Forks Rules pass (Taking capacity senders made got met) (Taking capacity senders (made + 1) got met) (Posting capacity senders made [])
+    → Forks Invariant pass (Taking capacity senders made got met) (Taking capacity senders (made + 1) got met) (Posting capacity senders made [])
 ends capacity senders made pass got met below items views rules at =
     let mine : FitsTaking rules.capacity rules.senders rules.reader rules.seat rules.state pass capacity senders made got met = rules.fit pass (Taking capacity senders made got met) at in
     record {
@@ -154,7 +154,7 @@ ends capacity senders made pass got met below items views rules at =
               let made_is = mine.made_is in omega (arith, made_is),
               subst (AllByRecursion (λ (other : ℕ). other ≢ made)) mine.numbers_are
                   (numbers_all (λ other. other ≢ made) met
-                  (all_map (IsMet rules.capacity rules.senders rules.reader rules.seat rules.state made) (λ m. m.0 ≢ made) (λ m is same. let lower = is.0 in omega (arith, lower, same)) met mine.met_are)),
+                  (all_map (IsMetEnd rules.capacity rules.senders rules.reader rules.seat rules.state made) (λ m. m.0 ≢ made) (λ m is same. let lower = is.0 in omega (arith, lower, same)) met mine.met_are)),
             );
             put_is = sym (mine.unmade made (le_refl made)).1;
           });
@@ -191,7 +191,7 @@ ends capacity senders made pass got met below items views rules at =
           let free = mine.unmade number (omega (arith, from)) in
           (seated_else rules.seat made (Some (length left)) number (λ same. omega (arith, from, same)) ∙ free.0, free.1);
       met_are =
-          all_map (IsMet rules.capacity rules.senders rules.reader rules.seat rules.state made) (IsMet rules.capacity rules.senders rules.reader seat (split rules.state) (made + 1))
+          all_map (IsMetEnd rules.capacity rules.senders rules.reader rules.seat rules.state made) (IsMetEnd rules.capacity rules.senders rules.reader seat (split rules.state) (made + 1))
           (λ m is. (omega (arith, is.0), (let lower = is.0 in seated_else rules.seat made (Some (length left)) m.0 (λ same. omega (arith, lower, same))) ∙ is.1, is.2)) met mine.met_are;
       apart = mine.apart;
     }
@@ -210,10 +210,10 @@ ends capacity senders made pass got met below items views rules at =
     }
     stays mine other (Taking limit sized made' got' met') differ fits = absurd (differ (fits.reads ∙ sym mine.reads))
 
--- ---- an item more
+-- ---- an item is put
 
 pub puts : (room capacity senders number pass : ℕ) (put : List Item) (item : Item) → item.sender ≡ number → room ≡ capacity
-    → Pushes Rules room pass (Posting capacity senders number put) item
+    → Pushes Invariant room pass (Posting capacity senders number put) item
     (λ after. (after ≡ with_put item (Posting capacity senders number put)) × KnowsPost (Posting capacity senders number put) item after)
 puts room capacity senders number pass put item own fitting items views free rules at = (Posting capacity senders number (put ++ item ∷ []), now, (refl, step))
   where
@@ -224,17 +224,17 @@ puts room capacity senders number pass put item own fitting items views free rul
     after = record {
       taken = rules.state.taken;
       queued = rules.state.queued ++ item ∷ [];
-      posted = λ other. rules.state.posted other ++ of other (item ∷ []);
+      posted = λ other. rules.state.posted other ++ items_of other (item ∷ []);
       made = rules.state.made;
       met = rules.state.met;
     }
 
     of_mine : after.posted number ≡ rules.state.posted number ++ item ∷ []
-    of_mine = ap (λ items. rules.state.posted number ++ items) (of-own number item own)
+    of_mine = ap (λ items. rules.state.posted number ++ items) (items_of-own number item own)
 
     of_another : (other : ℕ) → other ≢ number → after.posted other ≡ rules.state.posted other
     of_another other differ =
-        ap (λ items. rules.state.posted other ++ items) (of-other other item (λ is. differ (sym is ∙ own))) ∙ append-nil (rules.state.posted other)
+        ap (λ items. rules.state.posted other ++ items) (items_of-other other item (λ is. differ (sym is ∙ own))) ∙ append-nil (rules.state.posted other)
 
     posts : Posts rules.capacity number item rules.state after
     posts = record {
@@ -287,12 +287,12 @@ puts room capacity senders number pass put item own fitting items views free rul
           let free = fits.unmade another from in
           (free.0, of_another another (not_free rules.seat number another pass mine.seated free.0) ∙ free.1);
       met_are =
-          all_map (IsMet rules.capacity rules.senders rules.reader rules.seat rules.state made) (IsMet rules.capacity rules.senders rules.reader rules.seat after made)
+          all_map (IsMetEnd rules.capacity rules.senders rules.reader rules.seat rules.state made) (IsMetEnd rules.capacity rules.senders rules.reader rules.seat after made)
           (λ m is. (is.0, is.1, is.2 ∙ sym (of_another m.0 (not_free rules.seat number m.0 pass mine.seated is.1)))) met fits.met_are;
       apart = fits.apart;
     }
 
-    now : Rules (items ++ item ∷ []) (set views pass (Posting capacity senders number (put ++ item ∷ [])))
+    now : Invariant (items ++ item ∷ []) (set views pass (Posting capacity senders number (put ++ item ∷ [])))
     now = record {
       capacity = rules.capacity;
       senders = rules.senders;
@@ -311,24 +311,24 @@ puts room capacity senders number pass put item own fitting items views free rul
 
 -- ---- the front is taken
 
--- what was posted by an end that was met, of all that was taken or is queued
-posted_of : (capacity senders made pass : ℕ) (got : List Item) (met : List Met) (items : List Item) (views : List View) (rules : Rules items views)
-    → FitsTaking rules.capacity rules.senders rules.reader rules.seat rules.state pass capacity senders made got met → AllByRecursion (λ (m : Met). m.1 ≡ of m.0 (got ++ items)) met
+-- The items that a met end posted are its items among all that were taken or are queued.
+posted_of : (capacity senders made pass : ℕ) (got : List Item) (met : List Met) (items : List Item) (views : List View) (rules : Invariant items views)
+    → FitsTaking rules.capacity rules.senders rules.reader rules.seat rules.state pass capacity senders made got met → AllByRecursion (λ (m : Met). m.1 ≡ items_of m.0 (got ++ items)) met
 posted_of capacity senders made pass got met items views rules mine =
-    all_map (IsMet rules.capacity rules.senders rules.reader rules.seat rules.state made) (λ (m : Met). m.1 ≡ of m.0 (got ++ items))
-    (λ m is. is.2 ∙ (lawful_reached rules.capacity rules.senders rules.state rules.reached).all_of_each m.0 ∙ ap (of m.0) (λ i. sym mine.got_is i ++ rules.queued_is i)) met mine.met_are
+    all_map (IsMetEnd rules.capacity rules.senders rules.reader rules.seat rules.state made) (λ (m : Met). m.1 ≡ items_of m.0 (got ++ items))
+    (λ m is. is.2 ∙ (lawful_reached rules.capacity rules.senders rules.state rules.reached).all_of_each m.0 ∙ ap (items_of m.0) (λ i. sym mine.got_is i ++ rules.queued_is i)) met mine.met_are
 
--- what a pass that takes shows of the state
-module _ (capacity senders made pass : ℕ) (got : List Item) (met : List Met) (items : List Item) (views : List View) (rules : Rules items views)
+-- What the pass that takes shows of the state.
+module _ (capacity senders made pass : ℕ) (got : List Item) (met : List Met) (items : List Item) (views : List View) (rules : Invariant items views)
     (mine : FitsTaking rules.capacity rules.senders rules.reader rules.seat rules.state pass capacity senders made got met) where
   shown_reached : IsReached capacity senders rules.state
   shown_reached = subst (λ n. IsReached n senders rules.state) (sym mine.limit_is) (subst (λ n. IsReached rules.capacity n rules.state) (sym mine.ends_are) rules.reached)
 
   shown_posted : AllByRecursion (λ (m : Met). m.1 ≡ rules.state.posted m.0) met
-  shown_posted = all_map (IsMet rules.capacity rules.senders rules.reader rules.seat rules.state made) (λ (m : Met). m.1 ≡ rules.state.posted m.0) (λ m is. is.2) met mine.met_are
+  shown_posted = all_map (IsMetEnd rules.capacity rules.senders rules.reader rules.seat rules.state made) (λ (m : Met). m.1 ≡ rules.state.posted m.0) (λ m is. is.2) met mine.met_are
 
 pub gets : (capacity senders made pass : ℕ) (got : List Item) (met : List Met)
-    → Pops Rules pass (Taking capacity senders made got met) (λ item after. (after ≡ with_got item (Taking capacity senders made got met)) × KnowsMet after × KnowsStep (Taking capacity senders made got met) item after)
+    → Pops Invariant pass (Taking capacity senders made got met) (λ item after. (after ≡ with_got item (Taking capacity senders made got met)) × KnowsMet after × KnowsStep (Taking capacity senders made got met) item after)
 gets capacity senders made pass got met item items views rules at = (Taking capacity senders made (got ++ item ∷ []) met, now, (refl, (fronts, bound), step))
   where
     mine : FitsTaking rules.capacity rules.senders rules.reader rules.seat rules.state pass capacity senders made got met
@@ -358,7 +358,7 @@ gets capacity senders made pass got met item items views rules at = (Taking capa
         record { limit_is = fits.limit_is; ends_are = fits.ends_are; below = fits.below; seated = fits.seated; there = fits.there; put_is = fits.put_is }
     stays other (Taking limit sized made' got' met') differ fits = absurd (differ (fits.reads ∙ sym mine.reads))
 
-    now : Rules items (set views pass (Taking capacity senders made (got ++ item ∷ []) met))
+    now : Invariant items (set views pass (Taking capacity senders made (got ++ item ∷ []) met))
     now = record {
       capacity = rules.capacity;
       senders = rules.senders;
@@ -379,31 +379,31 @@ gets capacity senders made pass got met item items views rules at = (Taking capa
             got_is = got_is;
             unmade = mine.unmade;
             met_are =
-                all_map (IsMet rules.capacity rules.senders rules.reader rules.seat rules.state made) (IsMet rules.capacity rules.senders rules.reader rules.seat after made) (λ m is. is) met mine.met_are;
+                all_map (IsMetEnd rules.capacity rules.senders rules.reader rules.seat rules.state made) (IsMetEnd rules.capacity rules.senders rules.reader rules.seat after made) (λ m is. is) met mine.met_are;
             apart = mine.apart;
           })
           (λ other view differ there. stays other view differ (rules.fit other view there));
     }
 
-    posted_are : AllByRecursion (λ (m : Met). m.1 ≡ of m.0 (got ++ item ∷ items)) met
+    posted_are : AllByRecursion (λ (m : Met). m.1 ≡ items_of m.0 (got ++ item ∷ items)) met
     posted_are = posted_of capacity senders made pass got met (item ∷ items) views rules mine
 
-    fronts : AllByRecursion (λ (m : Met). IsFront (of m.0 (got ++ item ∷ [])) m.1) met
+    fronts : AllByRecursion (λ (m : Met). IsPrefix (items_of m.0 (got ++ item ∷ [])) m.1) met
     fronts =
-        all_map (λ (m : Met). m.1 ≡ of m.0 (got ++ item ∷ items)) (λ (m : Met). IsFront (of m.0 (got ++ item ∷ [])) m.1)
-        (λ m is. (of m.0 items, is ∙ ap (of m.0) (sym (append_assoc got (item ∷ []) items)) ∙ of-append m.0 (got ++ item ∷ []) items)) met posted_are
+        all_map (λ (m : Met). m.1 ≡ items_of m.0 (got ++ item ∷ items)) (λ (m : Met). IsPrefix (items_of m.0 (got ++ item ∷ [])) m.1)
+        (λ m is. (items_of m.0 items, is ∙ ap (items_of m.0) (sym (append_assoc got (item ∷ []) items)) ∙ items_of-append m.0 (got ++ item ∷ []) items)) met posted_are
 
-    bound : left_of (got ++ item ∷ []) met < capacity
+    bound : pending_count (got ++ item ∷ []) met < capacity
     bound =
         let fits = (lawful_reached rules.capacity rules.senders rules.state rules.reached).fits in let limit = mine.limit_is in
         let behind =
-        all_map (λ (m : Met). m.1 ≡ of m.0 (got ++ item ∷ items)) (λ (m : Met). m.1 ≡ of m.0 ((got ++ item ∷ []) ++ items))
-        (λ m is. is ∙ ap (of m.0) (sym (append_assoc got (item ∷ []) items))) met posted_are in
+        all_map (λ (m : Met). m.1 ≡ items_of m.0 (got ++ item ∷ items)) (λ (m : Met). m.1 ≡ items_of m.0 ((got ++ item ∷ []) ++ items))
+        (λ m is. is ∙ ap (items_of m.0) (sym (append_assoc got (item ∷ []) items))) met posted_are in
         omega (arith, left_within (got ++ item ∷ []) items met mine.apart behind, fits, limit, ap length rules.queued_is)
 
--- ---- what is learned
+-- ---- what a pass learns
 
-pub learns : (capacity senders made pass : ℕ) (got : List Item) (met : List Met) → Learns Rules pass (Taking capacity senders made got met) (KnowsOf (Taking capacity senders made got met))
+pub learns : (capacity senders made pass : ℕ) (got : List Item) (met : List Met) → Learns Invariant pass (Taking capacity senders made got met) (KnowsOf (Taking capacity senders made got met))
 learns capacity senders made pass got met items views rules at =
     let mine : FitsTaking rules.capacity rules.senders rules.reader rules.seat rules.state pass capacity senders made got met = rules.fit pass (Taking capacity senders made got met) at in (
       posted_of capacity senders made pass got met items views rules mine,
@@ -421,7 +421,7 @@ learns capacity senders made pass got met items views rules at =
 -- ---- an end is met
 
 pub meets : (capacity senders made pass limit sized number other : ℕ) (got : List Item) (met : List Met) (put : List Item)
-    → Merges Rules pass (Taking capacity senders made got met) other (Posting limit sized number put) (Taking capacity senders made got ((number, put) ∷ met)) Idle
+    → Merges Invariant pass (Taking capacity senders made got met) other (Posting limit sized number put) (Taking capacity senders made got ((number, put) ∷ met)) Idle
 meets capacity senders made pass limit sized number other got met put items views rules at two at_end = record {
   capacity = rules.capacity;
   senders = rules.senders;
@@ -472,8 +472,8 @@ meets capacity senders made pass limit sized number other got met put items view
         by (inl below) = below
         by (inr from) = absurd (none-some other (sym (mine.unmade number from).0 ∙ theirs.seated))
 
-    apart_from : (list : List Met) → AllByRecursion (IsMet rules.capacity rules.senders rules.reader rules.seat rules.state made) list → AllByRecursion (λ m. m.0 ≢ number) list
-    apart_from = all_map (IsMet rules.capacity rules.senders rules.reader rules.seat rules.state made) (λ m. m.0 ≢ number) (λ m is. not_free rules.seat number m.0 other theirs.seated is.1)
+    apart_from : (list : List Met) → AllByRecursion (IsMetEnd rules.capacity rules.senders rules.reader rules.seat rules.state made) list → AllByRecursion (λ m. m.0 ≢ number) list
+    apart_from = all_map (IsMetEnd rules.capacity rules.senders rules.reader rules.seat rules.state made) (λ m. m.0 ≢ number) (λ m is. not_free rules.seat number m.0 other theirs.seated is.1)
 
     taking : New pass (Taking capacity senders made got ((number, put) ∷ met))
     taking = record {
@@ -487,7 +487,7 @@ meets capacity senders made pass limit sized number other got met put items view
       unmade = λ another from. (free another (mine.unmade another from).0, (mine.unmade another from).1);
       met_are = (
         (made_before, seated_here rules.seat number None, theirs.put_is),
-        all_map (IsMet rules.capacity rules.senders rules.reader rules.seat rules.state made) (IsMet rules.capacity rules.senders rules.reader seat after made) (λ m is. (is.0, free m.0 is.1, is.2)) met mine.met_are,
+        all_map (IsMetEnd rules.capacity rules.senders rules.reader rules.seat rules.state made) (IsMetEnd rules.capacity rules.senders rules.reader seat after made) (λ m is. (is.0, free m.0 is.1, is.2)) met mine.met_are,
       );
       apart = (apart_from met mine.met_are, mine.apart);
     }

@@ -1,4 +1,4 @@
--- How a mailbox is made, an end after another.
+-- How a mailbox is opened, one post end after another.
 use Rattle.std.proofs.Common.{◌≡◌, ◌⊎◌, inl, inr, ℕ, zero, suc, ◌+◌, ◌<◌, Bool, false, List, [], ◌∷◌, ◌++◌, Some, length, replicate, slice_get, refl, sym, ap, subst, ◌∙◌, arith}
 use Rattle.std.proofs.lemmas.List.{length-append, length-replicate}
 use Rattle.std.proofs.lemmas.Option.{none-some}
@@ -14,21 +14,21 @@ use Rattle.crossbeam_channel.specs.Fifo.{Forks}
 use Rattle.redo_wire.specs.declared.item.Item.{Item}
 use Rattle.redo_wire.specs.declared.rule.View.{View}
 use Rattle.redo_wire.specs.declared.rule.View.TheVariants.{Idle, Posting, Starting, Taking}
-use Rattle.redo_wire.specs.Mailbox.{AreEndsOf, IsOpened, Poster}
+use Rattle.redo_wire.specs.Mailbox.{AreEndsOf, IsOpened, PostEndState}
 use Rattle.redo_wire.specs.Private.Ends.{IsCollector, IsPoster, capacity_in, collector_of, items_in, mailbox_of, met_in, poster_of, senders_in}
-use Rattle.redo_wire.specs.Private.Rule.{Rules, next_end, with_one_made}
+use Rattle.redo_wire.specs.Private.Rule.{Invariant, next_end, with_one_made}
 use Rattle.redo_wire.proofs.Flags.{Tell, none_set}
 use Rattle.redo_wire.proofs.Moves.{ends, sizes}
 
--- ---- moves of a pass whose view is known
+-- ---- steps of a pass whose view is known
 
-pub sizes_at : (capacity senders pass : ℕ) (view : View) → view ≡ Starting → Forks Rules pass view (Taking capacity senders 0 [] []) Idle
-sizes_at capacity senders pass view is = subst (λ v. Forks Rules pass v (Taking capacity senders 0 [] []) Idle) (sym is) (sizes capacity senders pass)
+pub sizes_at : (capacity senders pass : ℕ) (view : View) → view ≡ Starting → Forks Invariant pass view (Taking capacity senders 0 [] []) Idle
+sizes_at capacity senders pass view is = subst (λ v. Forks Invariant pass v (Taking capacity senders 0 [] []) Idle) (sym is) (sizes capacity senders pass)
 
-pub ends_at : (capacity senders made pass : ℕ) (view : View) → view ≡ Taking capacity senders made [] [] → made < senders → Forks Rules pass view (with_one_made view) (next_end view)
-ends_at capacity senders made pass view is below = subst (λ v. Forks Rules pass v (with_one_made v) (next_end v)) (sym is) (ends capacity senders made pass [] [] below)
+pub ends_at : (capacity senders made pass : ℕ) (view : View) → view ≡ Taking capacity senders made [] [] → made < senders → Forks Invariant pass view (with_one_made view) (next_end view)
+ends_at capacity senders made pass view is below = subst (λ v. Forks Invariant pass v (with_one_made v) (next_end v)) (sym is) (ends capacity senders made pass [] [] below)
 
--- ---- an element more
+-- ---- a list with one more element
 
 at_last : {X : Type 0} (xs : List X) (last there : X) (k : ℕ) → slice_get (xs ++ last ∷ []) k ≡ Some there → (slice_get xs k ≡ Some there) ⊎ ((k ≡ length xs) × (there ≡ last))
 at_last {X} [] last there zero is = inr (refl, same is)
@@ -53,15 +53,15 @@ none_true flags count number is below = ap (λ fs. slice_get fs number) is ∙ b
 -- ---- the ends
 
 module _ {Q M L A B : Type 0} where
-  -- so many ends were made so far
+  -- The first `made` post ends were made.
   pub record AreMade (sender : Sending (Rows (Badge (Key Item)) (Doing Item View) Q M (Key Item) L A) B)
-      (receiver : Receiving (Rows (Badge (Key Item)) (Doing Item View) Q M (Key Item) L A) B) (capacity senders made : ℕ) (pass : Pass Item View) (ends : List Poster) : Type 0 where
+      (receiver : Receiving (Rows (Badge (Key Item)) (Doing Item View) Q M (Key Item) L A) B) (capacity senders made : ℕ) (pass : Pass Item View) (ends : List PostEndState) : Type 0 where
     pub one : receives_on receiver ≡ sends_on sender
     pub room : ruled_capacity (sends_on sender) ≡ capacity
     pub seat : IsSeatAt (sends_on sender) pass
     pub view_is : view pass ≡ Taking capacity senders made [] []
     pub count : length ends ≡ made
-    pub each : (number : ℕ) (end : Poster) → slice_get ends number ≡ Some end → end ≡ record { mailbox = mailbox_of pass; number = number; posted = [] }
+    pub each : (number : ℕ) (end : PostEndState) → slice_get ends number ≡ Some end → end ≡ record { mailbox = mailbox_of pass; number = number; posted = [] }
 
   module _ (sender : Sending (Rows (Badge (Key Item)) (Doing Item View) Q M (Key Item) L A) B)
       (receiver : Receiving (Rows (Badge (Key Item)) (Doing Item View) Q M (Key Item) L A) B) (capacity senders made : ℕ) where
@@ -69,13 +69,13 @@ module _ {Q M L A B : Type 0} where
         → AreMade sender receiver capacity senders 0 pass []
     none_made pass one room seat is = record { one = one; room = room; seat = seat; view_is = is; count = refl; each = λ number end there. absurd (none-some end there) }
 
-    -- another pass of the channel, with these numbers in its view
+    -- Another pass of the channel whose view has the same numbers is of the same mailbox.
     same_mailbox : (pass other : Pass Item View) → IsSeatAt (sends_on sender) pass → IsSeatAt (sends_on sender) other → capacity_in (view other) ≡ capacity_in (view pass) → senders_in (view other) ≡ senders_in (view pass)
         → mailbox_of other ≡ mailbox_of pass
     same_mailbox pass other seat seats room sized =
         λ i. record { table = (seats.0 ∙ sym seat.0) i; key = (seats.1 ∙ sym seat.1) i; capacity = room i; senders = sized i }
 
-    module _ (pass now end : Pass Item View) (ends : List Poster) (made_are : AreMade sender receiver capacity senders made pass ends)
+    module _ (pass now end : Pass Item View) (ends : List PostEndState) (made_are : AreMade sender receiver capacity senders made pass ends)
         (now_seat : IsSeatAt (sends_on sender) now) (end_seat : IsSeatAt (sends_on sender) end) (now_is : view now ≡ with_one_made (view pass)) (end_is : view end ≡ next_end (view pass)) where
       now_knows : view now ≡ Taking capacity senders (made + 1) [] []
       now_knows = now_is ∙ ap with_one_made made_are.view_is
@@ -109,8 +109,8 @@ module _ {Q M L A B : Type 0} where
         below = subst (λ n. made < n) (sym (ap senders_in end_knows)) below;
       }
 
-    -- all ends were made
-    module _ (pass : Pass Item View) (ends : List Poster) (all : made ≡ senders) (made_are : AreMade sender receiver capacity senders made pass ends) where
+    -- All post ends were made.
+    module _ (pass : Pass Item View) (ends : List PostEndState) (all : made ≡ senders) (made_are : AreMade sender receiver capacity senders made pass ends) where
       knows : view pass ≡ Taking capacity senders senders [] []
       knows = made_are.view_is ∙ ap (λ n. Taking capacity senders n [] []) all
 

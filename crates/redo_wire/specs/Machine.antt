@@ -1,18 +1,18 @@
--- The mailbox as a machine: what it is at a moment, and the five kinds of step that it takes.
+-- The mailbox as a machine: its states and its five kinds of step.
 use Rattle.std.specs.Prelude.{◌≡◌, ◌≢◌, ◌⊎◌, ⊤, ℕ, ◌+◌, ◌<◌, ◌≤◌, nat_eq, List, [], ◌∷◌, ◌++◌, length, filter}
 use Rattle.std.specs.List.{AllByRecursion}
 use Rattle.redo_wire.specs.declared.item.Item.{Item}
 
--- the items of one sender, in order
-abbrev pub of : ℕ → List Item → List Item
-of sender items = filter (λ item. nat_eq item.sender sender) items
+-- The items of one sender, in order.
+abbrev pub items_of : ℕ → List Item → List Item
+items_of sender items = filter (λ item. nat_eq item.sender sender) items
 
--- items that others begin with
-abbrev pub IsFront : List Item → List Item → Type 0
-IsFront front items = (behind : List Item) × (items ≡ front ++ behind)
+-- `front` is a prefix of `items`.
+abbrev pub IsPrefix : List Item → List Item → Type 0
+IsPrefix front items = (behind : List Item) × (items ≡ front ++ behind)
 
--- What was taken and what is queued, oldest first, and what each sender posted; how many ends were made, numbered from 0, and
--- the numbers of those that were met, the last one first.
+-- A state: the items taken and the items queued, oldest first; what each sender posted; how many post ends were made, numbered
+-- from 0; and the numbers of the ends that were met, the last one first.
 pub record State : Type 0 where
   pub taken : List Item
   pub queued : List Item
@@ -20,40 +20,40 @@ pub record State : Type 0 where
   pub made : ℕ
   pub met : List ℕ
 
--- Of each sender just what it posted was taken or is queued, in order. There is no item of another sender, and no more is
--- queued than fits.
-pub record IsLawful (capacity senders : ℕ) (state : State) : Type 0 where
-  pub all_of_each : (sender : ℕ) → state.posted sender ≡ of sender (state.taken ++ state.queued)
+-- A valid state: for each sender, its taken and queued items are exactly the items that it posted, in order; there is no item
+-- of any other sender; and no more is queued than fits.
+pub record IsValid (capacity senders : ℕ) (state : State) : Type 0 where
+  pub all_of_each : (sender : ℕ) → state.posted sender ≡ items_of sender (state.taken ++ state.queued)
   pub of_senders : AllByRecursion (λ (item : Item). item.sender < senders) (state.taken ++ state.queued)
   pub fits : length state.queued ≤ capacity
 
 -- ---- the steps
 
--- a mailbox that is made
+-- A new mailbox.
 abbrev pub Opens : State → Type 0
 Opens after = (after.taken ≡ []) × (after.queued ≡ []) × ((sender : ℕ) → after.posted sender ≡ []) × (after.made ≡ 0) × (after.met ≡ [])
 
--- an end that may post: it was made, and was not met
-abbrev pub IsThere : ℕ → State → Type 0
-IsThere sender state = (sender < state.made) × AllByRecursion (λ (other : ℕ). other ≢ sender) state.met
+-- The end of this number may post: it was made and wasn't met.
+abbrev pub IsLive : ℕ → State → Type 0
+IsLive sender state = (sender < state.made) × AllByRecursion (λ (other : ℕ). other ≢ sender) state.met
 
--- no end is made or met
-abbrev pub KeepsEnds : State → State → Type 0
-KeepsEnds before after = (after.made ≡ before.made) × (after.met ≡ before.met)
+-- No end is made or met.
+abbrev pub EndsUnchanged : State → State → Type 0
+EndsUnchanged before after = (after.made ≡ before.made) × (after.met ≡ before.met)
 
--- no item is put or taken
-abbrev pub KeepsItems : State → State → Type 0
-KeepsItems before after = (after.taken ≡ before.taken) × (after.queued ≡ before.queued) × ((sender : ℕ) → after.posted sender ≡ before.posted sender)
+-- No item is put or taken.
+abbrev pub ItemsUnchanged : State → State → Type 0
+ItemsUnchanged before after = (after.taken ≡ before.taken) × (after.queued ≡ before.queued) × ((sender : ℕ) → after.posted sender ≡ before.posted sender)
 
--- an end is split off, with the next number, which posted nothing
-pub record Splits (senders : ℕ) (before after : State) : Type 0 where
+-- An end with the next number is split off. It posted nothing.
+pub record AddsEnd (senders : ℕ) (before after : State) : Type 0 where
   pub unmade : before.made < senders
   pub none_posted : before.posted before.made ≡ []
   pub made : after.made ≡ before.made + 1
   pub met : after.met ≡ before.met
-  pub items : KeepsItems before after
+  pub items : ItemsUnchanged before after
 
--- an item of a sender is put at the back, where there is room
+-- A sender's item is put at the back. There is room for it.
 pub record Posts (capacity sender : ℕ) (item : Item) (before after : State) : Type 0 where
   pub own : item.sender ≡ sender
   pub room : length before.queued < capacity
@@ -61,46 +61,46 @@ pub record Posts (capacity sender : ℕ) (item : Item) (before after : State) : 
   pub queued : after.queued ≡ before.queued ++ item ∷ []
   pub posted : after.posted sender ≡ before.posted sender ++ item ∷ []
   pub others : (other : ℕ) → (other ≡ sender → ⊥) → after.posted other ≡ before.posted other
-  pub ends : KeepsEnds before after
+  pub ends : EndsUnchanged before after
 
--- the front is removed
+-- The front is taken.
 pub record Takes (item : Item) (before after : State) : Type 0 where
   pub queued : before.queued ≡ item ∷ after.queued
   pub taken : after.taken ≡ before.taken ++ item ∷ []
   pub posted : (sender : ℕ) → after.posted sender ≡ before.posted sender
-  pub ends : KeepsEnds before after
+  pub ends : EndsUnchanged before after
 
--- nothing is found: nothing is queued, and nothing changes
-abbrev pub FindsNothing : State → State → Type 0
-FindsNothing before after = (before.queued ≡ []) × (after ≡ before)
+-- Nothing is found: nothing is queued, and nothing changes.
+abbrev pub FindsEmpty : State → State → Type 0
+FindsEmpty before after = (before.queued ≡ []) × (after ≡ before)
 
--- an end is met, and what it posted stays
+-- An end is met. The items that it posted stay.
 pub record Meets (sender : ℕ) (before after : State) : Type 0 where
-  pub there : IsThere sender before
+  pub there : IsLive sender before
   pub made : after.made ≡ before.made
   pub met : after.met ≡ sender ∷ before.met
-  pub items : KeepsItems before after
+  pub items : ItemsUnchanged before after
 
--- one step of a mailbox with so many senders; only an end that is there posts
+-- One step of a mailbox with this capacity and this number of senders. An end posts only if it was made and wasn't met.
 abbrev pub IsStep : ℕ → ℕ → State → State → Type 0
 IsStep capacity senders before after =
-    Splits senders before after
-    ⊎ ((sender : ℕ) × (item : Item) × (sender < senders) × IsThere sender before × Posts capacity sender item before after)
+    AddsEnd senders before after
+    ⊎ ((sender : ℕ) × (item : Item) × (sender < senders) × IsLive sender before × Posts capacity sender item before after)
     ⊎ ((item : Item) × Takes item before after)
-    ⊎ FindsNothing before after
+    ⊎ FindsEmpty before after
     ⊎ ((sender : ℕ) × Meets sender before after)
 
--- the states after each step of a schedule, from a state on
+-- `states` are the states after each step of a schedule that begins at `before`.
 abbrev pub IsSchedule : ℕ → ℕ → State → List State → Type 0
 IsSchedule capacity senders before [] = ⊤
 IsSchedule capacity senders before (after ∷ states) = IsStep capacity senders before after × IsSchedule capacity senders after states
 
--- where a schedule ends
+-- The last state of a schedule.
 abbrev pub last_of : State → List State → State
 last_of first [] = first
 last_of first (after ∷ states) = last_of after states
 
--- a schedule leads from a mailbox that is made to this state
+-- A schedule leads from a new mailbox to this state.
 pub record IsReached (capacity senders : ℕ) (state : State) : Type 0 where
   pub first : State
   pub states : List State

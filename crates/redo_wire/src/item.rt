@@ -1,6 +1,6 @@
 use redo_line::{Entries, Entry, StreamFault};
 
-/// What a sender posts of a stream.
+/// An item of the mailbox: what a sender posts about one of its streams.
 #[derive(Debug, Drop)]
 pub struct Item {
     /// The number of the sender.
@@ -10,15 +10,15 @@ pub struct Item {
     pub what: What,
 }
 
-/// What an item tells of its stream.
+/// What an item says about its stream.
 #[derive(Debug, Drop)]
 pub enum What {
-    /// One entry more.
+    /// One further entry.
     Line(Entry),
-    /// Several entries more, in order.
+    /// Several further entries, in order.
     Lines(Entries),
-    /// That no entry comes any more: its log is whole.
+    /// The end of the stream: no entry follows, and its log is complete.
     End,
-    /// Why its log can't be had.
+    /// The fault of the stream: why it has no log.
     Fail(StreamFault),
 }

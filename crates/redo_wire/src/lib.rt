@@ -1,4 +1,4 @@
-//! One bounded mailbox: senders post items, each at an end of its own, and one collector takes them.
+//! A bounded mailbox: each sender posts items at its own end, and one collector takes them.
 #![tactic(auto)]
 
 mod item;
@@ -8,7 +8,7 @@ mod rule;
 
 pub use item::{Item, What};
 pub use laws::{
-    one_state_behind_a_step, room_for_any, room_for_one, steps_are_lawful, steps_exist,
-    what_steps_need,
+    room_for_any, room_for_one, step_preconditions, steps_are_deterministic, steps_exist,
+    steps_preserve_validity,
 };
 pub use mailbox::{PostEnd, TakeEnd, open};

@@ -6,11 +6,11 @@ use crossbeam_channel::protocol::{Join, Lesson, Outcome, Protocol, Split};
 use std::collections::LinkedList;
 use std::marker::{Brand, PhantomData};
 
-// What a pass knows. No value of it is made.
+// What a pass knows. No value of this type is ever made.
 pub enum View {
     // Nothing.
     Idle,
-    // That the mailbox was just made.
+    // That the mailbox is new.
     Starting,
     // What the end of this number posted.
     Posting {
@@ -19,7 +19,7 @@ pub enum View {
         number: u32,
         put: LinkedList<Item>,
     },
-    // What was taken, how many ends were made, and what those posted that were met.
+    // What was taken, how many post ends were made, and the met ends with what each of them posted.
     Taking {
         capacity: u32,
         senders: u32,
@@ -29,18 +29,18 @@ pub enum View {
     },
 }
 
-pub struct Rule;
+pub struct MailboxProtocol;
 
-impl Protocol<Item, View> for Rule {
+impl Protocol<Item, View> for MailboxProtocol {
     ghost use Rattle.redo_wire.specs.declared.rule.View.TheVariants.{Starting};
-    ghost use Rattle.redo_wire.specs.Private.Rule.{Rules};
+    ghost use Rattle.redo_wire.specs.Private.Rule.{Invariant};
 
-    ghost holds = { Rules };
+    ghost holds = { Invariant };
 
     ghost first = { Starting };
 }
 
-// The numbers of a mailbox, as they are known once it is made.
+// The capacity and the number of senders of a mailbox, which are known once it is created.
 pub trait Size {
     ghost capacity: { ℕ };
 
@@ -53,10 +53,10 @@ impl Size for Brand {
     ghost senders = { 0 };
 }
 
-// The mailbox gets its numbers, before an end is made.
-pub struct Sizes<S>(PhantomData<S>);
+// The step that gives the mailbox these numbers, before a post end is made.
+pub struct InitStep<S>(PhantomData<S>);
 
-impl<S: Size> Split<View> for Sizes<S> {
+impl<S: Size> Split<View> for InitStep<S> {
     ghost use Rattle.std.specs.Prelude.{[]};
     ghost use Rattle.redo_wire.specs.declared.rule.View.TheVariants.{Idle, Taking};
 
@@ -65,10 +65,10 @@ impl<S: Size> Split<View> for Sizes<S> {
     ghost right = { λ view. Idle };
 }
 
-// An end more is split off.
-pub struct Ends;
+// The step that splits off another post end.
+pub struct AddEndStep;
 
-impl Split<View> for Ends {
+impl Split<View> for AddEndStep {
     ghost use Rattle.redo_wire.specs.Private.Rule.{with_one_made, next_end};
 
     ghost left = { with_one_made };
@@ -76,10 +76,10 @@ impl Split<View> for Ends {
     ghost right = { next_end };
 }
 
-// An end is met.
-pub struct Meets;
+// The step that meets a post end.
+pub struct MeetStep;
 
-impl Join<View> for Meets {
+impl Join<View> for MeetStep {
     ghost use Rattle.redo_wire.specs.declared.rule.View.TheVariants.{Idle};
     ghost use Rattle.redo_wire.specs.Private.Rule.{with_met};
 
@@ -88,34 +88,34 @@ impl Join<View> for Meets {
     ghost spent = { Idle };
 }
 
-// An item is put at the back by a step of the machine.
-pub struct Puts;
+// A post: a step of the machine puts the item at the back.
+pub struct PutStep;
 
-impl Outcome<Item, View> for Puts {
+impl Outcome<Item, View> for PutStep {
     ghost use Rattle.std.specs.Prelude.{◌≡◌};
     ghost use Rattle.redo_wire.specs.Private.Rule.{KnowsPost, with_put};
 
     ghost then = { λ before item after. (after ≡ with_put item before) × KnowsPost before item after };
 }
 
-impl Lesson<Item, View> for Puts {
+impl Lesson<Item, View> for PutStep {
     ghost use Rattle.std.specs.Prelude.{⊤};
 
     ghost fact = { λ view items. ⊤ };
 }
 
-// The front is taken by a step of the machine, and what is known of the met ends then; or nothing is found, and what is
-// known then.
-pub struct Gets;
+// A take: either a step of the machine takes the front, and the outcome states what is known of the met ends then; or
+// nothing is found, and the lesson states what is known then.
+pub struct TakeStep;
 
-impl Outcome<Item, View> for Gets {
+impl Outcome<Item, View> for TakeStep {
     ghost use Rattle.std.specs.Prelude.{◌≡◌};
     ghost use Rattle.redo_wire.specs.Private.Rule.{KnowsMet, KnowsStep, with_got};
 
     ghost then = { λ before item after. (after ≡ with_got item before) × KnowsMet after × KnowsStep before item after };
 }
 
-impl Lesson<Item, View> for Gets {
+impl Lesson<Item, View> for TakeStep {
     ghost use Rattle.redo_wire.specs.Private.Rule.{KnowsOf};
 
     ghost fact = { KnowsOf };

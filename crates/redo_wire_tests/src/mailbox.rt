@@ -1,8 +1,8 @@
-//! What is taken of a mailbox is what was posted, of each sender in order.
+//! The items taken from a mailbox are the items posted, in order for each sender.
 ghost use Rattle.std.specs.Prelude.{◌≡◌, IfOk};
 
-use redo_given::{Posts, Two, exchange, item_text, line, rest, two_ended};
 use redo_line::{Entries, Entry};
+use redo_test_support::{Posts, Two, exchange, item_text, line, rest, two_ended};
 use redo_wire::{Item, PostEnd, TakeEnd, What};
 use std::alloc::{AllocError, Global};
 use std::process::Abort;
@@ -10,7 +10,7 @@ use std::sync::Wait;
 use std::test::Fail;
 use std::thread::Threads;
 
-/// A line with this text.
+/// Returns a text entry.
 fn entry(alloc: Global, text: &str) -> Result<Entry, Fail> {
     let Some(line) = line(alloc, text)? else {
         return Err(Fail::new("no line"));
@@ -18,7 +18,7 @@ fn entry(alloc: Global, text: &str) -> Result<Entry, Fail> {
     Ok(Entry::Text(line))
 }
 
-/// The item that this end posts.
+/// Returns an item of this sender, with one text entry.
 fn item(alloc: Global, sender: u32, text: &str) -> Result<Item, Fail>
     ensures { IfOk result (λ item. item.sender ≡ sender) }
 {
@@ -29,7 +29,7 @@ fn item(alloc: Global, sender: u32, text: &str) -> Result<Item, Fail>
     })
 }
 
-/// What this thread takes or is left with is this.
+/// Checks an item that was taken or that a post returned, or that there is none.
 fn expect(
     rt: &(impl Abort + AllocGlobal),
     item: Option<Item>,
@@ -55,7 +55,7 @@ fn expect_text(rt: &impl Abort, text: Option<&str>, want: Option<&str>) {
     assert_eq!(rt; text, want);
 }
 
-/// What is left of this line, once this end has posted it, is this.
+/// Posts a line at this end, and checks the item that the post returns, or that it returns none.
 fn post<R: Abort + AllocGlobal + Wait>(
     rt: &R,
     end: &mut PostEnd,
@@ -80,7 +80,7 @@ fn two_ends_post_and_are_met(rt: HostRuntime) -> Result<(), Fail> {
     expect_rest(&rt, &mut mailbox)
 }
 
-/// The first end posts twice, the second once, and the first item of each is taken.
+/// Posts twice at the first end and once at the second, and takes the first item of each.
 fn post_three<R: Abort + AllocGlobal + Wait>(
     rt: &R,
     mailbox: &mut TakeEnd,
@@ -118,7 +118,7 @@ fn expect_rest<R: Abort + AllocGlobal + Wait>(rt: &R, mailbox: &mut TakeEnd) -> 
 }
 
 #[test]
-fn what_nobody_can_take_is_handed_back(rt: HostRuntime) -> Result<(), Fail> {
+fn post_without_receiver_returns_item(rt: HostRuntime) -> Result<(), Fail> {
     let Two {
         mailbox,
         mut first,
@@ -137,7 +137,7 @@ fn expect_handed_back<R: Abort + AllocGlobal + Wait>(
 }
 
 #[test]
-fn there_is_none_once_all_ends_are_gone(rt: HostRuntime) -> Result<(), Fail> {
+fn take_returns_none_without_senders(rt: HostRuntime) -> Result<(), Fail> {
     let Two {
         mut mailbox,
         first,
@@ -159,7 +159,7 @@ fn post_and_drop<R: Abort + AllocGlobal + Wait>(
     posted
 }
 
-/// Takes the only item of a mailbox whose ends are gone.
+/// Takes the only item of a mailbox whose post ends are gone.
 fn take_one<R: Abort + AllocGlobal + Wait>(rt: &R, mailbox: &mut TakeEnd) -> Result<(), Fail> {
     expect(rt, mailbox.take(rt), Some("7 of 0: A"))?;
     expect(rt, mailbox.take(rt), None)?;
@@ -167,7 +167,8 @@ fn take_one<R: Abort + AllocGlobal + Wait>(rt: &R, mailbox: &mut TakeEnd) -> Res
     Ok(())
 }
 
-/// So many senders, each with so many lines of its stream, of which so many make an item.
+/// The number of senders, the number of lines that each of them posts, and the number of lines in an
+/// item.
 #[derive(Clone, Copy, Debug)]
 struct Load {
     senders: u32,
@@ -176,14 +177,15 @@ struct Load {
 }
 
 impl Load {
-    /// The lines of the item at this place, or `None` behind the last one. They are numbers.
+    /// Returns the lines of the item at index `place`, as a range of numbers. Returns `None` after the
+    /// last item.
     fn lines_at(self, place: u32) -> Option<(u32, u32)> {
         let first = place.saturating_mul(self.at_once);
         let upto = first.saturating_add(self.at_once).min(self.lines);
         (first < upto).then_some((first, upto))
     }
 
-    /// The text of the item at this place, or of the end behind the last one.
+    /// Returns the text of the item at index `place`, or of the end after the last item.
     fn text_at(self, alloc: Global, sender: u32, place: u32) -> Result<String, AllocError> {
         let mut text = format!(in alloc; "{} of {sender}:", stream_of(sender))?;
         let Some((first, upto)) = self.lines_at(place) else {
@@ -196,7 +198,7 @@ impl Load {
         Ok(text)
     }
 
-    /// What the sender posts.
+    /// Returns what the sender posts.
     fn posts(self, alloc: Global, sender: u32) -> Result<Posts, Fail> {
         let mut posts = Vec::new(alloc);
         for place in 0..self.lines {
@@ -210,17 +212,17 @@ impl Load {
     }
 }
 
-/// The stream that a sender has.
+/// Returns the number of the sender's stream.
 fn stream_of(sender: u32) -> u32 {
     sender.saturating_add(100)
 }
 
-/// A number as a line.
+/// Returns a number as a text entry.
 fn numbered(alloc: Global, number: u32) -> Result<Entry, Fail> {
     entry(alloc, &format!(in alloc; "{number}")?)
 }
 
-/// These numbers as lines: one line, or several.
+/// Returns the numbers from `first` to below `upto` as lines: one line, or several.
 fn what_of(alloc: Global, first: u32, upto: u32) -> Result<What, Fail> {
     match upto.saturating_sub(first) {
         0 => Ok(What::End),
@@ -235,7 +237,7 @@ fn what_of(alloc: Global, first: u32, upto: u32) -> Result<What, Fail> {
     }
 }
 
-/// All that the senders of a load post arrives, of each sender in order.
+/// Checks that all that the senders of a load post arrives, in order for each sender.
 fn expect_all<T: Abort + AllocGlobal + Threads + Wait + Sync>(
     rt: &T,
     capacity: u32,
@@ -252,7 +254,7 @@ fn expect_all<T: Abort + AllocGlobal + Threads + Wait + Sync>(
     expect_taken(rt, &taken, load)
 }
 
-/// These are the items of the senders of a load, and of no other.
+/// Checks that these are the items of the load's senders, and nothing else.
 fn expect_taken(rt: &(impl Abort + AllocGlobal), taken: &[Item], load: Load) -> Result<(), Fail> {
     for sender in 0..load.senders {
         expect_of(rt, sender, taken, load)?;
@@ -263,7 +265,7 @@ fn expect_taken(rt: &(impl Abort + AllocGlobal), taken: &[Item], load: Load) -> 
     Ok(())
 }
 
-/// These are the items of the sender: each of its load, in order, and no other.
+/// Checks that the sender's items are all items of its load, in order, and nothing else.
 fn expect_of(
     rt: &(impl Abort + AllocGlobal),
     sender: u32,
@@ -284,12 +286,12 @@ fn expect_of(
     Ok(())
 }
 
-/// Whether the sender has ended is this.
+/// Checks whether the sender has ended.
 fn expect_ended(rt: &impl Abort, sender: u32, has_ended: bool, want: bool) {
     assert!(rt; has_ended == want, "sender {sender}");
 }
 
-/// This is the item of its sender at this place.
+/// Checks that this is its sender's item at index `place`.
 fn expect_at(
     rt: &(impl Abort + AllocGlobal),
     item: &Item,
@@ -303,7 +305,7 @@ fn expect_at(
 }
 
 #[test]
-fn four_senders_a_hundred_times(rt: HostRuntime) -> Result<(), Fail> {
+fn mailbox_keeps_order_of_four_senders(rt: HostRuntime) -> Result<(), Fail> {
     let load = Load {
         senders: 4,
         lines: 1000,
@@ -316,7 +318,7 @@ fn four_senders_a_hundred_times(rt: HostRuntime) -> Result<(), Fail> {
 }
 
 #[test]
-fn one_few_and_all_senders_with_each_capacity(rt: HostRuntime) -> Result<(), Fail> {
+fn mailbox_keeps_order_at_every_capacity(rt: HostRuntime) -> Result<(), Fail> {
     for senders in [1, 2, 64] {
         for capacity in [1, 2, 64, 65_536] {
             for at_once in [1, 16, 300] {

@@ -1,11 +1,11 @@
--- How the fault of a stream is told.
+-- The fault that a gathering has for the fault of a stream.
 use Rattle.std.specs.Prelude.{ℕ}
 use Rattle.redo_line.specs.declared.stream_fault.StreamFault.{StreamFault}
 use Rattle.redo_line.specs.declared.stream_fault.StreamFault.TheVariants as stream
 use Rattle.redo_gather.specs.declared.gather_fault.GatherFault.{GatherFault}
 use Rattle.redo_gather.specs.declared.gather_fault.GatherFault.TheVariants.{Stream, OutOfMemory}
 
--- what the fault of a stream is for the gathering
+-- The gathering's fault for the fault of the stream with this number.
 abbrev pub fault_of_stream : ℕ → StreamFault → GatherFault
 fault_of_stream number (stream.BadRecord line) = Stream number (stream.BadRecord line)
 fault_of_stream number (stream.AfterClose line) = Stream number (stream.AfterClose line)

@@ -1,4 +1,4 @@
--- How what was read of a stream goes into a table.
+-- How what was read of a stream is stored in a table.
 use Rattle.std.specs.Prelude.{◌≡◌, ℕ, List, Option, None, Some}
 use Rattle.redo_line.specs.declared.entry.Entry.{Entry}
 use Rattle.redo_line.specs.declared.stream_fault.StreamFault.{StreamFault}
@@ -6,24 +6,24 @@ use Rattle.redo_device.specs.Feed.{SomeStream}
 use Rattle.redo_line.specs.Source.{fault_from, log_from, with_stream}
 use Rattle.redo_logs.specs.declared.log_state.LogState.{LogState}
 use Rattle.redo_logs.specs.declared.log_state.LogState.TheVariants.{Ended, Failed}
-use Rattle.redo_logs.specs.Logs.{Log, changed, with_entries, with_state}
-use Rattle.redo_gather.specs.Owed.{Given}
+use Rattle.redo_logs.specs.Logs.{Log, update_log, with_entries, with_state}
+use Rattle.redo_gather.specs.Expected.{Given}
 
--- how a log is left behind its last entry
+-- The state of a log after its last entry.
 abbrev pub state_after : Option StreamFault → LogState
 state_after None = Ended
 state_after (Some fault) = Failed fault
 
--- a log that these entries complete, up to its end or its fault
+-- A log, completed by these entries and the end or the fault.
 abbrev pub completed : List Entry → Option StreamFault → Log → Log
 completed entries fault log = with_state (state_after fault) (with_entries entries log)
 
--- the log of the stream that a reader tells completes that of this number in a table
+-- The log of this number in a table was completed by the log of the reader's stream.
 pub record IsCompleted (max_bytes number : ℕ) (given : Given) (begun table : List Log) : Type 0 where
   pub entries : List Entry
   pub entries_are : SomeStream given.stream (λ stream. log_from max_bytes (with_stream stream given) ≡ Some entries)
-  pub table_is : table ≡ changed number (completed entries None) begun
+  pub table_is : table ≡ update_log number (completed entries None) begun
 
--- the stream that a reader tells has this fault
+-- The reader's stream has this fault.
 abbrev pub HasFault : ℕ → Given → StreamFault → Type 0
 HasFault max_bytes given fault = SomeStream given.stream (λ stream. fault_from max_bytes (with_stream stream given) ≡ Some fault)

@@ -1,31 +1,31 @@
--- What an index lists, as the entries of a map, and the numbers, as the keys of a set.
+-- What an index lists, as the entries of a map, and its numbers, as the keys of a set.
 use Rattle.std.specs.Prelude.{◌≡◌, ◌⊎◌, ℕ, List, [], ◌∷◌, ◌++◌, Some, None, length, map}
 use Rattle.redo_index.specs.declared.index_fault.IndexFault.{IndexFault}
 use Rattle.redo_index.specs.declared.index_fault.IndexFault.TheVariants.{OutOfMemory}
-use Rattle.redo_index.specs.declared.index.LogFile.{LogFile}
-use Rattle.redo_index.specs.declared.listed.Listed.{Listed}
-use Rattle.redo_index.specs.Index.{IsIndex, fault_after, listed_by, numbers_of}
+use Rattle.redo_index.specs.declared.index.TargetLog.{TargetLog}
+use Rattle.redo_index.specs.declared.index_entry.IndexEntry.{IndexEntry}
+use Rattle.redo_index.specs.Index.{IsIndex, fault_after, parse_line, numbers_of}
 
--- what an entry lists: its name, and what stands at it
-abbrev pub listed_at : List ℕ × LogFile → Listed
-listed_at entry = record { number = entry.1.number; target = entry.0; must_close = entry.1.must_close }
+-- What an entry of the map lists: the key is the target's name, and the value its log file.
+abbrev pub entry_of_pair : List ℕ × TargetLog → IndexEntry
+entry_of_pair entry = record { number = entry.1.number; target = entry.0; must_close = entry.1.must_close }
 
-abbrev pub listed_in : List (List ℕ × LogFile) → List Listed
-listed_in entries = map listed_at entries
+abbrev pub entries_of_pairs : List (List ℕ × TargetLog) → List IndexEntry
+entries_of_pairs entries = map entry_of_pair entries
 
--- these are the numbers of what an index lists, and the entries
-pub record Hold (numbers : List ℕ) (entries : List (List ℕ × LogFile)) (listed : List Listed) : Type 0 where
-  pub numbers_are : numbers ≡ numbers_of listed
-  pub entries_are : listed_in entries ≡ listed
-  pub fits : IsIndex listed
+-- Whether these numbers and map entries store `index`, which satisfies the invariant of an index.
+pub record Hold (numbers : List ℕ) (entries : List (List ℕ × TargetLog)) (index : List IndexEntry) : Type 0 where
+  pub numbers_are : numbers ≡ numbers_of index
+  pub entries_are : entries_of_pairs entries ≡ index
+  pub fits : IsIndex index
 
--- these hold what a line lists, which isn't refused, behind what was listed before it
-pub record HoldMore (listed : List Listed) (line : List ℕ) (numbers : List ℕ) (entries : List (List ℕ × LogFile)) : Type 0 where
-  pub last : Listed
-  pub form : listed_by line ≡ Some last
-  pub fine : fault_after (length listed) listed (Some last) ≡ None
-  pub hold : Hold numbers entries (listed ++ last ∷ [])
+-- Whether these numbers and map entries store `index` and after it what `line` lists. The line isn't rejected.
+pub record HoldMore (index : List IndexEntry) (line : List ℕ) (numbers : List ℕ) (entries : List (List ℕ × TargetLog)) : Type 0 where
+  pub last : IndexEntry
+  pub form : parse_line line ≡ Some last
+  pub no_fault : fault_after (length index) index (Some last) ≡ None
+  pub hold : Hold numbers entries (index ++ last ∷ [])
 
--- a line is refused so behind these, or there was no memory
-abbrev pub IsFaultBehind : List Listed → List ℕ → IndexFault → Type 0
-IsFaultBehind listed line fault = (fault ≡ OutOfMemory) ⊎ (fault_after (length listed) listed (listed_by line) ≡ Some fault)
+-- Whether `fault` is the fault of `line` after the lines that list `index`, or an allocation failed.
+abbrev pub IsFaultAfter : List IndexEntry → List ℕ → IndexFault → Type 0
+IsFaultAfter index line fault = (fault ≡ OutOfMemory) ⊎ (fault_after (length index) index (parse_line line) ≡ Some fault)

@@ -1,76 +1,76 @@
--- How far a scan came: what it keeps of the bytes that it took.
+-- The state of a scan: what it stores of the bytes that it consumed.
 use Rattle.std.specs.Prelude.{◌≡◌, ◌≢◌, ℕ, zero, suc, ◌+◌, ◌-◌, ◌≤◌, ◌^◌, ◌<◌, Bool, true, false, List, [], ◌∷◌, ◌++◌, Option, None, Some, length}
 use Rattle.redo_line.specs.declared.entry.Entry.{Entry}
 use Rattle.redo_line.specs.declared.stream_fault.StreamFault.{StreamFault}
 use Rattle.redo_line.specs.declared.stream_fault.StreamFault.TheVariants.{AfterClose, TooLong, Read, NotClosed}
 use Rattle.redo_line.specs.Lines.{ended, rest}
 use Rattle.redo_line.specs.Log.{closes, line_entries}
-use Rattle.redo_line.specs.Scan.{fault_so_far, EndLines, EndsNone, AreAtFault}
+use Rattle.redo_line.specs.Scan.{fault_so_far, EndLines, EndsNoLine, HaveFault}
 
 pub record Progress : Type 0 where
   pub target : List ℕ
   pub max_bytes : ℕ
-  -- the bytes since the last line feed
+  -- The bytes since the last line feed.
   pub kept : List ℕ
-  -- how many bytes were taken, and how many lines ended in them
+  -- The number of bytes consumed, and the number of lines that ended in them.
   pub taken : ℕ
   pub lines : ℕ
-  -- whether the last of these lines closes the log
+  -- Whether the last of these lines closes the log.
   pub closed : Bool
 
--- whether the last of these entries closes the log
+-- Whether the last of these entries closes the log; `closed` if there is none.
 abbrev pub closed_by : Bool → List (Option Entry) → Bool
 closed_by closed [] = closed
 closed_by closed (entry ∷ entries) = closed_by (closes entry) entries
 
--- these are the bytes that were taken, and they have no fault
+-- This is the state after these bytes, which have no fault.
 pub record IsAfter (progress : Progress) (bytes : List ℕ) : Type 0 where
-  pub fine : fault_so_far progress.target progress.max_bytes bytes ≡ None
+  pub no_fault : fault_so_far progress.target progress.max_bytes bytes ≡ None
   pub kept_is : progress.kept ≡ rest bytes
   pub taken_is : progress.taken ≡ length bytes
   pub lines_are : progress.lines ≡ length (ended bytes)
   pub closed_is : progress.closed ≡ closed_by false (line_entries progress.target (ended bytes))
 
--- these bytes were taken, and end lines more
-pub record Finds (old new : Progress) (before bytes : List ℕ) (more : List Entry) : Type 0 where
+-- `bytes` were consumed and end further lines with the entries `more`.
+pub record AdvancesBy (old new : Progress) (before bytes : List ℕ) (more : List Entry) : Type 0 where
   pub after : IsAfter new (before ++ bytes)
   pub ends : EndLines old.target old.max_bytes before bytes more
 
--- ..one at least and at most so many, whose entries were put behind others
-pub record FindsMore (old new : Progress) (before bytes : List ℕ) (most : ℕ) (first all : List Entry) : Type 0 where
+-- `bytes` were consumed and end further lines, at least one and at most `most`, whose entries were appended.
+pub record FindsEntries (old new : Progress) (before bytes : List ℕ) (most : ℕ) (first all : List Entry) : Type 0 where
   pub more : List Entry
-  pub finds : Finds old new before bytes more
+  pub finds : AdvancesBy old new before bytes more
   pub some : 0 < length more
   pub few : length more ≤ most
   pub put : all ≡ first ++ more
 
--- these bytes were taken, and end no line
-pub record TakesAll (old new : Progress) (before bytes : List ℕ) : Type 0 where
+-- `bytes` were consumed and end no line.
+pub record ConsumesAll (old new : Progress) (before bytes : List ℕ) : Type 0 where
   pub after : IsAfter new (before ++ bytes)
-  pub ends : EndsNone old.target old.max_bytes before bytes
+  pub ends : EndsNoLine old.target old.max_bytes before bytes
 
--- these bytes are refused
-abbrev pub Refuses : Progress → List ℕ → List ℕ → StreamFault → Type 0
-Refuses progress before bytes fault = AreAtFault progress.target progress.max_bytes before bytes fault
+-- `bytes` have this fault, and no further entry is before it.
+abbrev pub FailsWith : Progress → List ℕ → List ℕ → StreamFault → Type 0
+FailsWith progress before bytes fault = HaveFault progress.target progress.max_bytes before bytes fault
 
--- behind as many lines a byte is late where the log is closed
-abbrev pub late_fault : ℕ → Bool → Option StreamFault
-late_fault lines true = Some (AfterClose (lines + 1))
-late_fault lines false = None
+-- The fault of a byte after this number of lines: if the log is closed, the byte is after the closing record.
+abbrev pub after_close_fault : ℕ → Bool → Option StreamFault
+after_close_fault lines true = Some (AfterClose (lines + 1))
+after_close_fault lines false = None
 
--- a byte more is one too many where no room is left
+-- The fault of a byte by its position: without `room` left for it, it is past the limit.
 abbrev pub byte_fault : ℕ → ℕ → Bool → Option StreamFault
 byte_fault zero lines closed = Some TooLong
-byte_fault (suc room) lines closed = late_fault lines closed
+byte_fault (suc room) lines closed = after_close_fault lines closed
 
--- what the first of these bytes is at fault for by where it stands
+-- The fault that the first of these bytes has by its position.
 abbrev pub first_byte_fault : Progress → List ℕ → Option StreamFault
 first_byte_fault progress [] = None
 first_byte_fault progress (byte ∷ bytes) = byte_fault (progress.max_bytes - progress.taken) progress.lines progress.closed
 
--- a scan that refused nothing came so far behind the bytes that it took
-pub record IsScan (progress : Progress) (bytes : List ℕ) (refused : Option StreamFault) : Type 0 where
+-- The invariant of a scan: if it has returned no fault, this is its state after the bytes that it consumed.
+pub record IsScan (progress : Progress) (bytes : List ℕ) (failed_with : Option StreamFault) : Type 0 where
   pub limit : progress.max_bytes ≤ 2 ^ 40
-  pub after : refused ≡ None → IsAfter progress bytes
-  pub reads_nothing : refused ≢ Some Read
-  pub early : refused ≢ Some NotClosed
+  pub after : failed_with ≡ None → IsAfter progress bytes
+  pub never_read : failed_with ≢ Some Read
+  pub never_not_closed : failed_with ≢ Some NotClosed

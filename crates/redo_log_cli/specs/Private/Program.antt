@@ -1,48 +1,48 @@
--- What the program makes of a job, and of the streams that its files give.
+-- The program's results, from a job and the streams of its files.
 use Rattle.std.specs.Prelude.{◌≡◌, ◌⊎◌, List, None, Result, Ok, Err}
-use Rattle.redo_line.specs.Fault.{ending_fault}
+use Rattle.redo_line.specs.Fault.{end_fault}
 use Rattle.redo_device.specs.Feed.{Stream}
 use Rattle.redo_line.specs.Lines.{all_lines}
 use Rattle.redo_index.specs.declared.index_fault.IndexFault.TheVariants as index
-use Rattle.redo_index.specs.declared.listed.Listed.{Listed}
-use Rattle.redo_index.specs.Index.{IsIndexOf, IsRefused, names_of}
+use Rattle.redo_index.specs.declared.index_entry.IndexEntry.{IndexEntry}
+use Rattle.redo_index.specs.Index.{IsIndexOf, IsRejected, names_of}
 use Rattle.redo_run.specs.declared.run_fault.RunFault.{RunFault}
 use Rattle.redo_run.specs.declared.run_fault.RunFault.TheVariants.{Unknown, Stream as OfStream, OutOfMemory, Write}
-use Rattle.redo_gather.specs.Streams.{Told}
-use Rattle.redo_run.specs.Run.{Question}
-use Rattle.redo_run.specs.Shown.{HasFault, SomeText}
+use Rattle.redo_gather.specs.Streams.{KnownInput}
+use Rattle.redo_run.specs.Run.{Request}
+use Rattle.redo_run.specs.Outcome.{IsResultFault, SomeResultText}
 use Rattle.redo_log_cli.specs.declared.failure.Failure.{Failure}
 use Rattle.redo_log_cli.specs.declared.failure.Failure.TheVariants.{NamesRead, Index, Memory}
-use Rattle.redo_words.specs.Job.{Parts}
-use Rattle.redo_log_cli.specs.NamesFile.{CannotBeRead, most_bytes}
+use Rattle.redo_args.specs.Job.{JobParts}
+use Rattle.redo_log_cli.specs.NamesFile.{CannotBeRead, byte_limit}
 
--- What is answered of the file `names` that gives this stream: the index of all its lines; or that it can't be read, or
--- the fault of the index. There may also have been no memory.
-abbrev pub TellsIndex : Result (List Listed) Failure → Stream → Type 0
-TellsIndex (Ok listed) stream = (ending_fault most_bytes stream ≡ None) × IsIndexOf (all_lines stream.bytes) listed
-TellsIndex (Err NamesRead) stream = CannotBeRead stream
-TellsIndex (Err (Index fault)) stream = (ending_fault most_bytes stream ≡ None) × ((fault ≡ index.OutOfMemory) ⊎ IsRefused (all_lines stream.bytes) fault)
-TellsIndex (Err Memory) stream = Unit {0}
-TellsIndex (Err other) stream = ⊥
+-- Whether this is a result of reading the file `names` with this stream: the index of all its lines, or that it can't be read,
+-- or the fault of the index. An allocation may also have failed.
+abbrev pub IsIndexResult : Result (List IndexEntry) Failure → Stream → Type 0
+IsIndexResult (Ok entries) stream = (end_fault byte_limit stream ≡ None) × IsIndexOf (all_lines stream.bytes) entries
+IsIndexResult (Err NamesRead) stream = CannotBeRead stream
+IsIndexResult (Err (Index fault)) stream = (end_fault byte_limit stream ≡ None) × ((fault ≡ index.OutOfMemory) ⊎ IsRejected (all_lines stream.bytes) fault)
+IsIndexResult (Err Memory) stream = Unit {0}
+IsIndexResult (Err other) stream = ⊥
 
--- what is answered where a writer was flushed behind a run that went well
+-- Whether `result` is a result of flushing the writer if the run succeeded, or the fault of the run.
 abbrev pub IsFlushedAfter : Result (Unit {0}) RunFault → Result (Unit {0}) RunFault → Type 0
 IsFlushedAfter (Ok done) result = (result ≡ Ok tt) ⊎ (result ≡ Err Write)
 IsFlushedAfter (Err fault) result = result ≡ Err fault
 
--- a run comes to a text
-abbrev pub HasText : Question → List Told → Type 0
-HasText question told = SomeText question told (λ text. Unit {0})
+-- The result of the run is a text.
+abbrev pub HasText : Request → List KnownInput → Type 0
+HasText request known = SomeResultText request known (λ text. Unit {0})
 
--- What an answer says of the streams, whatever becomes of the writer: after a fault of a word or of a stream the run
--- comes to that fault, and where the text was written, or a write failed, it comes to a text.
-abbrev pub IsAnswer : Question → List Told → Result (Unit {0}) RunFault → Type 0
-IsAnswer question told (Ok done) = HasText question told
-IsAnswer question told (Err (Unknown place)) = HasFault question told (Unknown place)
-IsAnswer question told (Err (OfStream number fault)) = HasFault question told (OfStream number fault)
-IsAnswer question told (Err OutOfMemory) = Unit {0}
-IsAnswer question told (Err Write) = HasText question told
+-- What a result says about the streams, whatever happens to the writer. If it is an unknown argument or the fault of a stream,
+-- this fault is the result of the run. If the text was written, or a write failed, the result of the run is a text.
+abbrev pub IsRunResult : Request → List KnownInput → Result (Unit {0}) RunFault → Type 0
+IsRunResult request known (Ok done) = HasText request known
+IsRunResult request known (Err (Unknown place)) = IsResultFault request known (Unknown place)
+IsRunResult request known (Err (OfStream number fault)) = IsResultFault request known (OfStream number fault)
+IsRunResult request known (Err OutOfMemory) = Unit {0}
+IsRunResult request known (Err Write) = HasText request known
 
--- what a run is asked by a job, over the targets of an index
-abbrev pub asked_by : Parts → List Listed → Question
-asked_by job index = record { targets = names_of index; max_bytes = most_bytes; options = job.options; words = job.targets }
+-- What a job asks a run, with the targets of an index.
+abbrev pub request_of_job : JobParts → List IndexEntry → Request
+request_of_job job index = record { targets = names_of index; max_bytes = byte_limit; options = job.options; arguments = job.targets }

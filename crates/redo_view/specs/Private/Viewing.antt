@@ -1,58 +1,58 @@
--- What a viewer does, by what it was before. `tells` is what its writer tells.
+-- What a viewer does, from its state before. `written` gives what is known of its writer.
 use Rattle.std.specs.Prelude.{◌≡◌, ℕ, Bool, List, Option, Result}
-use Rattle.redo_device.specs.Sink.{Taken}
+use Rattle.redo_device.specs.Sink.{Output}
 use Rattle.redo_line.specs.declared.entry.How.{How}
 use Rattle.redo_logs.specs.declared.numbered.NumberedEntry.{NumberedEntry}
 use Rattle.redo_logs.specs.Numbering.{name_at}
 use Rattle.redo_view.specs.declared.viewer.ViewFault.{ViewFault}
 use Rattle.redo_view.specs.declared.viewer.Viewer.{Viewer}
-use Rattle.redo_view.specs.Expansion.{Shown, is_among}
-use Rattle.redo_view.specs.Private.Choices.{unless_opened}
-use Rattle.redo_view.specs.Private.Shown.{HasShown, Shows}
-use Rattle.redo_view.specs.Private.Shown as shown
-use Rattle.redo_view.specs.Private.Step as step
-use Rattle.redo_view.specs.Private.Stopped.{Written}
+use Rattle.redo_view.specs.Expansion.{ViewState, is_among}
+use Rattle.redo_view.specs.Private.Branches.{show_target_unless}
+use Rattle.redo_view.specs.Private.Progress.{HasShown, ShowedOrFailed}
+use Rattle.redo_view.specs.Private.Progress as progress
+use Rattle.redo_view.specs.Private.EntryEffect as effect
+use Rattle.redo_view.specs.Private.WriteResult.{WroteOrFailed}
 
 module _ {W : Type 0} where
-  -- it shows the same logs, by the same options, and has the same writer
-  pub record Keeps (before after : Viewer W) : Type 0 where
+  -- Whether the logs, the options and the writer are still the same.
+  pub record KeepsContext (before after : Viewer W) : Type 0 where
     pub logs : after.logs.now ≡ before.logs.now
     pub options : after.options ≡ before.options
     pub out : after.out.ghost_name ≡ before.out.ghost_name
 
-  -- the text of an entry, without that of a log that it opens
+  -- The text of an entry, without the text of a log that it opens.
   abbrev pub own_text : Viewer W → ℕ → NumberedEntry → List ℕ
-  own_text viewer depth entry = step.own_text viewer.logs.now viewer.options depth viewer.seen.now entry
+  own_text viewer depth entry = effect.own_text viewer.logs.now viewer.options depth viewer.visited.now entry
 
-  -- the line of a mention, by whether its target was named
-  abbrev pub line_of : Viewer W → ℕ → ℕ → How → ℕ → List ℕ
-  line_of viewer depth pid how name =
-      step.line_of viewer.options depth pid how (name_at viewer.logs.now.names name) (step.is_marked viewer.seen.now.named.items name)
+  -- The line of a mention, depending on whether its target was named.
+  abbrev pub mention_line : Viewer W → ℕ → ℕ → How → ℕ → List ℕ
+  mention_line viewer depth pid how name =
+      effect.mention_line viewer.options depth pid how (name_at viewer.logs.now.names name) (effect.is_set viewer.visited.now.named.items name)
 
-  -- which names are marked behind an entry
+  -- The visited flags of names after an entry.
   abbrev pub named_after : Viewer W → NumberedEntry → List Bool
-  named_after viewer entry = step.named_after viewer.logs.now viewer.options viewer.seen.now.named.items entry
+  named_after viewer entry = effect.named_after viewer.logs.now viewer.options viewer.visited.now.named.items entry
 
-  -- the number of the log of the target of this name, if it is to be opened
-  abbrev pub opened_by : Viewer W → ℕ → Option ℕ
-  opened_by viewer name = step.opened_by viewer.logs.now viewer.options viewer.seen.now.opened.items name
+  -- The number of the log of the target whose name has this number, if the log is to be opened.
+  abbrev pub log_to_open : Viewer W → ℕ → Option ℕ
+  log_to_open viewer name = effect.log_to_open viewer.logs.now viewer.options viewer.visited.now.opened.items name
 
-  -- the number of the log that an entry opens
-  abbrev pub opened_after : Viewer W → NumberedEntry → Option ℕ
-  opened_after viewer entry = step.opened_after viewer.logs.now viewer.options viewer.seen.now.opened.items entry
+  -- The number of the log that an entry opens, if it opens one.
+  abbrev pub nested_log : Viewer W → NumberedEntry → Option ℕ
+  nested_log viewer entry = effect.nested_log viewer.logs.now viewer.options viewer.visited.now.opened.items entry
 
-  module _ (tells : W → Option Taken) {A : Type 0} where
-    -- what was written of a text
+  module _ (written : W → Option Output) {A : Type 0} where
+    -- How much of a text was written.
     abbrev pub Wrote : Viewer W → Viewer W → List ℕ → Result A ViewFault → Type 0
-    Wrote before after text done = Written (tells before.out.now) (tells after.out.now) text done
+    Wrote before after text done = WroteOrFailed (written before.out.now) (written after.out.now) text done
 
-    -- the log of this number is shown, with all that is opened from it
-    pub record ShowsLog (number : ℕ) (before after : Viewer W) (done : Result A ViewFault) : Type 0 where
-      pub kept : Keeps before after
-      pub shows : shown.ShowsLog before.logs.now before.options number before.seen.now after.seen.now (tells before.out.now) (tells after.out.now) done
+    -- The result of showing the log with this number, including all logs that are opened from it.
+    pub record ShowedLogOrFailed (number : ℕ) (before after : Viewer W) (done : Result A ViewFault) : Type 0 where
+      pub context : KeepsContext before after
+      pub shows : progress.ShowedLogOrFailed before.logs.now before.options number before.visited.now after.visited.now (written before.out.now) (written after.out.now) done
 
-    -- a target that is asked for is shown
-    pub record ShowsAsked (target : List ℕ) (before after : Viewer W) (done : Result A ViewFault) : Type 0 where
-      pub kept : Keeps before after
-      pub shows : (first : Option Taken) (so_far : Shown) → HasShown before.logs.now first (tells before.out.now) before.seen.now so_far
-          → Shows before.logs.now first (tells after.out.now) after.seen.now (unless_opened before.logs.now.logs before.options (is_among target so_far.opened) target so_far) done
+    -- The result of showing a requested target.
+    pub record ShowedTargetOrFailed (target : List ℕ) (before after : Viewer W) (done : Result A ViewFault) : Type 0 where
+      pub context : KeepsContext before after
+      pub shows : (first : Option Output) (so_far : ViewState) → HasShown before.logs.now first (written before.out.now) before.visited.now so_far
+          → ShowedOrFailed before.logs.now first (written after.out.now) after.visited.now (show_target_unless before.logs.now.logs before.options (is_among target so_far.opened) target so_far) done

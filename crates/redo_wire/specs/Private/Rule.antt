@@ -1,5 +1,6 @@
--- The rule of the mailbox: a schedule of the machine leads to a state whose queue is what the channel holds, and every pass
--- knows its part of it.
+-- The rule of the mailbox: what the channel holds, and what every pass knows.
+--
+-- A schedule of the machine leads to a state whose queue is what the channel holds. Every pass knows its part of this state.
 use Rattle.std.specs.Prelude.{◌≡◌, ℕ, ◌+◌, ◌<◌, ◌≤◌, List, [], ◌∷◌, ◌++◌, Option, None, Some, map}
 use Rattle.std.specs.List.{AllByRecursion}
 use mathlib.Core.Option.{some}
@@ -7,11 +8,11 @@ use lib.ListN.{get_elem?}
 use Rattle.redo_wire.specs.declared.item.Item.{Item}
 use Rattle.redo_wire.specs.declared.rule.View.{View}
 use Rattle.redo_wire.specs.declared.rule.View.TheVariants.{Idle, Starting, Posting, Taking}
-use Rattle.redo_wire.specs.Machine.{IsFront, IsReached, IsThere, Posts, State, Takes, of}
-use Rattle.redo_wire.specs.Mailbox.{AreApart, Met, Shows, left_of}
+use Rattle.redo_wire.specs.Machine.{IsPrefix, IsReached, IsLive, Posts, State, Takes, items_of}
+use Rattle.redo_wire.specs.Mailbox.{AreDistinct, Met, Observes, pending_count}
 use Rattle.redo_wire.specs.Private.Ends.{capacity_in, items_in, met_in, number_in, senders_in}
 
--- ---- what a step makes of what is known
+-- ---- a view after a step
 
 abbrev pub with_one_made : View → View
 with_one_made Idle = Idle
@@ -49,19 +50,19 @@ with_got item Starting = Starting
 with_got item (Posting capacity senders number put) = Posting capacity senders number put
 with_got item (Taking capacity senders made got met) = Taking capacity senders made (got ++ item ∷ []) met
 
--- ---- what a pass knows, of a state in which this pass takes and these passes post
+-- ---- what a pass knows of a state: `reader` is the pass that takes, and `seat` gives the pass that posts with a number
 
 module _ (capacity senders reader : ℕ) (seat : ℕ → Option ℕ) (state : State) where
-  -- an end that was met posts no more
-  abbrev pub IsMet : ℕ → Met → Type 0
-  IsMet made met = (met.0 < made) × (seat met.0 ≡ None) × (met.1 ≡ state.posted met.0)
+  -- A met end: it was made, no pass posts with its number any more, and this is what it posted.
+  abbrev pub IsMetEnd : ℕ → Met → Type 0
+  IsMetEnd made met = (met.0 < made) × (seat met.0 ≡ None) × (met.1 ≡ state.posted met.0)
 
   pub record FitsPosting (pass limit ends number : ℕ) (put : List Item) : Type 0 where
     pub limit_is : limit ≡ capacity
     pub ends_are : ends ≡ senders
     pub below : number < senders
     pub seated : seat number ≡ Some pass
-    pub there : IsThere number state
+    pub there : IsLive number state
     pub put_is : put ≡ state.posted number
 
   pub record FitsTaking (pass limit ends made : ℕ) (got : List Item) (met : List Met) : Type 0 where
@@ -73,8 +74,8 @@ module _ (capacity senders reader : ℕ) (seat : ℕ → Option ℕ) (state : St
     pub numbers_are : map (λ (m : Met). m.0) met ≡ state.met
     pub got_is : got ≡ state.taken
     pub unmade : (number : ℕ) → made ≤ number → (seat number ≡ None) × (state.posted number ≡ [])
-    pub met_are : AllByRecursion (IsMet made) met
-    pub apart : AreApart met
+    pub met_are : AllByRecursion (IsMetEnd made) met
+    pub apart : AreDistinct met
 
   pub record FitsStarting (pass : ℕ) : Type 0 where
     pub reads : pass ≡ reader
@@ -87,7 +88,7 @@ module _ (capacity senders reader : ℕ) (seat : ℕ → Option ℕ) (state : St
   Fits pass (Posting limit ends number put) = FitsPosting pass limit ends number put
   Fits pass (Taking limit ends made got met) = FitsTaking pass limit ends made got met
 
-pub record Rules (items : List Item) (views : List View) : Type 0 where
+pub record Invariant (items : List Item) (views : List View) : Type 0 where
   pub capacity : ℕ
   pub senders : ℕ
   pub reader : ℕ
@@ -97,38 +98,39 @@ pub record Rules (items : List Item) (views : List View) : Type 0 where
   pub reached : IsReached capacity senders state
   pub fit : (pass : ℕ) (view : View) → get_elem? views pass ≡ some view → Fits capacity senders reader seat state pass view
 
--- ---- what is told
+-- ---- what a pass learns
 
--- of each end that was met, what was taken is a front of what it posted; and what they posted and wasn't taken is less than
--- fits
+-- For each met end, the items taken from it are a prefix of the items that it posted. The items that the met ends posted and
+-- that are still to be taken are fewer than the capacity.
 abbrev pub KnowsMet : View → Type 0
 KnowsMet Idle = Unit {0}
 KnowsMet Starting = Unit {0}
 KnowsMet (Posting capacity senders number put) = Unit {0}
 KnowsMet (Taking capacity senders made got met) =
-    AllByRecursion (λ (m : Met). IsFront (of m.0 got) m.1) met × (left_of got met < capacity)
+    AllByRecursion (λ (m : Met). IsPrefix (items_of m.0 got) m.1) met × (pending_count got met < capacity)
 
--- an item was put by a step of the machine, from a state that a schedule leads to
+-- An item was put by a step of the machine, from a state that a schedule leads to.
 abbrev pub KnowsPost : View → Item → View → Type 0
 KnowsPost view item now =
-    (before after : State) × IsReached (capacity_in view) (senders_in view) before × IsThere (number_in view) before × (items_in view ≡ before.posted (number_in view))
+    (before after : State) × IsReached (capacity_in view) (senders_in view) before × IsLive (number_in view) before × (items_in view ≡ before.posted (number_in view))
     × Posts (capacity_in view) (number_in view) item before after × (items_in now ≡ after.posted (number_in view))
 
--- the machine took the front, from a state that a schedule leads to
+-- The front was taken by a step of the machine, from a state that a schedule leads to.
 abbrev pub KnowsStep : View → Item → View → Type 0
 KnowsStep view item now =
-    (before after : State) × IsReached (capacity_in view) (senders_in view) before × Shows (items_in view) (met_in view) before × Takes item before after
-    × Shows (items_in now) (met_in now) after
+    (before after : State) × IsReached (capacity_in view) (senders_in view) before × Observes (items_in view) (met_in view) before × Takes item before after
+    × Observes (items_in now) (met_in now) after
 
--- a schedule leads to a state that is known, and that holds this
+-- A schedule leads to a state that the view shows and whose queue is `items`.
 abbrev pub KnowsState : View → List Item → Type 0
-KnowsState view items = (state : State) × IsReached (capacity_in view) (senders_in view) state × Shows (items_in view) (met_in view) state × (state.queued ≡ items)
+KnowsState view items = (state : State) × IsReached (capacity_in view) (senders_in view) state × Observes (items_in view) (met_in view) state × (state.queued ≡ items)
 
--- what the mailbox holds completes what was taken
+-- What the take end knows if the mailbox holds `items`: with them, all that the met ends posted was taken, each item is a
+-- sender's, no end was met twice, and a schedule leads to this state.
 abbrev pub KnowsOf : View → List Item → Type 0
 KnowsOf Idle items = ⊥
 KnowsOf Starting items = ⊥
 KnowsOf (Posting capacity senders number put) items = ⊥
 KnowsOf (Taking capacity senders made got met) items =
-    AllByRecursion (λ (m : Met). m.1 ≡ of m.0 (got ++ items)) met × AllByRecursion (λ (item : Item). item.sender < senders) (got ++ items) × AreApart met
+    AllByRecursion (λ (m : Met). m.1 ≡ items_of m.0 (got ++ items)) met × AllByRecursion (λ (item : Item). item.sender < senders) (got ++ items) × AreDistinct met
     × KnowsState (Taking capacity senders made got met) items

@@ -3,7 +3,7 @@ use Rattle.redo_device.specs.Pieces.{from_first_byte}
 use Rattle.redo_device.specs.Private.Pieces.{unread}
 use Rattle.redo_device.proofs.pieces.next_byte.Given as goal
 
--- the reads that were passed over gave no byte
+-- The reads that were skipped had no byte left.
 abbrev pub invariant-loop-at : goal.invariant-loop-at
 invariant-loop-at l =
     let reads = map (λ read. read.items) l.reads in

@@ -1,13 +1,13 @@
 use Rattle.std.proofs.Common.{◌≡◌, length, zip, sym, ◌∙◌, arith}
 use Rattle.std.proofs.lemmas.Result.{err_from_is_err_and}
-use Rattle.redo_gather.specs.Streams.{told_by}
+use Rattle.redo_gather.specs.Streams.{known_input}
 use Rattle.redo_gather.proofs.EnteredLemmas.{begins_empty, gathered_of, has_room, one_for_each}
 use Rattle.redo_gather.proofs.GatheredLemmas.{none_asked}
 use Rattle.redo_gather.proofs.MarkLemmas.{count_zip}
 use Rattle.redo_gather.proofs.gathering.gather_with_keys.Goals as goal
 
-pub enter_all-requires : goal.enter_all-requires
-enter_all-requires g c = record { distinct = c.requires.distinct; size = c.requires.size }
+pub new_table-requires : goal.new_table-requires
+new_table-requires g c = record { distinct = c.requires.distinct; size = c.requires.size }
 
 pub returns-in_err-table : goal.returns-in_err-table
 returns-in_err-table g c =
@@ -17,8 +17,8 @@ returns-in_err-table g c =
 pub returns-then-senders-eq0 : goal.returns-then-senders-eq0
 returns-then-senders-eq0 g c =
     let empty : length c.in_ok-table.table ≡ 0 = omega (arith, c.senders.ensures.limits, c.len.ensures.len, c.min-senders.ensures, c.if-senders-eq0.true) in
-    let gathered = none_asked (told_by g.R.Feed.tells) c.args.plan.now.max_bytes c.args.names.items (zip c.args.marks.items c.args.readers.items) c.in_ok-table.table c.in_ok-table.ensures
-    (count_zip c.args.marks.items c.args.readers.items (c.requires.readers ∙ sym c.requires.marks) ∙ c.requires.readers) empty in record {
+    let gathered = none_asked (known_input g.R.Feed.contents) c.args.plan.now.max_bytes c.args.names.items (zip c.args.flags.items c.args.readers.items) c.in_ok-table.table c.in_ok-table.ensures
+    (count_zip c.args.flags.items c.args.readers.items (c.requires.readers ∙ sym c.requires.flags) ∙ c.requires.readers) empty in record {
       logs = gathered.logs;
       targets = gathered.targets;
       ended = gathered.ended;
@@ -27,8 +27,8 @@ returns-then-senders-eq0 g c =
       no_memory = tt;
     }
 
-pub with_marks-requires : goal.with_marks-requires
-with_marks-requires g c = c.requires.readers ∙ sym c.requires.marks
+pub zip_flags-requires : goal.zip_flags-requires
+zip_flags-requires g c = c.requires.readers ∙ sym c.requires.flags
 
 pub returns-in_err-readers : goal.returns-in_err-readers
 returns-in_err-readers g c =
@@ -40,7 +40,7 @@ gather_by-requires-clause-begins g c κs within = begins_empty c.args.names.item
 
 pub gather_by-requires-clause-readers : goal.gather_by-requires-clause-readers
 gather_by-requires-clause-readers g c κs within =
-    one_for_each c.args.names.items c.in_ok-table.table c.in_ok-table.ensures _ c.args.marks.items c.args.readers.items _ c.in_ok-readers.ensures c.requires.marks c.requires.readers
+    one_for_each c.args.names.items c.in_ok-table.table c.in_ok-table.ensures _ c.args.flags.items c.args.readers.items _ c.in_ok-readers.ensures c.requires.flags c.requires.readers
 
 pub gather_by-requires-clause-size : goal.gather_by-requires-clause-size
 gather_by-requires-clause-size g c κs within = has_room c.args.names.items c.in_ok-table.table c.in_ok-table.ensures c.requires.size
@@ -54,8 +54,8 @@ gather_by-requires-clause-senders g c κs within =
 
 pub returns : goal.returns
 returns g c =
-    let gathered = gathered_of c.args.names.items c.in_ok-table.table c.in_ok-table.ensures _ c.args.marks.items c.args.readers.items _ c.in_ok-readers.ensures
-    g.R.Feed.tells c.args.plan.now.max_bytes c.gather_by.result c.gather_by.ensures.gathered in record {
+    let gathered = gathered_of c.args.names.items c.in_ok-table.table c.in_ok-table.ensures _ c.args.flags.items c.args.readers.items _ c.in_ok-readers.ensures
+    g.R.Feed.contents c.args.plan.now.max_bytes c.gather_by.result c.gather_by.ensures.gathered in record {
       logs = gathered.logs;
       targets = gathered.targets;
       ended = gathered.ended;

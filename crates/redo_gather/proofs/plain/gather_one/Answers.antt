@@ -4,7 +4,7 @@ use Rattle.std.proofs.lemmas.Option.{slice_get_within}
 use Rattle.redo_device.specs.Feed.{SomeStream}
 use Rattle.redo_line.specs.Source.{log_from, source}
 use Rattle.redo_logs.specs.declared.log_state.LogState.TheVariants.{Running}
-use Rattle.redo_logs.specs.Logs.{Log, changed, states_of}
+use Rattle.redo_logs.specs.Logs.{Log, update_log, states_of}
 use Rattle.redo_gather.specs.Private.Storing.{HasFault, completed}
 use Rattle.redo_gather.proofs.GatheredLemmas.{of_stream}
 use Rattle.redo_gather.proofs.OwedLemmas.{is_fault, is_log, no_fault_left}
@@ -17,7 +17,7 @@ name-requires g c =
 
 pub returns-in-Some-clause-fault : goal.returns-in-Some-clause-fault
 returns-in-Some-clause-fault g c target here =
-    let told = g.R.Feed.tells c.args.reader.now in
+    let known = g.R.Feed.contents c.args.reader.now in
     let max_bytes = c.args.max_bytes in
     let log = c.read_stream-log.result in
     let fault = c.in-Some.fault in
@@ -27,8 +27,8 @@ returns-in-Some-clause-fault g c target here =
     of_stream (Unit {0}) c.args.number fault _
     (λ other. (
       refl,
-      subst (λ (of : List ℕ). HasFault max_bytes (source of c.args.must_close told) fault) same
-          (is_fault max_bytes (source c.in_ok-target.target c.args.must_close told) log.entries log.fault c.read_stream-log.ensures.owed fault c.in-Some.is other),
+      subst (λ (of : List ℕ). HasFault max_bytes (source of c.args.must_close known) fault) same
+          (is_fault max_bytes (source c.in_ok-target.target c.args.must_close known) log.entries log.fault c.read_stream-log.ensures.expected fault c.in-Some.is other),
     ))
     c.of.result c.of.ensures
 
@@ -40,7 +40,7 @@ store-requires g c = c.requires.runs
 
 pub returns-clause-completed : goal.returns-clause-completed
 returns-clause-completed g c target here =
-    let told = g.R.Feed.tells c.args.reader.now in
+    let known = g.R.Feed.contents c.args.reader.now in
     let max_bytes = c.args.max_bytes in
     let log = c.read_stream-log.result in
     let none = no_fault_left log.fault c.in_default.not-Some in
@@ -49,7 +49,7 @@ returns-clause-completed g c target here =
     let same : c.in_ok-target.target ≡ target = cc (copied, named, here) in record {
       entries = log.entries;
       entries_are =
-          subst (λ (of : List ℕ). SomeStream told (λ stream. log_from max_bytes (source of c.args.must_close stream) ≡ Some log.entries)) same
-          (is_log max_bytes (source c.in_ok-target.target c.args.must_close told) log.entries log.fault c.read_stream-log.ensures.owed none);
-      table_is = c.in_ok-store.ensures.stored ∙ ap (λ fault. changed c.args.number (completed log.entries fault) c.args.table.now) none;
+          subst (λ (of : List ℕ). SomeStream known (λ stream. log_from max_bytes (source of c.args.must_close stream) ≡ Some log.entries)) same
+          (is_log max_bytes (source c.in_ok-target.target c.args.must_close known) log.entries log.fault c.read_stream-log.ensures.expected none);
+      table_is = c.in_ok-store.ensures.stored ∙ ap (λ fault. update_log c.args.number (completed log.entries fault) c.args.table.now) none;
     }

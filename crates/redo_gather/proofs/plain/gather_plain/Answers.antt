@@ -12,8 +12,8 @@ returns-in_err-room g c =
     let given = err_from_is_err_and c.from_residual.result c.from_residual.ensures.1 in
     rw (given.1, given.2) (record { logs = tt; targets = tt; ended = tt; fault = tt; number = tt; no_memory = tt })
 
-pub enter_all-requires : goal.enter_all-requires
-enter_all-requires g c = record { distinct = c.requires.distinct; size = c.requires.size }
+pub new_table-requires : goal.new_table-requires
+new_table-requires g c = record { distinct = c.requires.distinct; size = c.requires.size }
 
 pub returns-in_err-table : goal.returns-in_err-table
 returns-in_err-table g c =
@@ -25,10 +25,10 @@ gather_into-requires-clause-begins g c = begins_empty c.args.names.items c.in_ok
 
 pub gather_into-requires-clause-readers : goal.gather_into-requires-clause-readers
 gather_into-requires-clause-readers g c =
-    one_for_each c.args.names.items c.in_ok-table.table c.in_ok-table.ensures _ c.args.marks.items c.args.readers.items _ c.in_ok-readers.ensures c.requires.marks c.requires.readers
+    one_for_each c.args.names.items c.in_ok-table.table c.in_ok-table.ensures _ c.args.flags.items c.args.readers.items _ c.in_ok-readers.ensures c.requires.flags c.requires.readers
 
-pub with_marks-requires : goal.with_marks-requires
-with_marks-requires g c = c.requires.readers ∙ sym c.requires.marks
+pub zip_flags-requires : goal.zip_flags-requires
+zip_flags-requires g c = c.requires.readers ∙ sym c.requires.flags
 
 pub returns-in_err-readers : goal.returns-in_err-readers
 returns-in_err-readers g c =
@@ -41,8 +41,8 @@ gather_into-requires-clause-size g c = has_room c.args.names.items c.in_ok-table
 pub returns : goal.returns
 returns g c =
     let result = result_and c.gather_into.result (Ok c.gather_into.new.table) in
-    let gathered = gathered_of c.args.names.items c.in_ok-table.table c.in_ok-table.ensures _ c.args.marks.items c.args.readers.items _ c.in_ok-readers.ensures
-    g.R.Feed.tells c.args.max_bytes result c.gather_into.ensures.gathered in
+    let gathered = gathered_of c.args.names.items c.in_ok-table.table c.in_ok-table.ensures _ c.args.flags.items c.args.readers.items _ c.in_ok-readers.ensures
+    g.R.Feed.contents c.args.max_bytes result c.gather_into.ensures.gathered in
     rw c.and.ensures
     (record {
       logs = gathered.logs;

@@ -1,7 +1,7 @@
 use Rattle.std.proofs.Common.{subst}
 use Rattle.redo_line.specs.Scan.{Scanned}
 use Rattle.redo_line.specs.Source.{source}
-use Rattle.redo_gather.specs.Owed.{IsOwedFor}
+use Rattle.redo_gather.specs.Expected.{IsExpectedFor}
 use Rattle.redo_gather.specs.Private.Reading.{fault_in}
 use Rattle.redo_gather.specs.Sending.{HasPosted, singles_in}
 use Rattle.redo_gather.proofs.PostedLemmas.{last_posted}
@@ -16,7 +16,7 @@ returns g c =
       posted =
           last_posted c.args.stream c.args.end.now between c.post.new.end sent.entries (fault_in c.send_entries-answer.result) sent.posted
           (subst (λ what. HasPosted between c.post.new.end (singles_in between.number c.args.stream what)) c.last_item.ensures c.post.ensures);
-      owed =
-          subst (λ (scan : Scanned). IsOwedFor scan.max_bytes (source scan.target scan.must_close (g.R.Feed.tells c.args.reader.now)) sent.entries (fault_in c.send_entries-answer.result)) c.new-scan.ensures.scan
-          sent.owed;
+      expected =
+          subst (λ (scan : Scanned). IsExpectedFor scan.max_bytes (source scan.target scan.must_close (g.R.Feed.contents c.args.reader.now)) sent.entries (fault_in c.send_entries-answer.result)) c.new-scan.ensures.scan
+          sent.expected;
     }

@@ -7,11 +7,11 @@ loop-digit-init c = none_yet c.args.digits.now
 
 pub overflow_mul-number : goal.overflow_mul-number
 overflow_mul-number c =
-    let small = still_fits _ _ _ c.loop-digit.invariant c.requires.few c.loop-digit-test.true in omega (arith, small)
+    let small = still_fits _ _ _ c.loop-digit.invariant c.requires.at_most c.loop-digit-test.true in omega (arith, small)
 
 pub overflow_add-number : goal.overflow_add-number
 overflow_add-number c =
-    let small = still_fits _ _ _ c.loop-digit.invariant c.requires.few c.loop-digit-test.true in
+    let small = still_fits _ _ _ c.loop-digit.invariant c.requires.at_most c.loop-digit-test.true in
     let low = digit_is (get_or c.args.digits.now c.loop-digit.digit-index 0) (digit_at c.args.digits.now c.loop-digit.digit-index c.requires.all c.loop-digit-test.true) in
     omega (arith, small, low.0, low.1, c.from.ensures)
 

@@ -7,7 +7,7 @@ use Rattle.redo_line.proofs.line.read_into.Goals as goal
 pub returns-in_err-push_line-clause-read : goal.returns-in_err-push_line-clause-read
 returns-in_err-push_line-clause-read c =
     let text = is_text c.args.target.now (line_bytes c.args.line) c.bytes.result.now true c.bytes.ensures (sym c.is_candidate.ensures ∙ c.if-is_candidate.false) in
-    refused_into c.from_residual.result _ _ _ _ c.from_residual.ensures (no_memory _ _ text) c.in_err-push_line.ensures.err
+    refused_into c.from_residual.result _ _ _ _ c.from_residual.ensures (no_memory _ _ text) c.in_err-push_line.ensures.unchanged_on_err
 
 pub returns-clause-read : goal.returns-clause-read
 returns-clause-read c =

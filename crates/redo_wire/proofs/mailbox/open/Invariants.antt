@@ -1,5 +1,5 @@
 use Rattle.redo_wire.proofs.mailbox.open.Given as goal
 
--- the numbers of the type are those that were asked for
+-- The numbers of the type are the arguments.
 abbrev pub ghosts-open_sized : goal.ghosts-open_sized
 ghosts-open_sized a = record { capacity = a.capacity; senders = a.senders }

@@ -1,4 +1,4 @@
--- The struct has no bytes, and a proof by hand gives its ghost field: here one more than what the reference shows.
+-- The struct has no bytes. This proof by hand gives its ghost field a value: one more than the count that the reference shows.
 use Rattle.std.proofs.Common.{◌+◌, [], ◌∷◌, refl}
 use Rattle.std.proofs.raw_atomic.Walks.{proved}
 use base.Fml.{ftrue}

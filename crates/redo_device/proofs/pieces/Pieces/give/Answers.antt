@@ -1,7 +1,7 @@
 use Rattle.std.proofs.lemmas.Grind.{common_steps}
 use Rattle.std.proofs.Common.{◌≡◌, ◌+◌, ◌-◌, ◌<◌, ◌++◌, ℕ, List, [], Ok, length, get_or, drop, take, map, arith, ap, sym, subst, ◌∙◌}
 use Rattle.std.proofs.lemmas.List.{get_or-map, length-map}
-use Rattle.redo_device.specs.Pieces.{Reads, GivesFirst, from_first_byte}
+use Rattle.redo_device.specs.Pieces.{Reads, ReadsNext, from_first_byte}
 use Rattle.redo_device.specs.Private.Pieces.{unread}
 use Rattle.redo_device.proofs.PieceLemmas.{copies_front}
 use Rattle.redo_device.proofs.pieces.Pieces.give.Goals as goal
@@ -21,7 +21,7 @@ returns c =
     let count : from + n - from ≡ n = omega arith in
     let copied : c.copy_from_slice.new.self ≡ take n (drop from read) =
     c.copy_from_slice.ensures.after ∙ ap (λ (k : ℕ). take k (drop from c.deref-2.result.now)) count ∙ ap (λ (b : List ℕ). take n (drop from b)) c.deref-2.ensures.value in
-    subst (λ (s : Reads). GivesFirst (from_first_byte s.reads) s.fails after (Ok n) (c.copy_from_slice.new.self ++ drop n c.args.buf.now)) c.self.view_is
+    subst (λ (s : Reads). ReadsNext (from_first_byte s.reads) s.fails after (Ok n) (c.copy_from_slice.new.self ++ drop n c.args.buf.now)) c.self.view_is
     (copies_front (unread reads inside.at inside.from) reads inside.fails at from n read c.args.buf.now c.copy_from_slice.new.self here (rw length-map below) read_is (omega (arith, c.index-read.result.now.ok.0)) copied)
 
 pub returns-then-self-len : goal.returns-then-self-len

@@ -1,6 +1,6 @@
 use Rattle.std.proofs.Common.{List, ℕ, [], ◌∷◌, ◌++◌, take, ap, sym, ◌∙◌}
 use Rattle.redo_index.specs.Index.{names_of}
-use Rattle.redo_index.proofs.Listing.{take-next}
+use Rattle.redo_index.proofs.IndexEntries.{take-next}
 use Rattle.redo_index.proofs.index.Index.names.Goals as goal
 
 pub loop-i-preserved : goal.loop-i-preserved

@@ -4,4 +4,4 @@ use Rattle.redo_line.proofs.LineLemmas.{rest-free}
 use Rattle.redo_line.proofs.cutter.Cutter.new.Goals as goal
 
 pub invariant_of-result : goal.invariant_of-result
-invariant_of-result c = c.new.ensures ∙ sym (ap rest c.none.ensures ∙ rest-free [] tt)
+invariant_of-result c = c.new.ensures ∙ sym (ap rest c.empty.ensures ∙ rest-free [] tt)

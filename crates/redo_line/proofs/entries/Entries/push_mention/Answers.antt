@@ -9,8 +9,8 @@ invariant_of-self-in_err-push c =
     same_counted c.args.self.now c.self.inside.bytes.items c.self.inside.names.items c.self.inside.places.items c.self.inside.count c.self.view_is c.self.invariant _ _ _
     (front_same _ _ refl) (front_put _ c.args.name.now _ c.in_ok-start.ensures.put) c.in_err-push.ensures.items
 
-pub returns-in_err-push-clause-err : goal.returns-in_err-push-clause-err
-returns-in_err-push-clause-err c =
+pub returns-in_err-push-clause-unchanged_on_err : goal.returns-in_err-push-clause-unchanged_on_err
+returns-in_err-push-clause-unchanged_on_err c =
     MatchResult-from_err c.from_residual-in_err-push.result _ _ c.from_residual-in_err-push.ensures.0
     (λ fault. same_seen c.args.self.now c.self.inside.bytes.items c.self.inside.names.items c.self.inside.places.items c.self.inside.count c.self.view_is c.self.invariant _ _ _
     (front_same _ _ refl) (front_put _ c.args.name.now _ c.in_ok-start.ensures.put) c.in_err-push.ensures.items)

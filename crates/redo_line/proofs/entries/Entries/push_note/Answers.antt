@@ -7,21 +7,21 @@ use Rattle.redo_line.proofs.entries.Entries.push_note.Goals as goal
 pub invariant_of-self-in_err-end : goal.invariant_of-self-in_err-end
 invariant_of-self-in_err-end c =
     same_counted c.args.self.now c.self.inside.bytes.items c.self.inside.names.items c.self.inside.places.items c.self.inside.count c.self.view_is c.self.invariant _ _ _
-    (front_put _ c.args.kind.now _ (c.in_err-end.ensures.err ∙ c.in_ok-start.ensures.put)) (front_same _ _ refl) refl
+    (front_put _ c.args.kind.now _ (c.in_err-end.ensures.unchanged_on_err ∙ c.in_ok-start.ensures.put)) (front_same _ _ refl) refl
 
-pub returns-in_err-end-clause-err : goal.returns-in_err-end-clause-err
-returns-in_err-end-clause-err c =
+pub returns-in_err-end-clause-unchanged_on_err : goal.returns-in_err-end-clause-unchanged_on_err
+returns-in_err-end-clause-unchanged_on_err c =
     MatchResult-from_err c.from_residual-in_err-end.result _ _ c.from_residual-in_err-end.ensures.0
     (λ fault. same_seen c.args.self.now c.self.inside.bytes.items c.self.inside.names.items c.self.inside.places.items c.self.inside.count c.self.view_is c.self.invariant _ _ _
-    (front_put _ c.args.kind.now _ (c.in_err-end.ensures.err ∙ c.in_ok-start.ensures.put)) (front_same _ _ refl) refl)
+    (front_put _ c.args.kind.now _ (c.in_err-end.ensures.unchanged_on_err ∙ c.in_ok-start.ensures.put)) (front_same _ _ refl) refl)
 
 pub invariant_of-self-in_err-push : goal.invariant_of-self-in_err-push
 invariant_of-self-in_err-push c =
     same_counted c.args.self.now c.self.inside.bytes.items c.self.inside.names.items c.self.inside.places.items c.self.inside.count c.self.view_is c.self.invariant _ _ _
     (put_twice _ c.args.kind.now c.args.text.now _ _ c.in_ok-start.ensures.put c.in_ok-end.ensures.put) (front_same _ _ refl) c.in_err-push.ensures.items
 
-pub returns-in_err-push-clause-err : goal.returns-in_err-push-clause-err
-returns-in_err-push-clause-err c =
+pub returns-in_err-push-clause-unchanged_on_err : goal.returns-in_err-push-clause-unchanged_on_err
+returns-in_err-push-clause-unchanged_on_err c =
     MatchResult-from_err c.from_residual-in_err-push.result _ _ c.from_residual-in_err-push.ensures.0
     (λ fault. same_seen c.args.self.now c.self.inside.bytes.items c.self.inside.names.items c.self.inside.places.items c.self.inside.count c.self.view_is c.self.invariant _ _ _
     (put_twice _ c.args.kind.now c.args.text.now _ _ c.in_ok-start.ensures.put c.in_ok-end.ensures.put) (front_same _ _ refl) c.in_err-push.ensures.items)

@@ -5,43 +5,43 @@ use Rattle.redo_line.proofs.ScanLemmas.{next_lines_fit}
 use Rattle.redo_line.proofs.ScanSteps.{texts_at_once, texts_bytes, texts_count, texts_found}
 use Rattle.redo_line.proofs.progress.Progress.advance.Goals as goal
 
-pub returns-in_err-push_lines-clause-at_once : goal.returns-in_err-push_lines-clause-at_once
-returns-in_err-push_lines-clause-at_once c fault first =
-    let told = c.texts-length.ensures in
-    let some : 0 < c.texts-length.result.1 = let none = c.if-count-eq0.false in omega (arith, none) in
-    absurd (none-some fault (sym (texts_at_once c.args.self.now _ c.self.view_is c.requires.after.0 c.requires.after.1 c.args.piece.now _ c.args.from (take_rest c.args.piece.now c.args.from) c.texts-length.result.0 c.texts-length.result.1
-    told.lines told.place told.room some (told.begun some) (told.begun_log some)) ∙ first))
+pub returns-in_err-push_lines-clause-immediate : goal.returns-in_err-push_lines-clause-immediate
+returns-in_err-push_lines-clause-immediate c fault first =
+    let told = c.leading_text_lines-length.ensures in
+    let some : 0 < c.leading_text_lines-length.result.1 = let none = c.if-count-eq0.false in omega (arith, none) in
+    absurd (none-some fault (sym (texts_at_once c.args.self.now _ c.self.view_is c.requires.after.0 c.requires.after.1 c.args.piece.now _ c.args.from (take_rest c.args.piece.now c.args.from) c.leading_text_lines-length.result.0 c.leading_text_lines-length.result.1
+    told.lines told.range told.in_limit some (told.no_partial_line some) (told.not_closed some)) ∙ first))
 
 pub overflow_add-self-2 : goal.overflow_add-self-2
 overflow_add-self-2 c =
-    next_lines_fit c.args.self.now _ c.self.view_is c.requires.after.0 c.requires.after.1 c.requires.limit c.texts-length.result.1 (omega (arith, c.texts-length.ensures.most, c.ranges.most.fits))
+    next_lines_fit c.args.self.now _ c.self.view_is c.requires.after.0 c.requires.after.1 c.requires.limit c.leading_text_lines-length.result.1 (omega (arith, c.leading_text_lines-length.ensures.most, c.ranges.most.fits))
 
-pub returns-clause-place : goal.returns-clause-place
-returns-clause-place c =
-    let told = c.texts-length.ensures in
-    let some : 0 < c.texts-length.result.1 = let none = c.if-count-eq0.false in omega (arith, none) in
-    let bytes = texts_bytes c.args.self.now _ c.self.view_is c.requires.after.0 c.requires.after.1 c.args.piece.now _ c.args.from (take_rest c.args.piece.now c.args.from) c.texts-length.result.0 c.texts-length.result.1
-    told.lines told.place told.room some (told.begun some) (told.begun_log some) in
-    (omega (arith, bytes), let within = told.place in omega (arith, within, c.requires.from))
+pub returns-clause-range : goal.returns-clause-range
+returns-clause-range c =
+    let told = c.leading_text_lines-length.ensures in
+    let some : 0 < c.leading_text_lines-length.result.1 = let none = c.if-count-eq0.false in omega (arith, none) in
+    let bytes = texts_bytes c.args.self.now _ c.self.view_is c.requires.after.0 c.requires.after.1 c.args.piece.now _ c.args.from (take_rest c.args.piece.now c.args.from) c.leading_text_lines-length.result.0 c.leading_text_lines-length.result.1
+    told.lines told.range told.in_limit some (told.no_partial_line some) (told.not_closed some) in
+    (omega (arith, bytes), let within = told.range in omega (arith, within, c.requires.from))
 
 pub returns-clause-found : goal.returns-clause-found
 returns-clause-found c u after =
-    let told = c.texts-length.ensures in
-    let some : 0 < c.texts-length.result.1 = let none = c.if-count-eq0.false in omega (arith, none) in
-    let count = texts_count c.args.self.now _ c.self.view_is u after c.args.piece.now _ c.args.from (take_rest c.args.piece.now c.args.from) c.texts-length.result.0 c.texts-length.result.1
-    told.lines told.place told.room some (told.begun some) (told.begun_log some) in
+    let told = c.leading_text_lines-length.ensures in
+    let some : 0 < c.leading_text_lines-length.result.1 = let none = c.if-count-eq0.false in omega (arith, none) in
+    let count = texts_count c.args.self.now _ c.self.view_is u after c.args.piece.now _ c.args.from (take_rest c.args.piece.now c.args.from) c.leading_text_lines-length.result.0 c.leading_text_lines-length.result.1
+    told.lines told.range told.in_limit some (told.no_partial_line some) (told.not_closed some) in
     record {
       more = _;
-      finds = texts_found c.args.self.now _ c.self.view_is u after c.args.piece.now _ c.args.from (take_rest c.args.piece.now c.args.from) c.texts-length.result.0 c.texts-length.result.1
-          told.lines told.place told.room some (told.begun some) (told.begun_log some);
+      finds = texts_found c.args.self.now _ c.self.view_is u after c.args.piece.now _ c.args.from (take_rest c.args.piece.now c.args.from) c.leading_text_lines-length.result.0 c.leading_text_lines-length.result.1
+          told.lines told.range told.in_limit some (told.no_partial_line some) (told.not_closed some);
       some = omega (arith, count, some);
       few = omega (arith, count, told.most);
       put = c.in_ok-push_lines.ensures.pushed;
     }
 
-pub returns-clause-at_once : goal.returns-clause-at_once
-returns-clause-at_once c fault first =
-    let told = c.texts-length.ensures in
-    let some : 0 < c.texts-length.result.1 = let none = c.if-count-eq0.false in omega (arith, none) in
-    absurd (none-some fault (sym (texts_at_once c.args.self.now _ c.self.view_is c.requires.after.0 c.requires.after.1 c.args.piece.now _ c.args.from (take_rest c.args.piece.now c.args.from) c.texts-length.result.0 c.texts-length.result.1
-    told.lines told.place told.room some (told.begun some) (told.begun_log some)) ∙ first))
+pub returns-clause-immediate : goal.returns-clause-immediate
+returns-clause-immediate c fault first =
+    let told = c.leading_text_lines-length.ensures in
+    let some : 0 < c.leading_text_lines-length.result.1 = let none = c.if-count-eq0.false in omega (arith, none) in
+    absurd (none-some fault (sym (texts_at_once c.args.self.now _ c.self.view_is c.requires.after.0 c.requires.after.1 c.args.piece.now _ c.args.from (take_rest c.args.piece.now c.args.from) c.leading_text_lines-length.result.0 c.leading_text_lines-length.result.1
+    told.lines told.range told.in_limit some (told.no_partial_line some) (told.not_closed some)) ∙ first))

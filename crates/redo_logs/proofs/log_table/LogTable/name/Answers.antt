@@ -8,7 +8,7 @@ use Rattle.redo_logs.proofs.log_table.LogTable.name.Goals as goal
 
 pub returns : goal.returns
 returns c =
-    let parts = c.self.inside.kept in
+    let parts = c.self.inside.store in
     let logs = c.self.inside.logs.items in
     let below : c.args.i < length logs = omega (arith, c.requires, ap length c.self.view_is, length-map logs (log_of parts)) in
     ap (λ table. slice_get (targets_of table) c.args.i) (sym c.self.view_is)

@@ -9,7 +9,7 @@ use Rattle.redo_logs.proofs.numbered.Numbered.target.Goals as goal
 
 pub returns-clause-is : goal.returns-clause-is
 returns-clause-is c =
-    let parts = c.self.inside.kept.now in
+    let parts = c.self.inside.store.now in
     let logs = c.self.inside.logs.now in
     let below : c.args.i < length logs = omega (arith, c.requires, ap (λ (n : Numbering). length n.logs) c.self.view_is, length-map logs (log_of parts)) in
     ap (λ (n : Numbering). slice_get (targets_of n.logs) c.args.i) (sym c.self.view_is)

@@ -8,5 +8,5 @@ send_as-requires-clause-rule g c = puts_at _ _ _ _ _ _ _ c.self.invariant.view_i
 pub returns-clause-posted : goal.returns-clause-posted
 returns-clause-posted g c = search rules
 
-pub returns-clause-back : goal.returns-clause-back
-returns-clause-back g c = search rules
+pub returns-clause-returned : goal.returns-clause-returned
+returns-clause-returned g c = search rules

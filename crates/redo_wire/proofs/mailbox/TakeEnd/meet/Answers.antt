@@ -1,6 +1,6 @@
 use Rattle.std.proofs.Common.{rules, ◌≡◌, ℕ, List, sym, ap, subst, ◌∙◌}
 use Rattle.redo_wire.specs.declared.item.Item.{Item}
-use Rattle.redo_wire.specs.Mailbox.{IsAmong, Met}
+use Rattle.redo_wire.specs.Mailbox.{IsMet, Met}
 use Rattle.redo_wire.specs.Private.Ends.{mailbox_of}
 use Rattle.redo_wire.specs.Private.Rule.{KnowsOf}
 use Rattle.redo_wire.proofs.Knowing.{collector_meets, first_met, fronts_known, learns_at, meets_at, met_are, schedule_known, with_met_is}
@@ -25,10 +25,10 @@ returns-clause-first g c among =
     let met = met_are c.end.inside.sender c.self.inside.receiver c.self.inside.pass c.end.inside.pass c.end.inside.number c.self.inside.met.items c.self.invariant c.end.invariant
     c.absorb.new.pass c.absorb.ensures.rule c.absorb.ensures.channel.0 in
     first_met _ _ _ _ met c.learn_as.ensures.rule
-    (subst (λ (at : ℕ × List Met). IsAmong at.0 at.1) (λ i. (sym (ap (λ end. end.number) c.end.view_is) i, sym (ap (λ end. end.met) c.self.view_is) i)) among)
+    (subst (λ (at : ℕ × List Met). IsMet at.0 at.1) (λ i. (sym (ap (λ end. end.number) c.end.view_is) i, sym (ap (λ end. end.met) c.self.view_is) i)) among)
 
-pub returns-clause-fronts : goal.returns-clause-fronts
-returns-clause-fronts g c =
+pub returns-clause-prefixes : goal.returns-clause-prefixes
+returns-clause-prefixes g c =
     let knows = subst (λ v. (items : List Item) × KnowsOf v items) (sym c.learn_as.ensures.channel.2) c.learn_as.ensures.rule in
     fronts_known _ knows.0 knows.1
 

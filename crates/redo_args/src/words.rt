@@ -1,0 +1,200 @@
+ghost use Rattle.std.specs.Prelude.{◌≡◌, ◌⊎◌, ◌++◌, None, Some, codes, false, IfOk, IfErr, map};
+ghost use Rattle.std.specs.String.{string_bytes};
+ghost use Rattle.clap.specs.Matches.{found_of};
+ghost use Rattle.clap.specs.Simple.{app_of, matches_of};
+ghost use Rattle.clap.specs.Walk.{rows_of, rule_of};
+ghost use Rattle.redo_args.specs.declared.words_fault.WordsFault.TheVariants.{OutOfMemory};
+ghost use Rattle.redo_args.specs.CommandLine.{flag_rule, flags, letter_rule, number_rule, redo_log, text_rule, values, words_rule};
+ghost use Rattle.redo_args.specs.Private.Arguments.{AreArguments};
+ghost use Rattle.redo_args.specs.Private.Matches.{AreSound};
+ghost use Rattle.redo_args.specs.Words.{fault_of_words, parse_parts};
+
+use crate::job::{Job, job_from_matches};
+use crate::words_fault::WordsFault;
+use clap::{Arg, ArgAction, ArgMatches, Command, value_parser};
+use std::alloc::{AllocError, Global};
+
+const ABOUT: &str =
+    "Shows the logs of a parallel build as one text, as if nothing had run in parallel.";
+
+const AFTER_HELP: &str = "Example:
+  redo-log -r --dir captures all    shows the log of `all`, with the logs of the targets that it mentions
+
+Exit status:
+   0  the text, this help or the version was written
+   2  the command line is invalid
+   3  `names` has a bad line, a duplicate number or name, or too many lines
+   4  a log has a bad record, has data after its closing record, is not closed, or is too long
+   5  a log or `names` can't be read
+   6  the text can't be written
+   7  out of memory, or no thread can be started
+  24  a requested target is not listed";
+
+/// Parses the command-line arguments, without the name of the program:
+///
+/// `[-r|--recursive] [-u|--unchanged] [--no-details] [--debug-locks] [--debug-pids] [--dir DIR]
+/// [--senders N] [--capacity N] TARGET..`
+///
+/// By default, the directory is `.`, the number of senders is 4, and the capacity is 64. Options and
+/// targets may be in any order. Every argument after `--` is a target. A value may be given in the
+/// argument of its option, after `=`; it must be if it begins with `-`, unless it is `-` itself. An
+/// option that is given twice is rejected. If one argument is rejected and another one requests help,
+/// the first of them counts. docs/redo-log.1 has all rules.
+pub fn read_words(alloc: Global, words: Vec<String>) -> Result<Job, WordsFault>
+    // The arguments are valid, and the job is the one that they describe.
+    ensures no_fault { IfOk result (λ _. fault_of_words (map string_bytes words.items) ≡ None) }
+    ensures job { IfOk result (λ job. job ≡ parse_parts (map string_bytes words.items)) }
+
+    // They request help or are rejected; the fault says which. Or memory ran out.
+    ensures fault { IfErr result (λ fault. (fault ≡ OutOfMemory) ⊎ (fault_of_words (map string_bytes words.items) ≡ Some fault)) }
+{
+    let matches = parse_arguments(alloc, words.as_slice())?;
+    job_from_matches(alloc, &matches).map_err(WordsFault::from)
+}
+
+/// Returns the help text: the arguments and options, an example, and the exit statuses. It ends with a
+/// line feed. It also lists `--version`, which `read_words` rejects: the program handles it if it is the
+/// only argument.
+pub fn help_text(alloc: Global) -> Result<String, AllocError> {
+    let mut command = command(alloc)?.version("");
+    let text = command.render_help();
+    drop(command);
+    text
+}
+
+fn command<'a>(alloc: Global) -> Result<Command<'a>, AllocError>
+    ensures { IfOk result (λ command. app_of command ≡ redo_log) }
+{
+    let arguments = arguments(alloc)?;
+    Command::new(alloc, "redo-log")
+        .about(ABOUT)
+        .after_help(AFTER_HELP)
+        .no_binary_name(true)
+        .args(arguments)
+}
+
+// All arguments and options, in the order of the help text.
+fn arguments<'a>(alloc: Global) -> Result<Vec<Arg<'a>>, AllocError>
+    ensures { IfOk result (λ arguments. AreArguments (flags ++ values) arguments.items) }
+{
+    vec![in alloc;
+        letter_flag(
+            alloc,
+            "recursive",
+            'r',
+            "Show the logs of mentioned targets too, each at its first mention",
+        ),
+        letter_flag(
+            alloc,
+            "unchanged",
+            'u',
+            "Show targets that needed no rebuild too"
+        ),
+        flag(
+            alloc,
+            "details",
+            "no-details",
+            ArgAction::SetFalse,
+            "Omit the text lines of logs",
+        ),
+        flag(
+            alloc,
+            "debug_locks",
+            "debug-locks",
+            ArgAction::SetTrue,
+            "Show messages about waiting and locking",
+        ),
+        flag(
+            alloc,
+            "debug_pids",
+            "debug-pids",
+            ArgAction::SetTrue,
+            "Begin each redo line with the pid of its record",
+        ),
+        text_option(
+            alloc,
+            "dir",
+            "DIR",
+            "The capture directory: `names`, and a `log.NUMBER` for each line of it [default: .]",
+        ),
+        number(
+            alloc,
+            "senders",
+            64,
+            "The number of threads that read logs, 1 to 64 [default: 4]"
+        ),
+        number(
+            alloc,
+            "capacity",
+            65_536,
+            "The capacity of the mailbox, 1 to 65536 items of up to 1024 lines each [default: 64]",
+        ),
+        targets(alloc),
+    ]
+    .map_err(AllocError::from)
+}
+
+// An option without a value, with a letter, that is true if it is given.
+fn letter_flag<'a>(alloc: Global, id: &'a str, letter: char, help: &'a str) -> Arg<'a>
+    ensures rule { rule_of result ≡ letter_rule id.entry.now letter }
+    ensures local { result.global ≡ false }
+{
+    flag(alloc, id, id, ArgAction::SetTrue, help).short(letter)
+}
+
+// An option without a value.
+fn flag<'a>(alloc: Global, id: &'a str, long: &'a str, action: ArgAction, help: &'a str) -> Arg<'a>
+    ensures rule { rule_of result ≡ flag_rule id.entry.now long.entry.now action }
+    ensures local { result.global ≡ false }
+{
+    Arg::new(alloc, id)
+        .long(long)
+        .action(action)
+        .value_parser(value_parser!(bool))
+        .help(help)
+}
+
+// An option with a value, which the help text calls `value_name`.
+fn text_option<'a>(alloc: Global, id: &'a str, value_name: &'a str, help: &'a str) -> Arg<'a>
+    ensures rule { rule_of result ≡ text_rule id.entry.now }
+    ensures local { result.global ≡ false }
+{
+    Arg::new(alloc, id)
+        .long(id)
+        .value_name(value_name)
+        .help(help)
+}
+
+// An option with a number from 1 to `greatest`.
+fn number<'a>(alloc: Global, id: &'a str, max: u32, help: &'a str) -> Arg<'a>
+    ensures rule { rule_of result ≡ number_rule id.entry.now max }
+    ensures local { result.global ≡ false }
+{
+    let parser = value_parser!(u32).range(1..=i64::from(max));
+    text_option(alloc, id, "N", help).value_parser(parser)
+}
+
+// The arguments that are not options.
+fn targets<'a>(alloc: Global) -> Arg<'a>
+    ensures rule { rule_of result ≡ words_rule (codes "target") }
+    ensures local { result.global ≡ false }
+{
+    Arg::new(alloc, "target")
+        .value_name("TARGET")
+        .action(ArgAction::Append)
+        .required(true)
+        .help("A target to show: its name in `names`, in any spelling")
+}
+
+// The values that the arguments give to each option.
+fn parse_arguments<'a>(alloc: Global, words: &'a [String]) -> Result<ArgMatches<'a>, WordsFault>
+    ensures sound { IfOk result (λ matches. AreSound (rows_of (found_of matches))) }
+    ensures entries { IfOk result (λ matches. rows_of (found_of matches) ≡ matches_of redo_log (map string_bytes words.entry.now)) }
+    ensures no_fault { IfOk result (λ _. fault_of_words (map string_bytes words.entry.now) ≡ None) }
+    ensures fault { IfErr result (λ fault. (fault ≡ OutOfMemory) ⊎ (fault_of_words (map string_bytes words.entry.now) ≡ Some fault)) }
+{
+    let mut command = command(alloc)?;
+    let found = command.try_get_matches_from_mut(words);
+    drop(command);
+    found.map_err(WordsFault::from)
+}

@@ -1,0 +1,17 @@
+use Rattle.redo_gather.proofs.OwedLaws.{may_owe_all, may_owe_front, owes_fault, owes_in_order, owes_log}
+use Rattle.redo_gather.proofs.laws.expected_for_stream.Goals as goal
+
+pub returns-clause-order : goal.returns-clause-order
+returns-clause-order c = owes_in_order
+
+pub returns-clause-log : goal.returns-clause-log
+returns-clause-log c = owes_log
+
+pub returns-clause-fault : goal.returns-clause-fault
+returns-clause-fault c = owes_fault
+
+pub returns-clause-all : goal.returns-clause-all
+returns-clause-all c = may_owe_all
+
+pub returns-clause-prefix : goal.returns-clause-prefix
+returns-clause-prefix c = may_owe_front

@@ -1,5 +1,0 @@
-use Rattle.redo_gather.proofs.EnteringLemmas.{Entered}
-use Rattle.redo_gather.proofs.storing.enter_each.Given as goal
-
-abbrev pub invariant-loop-name : goal.invariant-loop-name
-invariant-loop-name l = Entered l.fn.names.items l.name-iterator.rest.items l.table

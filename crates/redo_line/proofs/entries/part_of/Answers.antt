@@ -1,6 +1,0 @@
-use Rattle.std.proofs.Common.{drop, ap, ◌∙◌}
-use Rattle.redo_line.proofs.EntriesLemmas.{range_cut}
-use Rattle.redo_line.proofs.entries.part_of.Goals as goal
-
-pub returns : goal.returns
-returns c = c.behind.ensures ∙ ap (drop c.args.start) c.truncate.ensures.items ∙ range_cut c.args.bytes.items c.args.start c.args.end c.requires.order

@@ -1,8 +1,0 @@
-use Rattle.redo_line.proofs.FirstPlace.{parted_at, parted_nowhere}
-use Rattle.redo_line.proofs.parts.split_at_first.Goals as goal
-
-pub returns-in-Some-clause-some : goal.returns-in-Some-clause-some
-returns-in-Some-clause-some c = parted_at c.args.at c.args.bytes.now c.in-Some.place c.in-Some.ensures
-
-pub returns-in-None-clause-none : goal.returns-in-None-clause-none
-returns-in-None-clause-none c = parted_nowhere c.args.at c.args.bytes.now c.in-None.ensures

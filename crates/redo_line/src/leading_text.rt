@@ -1,0 +1,32 @@
+//! Finds many text lines at once.
+ghost use Rattle.std.specs.Prelude.{◌≤◌, length, take};
+ghost use Rattle.redo_line.specs.Private.CutLine.{AreTextLines};
+
+use crate::find::find_near;
+use crate::line::has_record_prefix;
+
+// The number of bytes of a line that are compared one by one. Starting a search takes as long.
+const LINEAR_SEARCH_BYTES: usize = 8;
+
+// Returns the number of bytes of the first text lines, with their line feeds, and the number of these lines. They are
+// the ended lines before the first one that begins with the record prefix, and at most `most`.
+pub fn text_lines(bytes: &[u8], most: u16) -> (usize, u16)
+    ensures lines { AreTextLines (take result.0 bytes.now) result.1 }
+    ensures range { result.0 ≤ length bytes.now }
+    ensures most { result.1 ≤ most }
+{
+    let mut upto = 0;
+    let mut count = 0;
+    'lines: while count < most {
+        let left = &bytes[upto..];
+        if has_record_prefix(left) {
+            break 'lines;
+        }
+        let Some(at) = find_near(LINEAR_SEARCH_BYTES, b'\n', left) else {
+            break 'lines;
+        };
+        upto += at + 1;
+        count += 1;
+    }
+    (upto, count)
+}

@@ -1,6 +1,0 @@
-use Rattle.redo_logs.proofs.KeepingAll.{Keeps}
-use Rattle.redo_logs.proofs.kept.Kept.keep_all.Given as goal
-
--- the first entries are kept
-abbrev pub invariant-loop-place : goal.invariant-loop-place
-invariant-loop-place l = Keeps l.fn.self l.fn.entries l.names.items l.place-items l.block l.shift l.self l.records.items l.place-index

@@ -1,3 +1,0 @@
--- What only clauses of private functions cite: it helps to prove the others, and nobody has to believe it.
-pub mod Arguments
-pub mod Taken

@@ -1,0 +1,257 @@
+"""What people see of a captured build: which target failed, immediately and in one piece, and how to read its log."""
+import os
+import re
+import signal
+import subprocess
+
+from builds import PREFIX, TOOL, failed, last_lines, log_of, make, of_a_terminal, project, ran, said, shown, wait_for, wait_until, write
+from checks import contents, environment
+
+
+def what_failed(checks, at):
+    """The output of a failed recipe is printed before make reports the failure."""
+    makefile = "all: x y\n\t@echo all >&2\nx: ; @for n in 1 2 3; do echo x $$n >&2; sleep 0.0$$n; done; exit 3\ny: ; @for n in 1 2 3; do echo y $$n >&2; sleep 0.0$$n; done; exit $(Y)\n"
+    commands = {name: f"for n in 1 2 3; do echo {name} $n >&2; sleep 0.0$n; done; exit {status}" for name, status in (("x", 3), ("y", 4))}
+    blocks = [said(name, status, commands[name], f"{name} 1\n{name} 2\n{name} 3\n") for name, status in (("x", 3), ("y", 4))]
+    texts = [block + f"make: *** [Makefile:{line}: {name}] Error {status}\n" for block, name, status, line in zip(blocks, "xy", (3, 4), (3, 4))]
+    left = "make: Target 'all' not remade because of errors.\n"
+    folder = project(at("one"), makefile)
+    checks.expect("one fails", make(folder, "-k", "Y=0"), (2, "", texts[0] + left + failed("x")))
+    checks.expect("quietly", make(folder, "-k", "Y=0", options=["--quiet"]), (2, "", "make: *** [Makefile:3: x] Error 3\n" + left + failed("x")))
+    for words in (["-k"], ["-kj2"], ["-kj2", "-O"]):
+        status, out, told = make(project(at(f"two{words}"), makefile), *words, "Y=4")
+        whole = [text + other + left + failed("x", "y") for text, other in (texts, texts[::-1])]
+        apart = [line for line in told.splitlines() if not line.startswith("make:")], [line for line in whole[0].splitlines() if not line.startswith("make:")]
+        if words[0] == "-kj2":
+            # make may report both after both have been shown.
+            checks.expect(f"two fail, {words}", (status, sorted(apart[0]), blocks[0] in told, blocks[1] in told), (2, sorted(apart[1]), True, True))
+        else:
+            checks.expect(f"two fail, {words}", (status, out, told in whole), (2, "", True))
+
+    folder = project(at("lines"), "all:\n\t@echo first >&2\n\t-@echo second >&2; exit 4\n\t@echo third >&2; exit 5\n")
+    text = said("all", 4, "echo second >&2; exit 4", "first\nsecond\n") + "make: [Makefile:3: all] Error 4 (ignored)\n" + said("all", 5, "echo third >&2; exit 5", "third\n") + "make: *** [Makefile:4: all] Error 5\n"
+    checks.expect("a status that make ignores, and one that it doesn't", make(folder), (2, "", text + failed("all")))
+
+    folder = project(at("nothing"), "all: ; @exit 3\n")
+    checks.expect("one that says nothing", make(folder), (2, "", said("all", 3, "exit 3") + "make: *** [Makefile:1: all] Error 3\n" + failed("all")))
+
+    folder = project(at("bytes"), "all: ; @./print\n")
+    write(os.path.join(folder, "print"), "#!/bin/sh\nprintf 'a\\000b\\033[1m\\377\\n@@REDO:hint:7:1@@ x\\nend' >&2; exit 3\n")
+    os.chmod(os.path.join(folder, "print"), 0o755)
+    done = subprocess.run([TOOL, "make"], cwd=folder, env=environment(), capture_output=True)
+    checks.expect("bytes as they are, without records", done.stderr.startswith(b"redo-log-capture: all (exit 3)\n./print\na\0b\33[1m\xff\nend\nmake: *** "), True)
+
+
+def below(checks, at):
+    """For sub-makes of a recipe: the failed recipe of the sub-make is shown, and then the output of the recipe that started it."""
+    folder = project(at("below"), ".PHONY: lib\nall: need lib\nlib: ; @echo lib >&2; $(MAKE) -s -C lib z; echo no >&2; exit 1\nneed: ; @echo need >&2\n")
+    write(os.path.join(folder, "lib/Makefile"), "z: y ; @echo z >&2; exit 3\ny: ; @echo y >&2\n")
+    text = said("lib/z", 3, "echo z >&2; exit 3", "z\n")
+    text += said("lib", 1, "echo lib >&2; make -s -C lib z; echo no >&2; exit 1", "lib\nmake[1]: *** [Makefile:1: z] Error 3\nno\n") + "make: *** [Makefile:3: lib] Error 1\n"
+    checks.expect("what failed below a recipe", make(folder, "-s"), (2, "", text + failed("lib/z")))
+
+    folder = project(at("shown"), ".PHONY: lib\nlib: ; @$(MAKE) -s -C lib z\n")
+    write(os.path.join(folder, "lib/Makefile"), "z: ; @echo \"z.c:7: expected ';'\" >&2; exit 3\n")
+    text = "".join(f"    {line}\n" for line in make(folder)[2].splitlines())
+    checks.expect("capture/README.md", text in contents("capture/README.md"), True)
+
+    folder = project(at("same"), "top: ; @$(MAKE) -s -f below.mk\n")
+    write(os.path.join(folder, "below.mk"), "all: ; @echo all >&2; exit 3\n")
+    checks.expect("an `all` of a make below, in the same folder", last_lines(2, make(folder, "-s")[2]), failed("all"))
+
+    folder = project(at("killed"), "all: ; @echo begun >&2; kill -9 $$$$\n")
+    checks.expect("one that is killed", make(folder), (2, "", said("all", 137, "echo begun >&2; kill -9 $$", "begun\n") + "make: *** [Makefile:1: all] Killed\n" + failed("all")))
+
+
+def live(checks, at):
+    folder = project(at("live"), "all: a b c\n\t@echo all >&2\na:\n\t@echo a1 >&2\n\t@echo a2 >&2\nb: ; @true\nc: ; @echo c >&2; exit $(C)\n")
+    a = "redo-log-capture: a\na1\na2\n"
+    checks.expect("all that is said", make(folder, "C=0", options=["--live"]), (0, "", a + "redo-log-capture: c\nc\nredo-log-capture: all\nall\n"))
+    text = a + said("c", 1, "echo c >&2; exit 1", "c\n") + "make: *** [Makefile:7: c] Error 1\n"
+    checks.expect("and what failed", make(folder, "C=1", options=["--live"]), (2, "", text + failed("c")))
+    folder = project(at("both"), "all: ; @echo out; echo err >&2\n")
+    checks.expect("both outputs", make(folder, options=["--live", "--both"]), (0, "", "redo-log-capture: all\nout\nerr\n"))
+
+
+def last_words(checks, at):
+    """The last lines name the failed targets, at most ten, and show how to read their logs."""
+    names = [f"t{number}" for number in range(12)]
+    folder = project(at("many"), f"all: {' '.join(names)}\n{' '.join(names)}: ; @exit 1\n")
+    shown_names = sorted(names)
+    told = make(folder, "-ks", "t0=", options=["--quiet"])[2]
+    text = f"redo-log-capture: {', '.join(shown_names[:10])} and 2 more failed\nredo-log-capture: show all logs: redo-log -r all\n"
+    checks.expect("twelve failed", last_lines(2, told), text)
+    told = make(folder, "-ks", *names[:10], options=["--dir", "ten", "--quiet"])[2]
+    ten = " ".join(sorted(names[:10]))
+    checks.expect("ten failed", last_lines(2, told), failed(*sorted(names[:10]), words=f"--dir ten {ten}").replace("-r all", "-r --dir ten all"))
+
+    folder = project(at("listed"), "all: ; @exit 1\n")
+    write(os.path.join(folder, "names"), "smith\n")
+    text = failed("all", words="--dir capture all").replace("-r all", "-r --dir capture all")
+    checks.expect("where there is another list of names", last_lines(2, make(folder)[2]), text)
+
+    folder = project(at("rule"), "all: a nope ; @echo all >&2\na: ; @echo a >&2\n")
+    why = "make: *** No rule to make target 'nope', needed by 'all'.  Stop.\n"
+    text = why + "redo-log-capture: no recipe failed; see make's own message\nredo-log-capture: show all logs: redo-log -r all\n"
+    checks.expect("no rule", make(folder), (2, "", text))
+    text = "redo-log-capture: no recipe failed; see sh's own message\nredo-log-capture: show all logs: redo-log -r all\n"
+    checks.expect("of a script", last_lines(2, ran(folder, [TOOL, "sh", "-c", "make -s a; exit 3"])[2]), text)
+
+
+def printed_something(checks, at):
+    """The last lines name targets that printed something and did not fail, if not all of them have been shown."""
+    makefile = "all: a b c ; @echo out\na c: ; @echo $@ warns >&2\nb: ; @exit $(B)\n"
+    line = "redo-log-capture: 2 targets that did not fail printed something: redo-log a c\n"
+    folder = project(at("some"), makefile)
+    checks.expect("warnings of a build that succeeds", ran(folder, [TOOL, "make", "B=0"]), (0, "out\n", line))
+    status, _, told = ran(folder, [TOOL, "make", "-k", "B=3"])
+    checks.expect("warnings of a build that fails", (status, last_lines(3, told)), (2, failed("b", printed=("a", "c"))))
+    for options in (["--quiet"], ["--both"], ["--live"]):
+        told = ran(folder, [TOOL, *options, "make", "-s", "B=0"])[2]
+        checks.expect(f"warnings, with {options}", "printed something" in told, False)
+    checks.expect("one warning", ran(folder, [TOOL, "make", "-s", "a"])[2], "redo-log-capture: 1 target that did not fail printed something: redo-log a\n")
+    names = " ".join(f"t{number}" for number in range(11))
+    folder = project(at("many"), f"all: {names}\n{names}: ; @echo $@ >&2\n")
+    checks.expect("many warnings", ran(folder, [TOOL, "make"])[2], "redo-log-capture: 11 targets that did not fail printed something: redo-log -r all\n")
+    checks.expect("no warning", ran(project(at("none"), "all: ; @true\n"), [TOOL, "make"]), (0, "", ""))
+
+
+def heads_of_parents(checks, at):
+    """A recipe that failed only because its sub-make did has no header, unless it printed something else."""
+    folder = project(at("plain"), ".PHONY: lib\nall: lib\nlib: ; @$(MAKE) -s -C lib $(W)\n")
+    write(os.path.join(folder, "lib/Makefile"), "z: w ; @exit 3\nw: ; @$(MAKE) -s v\nv: ; @echo v >&2; exit $(V)\n")
+    inner = said("lib/v", 4, "echo v >&2; exit 4", "v\n")
+    outer = "make[2]: *** [Makefile:3: v] Error 4\nmake[1]: *** [Makefile:2: w] Error 2\nmake: *** [Makefile:3: lib] Error 2\n"
+    checks.expect("two parents that print nothing else", make(folder, "-s", "V=4"), (2, "", inner + outer + failed("lib/v")))
+    folder = project(at("more"), ".PHONY: lib\nall: lib\nlib: ; @$(MAKE) -s -C lib || { echo 'no lib' >&2; exit 1; }\n")
+    write(os.path.join(folder, "lib/Makefile"), "v: ; @exit 4\n")
+    text = said("lib/v", 4, "exit 4") + said("lib", 1, "make -s -C lib || { echo 'no lib' >&2; exit 1; }", "make[1]: *** [Makefile:1: v] Error 4\nno lib\n")
+    checks.expect("a parent that prints something else", make(folder, "-s"), (2, "", text + "make: *** [Makefile:3: lib] Error 1\n" + failed("lib/v")))
+    folder = project(at("own"), ".PHONY: lib\nall: lib\nlib: ; @$(MAKE) -s -C lib\n")
+    write(os.path.join(folder, "lib/Makefile"), "v ; no rule\n")
+    text = said("lib", 2, "make -s -C lib", "Makefile:1: *** missing separator.  Stop.\n") + "make: *** [Makefile:3: lib] Error 2\n"
+    checks.expect("a sub-make that fails by itself", make(folder, "-s"), (2, "", text + failed("lib")))
+
+
+# A line of a recipe, and the command as redo-log-capture shows it.
+COMMANDS = {
+    "a shell": ("@echo 'a  b' >&2; false", "echo 'a  b' >&2; false"),
+    "no shell": ("@false 'a  b' c\\ d '' x=y", "false 'a  b' 'c d' '' x=y"),
+    "several lines": ("@echo a >&2; \\\n\tfalse", "echo a >&2; \\\nfalse"),
+    "a long line": ("@: " + "x" * 20000 + "; false", ": " + "x" * (16000 - len("/bin/sh -c : ")) + " .."),
+}
+
+
+def failed_commands(checks, at):
+    """The command that failed is shown below the line with the target."""
+    for name, (line, command) in COMMANDS.items():
+        told = make(project(at(name), f"all:\n\t{line}\n"))[2]
+        checks.expect(f"a command that failed, {name}", told.startswith(f"redo-log-capture: all (exit 1)\n{command}\n"), True)
+    folder = project(at("bash"), "SHELL = /usr/bin/env bash\n.SHELLFLAGS = -eu -o pipefail -c\nall: ; @false | true\n")
+    checks.expect("a command that failed, another shell", make(folder)[2].startswith("redo-log-capture: all (exit 1)\nfalse | true\nmake: ***"), True)
+    folder = project(at("missing"), "all: ; @./missing x\n")
+    text = "make: ./missing: No such file or directory\nmake: *** [Makefile:1: all] Error 127\n"
+    checks.expect("a command that isn't there", make(folder), (2, "", text + failed("all")))
+    checks.expect("a command that isn't there: its log", "@@ 127 all\n" in log_of(folder, "all"), True)
+
+
+def uncaptured(checks, at):
+    """Recipes are captured whatever a makefile sets that they depend on."""
+    makefile = "all: x y\nx y:\n\t@echo $@ >&2\n\t@echo $@ again >&2\n"
+    for name, front in {"GPATH": "GPATH = .\n", "flags of single targets": "x y: .SHELLFLAGS = -ec\n", "MAKEFILES": "MAKEFILES = none\n"}.items():
+        folder = project(at(name), front + makefile)
+        checks.expect(f"{name}: make", make(folder), (0, "", ""))
+        checks.expect(name, shown(folder, "all"), "redo  all\nredo    x\nx\nx again\nredo    y\ny\ny again\n")
+
+
+def summaries(checks, at):
+    """--summary FILE: a line for each target."""
+    folder = project(at("some"), "all: a d/b\na: ; @sleep 0.3; exit $(A)\nd/b: ; @true\n")
+    path = os.path.join(folder, "sum")
+    write(path, "old\n")
+    checks.expect("a summary: make", make(folder, "-k", "A=3", options=["--quiet", "--summary", "sum"])[0], 2)
+    rows = [re.fullmatch(r"(\d+|-) (\d+\.\d{3}) (\d+) (.*)\n", line).groups() for line in open(path, encoding="utf-8")]
+    checks.expect("a summary", [(row[0], row[2], row[3]) for row in rows], [("3", "2", "a"), ("0", "3", "d/b")])
+    checks.expect("its seconds", (0.3 <= float(rows[0][1]) < 30, float(rows[1][1]) < 30), (True, True))
+    checks.expect("nothing else is left", sorted(os.listdir(folder)), ["Makefile", "capture", "sum"])
+    make(folder, "A=0", options=[f"--summary={path}"])
+    checks.expect("it is replaced", [line.split()[0::3] for line in open(path, encoding="utf-8")], [["0", "a"], ["0", "d/b"]])
+    told = "redo-log-capture: cannot write none/sum: Not a directory\n"
+    write(os.path.join(folder, "none"), "")
+    checks.expect("where it can't be", make(folder, "A=0", options=["--summary", "none/sum"]), (1, "", told))
+    checks.expect("without a name", make(folder, options=["--summary="])[0::2], (2, "redo-log-capture: --summary: no file given\n"))
+
+
+def interrupted(checks, at):
+    """Targets that ran when a build was interrupted or killed are named, and aren't reported as failed."""
+    makefile = "all: a b c\na: ; @exit $(A)\nb c: a ; @touch begun.$@; exec sleep 60\n"
+    for kind, what in ((signal.SIGINT, "interrupted by SIGINT"), (signal.SIGTERM, "interrupted by SIGTERM"), (signal.SIGHUP, "interrupted by SIGHUP")):
+        for to in ("group", "front") if kind == signal.SIGTERM else ("group",):
+            folder = project(at(f"{kind.name}{to}"), makefile)
+            command = [TOOL, "--summary", "sum", "make", "-sj3", "A=0"]
+            build = subprocess.Popen(command, cwd=folder, env=environment(), stderr=subprocess.PIPE, text=True, preexec_fn=of_a_terminal)
+            wait_for(os.path.join(folder, "begun.b"))
+            wait_for(os.path.join(folder, "begun.c"))
+            (os.killpg if to == "group" else os.kill)(build.pid, kind)
+            told = build.communicate(timeout=30)[1]
+            own = [re.sub(r"\d+\.\d s", "N s", line) for line in told.splitlines() if line.startswith("redo-log-capture")]
+            lines = [f"{what}; running: b (N s), c (N s); show their logs: redo-log b c", "show all logs: redo-log -r all"]
+            checks.expect(f"{kind.name} to the {to}", own, [f"redo-log-capture: {line}" for line in lines])
+            rows = [line.split()[0::3] for line in open(os.path.join(folder, "sum"), encoding="utf-8")]
+            checks.expect(f"{kind.name} to the {to}: the summary", [row[1] for row in rows], ["a", "b", "c"])
+    folder = project(at("killed"), "all: a b\na: ; @touch begun; exec sleep 60\nb: ; @echo b >&2; exit 3\n")
+    build = subprocess.Popen([TOOL, "make", "-skj2"], cwd=folder, env=environment(), stderr=subprocess.PIPE, text=True, preexec_fn=of_a_terminal)
+    wait_for(os.path.join(folder, "begun"))
+    wait_until("b has failed", lambda: "@@ 3 b" in log_of(folder, "all"))
+    os.kill(int(subprocess.run(["pgrep", "-P", str(build.pid), "-x", "make"], capture_output=True, text=True).stdout), signal.SIGKILL)
+    told = build.communicate(timeout=30)[1]
+    own = [re.sub(r"\d+\.\d s", "N s", line) for line in told.splitlines()[-3:]]
+    lines = ["make was ended by SIGKILL; running: a (N s); show its log: redo-log a", "b failed; show its log: redo-log b", "show all logs: redo-log -r all"]
+    checks.expect("make is killed", (build.returncode, own), (-signal.SIGKILL, [f"redo-log-capture: {line}" for line in lines]))
+    os.killpg(build.pid, signal.SIGKILL)
+
+
+def refused_directories(checks, at):
+    """A directory that can't be written is reported before anything is started."""
+    folder = project(at("refused"), "all: ; @touch $(TO)\n")
+    text = "redo-log-capture: cannot write {}: {}\n".format
+    checks.expect("below a file", make(folder, options=["--dir", "Makefile/x"]), (1, "", text("Makefile/x", "Not a directory")))
+    checks.expect("a file", make(folder, options=["--dir", "Makefile"]), (1, "", text("Makefile", "Not a directory")))
+    os.makedirs(os.path.join(folder, "locked/old/.capture"))
+    os.chmod(os.path.join(folder, "locked/old"), 0o555)
+    os.chmod(os.path.join(folder, "locked"), 0o555)
+    kept = {f"open/{number}": name for number, name in enumerate(("names", ".capture/lock"))}
+    for directory, name in kept.items():
+        os.makedirs(os.path.join(folder, directory, ".capture"))
+        write(os.path.join(folder, directory, name), "1 all\n")
+        os.chmod(os.path.join(folder, directory, name), 0o444)
+    for path in ("open", *kept, *(f"{directory}/.capture" for directory in kept)):
+        os.chmod(os.path.join(folder, path), 0o777)
+    os.chmod(PREFIX, 0o755)
+    nobody = (lambda: os.setuid(65534)) if os.getuid() == 0 else None
+
+    def answer(directory, *words):
+        command = [TOOL, "--dir", directory, "make", "TO=open/made", *words]
+        done = subprocess.run(command, cwd=folder, env=environment(), capture_output=True, text=True, preexec_fn=nobody)
+        return done.returncode, done.stderr
+
+    for directory in ("locked/new", "locked/old", "locked/new/deep"):
+        checks.expect(f"no leave to write {directory}", answer(directory), (1, text(directory, "Permission denied")))
+    for directory, name in kept.items():
+        checks.expect(f"no leave to write {name}", answer(directory), (1, text(f"{directory}/{name}", "Permission denied")))
+    checks.expect("nothing was made", os.path.exists(os.path.join(folder, "open/made")), False)
+    checks.expect("leave to write another one", (answer("open/new"), os.path.exists(os.path.join(folder, "open/made"))), ((0, ""), True))
+
+    write(os.path.join(folder, "lost.mk"), "all: x y\nx: ; @chmod -R a-w open/lost\ny: x ; @echo y >&2; touch $(TO) $(TO).too; exit $(Y)\n")
+    for status in (0, 3):
+        told = answer("open/lost", "-f", "lost.mk", f"Y={status}")
+        lines = [line for line in told[1].splitlines() if not line.startswith("redo-log-capture: cannot write ")]
+        checks.expect(f"leave is lost in the middle, {status}", (told[0], lines[0]), (2 if status else 1, "y"))
+        checks.expect(f"what is made then, {status}", os.path.exists(os.path.join(folder, "open/made.too")), True)
+        subprocess.run(["chmod", "-R", "u+w", os.path.join(folder, "open/lost")], check=True)
+
+
+PARTS = (
+    what_failed, below, heads_of_parents, failed_commands, live, last_words, printed_something, interrupted, summaries, uncaptured,
+    refused_directories,
+)  # fmt: skip

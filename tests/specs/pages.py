@@ -1,0 +1,198 @@
+"""The generated parts of docs/guarantees.md and docs/mutants.md, and the names that these pages cite.
+
+A part is between a line `<!-- generated: NAME -->` and the next line `<!-- end -->`. What kills each mutant is in killers.txt;
+the rest comes from the files of the crates and of tests/definition_mutants."""
+import functools
+import os
+import re
+import sys
+
+from contracts import NO_CODE, TOP, files, is_private, libraries_of, read
+
+sys.path.insert(0, os.path.join(TOP, "tests/definition_mutants"))
+from kept import crates_kept, kept  # noqa: E402
+
+GUARANTEES, MUTANTS, KILLERS = "docs/guarantees.md", "docs/mutants.md", "tests/specs/killers.txt"
+PART = re.compile(r"^(<!-- generated: ([\w ]+) -->\n)(.*?)(^<!-- end -->$)", re.M | re.S)
+TABLE = re.compile(r"^\| Guarantee \| Clause \| Definition \|\n\|[-|]+\n((?:\|.*\n?)+)", re.M)
+LAWS = "## What each law rules out"
+QUOTED = re.compile(r"`([^`]+)`")
+WORD = re.compile(r"[^\W\d]\w*")
+ENSURES = re.compile(r"^ +ensures\b *(\w*) *\{", re.M)
+# A function and what follows it, up to the next function.
+FUNCTION = re.compile(r"\bfn (\w+)(.*?)(?=\bfn \w|\Z)", re.S)
+# Functions, and clauses that one of them has.
+CITED = re.compile(r"((?:`[\w:]+`, )*`[\w:]+`): (?:requires )?((?:`\w+`, )*`\w+`)")
+
+
+def rows_of_files(specs):
+    """Yields a table of the public files of specs/: per crate, each file after those that it cites, with the numbers of lines."""
+    public = {module: row for module, row in specs.files.items() if not is_private((module,))}
+    yield from ("", "File (lines) | Title", "---|---")
+    for crate in dict.fromkeys(row[0] for row in public.values()):
+        left = [module for module, row in public.items() if row[0] == crate]
+        yield f"**`{crate}`** ({sum(public[module][2] for module in left)}) |"
+        while left:
+            module = next((one for one in left if not cited_in(specs, one) & set(left) - {one}), left[0])
+            left.remove(module)
+            yield f"{public[module][1]} ({public[module][2]}) | {public[module][3]}"
+    yield from (f"**in all** ({sum(row[2] for row in public.values())}) |", "")
+
+
+def cited_in(specs, module):
+    """Returns the modules that the definitions of a module cite."""
+    return {other for (own, _), cites in specs.cites.items() if own == module for other, _ in cites}
+
+
+def mutants():
+    """Returns the mutants of all crates, each with the file that it changes."""
+    found = {}
+    for crate in sorted(os.listdir(os.path.join(TOP, "crates"))):
+        for edit in files(f"crates/{crate}/must-fail", ".edit"):
+            changed = re.findall(r"^file: (?:src/)?(\S+)", read("crates", crate, "must-fail", edit), re.M)
+            found[crate, edit.removesuffix(".edit")] = ", ".join(f"`{file}`" for file in dict.fromkeys(changed))
+    return found
+
+
+def killers():
+    """Returns what kills each mutant according to killers.txt, and the faults of that file."""
+    found, faults, crate = {}, [], None
+    for number, line in enumerate(read(KILLERS).splitlines(), 1):
+        name, _, killer = line.partition(" ")
+        if line.startswith("["):
+            crate = line.strip("[]")
+        elif line.strip() and not line.startswith("#"):
+            faults += [f"{KILLERS}:{number}: {name} has no killer"] * (not killer.strip())
+            faults += [f"{KILLERS}:{number}: {name} is there twice"] * ((crate, name) in found)
+            found[crate, name] = killer.strip()
+    return found, faults
+
+
+def rows_of_mutants():
+    """Yields a table per crate: for each file that its mutants change, these mutants and what kills each."""
+    killed, changed = killers()[0], mutants()
+    for crate in libraries_of("redo_log"):
+        own = {name: file for (other, name), file in changed.items() if other == crate}
+        if own:
+            yield from ("", f"### `{crate}`", "", "Mutant | Killed by", "---|---")
+        for file in sorted(set(own.values())):
+            yield f"**{file}** |"
+            yield from (f"`{name}` | {killed.get((crate, name), '')}" for name in sorted(own) if own[name] == file)
+    yield ""
+
+
+def rows_of_counts():
+    """Yields a table of the numbers of mutants and specification mutants, and of those that rows and laws kill."""
+    yield from ("", "Crate | Mutants | Specification mutants | killed by a row | killed by a law", "---|---|---|---|---")
+    ways = {crate: [wrong.by for wrong in kept(crate)] for crate in crates_kept()}
+    rows = []
+    for crate in libraries_of("redo_log"):
+        own, by = [one for one, _ in mutants() if one == crate], ways.get(crate, [])
+        rows.append((len(own), len(by), by.count("row"), by.count("law")))
+        yield " | ".join([f"`{crate}`", *map(str, rows[-1])])
+    yield from (" | ".join(["in all", *(str(sum(column)) for column in zip(*rows))]), "")
+
+
+def parts(specs):
+    """Returns the rows of each generated part."""
+    return {"files": rows_of_files(specs), "mutants": rows_of_mutants(), "counts": rows_of_counts()}
+
+
+def with_parts(page, texts):
+    """Returns a page with these generated parts."""
+    return PART.sub(lambda part: part[1] + "".join(row + "\n" for row in texts.get(part[2], ())) + part[4], page)
+
+
+def write(specs, *pages):
+    """Writes the generated parts of these pages."""
+    for path in pages:
+        text = with_parts(read(path), {name: list(rows) for name, rows in parts(specs).items()})
+        with open(os.path.join(TOP, path), "w", encoding="utf-8") as file:
+            file.write(text)
+
+
+def stale(specs, path, names):
+    """Yields the differences between some parts of a page and what is generated."""
+    has = {part[2]: part[3].splitlines() for part in PART.finditer(read(path))}
+    for name, rows in parts(specs).items():
+        rows = list(rows)
+        if name in names and name not in has:
+            yield f"{path} has no part '<!-- generated: {name} -->'"
+        elif name in names and has[name] != rows:
+            yield from (f"{path} lacks: {row}" for row in rows if row not in has[name])
+            yield from (f"{path} has a stale row: {row}" for row in has[name] if row not in rows)
+            yield f"{path} is not as generated: tests/specs/run --write writes it"
+
+
+def faults_of_mutants(specs):
+    """Returns the mutants without a line in killers.txt, the lines without a mutant, and what is stale in docs/mutants.md."""
+    (killed, faults), there = killers(), mutants()
+    faults += [f"{KILLERS}: {crate} has no mutant {name}" for crate, name in killed if (crate, name) not in there]
+    faults += [f"{KILLERS} lacks {crate}/must-fail/{name}.edit" for crate, name in there if (crate, name) not in killed]
+    faults += [f"{KILLERS}: {name}: {fault}" for (_, name), cell in killed.items() for fault in unknown(cell)]
+    return faults + list(stale(specs, MUTANTS, ("mutants", "counts")))
+
+
+def faults_of_guarantees(specs):
+    """Returns what docs/guarantees.md cites that does not exist, and what is stale in it."""
+    places = {(module.rsplit(".", 1)[-1], name) for module, name in specs.texts}
+    faults = list(stale(specs, GUARANTEES, ("files",)))
+    for row in (row for table in TABLE.findall(read(GUARANTEES)) for row in table.splitlines()):
+        cells = [cell.strip() for cell in row.strip("|").split(" | ")]
+        faults += [f"{GUARANTEES}: {cells[0][:50]}: not three cells"] * (len(cells) != 3)
+        faults += [f"{GUARANTEES}: {cells[1]}: {fault}" for fault in unknown(cells[1])]
+        for part in cells[-1].split(";"):
+            file, *names = QUOTED.findall(part) or [None]
+            faults += [f"{GUARANTEES}: {file}.antt has no definition {name}" for name in names if (file, name) not in places]
+    return faults
+
+
+def faults_of_laws():
+    """Returns the clauses of laws that have no row in docs/mutants.md, and the rows for anything else."""
+    section = read(MUTANTS).partition(LAWS)[2].split("\n## ")[0]
+    cells = [QUOTED.findall(row.split(" | ")[0]) for row in section.splitlines() if " | " in row]
+    rows = {(law, clause) for law, *clauses in filter(None, cells) for clause in clauses or [""]}
+    there = set()
+    for path in (path for path in sources() if path.endswith("/laws.rt")):
+        for function in re.split(r"^pub fn ", read("crates", path), flags=re.M)[1:]:
+            there |= {(WORD.match(function)[0], clause) for clause in ENSURES.findall(function)}
+    faults = [f"{MUTANTS} has no row for the law {law}: {clause}" for law, clause in sorted(there - rows)]
+    return faults + [f"{MUTANTS} has a row for {law}: {clause}, which is no clause of a law" for law, clause in sorted(rows - there)]
+
+
+def sources():
+    """Returns the source files of all crates."""
+    return [path for path in files("crates", ".rt") if "/src/" in path]
+
+
+@functools.cache
+def words_of_code():
+    """Returns the words of all sources and specs, without comments, and the names of their files."""
+    words = set()
+    for path in sources() + [path for path in files("crates", ".antt") if "/specs/" in path]:
+        text = read("crates", path)
+        words |= set(WORD.findall(NO_CODE.sub(" ", text) if path.endswith(".rt") else re.sub(r"--[^\n]*", "", text)))
+        words.add(os.path.basename(path).rsplit(".", 1)[0])
+    return words
+
+
+@functools.cache
+def clauses_of_code():
+    """Returns the named clauses of the functions with each name, in all crates."""
+    found = {}
+    for path in sources():
+        text = NO_CODE.sub(" ", read("crates", path))
+        for name, contract in FUNCTION.findall(text):
+            found.setdefault(name, set()).update(re.findall(r"\b(?:requires|ensures)\*? +(\w+) *\{", contract))
+    return found
+
+
+def unknown(cell):
+    """Yields the names between backquotes that are not in the sources, and the clauses that no function before the colon has."""
+    yield from (f"`{word}` is not in the sources" for name in QUOTED.findall(cell) for word in WORD.findall(name) if word not in words_of_code())
+    has = clauses_of_code()
+    for functions, clauses in CITED.findall(cell):
+        names = [name.rsplit("::", 1)[-1] for name in QUOTED.findall(functions)]
+        if all(name in has for name in names):
+            known = set().union(*(has[name] for name in names))
+            yield from (f"{functions} has no clause `{clause}`" for clause in QUOTED.findall(clauses) if clause not in known)
