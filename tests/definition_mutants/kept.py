@@ -5,7 +5,7 @@
     old: TEXT                         a line that occurs once in the file (or, after a line `in: NAME`, in this definition of it)
     new: TEXT                         in which ⏎ ends a line (more of these may follow, also for other files)
     by: row NameRows.computed         what kills it: an example in the crate's proofs/, ..
-    by: law one_cutting.only          .. or a clause in its src/laws.rt; for a law with one clause only the law's name
+    by: law splitting_is_unique.only  .. or a clause in its src/laws.rt; for a law with one clause only the law's name
     refuted is = TERM                 a proof that the statement is false then; a law needs it; it may continue on indented lines
 
 Names that the term cites are imported automatically if the crate's files say from where; otherwise a line `use: MODULE.{name}`

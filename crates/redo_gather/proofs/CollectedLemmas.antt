@@ -17,17 +17,17 @@ use Rattle.redo_wire.specs.declared.item.What.TheVariants.{End, Fail, Line, Line
 use Rattle.redo_wire.specs.Machine.{items_of}
 use Rattle.redo_wire.specs.Mailbox.{IsMet, Met}
 use Rattle.redo_gather.specs.declared.collector.Collector.{Collector}
-use Rattle.redo_gather.specs.Expected.{Given, IsComplete}
+use Rattle.redo_gather.specs.Expected.{KnownSource, IsComplete}
 use Rattle.redo_gather.specs.Private.Collecting.{AllTaken, StoresAllTaken, IsNotOutOfMemory, NoneOutOfMemory, PostedExpected, changed_by, step, stored}
-use Rattle.redo_gather.specs.Private.Dealing.{share_of}
+use Rattle.redo_gather.specs.Private.Distribution.{share_of}
 use Rattle.redo_gather.specs.Private.Storing.{state_after}
-use Rattle.redo_gather.specs.Sending.{AreExpected, item_of, line_of, singles, singles_in}
+use Rattle.redo_gather.specs.Sending.{AreExpected, item_of, entry_item, singles, singles_in}
 use Rattle.redo_gather.specs.Streams.{KnownInput}
-use Rattle.redo_gather.proofs.InterleavingLemmas.{interleaved, length-stored, none-on, none_in_told, on, ran_told, run, stored-append}
-use Rattle.redo_gather.proofs.OwedLemmas.{is_whole}
+use Rattle.redo_gather.proofs.InterleavingLemmas.{interleaved, length-stored, none-on, none_in_known, on, ran_known, run, stored-append}
+use Rattle.redo_gather.proofs.ExpectedLemmas.{is_whole}
 use Rattle.redo_gather.proofs.PostedLemmas.{singles-append}
 use Rattle.redo_gather.proofs.SettledLemmas.{AreSettled, IsSettled, log_after}
-use Rattle.redo_gather.proofs.SharesLemmas.{told_of_each}
+use Rattle.redo_gather.proofs.SharesLemmas.{sequence_of_each}
 
 -- ---- one more item
 
@@ -63,7 +63,7 @@ one_line target entries entry others Running = ap (λ (es : List Entry). record 
 one_line target entries entry others Ended = refl
 one_line target entries entry others (Failed fault) = refl
 
-stored_lines : (sender stream : ℕ) (entries : List Entry) (table : List Log) → stored (map (line_of sender stream) entries) table ≡ update_log stream (λ log. with_lines log.state entries log) table
+stored_lines : (sender stream : ℕ) (entries : List Entry) (table : List Log) → stored (map (entry_item sender stream) entries) table ≡ update_log stream (λ log. with_lines log.state entries log) table
 stored_lines sender stream [] table = sym (update_log-same stream (λ log. with_lines log.state [] log) (λ log. log) (λ log. no_line log.target log.entries log.state) table ∙ unchanged stream table)
 stored_lines sender stream (entry ∷ entries) table =
     stored_lines sender stream entries (update_log stream (step (Line entry)) table)
@@ -83,7 +83,7 @@ stored_one sender stream (Lines entries) table =
 stored_one sender stream End table = refl
 stored_one sender stream (Fail fault) table = refl
 
-none_lines : (sender stream : ℕ) (entries : List Entry) → NoneOutOfMemory (map (line_of sender stream) entries)
+none_lines : (sender stream : ℕ) (entries : List Entry) → NoneOutOfMemory (map (entry_item sender stream) entries)
 none_lines sender stream [] = tt
 none_lines sender stream (entry ∷ entries) = ((λ is. absurd (cc)), none_lines sender stream entries)
 
@@ -112,14 +112,14 @@ holds_more names before item table after refused fine holds after_is had _ =
 
 -- ---- single items of each sender
 
-items_of-lines : (own : Bool) (sender number stream : ℕ) (entries : List Entry) → nat_eq number sender ≡ own → items_of sender (map (line_of number stream) entries) ≡ cond own (map (line_of number stream) entries) []
+items_of-lines : (own : Bool) (sender number stream : ℕ) (entries : List Entry) → nat_eq number sender ≡ own → items_of sender (map (entry_item number stream) entries) ≡ cond own (map (entry_item number stream) entries) []
 items_of-lines true sender number stream [] is = refl
 items_of-lines false sender number stream [] is = refl
 items_of-lines true sender number stream (entry ∷ entries) is =
-    ap (λ b. cond b (line_of number stream entry ∷ items_of sender (map (line_of number stream) entries)) (items_of sender (map (line_of number stream) entries))) is
-    ∙ ap (λ items. line_of number stream entry ∷ items) (items_of-lines true sender number stream entries is)
+    ap (λ b. cond b (entry_item number stream entry ∷ items_of sender (map (entry_item number stream) entries)) (items_of sender (map (entry_item number stream) entries))) is
+    ∙ ap (λ items. entry_item number stream entry ∷ items) (items_of-lines true sender number stream entries is)
 items_of-lines false sender number stream (entry ∷ entries) is =
-    ap (λ b. cond b (line_of number stream entry ∷ items_of sender (map (line_of number stream) entries)) (items_of sender (map (line_of number stream) entries))) is
+    ap (λ b. cond b (entry_item number stream entry ∷ items_of sender (map (entry_item number stream) entries)) (items_of sender (map (entry_item number stream) entries))) is
     ∙ items_of-lines false sender number stream entries is
 
 items_of-single : (own : Bool) (sender number stream : ℕ) (what : What) → nat_eq number sender ≡ own → items_of sender (singles_in number stream what) ≡ cond own (singles_in number stream what) []
@@ -152,7 +152,7 @@ items_of-singles sender (item ∷ items) =
     by true is = ap (λ list. singles_in item.sender item.stream item.what ++ list) is
     by false is = is
 
-below_lines : (senders sender stream : ℕ) (entries : List Entry) → sender < senders → AllByRecursion (λ (item : Item). item.sender < senders) (map (line_of sender stream) entries)
+below_lines : (senders sender stream : ℕ) (entries : List Entry) → sender < senders → AllByRecursion (λ (item : Item). item.sender < senders) (map (entry_item sender stream) entries)
 below_lines senders sender stream [] below = tt
 below_lines senders sender stream (entry ∷ entries) below = (below, below_lines senders sender stream entries below)
 
@@ -174,8 +174,8 @@ below_singles senders (item ∷ items) below =
 
 -- ---- the whole table
 
-by_place : (max_bytes : ℕ) (given : List Given) (table : List Log) → length table ≡ length given
-    → ((place : ℕ) (one : Given) → slice_get given place ≡ Some one → (log : Log) × (slice_get table place ≡ Some log) × IsSettled max_bytes one log) → AreSettled max_bytes given table
+by_place : (max_bytes : ℕ) (given : List KnownSource) (table : List Log) → length table ≡ length given
+    → ((place : ℕ) (one : KnownSource) → slice_get given place ≡ Some one → (log : Log) × (slice_get table place ≡ Some log) × IsSettled max_bytes one log) → AreSettled max_bytes given table
 by_place max_bytes [] [] count each = tt
 by_place max_bytes [] (log ∷ table) count each = absurd (omega (arith, count))
 by_place max_bytes (one ∷ given) [] count each = absurd (omega (arith, count))
@@ -186,43 +186,43 @@ by_place max_bytes (one ∷ given) (log ∷ table) count each =
     same : (other : Log) → Some log ≡ Some other → other ≡ log
     same other is = cc
 
-name_there : (names : List (List ℕ)) (known : List KnownInput) (place : ℕ) (one : Given) → slice_get (sources names known) place ≡ Some one → slice_get names place ≡ Some one.target
+name_there : (names : List (List ℕ)) (known : List KnownInput) (place : ℕ) (one : KnownSource) → slice_get (sources names known) place ≡ Some one → slice_get names place ≡ Some one.target
 name_there [] known place one there = absurd (none-some one there)
 name_there (name ∷ names) [] place one there = absurd (none-some one there)
 name_there (name ∷ names) (stream ∷ known) zero one there = same there
   where
     same : Some (source name stream.must_close stream.stream) ≡ Some one → Some name ≡ Some one.target
-    same is = ap (option_map (λ (given : Given). given.target)) is
+    same is = ap (option_map (λ (given : KnownSource). given.target)) is
 name_there (name ∷ names) (stream ∷ known) (suc place) one there = name_there names known place one there
 
-posted_by_number : (max_bytes senders number : ℕ) (given : List Given) (taken : List Item) (met : List Met) → IsMet number met → AllByRecursion (λ (m : Met). m.1 ≡ items_of m.0 taken) met
+posted_by_number : (max_bytes senders number : ℕ) (given : List KnownSource) (taken : List Item) (met : List Met) → IsMet number met → AllByRecursion (λ (m : Met). m.1 ≡ items_of m.0 taken) met
     → AllByRecursion (PostedExpected max_bytes senders given) met → AreExpected max_bytes number (share_of senders number 0 given) (singles (items_of number taken))
-posted_by_number max_bytes senders number given taken [] among whole owes = absurd among
-posted_by_number max_bytes senders number given taken (met ∷ others) (inl same) whole owes =
+posted_by_number max_bytes senders number given taken [] among whole expects = absurd among
+posted_by_number max_bytes senders number given taken (met ∷ others) (inl same) whole expects =
     subst (λ n. AreExpected max_bytes n (share_of senders n 0 given) (singles (items_of n taken))) same
-    (subst (λ items. AreExpected max_bytes met.0 (share_of senders met.0 0 given) (singles items)) whole.0 owes.0)
-posted_by_number max_bytes senders number given taken (met ∷ others) (inr among) whole owes = posted_by_number max_bytes senders number given taken others among whole.1 owes.1
+    (subst (λ items. AreExpected max_bytes met.0 (share_of senders met.0 0 given) (singles items)) whole.0 expects.0)
+posted_by_number max_bytes senders number given taken (met ∷ others) (inr among) whole expects = posted_by_number max_bytes senders number given taken others among whole.1 expects.1
 
 module _ (max_bytes senders : ℕ) (names : List (List ℕ)) (known : List KnownInput) (taken : List Item) (met : List Met) (table : List Log)
     (count : length names ≡ length known) (some : 0 < senders) (all_met : (number : ℕ) → number < senders → IsMet number met)
     (whole : AllByRecursion (λ (m : Met). m.1 ≡ items_of m.0 taken) met) (own : AllByRecursion (λ (item : Item). item.sender < senders) taken)
-    (owes : AllByRecursion (PostedExpected max_bytes senders (sources names known)) met)
+    (expects : AllByRecursion (PostedExpected max_bytes senders (sources names known)) met)
     (holds : (table ≡ stored (singles taken) (map new_log names)) × NoneOutOfMemory (singles taken)) where
-  each : (place : ℕ) (one : Given) → slice_get (sources names known) place ≡ Some one → (log : Log) × (slice_get table place ≡ Some log) × IsSettled max_bytes one log
+  each : (place : ℕ) (one : KnownSource) → slice_get (sources names known) place ≡ Some one → (log : Log) × (slice_get table place ≡ Some log) × IsSettled max_bytes one log
   each place one there =
-      let told_there =
-      told_of_each max_bytes senders (sources names known) (singles taken) some (below_singles senders taken own)
+      let known_there =
+      sequence_of_each max_bytes senders (sources names known) (singles taken) some (below_singles senders taken own)
       (λ sender below. subst (AreExpected max_bytes sender (share_of senders sender 0 (sources names known))) (sym (items_of-singles sender taken))
-      (posted_by_number max_bytes senders sender (sources names known) taken met (all_met sender below) whole owes))
+      (posted_by_number max_bytes senders sender (sources names known) taken met (all_met sender below) whole expects))
       place one there in
-      let entries = told_there.0 in let fault = told_there.1 in
-      let had = none_in_told entries fault (subst (AllByRecursion IsNotOutOfMemory) told_there.2 (none-on place (singles taken) holds.1)) in (
+      let entries = known_there.0 in let fault = known_there.1 in
+      let had = none_in_known entries fault (subst (AllByRecursion IsNotOutOfMemory) known_there.2 (none-on place (singles taken) holds.1)) in (
         record { target = one.target; entries = entries; state = state_after fault },
         ap (λ t. slice_get t place) holds.0 ∙ interleaved (singles taken) (map new_log names) place
             ∙ ap (option_map (run (on place (singles taken)))) (slice_get-map new_log names place ∙ ap (option_map new_log) (name_there names known place one there))
-            ∙ ap (λ whats. Some (run whats (new_log one.target))) told_there.2 ∙ ap Some (ran_told entries fault one.target),
+            ∙ ap (λ whats. Some (run whats (new_log one.target))) known_there.2 ∙ ap Some (ran_known entries fault one.target),
         weaker one.stream (λ stream. IsComplete max_bytes (with_stream stream one) entries fault) (λ stream. record { target = one.target; entries = entries; state = state_after fault } ≡ log_after max_bytes (with_stream stream one))
-            (λ stream is. λ i. record { target = one.target; entries = is.0 i; state = state_after (is.1 i) }) (is_whole max_bytes one entries fault told_there.3 had),
+            (λ stream is. λ i. record { target = one.target; entries = is.0 i; state = state_after (is.1 i) }) (is_whole max_bytes one entries fault known_there.3 had),
       )
 
   count_sources : (names : List (List ℕ)) (known : List KnownInput) → length names ≡ length known → length names ≡ length (sources names known)
@@ -236,8 +236,8 @@ module _ (max_bytes senders : ℕ) (names : List (List ℕ)) (known : List Known
       (ap length holds.0 ∙ length-stored (singles taken) (map new_log names) ∙ length-map names new_log ∙ count_sources names known count) each
 
 -- The table of a collector that took everything.
-pub settled_table : (max_bytes : ℕ) (names : List (List ℕ)) (known : List KnownInput) (collector : Collector) → AllTaken max_bytes names known collector → collector.refused ≡ false
+pub settled_table : (max_bytes : ℕ) (names : List (List ℕ)) (known : List KnownInput) (collector : Collector) → AllTaken max_bytes names known collector → collector.out_of_memory ≡ false
     → AreSettled max_bytes (sources names known) collector.table
 settled_table max_bytes names known collector taken fine =
-    all_settled max_bytes collector.mailbox.mailbox.senders names known collector.mailbox.taken collector.mailbox.met collector.table taken.expected.count taken.expected.some taken.met taken.whole taken.own
+    all_settled max_bytes collector.take_end.mailbox.senders names known collector.take_end.taken collector.take_end.met collector.table taken.expected.count taken.expected.some taken.met taken.whole taken.own
     taken.expected.expected (taken.expected.holds fine)

@@ -4,7 +4,7 @@ use Rattle.std.proofs.lemmas.List.{length-map}
 use Rattle.redo_device.specs.Feed.{Stream}
 use Rattle.redo_logs.specs.Logs.{Log, max_logs, new_log, targets_of}
 use Rattle.redo_gather.specs.declared.gather_fault.GatherFault.{GatherFault}
-use Rattle.redo_gather.specs.Private.Collecting.{IsGathered}
+use Rattle.redo_gather.specs.Gathered.{IsGathered}
 use Rattle.redo_gather.specs.Streams.{known_input, known_inputs}
 use Rattle.redo_gather.proofs.EnteringLemmas.{targets-entered}
 use Rattle.redo_gather.proofs.MarkLemmas.{count_zip}

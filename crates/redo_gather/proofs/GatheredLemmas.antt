@@ -6,18 +6,18 @@ use Rattle.std.proofs.lemmas.List.{append_assoc, append-nil, length-append, leng
 use Rattle.redo_line.specs.declared.stream_fault.StreamFault.{StreamFault}
 use Rattle.redo_line.specs.declared.stream_fault.StreamFault.TheVariants.{BadRecord, AfterClose, TooLong, Read, OutOfMemory, NotClosed}
 use Rattle.redo_device.specs.Feed.{Stream}
-use Rattle.redo_line.specs.Source.{StreamInput, fault_from, log_from, source}
+use Rattle.redo_line.specs.Source.{StreamInput, source_fault, source_log, source}
 use Rattle.redo_logs.specs.declared.log_state.LogState.TheVariants.{Running}
 use Rattle.redo_logs.specs.Logs.{Log, new_log, targets_of, states_of, update_log, has_ended}
 use Rattle.redo_logs.proofs.ChangedLemmas.{update_log-here}
 use Rattle.redo_gather.specs.declared.gather_fault.GatherFault.{GatherFault}
 use Rattle.redo_gather.specs.declared.gather_fault.GatherFault.TheVariants as fault_of_all
-use Rattle.redo_gather.specs.Private.Collecting.{IsGathered}
+use Rattle.redo_gather.specs.Gathered.{IsGathered}
 use Rattle.redo_gather.specs.GatherFault.{IfStreamFault}
 use Rattle.redo_gather.specs.Private.GatherFault.{fault_of_stream}
 use Rattle.redo_gather.specs.Private.Storing.{HasFault, IsCompleted, completed}
 use Rattle.redo_gather.specs.Streams.{MatchKnown, SomeMatchingStreams, KnownInput, complete_log, logs_of, fault_among}
-use Rattle.redo_gather.proofs.StreamLemmas.{whole_logs, one_more, fault_behind, count_told, told-append, any_streams, given_stream}
+use Rattle.redo_gather.proofs.StreamLemmas.{whole_logs, one_more, fault_behind, count_known, known-append, any_streams, given_stream}
 
 -- The first logs of a table are complete, one for each reader that was read to its end. The others are empty.
 pub record Gathered (max_bytes : ℕ) (names : List (List ℕ)) (known : List KnownInput) (table : List Log) : Type 0 where
@@ -26,14 +26,14 @@ pub record Gathered (max_bytes : ℕ) (names : List (List ℕ)) (known : List Kn
   pub streams : List (StreamInput Stream)
   pub logs : List Log
   pub names_are : names ≡ first ++ left
-  pub told_are : MatchKnown known streams
+  pub known_are : MatchKnown known streams
   pub count : length first ≡ length streams
   pub logs_are : logs_of max_bytes first streams ≡ Some logs
   pub table_is : table ≡ logs ++ map new_log left
 
 pub none_gathered : (max_bytes : ℕ) (names : List (List ℕ)) → Gathered max_bytes names [] (map new_log names)
 none_gathered max_bytes names =
-    record { first = []; left = names; streams = []; logs = []; names_are = refl; told_are = tt; count = refl; logs_are = refl; table_is = refl }
+    record { first = []; left = names; streams = []; logs = []; names_are = refl; known_are = tt; count = refl; logs_are = refl; table_is = refl }
 
 targets-append : (logs others : List Log) → targets_of (logs ++ others) ≡ targets_of logs ++ targets_of others
 targets-append [] others = refl
@@ -57,7 +57,7 @@ module _ (max_bytes : ℕ) (names : List (List ℕ)) (known : List KnownInput) (
       ∙ ap (λ ts. so_far.first ++ ts) (targets-new so_far.left) ∙ sym so_far.names_are
 
   number_is : length so_far.first ≡ length known
-  number_is = so_far.count ∙ sym (count_told known so_far.streams so_far.told_are)
+  number_is = so_far.count ∙ sym (count_known known so_far.streams so_far.known_are)
 
   pub count_logs : length table ≡ length names
   count_logs = sym (length-map table (λ (log : Log). log.target)) ∙ ap length targets_are
@@ -91,7 +91,7 @@ module _ (max_bytes : ℕ) (names : List (List ℕ)) (known : List KnownInput) (
     pub one_gathered : (reader : KnownInput) (after : List Log) → IsCompleted max_bytes (length known) (source target reader.must_close reader.stream) table after → Gathered max_bytes names (known ++ reader ∷ []) after
     one_gathered reader after completes =
         let entries = completes.entries in
-        let given = given_stream reader.stream (λ stream. log_from max_bytes (source target reader.must_close stream) ≡ Some entries) completes.entries_are in
+        let given = given_stream reader.stream (λ stream. source_log max_bytes (source target reader.must_close stream) ≡ Some entries) completes.entries_are in
         let log = complete_log target entries in
         let one : StreamInput Stream = record { must_close = reader.must_close; stream = given.0 } in record {
           first = so_far.first ++ target ∷ [];
@@ -99,7 +99,7 @@ module _ (max_bytes : ℕ) (names : List (List ℕ)) (known : List KnownInput) (
           streams = so_far.streams ++ one ∷ [];
           logs = so_far.logs ++ log ∷ [];
           names_are = names_here ∙ sym (append_assoc so_far.first (target ∷ []) next.0);
-          told_are = told-append known (reader ∷ []) so_far.streams (one ∷ []) so_far.told_are ((refl, given.1), tt);
+          known_are = known-append known (reader ∷ []) so_far.streams (one ∷ []) so_far.known_are ((refl, given.1), tt);
           count = let same = so_far.count in omega (arith, length-append so_far.first (target ∷ []), length-append so_far.streams (one ∷ []));
           logs_are =
               one_more max_bytes target one so_far.first so_far.streams so_far.logs log so_far.count so_far.logs_are (ap (λ es. Rattle.std.specs.Option.option_map (complete_log target) es) given.2);
@@ -112,11 +112,11 @@ module _ (max_bytes : ℕ) (names : List (List ℕ)) (known : List KnownInput) (
     pub fault_gathered : (reader : KnownInput) (unread : List KnownInput) (fault : StreamFault) → HasFault max_bytes (source target reader.must_close reader.stream) fault
         → SomeMatchingStreams (known ++ reader ∷ unread) (λ streams. fault_among max_bytes names streams ≡ Some (length known, fault))
     fault_gathered reader unread fault read =
-        let given = given_stream reader.stream (λ stream. fault_from max_bytes (source target reader.must_close stream) ≡ Some fault) read in
+        let given = given_stream reader.stream (λ stream. source_fault max_bytes (source target reader.must_close stream) ≡ Some fault) read in
         let one : StreamInput Stream = record { must_close = reader.must_close; stream = given.0 } in
         let others = any_streams unread in (
           so_far.streams ++ one ∷ others.0,
-          told-append known (reader ∷ unread) so_far.streams (one ∷ others.0) so_far.told_are ((refl, given.1), others.1),
+          known-append known (reader ∷ unread) so_far.streams (one ∷ others.0) so_far.known_are ((refl, given.1), others.1),
           ap (λ ts. fault_among max_bytes ts (so_far.streams ++ one ∷ others.0)) names_here
               ∙ fault_behind max_bytes target one so_far.first so_far.streams so_far.logs next.0 others.0 fault so_far.count so_far.logs_are given.2
               ∙ ap (λ (n : ℕ). Some (n, fault)) number_is,
@@ -137,14 +137,14 @@ module _ (max_bytes : ℕ) (names : List (List ℕ)) (known : List KnownInput) (
         ∙ ap Some (sym (so_far.table_is ∙ ap (λ l. so_far.logs ++ map new_log l) none_left ∙ append-nil so_far.logs))
 
     pub all_gathered : SomeMatchingStreams known (λ streams. logs_of max_bytes names streams ≡ Some table)
-    all_gathered = (so_far.streams, so_far.told_are, whole)
+    all_gathered = (so_far.streams, so_far.known_are, whole)
 
     pub all_targets : targets_of table ≡ names
     all_targets = targets_are
 
     pub all_have_ended : list_all has_ended table ≡ true
     all_have_ended =
-        (whole_logs max_bytes names so_far.streams table (sym all ∙ count_told known so_far.streams so_far.told_are) whole).1
+        (whole_logs max_bytes names so_far.streams table (sym all ∙ count_known known so_far.streams so_far.known_are) whole).1
 
 -- A property of a stream's fault, unless this is `OutOfMemory`, holds of the gathering's fault for it.
 pub of_stream : (A : Type 0) (number : ℕ) (fault : StreamFault) (P : ℕ → StreamFault → Type 0) → (fault ≢ OutOfMemory → P number fault) → (given : GatherFault) → given ≡ fault_of_stream number fault → IfStreamFault {A = A} (Err given) P
@@ -165,12 +165,12 @@ weaker_fault A B P Q follows (fault_of_all.Stream number fault) is = follows num
 weaker_fault A B P Q follows fault_of_all.OutOfMemory is = tt
 
 -- A gathering of no streams has no logs.
-pub none_asked : {A : Type 0} (contents : A → KnownInput) (max_bytes : ℕ) (names : List (List ℕ)) (readers : List A) (table : List Log)
+pub none_requested : {A : Type 0} (contents : A → KnownInput) (max_bytes : ℕ) (names : List (List ℕ)) (readers : List A) (table : List Log)
     → table ≡ map new_log names → length readers ≡ length names → length table ≡ 0 → IsGathered max_bytes names (map contents readers) (Ok table)
-none_asked contents max_bytes [] [] table is same none =
+none_requested contents max_bytes [] [] table is same none =
     subst (λ (t : List Log). IsGathered max_bytes [] [] (Ok t)) (sym is) (record { logs = ([], tt, refl); targets = refl; ended = refl; fault = tt; number = tt })
-none_asked contents max_bytes [] (reader ∷ readers) table is same none = absurd (omega (arith, same))
-none_asked contents max_bytes (name ∷ names) readers table is same none = absurd (omega (arith, ap length is, none))
+none_requested contents max_bytes [] (reader ∷ readers) table is same none = absurd (omega (arith, same))
+none_requested contents max_bytes (name ∷ names) readers table is same none = absurd (omega (arith, ap length is, none))
 
 -- A property of the stream's fault in `given` holds of the fault in `result_and given (Ok value)`.
 pub fault_of_and : (A B : Type 0) (P : ℕ → StreamFault → Type 0) (given : Result A GatherFault) (value : B) → IfStreamFault {A = A} given P → IfStreamFault {A = B} (result_and given (Ok value)) P

@@ -16,7 +16,7 @@ use Rattle.redo_wire.specs.declared.item.What.{What}
 use Rattle.redo_wire.specs.declared.item.What.TheVariants.{Line}
 use Rattle.redo_gather.specs.Private.Collecting.{IsNotOutOfMemory, NoneOutOfMemory, step, stored}
 use Rattle.redo_gather.specs.Private.Storing.{state_after}
-use Rattle.redo_gather.specs.Sending.{item_of, final_what, line_of, stream_items}
+use Rattle.redo_gather.specs.Sending.{item_of, final_what, entry_item, stream_items}
 
 -- The contents of a stream's items, in order.
 abbrev pub on : ℕ → List Item → List What
@@ -100,32 +100,32 @@ ran_lines (entry ∷ entries) others target so_far =
     ran_lines entries others target (so_far ++ entry ∷ [])
     ∙ ap (λ (es : List Entry). run others (record { target = target; entries = es; state = Running })) (append_assoc so_far (entry ∷ []) entries)
 
-pub ran_told : (entries : List Entry) (fault : Option StreamFault) (target : List ℕ)
+pub ran_known : (entries : List Entry) (fault : Option StreamFault) (target : List ℕ)
     → run (map Line entries ++ final_what fault ∷ []) (record { target = target; entries = []; state = Running }) ≡ record { target = target; entries = entries; state = state_after fault }
-ran_told entries fault target = ran_lines entries (final_what fault ∷ []) target [] ∙ by fault
+ran_known entries fault target = ran_lines entries (final_what fault ∷ []) target [] ∙ by fault
   where
     by : (fault : Option StreamFault) → run (final_what fault ∷ []) (record { target = target; entries = entries; state = Running }) ≡ record { target = target; entries = entries; state = state_after fault }
     by None = refl
     by (Some fault) = refl
 
-lines_here : (sender stream : ℕ) (entries : List Entry) → on stream (map (line_of sender stream) entries) ≡ map Line entries
+lines_here : (sender stream : ℕ) (entries : List Entry) → on stream (map (entry_item sender stream) entries) ≡ map Line entries
 lines_here sender stream [] = refl
 lines_here sender stream (entry ∷ entries) =
-    on-own stream (line_of sender stream entry) (map (line_of sender stream) entries) refl ∙ ap (λ whats. Line entry ∷ whats) (lines_here sender stream entries)
+    on-own stream (entry_item sender stream entry) (map (entry_item sender stream) entries) refl ∙ ap (λ whats. Line entry ∷ whats) (lines_here sender stream entries)
 
-lines_else : (sender stream other : ℕ) (entries : List Entry) → stream ≢ other → on other (map (line_of sender stream) entries) ≡ []
+lines_else : (sender stream other : ℕ) (entries : List Entry) → stream ≢ other → on other (map (entry_item sender stream) entries) ≡ []
 lines_else sender stream other [] differ = refl
 lines_else sender stream other (entry ∷ entries) differ =
-    on-other other (line_of sender stream entry) (map (line_of sender stream) entries) differ ∙ lines_else sender stream other entries differ
+    on-other other (entry_item sender stream entry) (map (entry_item sender stream) entries) differ ∙ lines_else sender stream other entries differ
 
-pub told_here : (sender stream : ℕ) (entries : List Entry) (fault : Option StreamFault) → on stream (stream_items sender stream entries fault) ≡ map Line entries ++ final_what fault ∷ []
-told_here sender stream entries fault =
-    on-append stream (map (line_of sender stream) entries) (item_of sender stream (final_what fault) ∷ [])
+pub items_here : (sender stream : ℕ) (entries : List Entry) (fault : Option StreamFault) → on stream (stream_items sender stream entries fault) ≡ map Line entries ++ final_what fault ∷ []
+items_here sender stream entries fault =
+    on-append stream (map (entry_item sender stream) entries) (item_of sender stream (final_what fault) ∷ [])
     ∙ (λ i. lines_here sender stream entries i ++ on-own stream (item_of sender stream (final_what fault)) [] refl i)
 
-pub told_else : (sender stream other : ℕ) (entries : List Entry) (fault : Option StreamFault) → stream ≢ other → on other (stream_items sender stream entries fault) ≡ []
-told_else sender stream other entries fault differ =
-    on-append other (map (line_of sender stream) entries) (item_of sender stream (final_what fault) ∷ [])
+pub items_elsewhere : (sender stream other : ℕ) (entries : List Entry) (fault : Option StreamFault) → stream ≢ other → on other (stream_items sender stream entries fault) ≡ []
+items_elsewhere sender stream other entries fault differ =
+    on-append other (map (entry_item sender stream) entries) (item_of sender stream (final_what fault) ∷ [])
     ∙ (λ i. lines_else sender stream other entries differ i ++ on-other other (item_of sender stream (final_what fault)) [] differ i)
 
 -- ---- memory that ran out
@@ -138,6 +138,6 @@ none-on stream (item ∷ items) none = by (nat_eq item.stream stream) (none-on s
     by true others = (none.0, others)
     by false others = others
 
-pub none_in_told : (entries : List Entry) (fault : Option StreamFault) → AllByRecursion IsNotOutOfMemory (map Line entries ++ final_what fault ∷ []) → fault ≢ Some OutOfMemory
-none_in_told [] fault none is = none.0 (ap final_what is)
-none_in_told (entry ∷ entries) fault none is = none_in_told entries fault none.1 is
+pub none_in_known : (entries : List Entry) (fault : Option StreamFault) → AllByRecursion IsNotOutOfMemory (map Line entries ++ final_what fault ∷ []) → fault ≢ Some OutOfMemory
+none_in_known [] fault none is = none.0 (ap final_what is)
+none_in_known (entry ∷ entries) fault none is = none_in_known entries fault none.1 is

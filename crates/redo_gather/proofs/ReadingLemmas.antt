@@ -10,7 +10,7 @@ use Rattle.redo_line.specs.declared.stream_fault.StreamFault.TheVariants.{Read, 
 use Rattle.redo_device.specs.Feed.{Stream, Pulls, SomeStream}
 use Rattle.redo_line.specs.Laws.{IsPrefix}
 use Rattle.redo_line.specs.Log.{stream_of, entries_of, entries_before_fault, unless_fault}
-use Rattle.redo_line.specs.Source.{Source, fault_from, log_from, source}
+use Rattle.redo_line.specs.Source.{Source, source_fault, source_log, source}
 use Rattle.redo_line.specs.Scan.{Scanned, FindsEntries, IsFaultFree, MayFailWith, ConsumesAll, entries_in, entries_so_far, fault_so_far, so_far, source_in, consume}
 use Rattle.redo_line.proofs.FaultLemmas.{early_fault, early_part, failed_read, failed_part, no_fault}
 use Rattle.redo_device.proofs.GaveLemmas.{Gave, Gave-none, Gave-more, Gave-end, Gave-failed, weaker}
@@ -57,7 +57,7 @@ no_line old new bytes entries takes read = record {
 }
 
 -- The bytes that were consumed of a chunk.
-module _ (scan : Scanned) (piece : List ℕ) where
+module _ (scan : Scanned) (chunk : List ℕ) where
   pub took_nothing : scan.failed_with ≡ None → scan ≡ consume [] scan
   took_nothing none = λ i. record { target = scan.target; max_bytes = scan.max_bytes; must_close = scan.must_close; bytes = sym (append-nil scan.bytes) i; failed_with = none i }
 
@@ -66,40 +66,40 @@ module _ (scan : Scanned) (piece : List ℕ) where
       ap (λ (b : List ℕ). record { target = scan.target; max_bytes = scan.max_bytes; must_close = scan.must_close; bytes = b; failed_with = None })
       (append_assoc scan.bytes front behind ∙ ap (λ (b : List ℕ). scan.bytes ++ b) is)
 
-  module _ (now : Scanned) (from : ℕ) (now_is : now ≡ consume (take from piece) scan) where
-    pub took_to : (new : Scanned) (upto : ℕ) → from ≤ upto → new ≡ consume (slice_range piece from upto) now → new ≡ consume (take upto piece) scan
+  module _ (now : Scanned) (from : ℕ) (now_is : now ≡ consume (take from chunk) scan) where
+    pub took_to : (new : Scanned) (upto : ℕ) → from ≤ upto → new ≡ consume (slice_range chunk from upto) now → new ≡ consume (take upto chunk) scan
     took_to new upto forward new_is =
         let reach : from + (upto - from) ≡ upto = omega arith in
-        new_is ∙ ap (consume (slice_range piece from upto)) now_is
-        ∙ took_both (take from piece) (slice_range piece from upto) (take upto piece) (sym (take-add from (upto - from) piece) ∙ ap (λ n. take n piece) reach)
+        new_is ∙ ap (consume (slice_range chunk from upto)) now_is
+        ∙ took_both (take from chunk) (slice_range chunk from upto) (take upto chunk) (sym (take-add from (upto - from) chunk) ∙ ap (λ n. take n chunk) reach)
 
-    pub took_rest : (new : Scanned) → new ≡ consume (drop from piece) now → new ≡ consume piece scan
-    took_rest new new_is = new_is ∙ ap (consume (drop from piece)) now_is ∙ took_both (take from piece) (drop from piece) piece (take-append-drop from piece)
+    pub took_rest : (new : Scanned) → new ≡ consume (drop from chunk) now → new ≡ consume chunk scan
+    took_rest new new_is = new_is ∙ ap (consume (drop from chunk)) now_is ∙ took_both (take from chunk) (drop from chunk) chunk (take-append-drop from chunk)
 
-    whole : now.bytes ++ drop from piece ≡ scan.bytes ++ piece
+    whole : now.bytes ++ drop from chunk ≡ scan.bytes ++ chunk
     whole =
-        ap (λ (s : Scanned). s.bytes ++ drop from piece) now_is ∙ append_assoc scan.bytes (take from piece) (drop from piece)
-        ∙ ap (λ (b : List ℕ). scan.bytes ++ b) (take-append-drop from piece)
+        ap (λ (s : Scanned). s.bytes ++ drop from chunk) now_is ∙ append_assoc scan.bytes (take from chunk) (drop from chunk)
+        ∙ ap (λ (b : List ℕ). scan.bytes ++ b) (take-append-drop from chunk)
 
     module _ (entries : List Entry) (read : IsRead now entries) where
-      pub cut_in : IsCutIn scan piece entries
+      pub cut_in : IsCutIn scan chunk entries
       cut_in = record {
         bytes = now.bytes;
-        behind = drop from piece;
+        behind = drop from chunk;
         bytes_are = sym whole;
         no_fault = sym (ap (λ (s : Scanned). fault_so_far s.target s.max_bytes now.bytes) now_is) ∙ read.fault_free.no_fault;
         front = ([], sym (ap (λ (s : Scanned). entries_so_far s.target s.max_bytes now.bytes) now_is) ∙ sym read.entries_are ∙ sym (append-nil entries));
       }
 
-      pub refused_behind : (fault : StreamFault) → MayFailWith now (drop from piece) fault → IsRefused scan piece entries fault
+      pub refused_behind : (fault : StreamFault) → MayFailWith now (drop from chunk) fault → IsRefused scan chunk entries fault
       refused_behind fault (inl memory) = inr (cut_in, memory)
       refused_behind fault (inr at_fault) = inl (record {
         fault_is =
             ap (fault_so_far scan.target scan.max_bytes) (sym whole)
-            ∙ ap (λ (s : Scanned). fault_so_far s.target s.max_bytes (now.bytes ++ drop from piece)) (sym now_is) ∙ at_fault.fault_is;
+            ∙ ap (λ (s : Scanned). fault_so_far s.target s.max_bytes (now.bytes ++ drop from chunk)) (sym now_is) ∙ at_fault.fault_is;
         entries_are =
             read.entries_are ∙ sym at_fault.entries
-            ∙ ap (λ (s : Scanned). entries_so_far s.target s.max_bytes (now.bytes ++ drop from piece)) now_is
+            ∙ ap (λ (s : Scanned). entries_so_far s.target s.max_bytes (now.bytes ++ drop from chunk)) now_is
             ∙ ap (entries_so_far scan.target scan.max_bytes) whole;
       })
 
@@ -118,25 +118,25 @@ front_of_front : (first second all : List Entry) → IsPrefix first second → I
 front_of_front first second all one two = (one.0 ++ two.0, two.1 ∙ ap (λ es. es ++ two.0) one.1 ∙ append_assoc first one.0 two.0)
 
 module _ (target : List ℕ) (max_bytes : ℕ) (must_close : Bool) where
-  told_part : (stream : Stream) (fault : StreamFault) → fault_from max_bytes (source target must_close stream) ≡ Some fault
+  known_part : (stream : Stream) (fault : StreamFault) → source_fault max_bytes (source target must_close stream) ≡ Some fault
       → reported_entries max_bytes (source target must_close stream) ≡ entries_before_fault target max_bytes stream
-  told_part stream fault is = ap (λ f. log_or_part (unless_fault f (filter_map (λ entry. entry) (entries_of target stream.bytes))) (entries_before_fault target max_bytes stream)) is
+  known_part stream fault is = ap (λ f. log_or_part (unless_fault f (filter_map (λ entry. entry) (entries_of target stream.bytes))) (entries_before_fault target max_bytes stream)) is
 
   -- Bytes that have a fault, whatever follows them.
   stopped : (known after : Option Stream) (bytes : List ℕ) (fault : StreamFault) (entries : List Entry) → Gave known bytes after → fault ≢ Read → fault_so_far target max_bytes bytes ≡ Some fault
       → entries ≡ entries_so_far target max_bytes bytes → IsExpectedFor max_bytes (source target must_close known) entries (Some fault)
   stopped None after bytes fault entries gave other is are =
       let fault_is = fault_met max_bytes (source target must_close (so_far bytes)) fault is in
-      (so_far bytes, inl (are ∙ sym (told_part (so_far bytes) fault fault_is), sym fault_is))
+      (so_far bytes, inl (are ∙ sym (known_part (so_far bytes) fault fault_is), sym fault_is))
   stopped (Some stream) after bytes fault entries gave other is are =
       let all = same_stream stream (bytes ++ gave.0.bytes) stream.fails gave.2 refl in
       let fault_is = fault_met max_bytes (source target must_close (stream_of (bytes ++ gave.0.bytes) stream.fails)) fault (early_fault target max_bytes bytes gave.0.bytes false stream.fails fault other is) in
       subst (λ (s : Stream). IsExpected max_bytes (source target must_close s) entries (Some fault)) all
-      (inl (are ∙ sym (early_part target max_bytes bytes gave.0.bytes false stream.fails fault other is) ∙ sym (told_part _ fault fault_is), sym fault_is))
+      (inl (are ∙ sym (early_part target max_bytes bytes gave.0.bytes false stream.fails fault other is) ∙ sym (known_part _ fault fault_is), sym fault_is))
 
-  front_told : (bytes : List ℕ) (entries : List Entry) → fault_so_far target max_bytes bytes ≡ None → IsPrefix entries (entries_so_far target max_bytes bytes)
+  front_known : (bytes : List ℕ) (entries : List Entry) → fault_so_far target max_bytes bytes ≡ None → IsPrefix entries (entries_so_far target max_bytes bytes)
       → (more : List ℕ) (fails : Bool) → IsPrefix entries (reported_entries max_bytes (source target must_close (stream_of (bytes ++ more) fails)))
-  front_told bytes entries fine front more fails =
+  front_known bytes entries fine front more fails =
       front_of_front entries (entries_so_far target max_bytes bytes) _ front
       (of_either (entries_so_far target max_bytes bytes) _ _
       (of_log max_bytes (source target must_close (stream_of (bytes ++ more) fails)) (IsPrefix (entries_so_far target max_bytes bytes)) (entries_lead_log target max_bytes bytes more fails fine)) (entries_lead_part target max_bytes bytes more fails fine))
@@ -147,11 +147,11 @@ module _ (target : List ℕ) (max_bytes : ℕ) (must_close : Bool) where
   cut known after bytes behind entries gave fine front = by known gave
     where
       by : (known : Option Stream) → Gave known (bytes ++ behind) after → IsExpectedFor max_bytes (source target must_close known) entries (Some OutOfMemory)
-      by None gave = (stream_of (bytes ++ behind) false, inr (front_told bytes entries fine front behind false, refl))
+      by None gave = (stream_of (bytes ++ behind) false, inr (front_known bytes entries fine front behind false, refl))
       by (Some stream) gave =
           subst (λ (s : Stream). IsExpected max_bytes (source target must_close s) entries (Some OutOfMemory))
           (same_stream stream (bytes ++ (behind ++ gave.0.bytes)) stream.fails (gave.2 ∙ append_assoc bytes behind gave.0.bytes) refl)
-          (inr (front_told bytes entries fine front (behind ++ gave.0.bytes) stream.fails, refl))
+          (inr (front_known bytes entries fine front (behind ++ gave.0.bytes) stream.fails, refl))
 
   module _ (known now after : Option Stream) (scan : Scanned) (entries : List Entry) (reading : Reading known now scan entries) (own : IsFor target max_bytes must_close scan) where
     own_fault : (bytes : List ℕ) → fault_so_far scan.target scan.max_bytes bytes ≡ fault_so_far target max_bytes bytes
@@ -176,7 +176,7 @@ module _ (target : List ℕ) (max_bytes : ℕ) (must_close : Bool) where
         (λ stream is.
         let fault_is = fault_met max_bytes (source target must_close (stream_of scan.bytes true)) Read (failed_read target max_bytes scan.bytes fine) in
         subst (λ (s : Stream). IsExpected max_bytes (source target must_close s) entries (Some Read)) (same_stream stream scan.bytes true is.0 is.1)
-        (inl (are_so_far ∙ sym (failed_part target max_bytes scan.bytes fine) ∙ sym (told_part (stream_of scan.bytes true) Read fault_is), sym fault_is)))
+        (inl (are_so_far ∙ sym (failed_part target max_bytes scan.bytes fine) ∙ sym (known_part (stream_of scan.bytes true) Read fault_is), sym fault_is)))
         (Gave-failed known now after scan.bytes broken buffer reading.gave pulls)
 
     -- At the end of input, all bytes of the stream were consumed.
@@ -221,41 +221,41 @@ module _ (known : Option Stream) (old new : Scanned) (entries : List Entry) (end
   own_source = λ i. record { target = ended.target_is i; must_close = ended.flag_is i; stream = so_far new.bytes }
 
   -- Entries and a fault that are as expected for it are as expected for the reader's stream.
-  owed_to_end : (all : List Entry) (fault : Option StreamFault) → IsExpected old.max_bytes made_from all fault → IsExpectedFor old.max_bytes (source old.target old.must_close known) all fault
-  owed_to_end all fault expected =
+  expected_to_end : (all : List Entry) (fault : Option StreamFault) → IsExpected old.max_bytes made_from all fault → IsExpectedFor old.max_bytes (source old.target old.must_close known) all fault
+  expected_to_end all fault expected =
       weaker known (λ stream. (stream.bytes ≡ new.bytes) × (stream.fails ≡ false)) (λ stream. IsExpected old.max_bytes (source old.target old.must_close stream) all fault)
       (λ stream is. subst (λ (s : Stream). IsExpected old.max_bytes (source old.target old.must_close s) all fault) (same_stream stream new.bytes false is.0 is.1) expected)
       ended.all
 
-  pub at_end : (last : Option Entry) (all : List Entry) → log_from new.max_bytes (source_in new) ≡ Some (entries_in new ++ option_to_list last) → all ≡ entries ++ option_to_list last
+  pub at_end : (last : Option Entry) (all : List Entry) → source_log new.max_bytes (source_in new) ≡ Some (entries_in new ++ option_to_list last) → all ≡ entries ++ option_to_list last
       → IsExpectedFor old.max_bytes (source old.target old.must_close known) all None
   at_end last all log_is all_are =
-      owed_to_end all None
+      expected_to_end all None
       (inl (
         all_are ∙ ap (λ es. es ++ option_to_list last) ended.read.entries_are ∙ sym (ap (λ l. log_or_part l (entries_before_fault old.target old.max_bytes (so_far new.bytes))) own_log),
-        sym (none_of_log (fault_from old.max_bytes made_from) _ own_log),
+        sym (none_of_log (source_fault old.max_bytes made_from) _ own_log),
       ))
     where
-      own_log : log_from old.max_bytes made_from ≡ Some (entries_in new ++ option_to_list last)
-      own_log = (λ i. log_from (sym ended.limit_is i) (sym own_source i)) ∙ log_is
+      own_log : source_log old.max_bytes made_from ≡ Some (entries_in new ++ option_to_list last)
+      own_log = (λ i. source_log (sym ended.limit_is i) (sym own_source i)) ∙ log_is
 
       none_of_log : (fault : Option StreamFault) (es : List Entry) → unless_fault fault (filter_map (λ entry. entry) (entries_of old.target new.bytes)) ≡ Some es → fault ≡ None
       none_of_log (Some fault) es is = absurd (cc)
       none_of_log None es is = refl
 
   -- The log must be closed, and isn't.
-  pub open_at_end : (fault : StreamFault) → fault_from new.max_bytes (source_in new) ≡ Some fault → IsExpectedFor old.max_bytes (source old.target old.must_close known) entries (Some fault)
+  pub open_at_end : (fault : StreamFault) → source_fault new.max_bytes (source_in new) ≡ Some fault → IsExpectedFor old.max_bytes (source old.target old.must_close known) entries (Some fault)
   open_at_end fault is =
-      owed_to_end entries (Some fault)
-      (inl (are_to_end ∙ sym (told_part old.target old.max_bytes old.must_close (so_far new.bytes) fault own_fault), sym own_fault))
+      expected_to_end entries (Some fault)
+      (inl (are_to_end ∙ sym (known_part old.target old.max_bytes old.must_close (so_far new.bytes) fault own_fault), sym own_fault))
     where
-      own_fault : fault_from old.max_bytes made_from ≡ Some fault
-      own_fault = (λ i. fault_from (sym ended.limit_is i) (sym own_source i)) ∙ is
+      own_fault : source_fault old.max_bytes made_from ≡ Some fault
+      own_fault = (λ i. source_fault (sym ended.limit_is i) (sym own_source i)) ∙ is
 
   pub cut_at_end : IsExpectedFor old.max_bytes (source old.target old.must_close known) entries (Some OutOfMemory)
   cut_at_end =
       weaker known (λ stream. (stream.bytes ≡ new.bytes) × (stream.fails ≡ false)) (λ stream. IsExpected old.max_bytes (source old.target old.must_close stream) entries (Some OutOfMemory))
       (λ stream is.
       subst (λ (s : Stream). IsExpected old.max_bytes (source old.target old.must_close s) entries (Some OutOfMemory)) (same_stream stream (new.bytes ++ []) false (is.0 ∙ sym (append-nil new.bytes)) is.1)
-      (inr (front_told old.target old.max_bytes old.must_close new.bytes entries fine_to_end ([], sym are_to_end ∙ sym (append-nil entries)) [] false, refl)))
+      (inr (front_known old.target old.max_bytes old.must_close new.bytes entries fine_to_end ([], sym are_to_end ∙ sym (append-nil entries)) [] false, refl)))
       ended.all

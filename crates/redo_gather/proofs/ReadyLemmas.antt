@@ -6,12 +6,13 @@ use Rattle.std.proofs.lemmas.Option.{none-some}
 use Rattle.redo_line.specs.Source.{sources}
 use Rattle.redo_device.specs.Feed.{Stream}
 use Rattle.redo_logs.specs.Logs.{new_log}
+use Rattle.redo_wire.specs.declared.item.Item.{Item}
 use Rattle.redo_wire.specs.Mailbox.{AreEndsOf, IsOpened, Mailbox, PostEndState}
 use Rattle.redo_gather.specs.declared.collector.Collector.{Collector as Collecting}
-use Rattle.redo_gather.specs.Expected.{Given}
+use Rattle.redo_gather.specs.Expected.{KnownSource}
 use Rattle.redo_gather.specs.Private.Collecting.{AllExpected, Collects, NoneOutOfMemory, PostedExpected, stored}
-use Rattle.redo_gather.specs.Private.Dealing.{AreDistributed, AreReady, share_of}
-use Rattle.redo_gather.specs.Sending.{AreExpected, HasSent, numbered_input, singles}
+use Rattle.redo_gather.specs.Private.Distribution.{AreDistributed, AreReady, share_of}
+use Rattle.redo_gather.specs.Sending.{AreExpected, HasSent, numbered_source, posted_since, singles}
 use Rattle.redo_gather.specs.Streams.{KnownInput}
 
 in_front : {X : Type 0} (front behind : List X) (k : ℕ) (there : X) → slice_get front k ≡ Some there → slice_get (front ++ behind) k ≡ Some there
@@ -28,13 +29,13 @@ pub all_but_last : (mailbox : Mailbox) (ends : List PostEndState) (last : PostEn
 all_but_last mailbox [] last all = (tt, all.0)
 all_but_last mailbox (end ∷ ends) last all = let others = all_but_last mailbox ends last all.1 in ((all.0, others.0), others.1)
 
-module _ {A : Type 0} (contents : A → Option Stream) (senders : ℕ) (given : List Given) where
+module _ {A : Type 0} (contents : A → Option Stream) (senders : ℕ) (given : List KnownSource) where
   pub all_ready : (mailbox : Mailbox) (ends : List PostEndState) (shares : List (List (ℕ × List ℕ × Bool × A))) → mailbox.senders ≡ senders → AreEndsOf mailbox ends → AreDistributed contents senders given shares
       → AreReady contents senders given ends shares
-  all_ready mailbox ends shares count are dealt = record {
-    count = are.count ∙ count ∙ sym dealt.0;
+  all_ready mailbox ends shares count are distributed = record {
+    count = are.count ∙ count ∙ sym distributed.0;
     fresh = λ place end there. (ap (λ (e : PostEndState). e.number) (are.each place end there), ap (λ (e : PostEndState). e.posted) (are.each place end there));
-    dealt = dealt.1;
+    distributed = distributed.1;
   }
 
   module _ (ends : List PostEndState) (end : PostEndState) (shares : List (List (ℕ × List ℕ × Bool × A))) (share : List (ℕ × List ℕ × Bool × A)) (ready : AreReady contents senders given (ends ++ end ∷ []) (shares ++ share ∷ [])) where
@@ -45,16 +46,19 @@ module _ {A : Type 0} (contents : A → Option Stream) (senders : ℕ) (given : 
     others_ready = record {
       count = same;
       fresh = λ place other there. ready.fresh place other (in_front ends (end ∷ []) place other there);
-      dealt = λ sender other there. ready.dealt sender other (in_front shares (share ∷ []) sender other there);
+      distributed = λ sender other there. ready.distributed sender other (in_front shares (share ∷ []) sender other there);
     }
 
     -- After the last end sent its share, it posted what is expected of it.
-    pub last_owes : (max_bytes : ℕ) (after : PostEndState) → HasSent max_bytes (map (numbered_input contents) share) end after → PostedExpected max_bytes senders given (after.number, after.posted)
-    last_owes max_bytes after (lines, posted, expected) =
+    pub last_expected : (max_bytes : ℕ) (after : PostEndState) → HasSent max_bytes (map (numbered_source contents) share) end after → PostedExpected max_bytes senders given (after.number, after.posted)
+    last_expected max_bytes after sent =
         subst (AreExpected max_bytes after.number (share_of senders after.number 0 given)) (sym lines_are)
-        (subst (λ n. AreExpected max_bytes n (share_of senders n 0 given) lines) (sym posted.number)
-        (subst (λ s. AreExpected max_bytes end.number s lines) (ready.dealt (length shares) share (at_end shares share) ∙ ap (λ n. share_of senders n 0 given) (sym number_is)) expected))
+        (subst (λ n. AreExpected max_bytes n (share_of senders n 0 given) lines) (sym sent.unchanged.1)
+        (subst (λ s. AreExpected max_bytes end.number s lines) (ready.distributed (length shares) share (at_end shares share) ∙ ap (λ n. share_of senders n 0 given) (sym number_is)) sent.expected))
       where
+        lines : List Item
+        lines = singles (posted_since end after)
+
         fresh : (end.number ≡ length ends) × (end.posted ≡ [])
         fresh = ready.fresh (length ends) end (at_end ends end)
 
@@ -62,19 +66,19 @@ module _ {A : Type 0} (contents : A → Option Stream) (senders : ℕ) (given : 
         number_is = fresh.0 ∙ same
 
         lines_are : singles after.posted ≡ lines
-        lines_are = ap singles (posted.posted ∙ ap (λ items. items ++ posted.items) fresh.1) ∙ posted.lines_are
+        lines_are = ap singles (sent.posted ∙ ap (λ items. items ++ posted_since end after) fresh.1)
 
 -- The result of collecting, beginning with a new mailbox and an empty table.
-pub all_owed : {A : Type 0} (contents : A → Option Stream) (max_bytes capacity senders : ℕ) (names : List (List ℕ)) (known : List KnownInput) (ends : List PostEndState) (shares : List (List (ℕ × List ℕ × Bool × A)))
-    (before after : Collecting) → Collects contents max_bytes ends shares before after → IsOpened capacity senders before.mailbox → before.table ≡ map new_log names → before.refused ≡ false
-    → length names ≡ length known → 1 ≤ senders → AreEndsOf before.mailbox.mailbox ends → AreDistributed contents senders (sources names known) shares → AllExpected max_bytes names known after
-all_owed contents max_bytes capacity senders names known ends shares before after collects opened table_is fine count some are dealt = record {
+pub all_are_expected : {A : Type 0} (contents : A → Option Stream) (max_bytes capacity senders : ℕ) (names : List (List ℕ)) (known : List KnownInput) (ends : List PostEndState) (shares : List (List (ℕ × List ℕ × Bool × A)))
+    (before after : Collecting) → Collects contents max_bytes ends shares before after → IsOpened capacity senders before.take_end → before.table ≡ map new_log names → before.out_of_memory ≡ false
+    → length names ≡ length known → 1 ≤ senders → AreEndsOf before.take_end.mailbox ends → AreDistributed contents senders (sources names known) shares → AllExpected max_bytes names known after
+all_are_expected contents max_bytes capacity senders names known ends shares before after collects opened table_is fine count some are distributed = record {
   count = count;
   some = omega (arith, some, ap (λ (m : Mailbox). m.senders) collects.mailbox, opened.1);
   expected =
-      subst (λ n. AllByRecursion (PostedExpected max_bytes n (sources names known)) after.mailbox.met) (sym (ap (λ (m : Mailbox). m.senders) collects.mailbox))
-      (collects.expected (sources names known) (subst (λ n. AreReady contents n (sources names known) ends shares) (sym opened.1) (all_ready contents senders (sources names known) before.mailbox.mailbox ends shares opened.1 are dealt))
-      (subst (AllByRecursion (PostedExpected max_bytes before.mailbox.mailbox.senders (sources names known))) (sym opened.3) tt));
+      subst (λ n. AllByRecursion (PostedExpected max_bytes n (sources names known)) after.take_end.met) (sym (ap (λ (m : Mailbox). m.senders) collects.mailbox))
+      (collects.expected (sources names known) (subst (λ n. AreReady contents n (sources names known) ends shares) (sym opened.1) (all_ready contents senders (sources names known) before.take_end.mailbox ends shares opened.1 are distributed))
+      (subst (AllByRecursion (PostedExpected max_bytes before.take_end.mailbox.senders (sources names known))) (sym opened.3) tt));
   holds =
       collects.holds names
       (λ _. (table_is ∙ ap (λ items. stored (singles items) (map new_log names)) (sym opened.2), subst (λ items. NoneOutOfMemory (singles items)) (sym opened.2) tt));

@@ -1,7 +1,6 @@
 -- Examples of what is expected and posted, computed.
-use Rattle.std.proofs.Common.{◌≡◌, inl, inr, ℕ, true, false, List, [], ◌∷◌, ◌++◌, Option, None, Some, pos, map, replicate, refl, sym, ap, ◌∙◌, subst, arith}
+use Rattle.std.proofs.Common.{◌≡◌, inl, inr, ℕ, true, false, List, [], ◌∷◌, ◌++◌, Option, None, Some, pos, map, replicate, refl, ap, arith}
 use Rattle.std.specs.Prelude.{codes}
-use Rattle.std.specs.List.{AllByRecursion}
 use Rattle.redo_line.specs.declared.entry.Entry.{Entry}
 use Rattle.redo_line.specs.declared.entry.Entry.TheVariants.{Closing, Text}
 use Rattle.redo_line.specs.declared.stream_fault.StreamFault.TheVariants.{TooLong}
@@ -19,7 +18,7 @@ use Rattle.redo_wire.specs.declared.item.What.{What}
 use Rattle.redo_wire.specs.declared.item.What.TheVariants.{End, Fail, Line, Lines}
 use Rattle.redo_wire.specs.Mailbox.{Mailbox, PostEndState}
 use Rattle.redo_gather.specs.Expected.{IsExpectedFor, reported_entries}
-use Rattle.redo_gather.specs.Sending.{HasPosted, IsWellSized, numbered_input, singles, stream_items}
+use Rattle.redo_gather.specs.Sending.{HasSent, IsWellSized, NumberedSource, numbered_source, singles, stream_items}
 
 abbrev a : Entry
 a = Text (codes "a")
@@ -31,14 +30,14 @@ b = Closing 7 (pos 0)
 abbrev item : What → Item
 item what = record { sender = 3; stream = 5; what = what }
 
-told_whole : stream_items 3 5 (a ∷ b ∷ []) None ≡ item (Line a) ∷ item (Line b) ∷ item End ∷ []
-told_whole = refl
+items_of_log : stream_items 3 5 (a ∷ b ∷ []) None ≡ item (Line a) ∷ item (Line b) ∷ item End ∷ []
+items_of_log = refl
 
-told_at_fault : stream_items 3 5 (a ∷ []) (Some TooLong) ≡ item (Line a) ∷ item (Fail TooLong) ∷ []
-told_at_fault = refl
+items_at_fault : stream_items 3 5 (a ∷ []) (Some TooLong) ≡ item (Line a) ∷ item (Fail TooLong) ∷ []
+items_at_fault = refl
 
-told_empty : stream_items 3 5 [] None ≡ item End ∷ []
-told_empty = refl
+items_of_empty_log : stream_items 3 5 [] None ≡ item End ∷ []
+items_of_empty_log = refl
 
 in_singles : singles (item (Lines (a ∷ b ∷ [])) ∷ item (Line a) ∷ item (Fail TooLong) ∷ item End ∷ [])
     ≡ item (Line a) ∷ item (Line b) ∷ item (Line a) ∷ item (Fail TooLong) ∷ item End ∷ []
@@ -47,7 +46,7 @@ in_singles = refl
 abbrev stream : Stream
 stream = stream_of (codes "x" ++ line_feed ∷ codes "y") false
 
-of_an_item : numbered_input (λ (known : Option Stream). known) (5, codes "d", true, Some stream) ≡ (5, source (codes "d") true (Some stream))
+of_an_item : numbered_source (λ (known : Option Stream). known) (5, codes "d", true, Some stream) ≡ (5, source (codes "d") true (Some stream))
 of_an_item = refl
 
 -- The unended line is an entry of the log, but not an entry before a fault.
@@ -60,24 +59,24 @@ unfolding split_lines ended rest first_fault entry_of record_entry fields_of sta
 entries_before_a_fault = refl
 
 -- If a reader's stream is known, its entries are as expected; if the reader is opaque, the entries of some stream are.
-owed_for_told : IsExpectedFor 10 (source (codes "d") false (Some stream)) (Text (codes "x") ∷ Text (codes "y") ∷ []) None
+expected_for_known : IsExpectedFor 10 (source (codes "d") false (Some stream)) (Text (codes "x") ∷ Text (codes "y") ∷ []) None
 unfolding split_lines ended rest first_fault entry_of record_entry fields_of status_of split_once after_prefix number normal reduce_suffix
-owed_for_told = inl (refl, refl)
+expected_for_known = inl (refl, refl)
 
-owed_for_any : IsExpectedFor 10 (source (codes "d") false None) (Text (codes "x") ∷ Text (codes "y") ∷ []) None
+expected_for_opaque : IsExpectedFor 10 (source (codes "d") false None) (Text (codes "x") ∷ Text (codes "y") ∷ []) None
 unfolding split_lines ended rest first_fault entry_of record_entry fields_of status_of split_once after_prefix number normal reduce_suffix
-owed_for_any = (stream, inl (refl, refl))
+expected_for_opaque = (stream, inl (refl, refl))
 
-not_owed_for_told : IsExpectedFor 10 (source (codes "d") false (Some stream)) [] None → ⊥
+not_expected_for_known : IsExpectedFor 10 (source (codes "d") false (Some stream)) [] None → ⊥
 unfolding split_lines ended rest first_fault entry_of record_entry fields_of status_of split_once after_prefix number normal reduce_suffix
-not_owed_for_told (inl whole) = let same = whole.0 in cc
-not_owed_for_told (inr short) = let same = short.1 in cc
+not_expected_for_known (inl whole) = let same = whole.0 in cc
+not_expected_for_known (inr short) = let same = short.1 in cc
 
 -- A stream that must be closed, and isn't, has a fault.
-not_owed_open : IsExpectedFor 10 (source (codes "d") true (Some stream)) (Text (codes "x") ∷ Text (codes "y") ∷ []) None → ⊥
+not_expected_open : IsExpectedFor 10 (source (codes "d") true (Some stream)) (Text (codes "x") ∷ Text (codes "y") ∷ []) None → ⊥
 unfolding split_lines ended rest first_fault entry_of record_entry fields_of status_of split_once after_prefix number normal reduce_suffix
-not_owed_open (inl whole) = let same = whole.1 in cc
-not_owed_open (inr short) = let same = short.1 in cc
+not_expected_open (inl whole) = let same = whole.1 in cc
+not_expected_open (inr short) = let same = short.1 in cc
 
 are_filled : IsWellSized (Line a) × IsWellSized (Lines (a ∷ b ∷ [])) × IsWellSized (Lines (replicate 1024 a)) × IsWellSized End × IsWellSized (Fail TooLong)
 are_filled = (tt, (omega arith, omega arith), (omega arith, omega arith), tt, tt)
@@ -96,42 +95,47 @@ end capacity number posted =
       posted = posted;
     }
 
-has_posted : HasPosted (end 1 3 (item (Line a) ∷ [])) (end 1 3 (item (Line a) ∷ item (Lines (a ∷ b ∷ [])) ∷ item End ∷ [])) (item (Line a) ∷ item (Line b) ∷ item End ∷ [])
-has_posted = record { mailbox = refl; number = refl; items = item (Lines (a ∷ b ∷ [])) ∷ item End ∷ []; posted = refl; filled = ((omega arith, omega arith), (tt, tt)); lines_are = refl }
+-- A share of one stream, without bytes.
+abbrev empty : List NumberedSource
+empty = (5, source (codes "d") false (Some (stream_of [] false))) ∷ []
 
-not_posted_elsewhere : HasPosted (end 1 3 []) (end 2 3 []) [] → ⊥
-not_posted_elsewhere has = omega (arith, ap (λ (mailbox : Mailbox). mailbox.capacity) has.mailbox)
+-- What an end posted before stays, and isn't part of what it sent.
+has_sent : HasSent 10 ((5, source (codes "d") false (Some stream)) ∷ []) (end 1 3 (item (Line a) ∷ []))
+    (end 1 3 (item (Line a) ∷ item (Lines (Text (codes "x") ∷ Text (codes "y") ∷ [])) ∷ item End ∷ []))
+unfolding split_lines ended rest first_fault entry_of record_entry fields_of status_of split_once after_prefix number normal reduce_suffix
+has_sent = record {
+  unchanged = (refl, refl);
+  posted = refl;
+  expected = (Text (codes "x") ∷ Text (codes "y") ∷ [], None, [], refl, inl (refl, refl), refl);
+  well_sized = ((omega arith, omega arith), (tt, tt));
+}
 
-not_posted_by_another : HasPosted (end 1 3 []) (end 1 2 []) [] → ⊥
-not_posted_by_another has = let number = has.number in omega (arith, number)
+first_sent : HasSent 10 empty (end 1 3 []) (end 1 3 (item End ∷ []))
+unfolding split_lines ended rest first_fault entry_of record_entry fields_of status_of split_once after_prefix number normal reduce_suffix
+first_sent = record { unchanged = (refl, refl); posted = refl; expected = ([], None, [], refl, inl (refl, refl), refl); well_sized = (tt, tt) }
+
+nothing_sent : HasSent 10 [] (end 1 3 (item (Line a) ∷ [])) (end 1 3 (item (Line a) ∷ []))
+nothing_sent = record { unchanged = (refl, refl); posted = refl; expected = refl; well_sized = tt }
+
+not_sent_elsewhere : HasSent 10 [] (end 1 3 []) (end 2 3 []) → ⊥
+not_sent_elsewhere has = omega (arith, ap (λ (mailbox : Mailbox). mailbox.capacity) has.unchanged.0)
+
+not_sent_by_another : HasSent 10 [] (end 1 3 []) (end 1 2 []) → ⊥
+not_sent_by_another has = let number = has.unchanged.1 in omega (arith, number)
+
+not_sent_more : HasSent 10 [] (end 1 3 []) (end 1 3 (item End ∷ [])) → ⊥
+not_sent_more has = let same : item End ∷ [] ≡ [] = has.expected in cc
 
 abbrev whats : List Item → List What
 whats items = map (λ (item : Item). item.what) items
 
--- Other lines than the items have; the same lines in another order; fewer lines; or items in the place of those posted before.
-not_posted_other_lines : HasPosted (end 1 3 []) (end 1 3 (item End ∷ [])) (item (Line a) ∷ []) → ⊥
-not_posted_other_lines has =
-    let posted : item End ∷ [] ≡ has.items = has.posted in
-    let same : End ∷ [] ≡ Line a ∷ [] = ap whats (ap singles posted ∙ has.lines_are) in cc
-
-not_posted_in_another_order : HasPosted (end 1 3 []) (end 1 3 (item (Line a) ∷ item (Line b) ∷ [])) (item (Line b) ∷ item (Line a) ∷ []) → ⊥
-not_posted_in_another_order has =
-    let posted : item (Line a) ∷ item (Line b) ∷ [] ≡ has.items = has.posted in
-    let same : Line a ∷ Line b ∷ [] ≡ Line b ∷ Line a ∷ [] = ap whats (ap singles posted ∙ has.lines_are) in cc
-
-not_posted_more : HasPosted (end 1 3 []) (end 1 3 (item End ∷ [])) [] → ⊥
-not_posted_more has =
-    let posted : item End ∷ [] ≡ has.items = has.posted in
-    let same : item End ∷ [] ≡ [] = ap singles posted ∙ has.lines_are in cc
-
-not_posted_in_its_place : HasPosted (end 1 3 (item (Line a) ∷ [])) (end 1 3 (item End ∷ [])) [] → ⊥
-not_posted_in_its_place has = let same : End ∷ [] ≡ Line a ∷ whats has.items = ap whats has.posted in cc
+-- An item in the place of one that was posted before.
+not_sent_in_its_place : HasSent 10 [] (end 1 3 (item (Line a) ∷ [])) (end 1 3 (item End ∷ [])) → ⊥
+not_sent_in_its_place has = let same : End ∷ [] ≡ Line a ∷ [] = ap whats has.posted in cc
 
 -- An item without an entry, before or after another item.
-not_posted_unfilled :
-    (HasPosted (end 1 3 []) (end 1 3 (item (Lines []) ∷ item End ∷ [])) (item End ∷ []) → ⊥)
-    × (HasPosted (end 1 3 []) (end 1 3 (item End ∷ item (Lines []) ∷ [])) (item End ∷ []) → ⊥)
-not_posted_unfilled = (
-  (λ has. let all = subst (AllByRecursion (λ (item : Item). IsWellSized item.what)) (sym has.posted) has.filled in omega (arith, all.0.0)),
-  (λ has. let all = subst (AllByRecursion (λ (item : Item). IsWellSized item.what)) (sym has.posted) has.filled in omega (arith, all.1.0.0)),
-)
+not_sent_unfilled :
+    (HasSent 10 empty (end 1 3 []) (end 1 3 (item (Lines []) ∷ item End ∷ [])) → ⊥)
+    × (HasSent 10 empty (end 1 3 []) (end 1 3 (item End ∷ item (Lines []) ∷ [])) → ⊥)
+unfolding split_lines ended rest first_fault entry_of record_entry fields_of status_of split_once after_prefix number normal reduce_suffix
+not_sent_unfilled = ((λ has. omega (arith, has.well_sized.0.0)), (λ has. omega (arith, has.well_sized.1.0.0)))

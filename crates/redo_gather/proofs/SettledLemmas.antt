@@ -8,22 +8,22 @@ use Rattle.redo_line.specs.declared.entry.Entry.{Entry}
 use Rattle.redo_line.specs.declared.stream_fault.StreamFault.{StreamFault}
 use Rattle.redo_device.specs.Feed.{Stream, SomeStream}
 use Rattle.redo_line.specs.Log.{unless_fault}
-use Rattle.redo_line.specs.Source.{StreamInput, Source, fault_from, source, sources, with_stream}
+use Rattle.redo_line.specs.Source.{StreamInput, Source, source_fault, source, sources, with_stream}
 use Rattle.redo_logs.specs.Logs.{Log, fault_in, first_failed, lowest_fault, has_ended, states_of, targets_of}
 use Rattle.redo_logs.proofs.LeastFault.{behind_one, found_there}
-use Rattle.redo_gather.specs.Expected.{Given, log_or_part, reported_entries}
+use Rattle.redo_gather.specs.Expected.{KnownSource, log_or_part, reported_entries}
 use Rattle.redo_gather.specs.Private.Storing.{state_after}
-use Rattle.redo_gather.specs.Streams.{AreLogs, MatchKnown, IsFault, KnownInput, prepend_log, logs_of, complete_log}
-use Rattle.redo_gather.proofs.StreamLemmas.{count_told, given_stream, whole_logs}
+use Rattle.redo_gather.specs.Streams.{AreLogsOfReaders, MatchKnown, IsLowestFault, KnownInput, prepend_log, logs_of, complete_log}
+use Rattle.redo_gather.proofs.StreamLemmas.{count_known, given_stream, whole_logs}
 
 -- The log of a stream, up to its end or its fault.
 abbrev pub log_after : ℕ → Source Stream → Log
-log_after max_bytes source = record { target = source.target; entries = reported_entries max_bytes source; state = state_after (fault_from max_bytes source) }
+log_after max_bytes source = record { target = source.target; entries = reported_entries max_bytes source; state = state_after (source_fault max_bytes source) }
 
-abbrev pub IsSettled : ℕ → Given → Log → Type 0
+abbrev pub IsSettled : ℕ → KnownSource → Log → Type 0
 IsSettled max_bytes given log = SomeStream given.stream (λ stream. log ≡ log_after max_bytes (with_stream stream given))
 
-abbrev pub AreSettled : ℕ → List Given → List Log → Type 0
+abbrev pub AreSettled : ℕ → List KnownSource → List Log → Type 0
 AreSettled max_bytes [] [] = Unit {0}
 AreSettled max_bytes [] (log ∷ logs) = ⊥
 AreSettled max_bytes (given ∷ others) [] = ⊥
@@ -36,13 +36,13 @@ failed-within table number fault found =
     omega (arith, there, length-map (states_of table) fault_in, length-map table (λ (log : Log). log.state))
 
 module _ (max_bytes : ℕ) where
-  pub settled-count : (given : List Given) (logs : List Log) → AreSettled max_bytes given logs → length logs ≡ length given
+  pub settled-count : (given : List KnownSource) (logs : List Log) → AreSettled max_bytes given logs → length logs ≡ length given
   settled-count [] [] are = refl
   settled-count [] (log ∷ logs) are = absurd are
   settled-count (given ∷ others) [] are = absurd are
   settled-count (given ∷ others) (log ∷ logs) are = omega (arith, settled-count others logs are.1)
 
-  pub one_settled : (given : List Given) (one : Given) (logs : List Log) (log : Log) → AreSettled max_bytes given logs → IsSettled max_bytes one log → AreSettled max_bytes (given ++ one ∷ []) (logs ++ log ∷ [])
+  pub one_settled : (given : List KnownSource) (one : KnownSource) (logs : List Log) (log : Log) → AreSettled max_bytes given logs → IsSettled max_bytes one log → AreSettled max_bytes (given ++ one ∷ []) (logs ++ log ∷ [])
   one_settled [] one [] log are is = (is, tt)
   one_settled [] one (other ∷ logs) log are is = absurd are
   one_settled (first ∷ given) one [] log are is = absurd are
@@ -55,8 +55,8 @@ module _ (max_bytes : ℕ) where
   -- The streams that the readers of such a table give, with their faults and their logs.
   pub record Comes (names : List (List ℕ)) (known : List KnownInput) (table : List Log) : Type 0 where
     pub streams : List (StreamInput Stream)
-    pub told_are : MatchKnown known streams
-    pub faults_are : map fault_in (states_of table) ≡ map (fault_from max_bytes) (sources names streams)
+    pub known_are : MatchKnown known streams
+    pub faults_are : map fault_in (states_of table) ≡ map (source_fault max_bytes) (sources names streams)
     pub logs_are : first_failed table ≡ None → logs_of max_bytes names streams ≡ Some table
 
   -- One more log, before the others.
@@ -72,7 +72,7 @@ module _ (max_bytes : ℕ) where
       none_behind (Some found) none = absurd (cc)
 
   comes : (names : List (List ℕ)) (known : List KnownInput) (table : List Log) → length names ≡ length known → AreSettled max_bytes (sources names known) table → Comes names known table
-  comes [] [] [] same are = record { streams = []; told_are = tt; faults_are = refl; logs_are = λ none. refl }
+  comes [] [] [] same are = record { streams = []; known_are = tt; faults_are = refl; logs_are = λ none. refl }
   comes [] [] (log ∷ table) same are = absurd are
   comes [] (one ∷ known) table same are = absurd (cc)
   comes (target ∷ names) [] table same are = absurd (cc)
@@ -80,13 +80,13 @@ module _ (max_bytes : ℕ) where
   comes (target ∷ names) (one ∷ known) (log ∷ table) same are =
       let given = given_stream one.stream (λ stream. log ≡ log_after max_bytes (source target one.must_close stream)) are.0 in
       let others = comes names known table (omega (arith, same)) are.1 in
-      let fault_is : fault_in log.state ≡ fault_from max_bytes (source target one.must_close given.0) = ap (λ (l : Log). fault_in l.state) given.2 ∙ fault_after (fault_from max_bytes (source target one.must_close given.0)) in
+      let fault_is : fault_in log.state ≡ source_fault max_bytes (source target one.must_close given.0) = ap (λ (l : Log). fault_in l.state) given.2 ∙ fault_after (source_fault max_bytes (source target one.must_close given.0)) in
       record {
         streams = record { must_close = one.must_close; stream = given.0 } ∷ others.streams;
-        told_are = ((refl, given.1), others.told_are);
+        known_are = ((refl, given.1), others.known_are);
         faults_are = λ i. fault_is i ∷ others.faults_are i;
         logs_are = λ none.
-            in_front_of (fault_from max_bytes (source target one.must_close given.0)) target _ _ (map fault_in (states_of table)) (logs_of max_bytes names others.streams) table others.logs_are
+            in_front_of (source_fault max_bytes (source target one.must_close given.0)) target _ _ (map fault_in (states_of table)) (logs_of max_bytes names others.streams) table others.logs_are
             (ap (λ f. lowest_fault (f ∷ map fault_in (states_of table))) (sym fault_is) ∙ none)
             ∙ ap (λ (l : Log). Some (l ∷ table)) (sym given.2);
       }
@@ -109,12 +109,12 @@ module _ (max_bytes : ℕ) where
             let first : log.target ≡ target = ap (λ (l : Log). l.target) given.2 in
             λ i. first i ∷ by names known table (omega (arith, same)) are.1 i
 
-    pub settled-fault : (number : ℕ) (fault : StreamFault) → first_failed table ≡ Some (number, fault) → IsFault max_bytes names known number fault
-    settled-fault number fault found = (all.streams, all.told_are, ap lowest_fault (sym all.faults_are) ∙ found)
+    pub settled-fault : (number : ℕ) (fault : StreamFault) → first_failed table ≡ Some (number, fault) → IsLowestFault max_bytes names known number fault
+    settled-fault number fault found = (all.streams, all.known_are, ap lowest_fault (sym all.faults_are) ∙ found)
 
     module _ (none : first_failed table ≡ None) where
-      pub settled-logs : AreLogs max_bytes names known table
-      settled-logs = (all.streams, all.told_are, all.logs_are none)
+      pub settled-logs : AreLogsOfReaders max_bytes names known table
+      settled-logs = (all.streams, all.known_are, all.logs_are none)
 
       pub settled-ended : list_all has_ended table ≡ true
-      settled-ended = (whole_logs max_bytes names all.streams table (same ∙ count_told known all.streams all.told_are) (all.logs_are none)).1
+      settled-ended = (whole_logs max_bytes names all.streams table (same ∙ count_known known all.streams all.known_are) (all.logs_are none)).1

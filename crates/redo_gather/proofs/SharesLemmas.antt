@@ -11,14 +11,14 @@ use Rattle.redo_wire.specs.declared.item.Item.{Item}
 use Rattle.redo_wire.specs.declared.item.What.{What}
 use Rattle.redo_wire.specs.declared.item.What.TheVariants.{Line}
 use Rattle.redo_wire.specs.Machine.{items_of}
-use Rattle.redo_gather.specs.Expected.{Given, IsExpectedFor}
-use Rattle.redo_gather.specs.Private.Dealing.{share_of}
-use Rattle.redo_gather.specs.Sending.{AreExpected, item_of, final_what, line_of, stream_items}
-use Rattle.redo_gather.proofs.InterleavingLemmas.{on, on-append, on-other, told_else, told_here}
+use Rattle.redo_gather.specs.Expected.{KnownSource, IsExpectedFor}
+use Rattle.redo_gather.specs.Private.Distribution.{share_of}
+use Rattle.redo_gather.specs.Sending.{AreExpected, item_of, final_what, entry_item, stream_items}
+use Rattle.redo_gather.proofs.InterleavingLemmas.{on, on-append, on-other, items_elsewhere, items_here}
 
 -- These are entries and an end or a fault as expected for a stream.
-abbrev pub IsTold : ℕ → Given → List What → Type 0
-IsTold max_bytes given whats = (entries : List Entry) × (fault : Option StreamFault) × (whats ≡ map Line entries ++ final_what fault ∷ []) × IsExpectedFor max_bytes given entries fault
+abbrev pub IsExpectedSequence : ℕ → KnownSource → List What → Type 0
+IsExpectedSequence max_bytes given whats = (entries : List Entry) × (fault : Option StreamFault) × (whats ≡ map Line entries ++ final_what fault ∷ []) × IsExpectedFor max_bytes given entries fault
 
 all-append : {X : Type 0} (P : X → Type 0) (front behind : List X) → AllByRecursion P front → AllByRecursion P behind → AllByRecursion P (front ++ behind)
 all-append P [] behind one two = two
@@ -26,7 +26,7 @@ all-append P (item ∷ front) behind one two = (one.0, all-append P front behind
 
 module _ (max_bytes senders : ℕ) where
   -- The items of a share of the streams from `from` on have none of an earlier stream.
-  none_before : (sender from stream : ℕ) (given : List Given) (items : List Item) → stream < from → AreExpected max_bytes sender (share_of senders sender from given) items → on stream items ≡ []
+  none_before : (sender from stream : ℕ) (given : List KnownSource) (items : List Item) → stream < from → AreExpected max_bytes sender (share_of senders sender from given) items → on stream items ≡ []
   none_before sender from stream [] items before are = ap (on stream) are
   none_before sender from stream (one ∷ given) items before are =
       by (λ items are. none_before sender (suc from) stream given items (omega (arith, before)) are) (nat_eq (from % senders) sender) are
@@ -35,14 +35,14 @@ module _ (max_bytes senders : ℕ) where
           → (own : Bool) → AreExpected max_bytes sender (cond own ((from, one) ∷ share_of senders sender (suc from) given) (share_of senders sender (suc from) given)) items → on stream items ≡ []
       by others true (entries, fault, behind, is, expected, rest) =
           ap (on stream) is ∙ on-append stream (stream_items sender from entries fault) behind
-          ∙ (λ i. told_else sender from stream entries fault (λ same. omega (arith, same, before)) i ++ others behind rest i)
+          ∙ (λ i. items_elsewhere sender from stream entries fault (λ same. omega (arith, same, before)) i ++ others behind rest i)
       by others false are = others items are
 
   -- The items of the stream at index `place` of a list, whose number is `from + place`.
-  pub told_at : (sender from place : ℕ) (given : List Given) (one : Given) (items : List Item) → slice_get given place ≡ Some one → (from + place) % senders ≡ sender
-      → AreExpected max_bytes sender (share_of senders sender from given) items → IsTold max_bytes one (on (from + place) items)
-  told_at sender from place [] one items there own are = absurd (none-some one there)
-  told_at sender from zero (first ∷ given) one items there own are = by (nat_eq (from % senders) sender) refl are
+  pub sequence_at : (sender from place : ℕ) (given : List KnownSource) (one : KnownSource) (items : List Item) → slice_get given place ≡ Some one → (from + place) % senders ≡ sender
+      → AreExpected max_bytes sender (share_of senders sender from given) items → IsExpectedSequence max_bytes one (on (from + place) items)
+  sequence_at sender from place [] one items there own are = absurd (none-some one there)
+  sequence_at sender from zero (first ∷ given) one items there own are = by (nat_eq (from % senders) sender) refl are
     where
       here : from + 0 ≡ from
       here = omega arith
@@ -54,41 +54,41 @@ module _ (max_bytes senders : ℕ) where
       mine = eq-eqb (from % senders) sender (ap (λ n. n % senders) (sym here) ∙ own)
 
       by : (test : Bool) → nat_eq (from % senders) sender ≡ test
-          → AreExpected max_bytes sender (cond test ((from, first) ∷ share_of senders sender (suc from) given) (share_of senders sender (suc from) given)) items → IsTold max_bytes one (on (from + 0) items)
+          → AreExpected max_bytes sender (cond test ((from, first) ∷ share_of senders sender (suc from) given) (share_of senders sender (suc from) given)) items → IsExpectedSequence max_bytes one (on (from + 0) items)
       by true is (entries, fault, behind, items_are, expected, rest) = (
         entries,
         fault,
         ap (λ n. on n items) here ∙ ap (on from) items_are ∙ on-append from (stream_items sender from entries fault) behind
-            ∙ (λ i. told_here sender from entries fault i ++ none_before sender (suc from) from given behind (omega arith) rest i) ∙ append-nil (map Line entries ++ final_what fault ∷ []),
+            ∙ (λ i. items_here sender from entries fault i ++ none_before sender (suc from) from given behind (omega arith) rest i) ∙ append-nil (map Line entries ++ final_what fault ∷ []),
         subst (λ g. IsExpectedFor max_bytes g entries fault) (same there) expected,
       )
       by false is are = absurd (let no : true ≡ false = sym mine ∙ is in cc)
-  told_at sender from (suc place) (first ∷ given) one items there own are =
-      by (λ items are. told_at sender (suc from) place given one items there (ap (λ n. n % senders) (sym further) ∙ own) are) (nat_eq (from % senders) sender) are
+  sequence_at sender from (suc place) (first ∷ given) one items there own are =
+      by (λ items are. sequence_at sender (suc from) place given one items there (ap (λ n. n % senders) (sym further) ∙ own) are) (nat_eq (from % senders) sender) are
     where
       further : from + suc place ≡ suc from + place
       further = omega arith
 
-      by : ((items : List Item) → AreExpected max_bytes sender (share_of senders sender (suc from) given) items → IsTold max_bytes one (on (suc from + place) items))
+      by : ((items : List Item) → AreExpected max_bytes sender (share_of senders sender (suc from) given) items → IsExpectedSequence max_bytes one (on (suc from + place) items))
           → (test : Bool) → AreExpected max_bytes sender (cond test ((from, first) ∷ share_of senders sender (suc from) given) (share_of senders sender (suc from) given)) items
-          → IsTold max_bytes one (on (from + suc place) items)
+          → IsExpectedSequence max_bytes one (on (from + suc place) items)
       by others true (entries, fault, behind, items_are, expected, rest) =
-          subst (IsTold max_bytes one)
+          subst (IsExpectedSequence max_bytes one)
           (sym (ap (λ n. on n items) further ∙ ap (on (suc from + place)) items_are ∙ on-append (suc from + place) (stream_items sender from entries fault) behind
-          ∙ (λ i. told_else sender from (suc from + place) entries fault (λ same. omega (arith, same)) i ++ on (suc from + place) behind)))
+          ∙ (λ i. items_elsewhere sender from (suc from + place) entries fault (λ same. omega (arith, same)) i ++ on (suc from + place) behind)))
           (others behind rest)
-      by others false are = subst (λ n. IsTold max_bytes one (on n items)) (sym further) (others items are)
+      by others false are = subst (λ n. IsExpectedSequence max_bytes one (on n items)) (sym further) (others items are)
 
   -- ---- whose items these are
 
   abbrev IsOwn : ℕ → Item → Type 0
   IsOwn sender item = item.stream % senders ≡ sender
 
-  lines_own : (sender stream : ℕ) (entries : List Entry) → stream % senders ≡ sender → AllByRecursion (IsOwn sender) (map (line_of sender stream) entries)
+  lines_own : (sender stream : ℕ) (entries : List Entry) → stream % senders ≡ sender → AllByRecursion (IsOwn sender) (map (entry_item sender stream) entries)
   lines_own sender stream [] own = tt
   lines_own sender stream (entry ∷ entries) own = (own, lines_own sender stream entries own)
 
-  are_own : (sender from : ℕ) (given : List Given) (items : List Item) → AreExpected max_bytes sender (share_of senders sender from given) items → AllByRecursion (IsOwn sender) items
+  are_own : (sender from : ℕ) (given : List KnownSource) (items : List Item) → AreExpected max_bytes sender (share_of senders sender from given) items → AllByRecursion (IsOwn sender) items
   are_own sender from [] items are = subst (AllByRecursion (IsOwn sender)) (sym are) tt
   are_own sender from (one ∷ given) items are = by (are_own sender (suc from) given) (nat_eq (from % senders) sender) refl are
     where
@@ -104,21 +104,21 @@ module _ (max_bytes senders : ℕ) where
       by others true is (entries, fault, behind, items_are, expected, rest) =
           subst (AllByRecursion (IsOwn sender)) (sym items_are)
           (all-append (IsOwn sender) (stream_items sender from entries fault) behind
-          (all-append (IsOwn sender) (map (line_of sender from) entries) (item_of sender from (final_what fault) ∷ []) (lines_own sender from entries (own_if is)) (own_if is, tt)) (others behind rest))
+          (all-append (IsOwn sender) (map (entry_item sender from) entries) (item_of sender from (final_what fault) ∷ []) (lines_own sender from entries (own_if is)) (own_if is, tt)) (others behind rest))
       by others false is are = others items are
 
-  abbrev IsDealt : Item → Type 0
-  IsDealt item = item.stream % senders ≡ item.sender
+  abbrev IsDistributed : Item → Type 0
+  IsDistributed item = item.stream % senders ≡ item.sender
 
   -- If each sender posted items of its own streams only, each item is of the sender to which its stream was distributed.
-  all_dealt : (items : List Item) → AllByRecursion (λ (item : Item). item.sender < senders) items → ((sender : ℕ) → sender < senders → AllByRecursion (IsOwn sender) (items_of sender items)) → AllByRecursion IsDealt items
-  all_dealt [] below each = tt
-  all_dealt (item ∷ items) below each = (first, all_dealt items below.1 (λ sender is. behind (nat_eq item.sender sender) sender (each sender is)))
+  all_distributed : (items : List Item) → AllByRecursion (λ (item : Item). item.sender < senders) items → ((sender : ℕ) → sender < senders → AllByRecursion (IsOwn sender) (items_of sender items)) → AllByRecursion IsDistributed items
+  all_distributed [] below each = tt
+  all_distributed (item ∷ items) below each = (first, all_distributed items below.1 (λ sender is. behind (nat_eq item.sender sender) sender (each sender is)))
     where
-      first : IsDealt item
+      first : IsDistributed item
       first = by (nat_eq item.sender item.sender) (eq-eqb item.sender item.sender refl) (each item.sender below.0)
         where
-          by : (own : Bool) → own ≡ true → AllByRecursion (IsOwn item.sender) (cond own (item ∷ items_of item.sender items) (items_of item.sender items)) → IsDealt item
+          by : (own : Bool) → own ≡ true → AllByRecursion (IsOwn item.sender) (cond own (item ∷ items_of item.sender items) (items_of item.sender items)) → IsDistributed item
           by true is all = all.0
           by false is all = absurd (cc)
 
@@ -127,12 +127,12 @@ module _ (max_bytes senders : ℕ) where
       behind false sender all = all
 
   -- All items of a stream are of its sender.
-  on_sender : (items : List Item) (stream : ℕ) → AllByRecursion IsDealt items → on stream items ≡ on stream (items_of (stream % senders) items)
-  on_sender [] stream dealt = refl
-  on_sender (item ∷ items) stream dealt = elim (eqb_tells item.sender (stream % senders)) [
-    | inl same ↦ by (on_sender items stream dealt.1) (nat_eq item.stream stream) ∙ ap (on stream) (sym (ap (λ b. cond b (item ∷ items_of (stream % senders) items) (items_of (stream % senders) items)) (eq-eqb item.sender (stream % senders) same.1)))
+  on_sender : (items : List Item) (stream : ℕ) → AllByRecursion IsDistributed items → on stream items ≡ on stream (items_of (stream % senders) items)
+  on_sender [] stream distributed = refl
+  on_sender (item ∷ items) stream distributed = elim (eqb_tells item.sender (stream % senders)) [
+    | inl same ↦ by (on_sender items stream distributed.1) (nat_eq item.stream stream) ∙ ap (on stream) (sym (ap (λ b. cond b (item ∷ items_of (stream % senders) items) (items_of (stream % senders) items)) (eq-eqb item.sender (stream % senders) same.1)))
     | inr apart ↦
-        on-other stream item items (λ is. apart.1 (sym dealt.0 ∙ ap (λ n. n % senders) is)) ∙ on_sender items stream dealt.1
+        on-other stream item items (λ is. apart.1 (sym distributed.0 ∙ ap (λ n. n % senders) is)) ∙ on_sender items stream distributed.1
         ∙ ap (on stream) (sym (ap (λ b. cond b (item ∷ items_of (stream % senders) items) (items_of (stream % senders) items)) apart.0))
   ]
     where
@@ -143,14 +143,14 @@ module _ (max_bytes senders : ℕ) where
 
   -- ---- all streams
 
-  pub told_of_each : (given : List Given) (items : List Item) → 0 < senders → AllByRecursion (λ (item : Item). item.sender < senders) items
+  pub sequence_of_each : (given : List KnownSource) (items : List Item) → 0 < senders → AllByRecursion (λ (item : Item). item.sender < senders) items
       → ((sender : ℕ) → sender < senders → AreExpected max_bytes sender (share_of senders sender 0 given) (items_of sender items))
-      → (place : ℕ) (one : Given) → slice_get given place ≡ Some one → IsTold max_bytes one (on place items)
-  told_of_each given items some below each place one there =
-      let own = told_at (place % senders) 0 place given one (items_of (place % senders) items) there (ap (λ n. n % senders) here) (each (place % senders) (omega (arith, some))) in
-      subst (IsTold max_bytes one)
+      → (place : ℕ) (one : KnownSource) → slice_get given place ≡ Some one → IsExpectedSequence max_bytes one (on place items)
+  sequence_of_each given items some below each place one there =
+      let own = sequence_at (place % senders) 0 place given one (items_of (place % senders) items) there (ap (λ n. n % senders) here) (each (place % senders) (omega (arith, some))) in
+      subst (IsExpectedSequence max_bytes one)
       (ap (λ n. on n (items_of (place % senders) items)) here
-      ∙ sym (on_sender items place (all_dealt items below (λ sender is. are_own sender 0 given (items_of sender items) (each sender is)))))
+      ∙ sym (on_sender items place (all_distributed items below (λ sender is. are_own sender 0 given (items_of sender items) (each sender is)))))
       own
     where
       here : 0 + place ≡ place

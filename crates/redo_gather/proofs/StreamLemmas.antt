@@ -6,7 +6,7 @@ use Rattle.redo_line.specs.declared.entry.Entry.{Entry}
 use Rattle.redo_line.specs.declared.stream_fault.StreamFault.{StreamFault}
 use Rattle.redo_device.specs.Feed.{Stream, SomeStream}
 use Rattle.redo_line.specs.Log.{unless_fault}
-use Rattle.redo_line.specs.Source.{StreamInput, fault_from, source, sources}
+use Rattle.redo_line.specs.Source.{StreamInput, source_fault, source, sources}
 use Rattle.redo_logs.specs.Logs.{Log, lowest_fault, targets_of, has_ended}
 use Rattle.redo_logs.proofs.LeastFault.{behind_one}
 use Rattle.redo_gather.specs.Streams.{MatchKnown, MatchesContents, KnownInput, fully_known, fault_among, prepend_log, log_with, logs_of, complete_log}
@@ -46,7 +46,7 @@ module _ (max_bytes : ℕ) where
   logs_or_fault [] streams = ((λ some. refl), (λ none. refl))
   logs_or_fault (target ∷ targets) [] = ((λ some. refl), (λ none. refl))
   logs_or_fault (target ∷ targets) (stream ∷ streams) =
-      either (fault_from max_bytes (source target stream.must_close stream.stream)) target _ (logs_of max_bytes targets streams) _ (logs_or_fault targets streams)
+      either (source_fault max_bytes (source target stream.must_close stream.stream)) target _ (logs_of max_bytes targets streams) _ (logs_or_fault targets streams)
 
   -- The logs of whole streams have the targets of the streams, and have ended.
   pub whole_logs : (targets : List (List ℕ)) (streams : List (StreamInput Stream)) (logs : List Log) → length targets ≡ length streams → logs_of max_bytes targets streams ≡ Some logs
@@ -56,7 +56,7 @@ module _ (max_bytes : ℕ) where
   whole_logs (target ∷ targets) [] logs same is = absurd (cc)
   whole_logs (target ∷ targets) (stream ∷ streams) logs same is =
       let front = of_front _ _ logs is in
-      let fine = no_fault (fault_from max_bytes (source target stream.must_close stream.stream)) target _ front.0 front.2 in
+      let fine = no_fault (source_fault max_bytes (source target stream.must_close stream.stream)) target _ front.0 front.2 in
       let others = whole_logs targets streams front.1 (omega (arith, same)) front.3 in (
         ap targets_of front.4 ∙ ap (λ t. t ∷ targets_of front.1) fine.1 ∙ ap (λ ts. target ∷ ts) others.0,
         ap (list_all has_ended) front.4 ∙ all_ended-more front.0 front.1 fine.2 others.1,
@@ -77,29 +77,29 @@ module _ (max_bytes : ℕ) where
 
     -- A fault after streams that have none.
     pub fault_behind : (targets : List (List ℕ)) (streams : List (StreamInput Stream)) (logs : List Log) (left : List (List ℕ)) (unread : List (StreamInput Stream)) (fault : StreamFault) → length targets ≡ length streams → logs_of max_bytes targets streams ≡ Some logs
-        → fault_from max_bytes (source target stream.must_close stream.stream) ≡ Some fault → fault_among max_bytes (targets ++ target ∷ left) (streams ++ stream ∷ unread) ≡ Some (length targets, fault)
+        → source_fault max_bytes (source target stream.must_close stream.stream) ≡ Some fault → fault_among max_bytes (targets ++ target ∷ left) (streams ++ stream ∷ unread) ≡ Some (length targets, fault)
     fault_behind [] [] logs left unread fault same is has = rw (has)
     fault_behind [] (other ∷ streams) logs left unread fault same is has = absurd (cc)
     fault_behind (first ∷ targets) [] logs left unread fault same is has = absurd (cc)
     fault_behind (first ∷ targets) (other ∷ streams) logs left unread fault same is has =
         let front = of_front _ _ logs is in
-        let fine = no_fault (fault_from max_bytes (source first other.must_close other.stream)) first _ front.0 front.2 in
-        ap (λ f. lowest_fault (f ∷ map (fault_from max_bytes) (sources (targets ++ target ∷ left) (streams ++ stream ∷ unread)))) fine.0
+        let fine = no_fault (source_fault max_bytes (source first other.must_close other.stream)) first _ front.0 front.2 in
+        ap (λ f. lowest_fault (f ∷ map (source_fault max_bytes) (sources (targets ++ target ∷ left) (streams ++ stream ∷ unread)))) fine.0
         ∙ ap behind_one (fault_behind targets streams front.1 left unread fault (omega (arith, same)) front.3 has)
         ∙ ap (λ (n : ℕ). Some (n, fault)) (omega arith)
 
 -- The streams that readers give.
-pub count_told : (known : List KnownInput) (streams : List (StreamInput Stream)) → MatchKnown known streams → length known ≡ length streams
-count_told [] [] are = refl
-count_told [] (stream ∷ streams) are = absurd are
-count_told (known ∷ others) [] are = absurd are
-count_told (known ∷ others) (stream ∷ streams) are = ap suc (count_told others streams are.1)
+pub count_known : (known : List KnownInput) (streams : List (StreamInput Stream)) → MatchKnown known streams → length known ≡ length streams
+count_known [] [] are = refl
+count_known [] (stream ∷ streams) are = absurd are
+count_known (known ∷ others) [] are = absurd are
+count_known (known ∷ others) (stream ∷ streams) are = ap suc (count_known others streams are.1)
 
-pub told-append : (known more : List KnownInput) (streams unread : List (StreamInput Stream)) → MatchKnown known streams → MatchKnown more unread → MatchKnown (known ++ more) (streams ++ unread)
-told-append [] more [] unread are behind = behind
-told-append [] more (stream ∷ streams) unread are behind = absurd are
-told-append (known ∷ others) more [] unread are behind = absurd are
-told-append (known ∷ others) more (stream ∷ streams) unread are behind = (are.0, told-append others more streams unread are.1 behind)
+pub known-append : (known more : List KnownInput) (streams unread : List (StreamInput Stream)) → MatchKnown known streams → MatchKnown more unread → MatchKnown (known ++ more) (streams ++ unread)
+known-append [] more [] unread are behind = behind
+known-append [] more (stream ∷ streams) unread are behind = absurd are
+known-append (known ∷ others) more [] unread are behind = absurd are
+known-append (known ∷ others) more (stream ∷ streams) unread are behind = (are.0, known-append others more streams unread are.1 behind)
 
 -- The known stream of a reader, or an empty one.
 any_stream : (known : Option Stream) → (stream : Stream) × MatchesContents known stream
@@ -116,8 +116,8 @@ given_stream None P (stream, p) = (stream, tt, p)
 given_stream (Some stream) P p = (stream, refl, p)
 
 -- If all streams are known, these are the streams that the readers give.
-pub all_told : (streams others : List (StreamInput Stream)) → MatchKnown (map fully_known streams) others → others ≡ streams
-all_told [] [] are = refl
-all_told [] (other ∷ others) are = absurd are
-all_told (stream ∷ streams) [] are = absurd are
-all_told (stream ∷ streams) (other ∷ others) are = λ i. record { must_close = are.0.0 i; stream = are.0.1 i } ∷ all_told streams others are.1 i
+pub all_known : (streams others : List (StreamInput Stream)) → MatchKnown (map fully_known streams) others → others ≡ streams
+all_known [] [] are = refl
+all_known [] (other ∷ others) are = absurd are
+all_known (stream ∷ streams) [] are = absurd are
+all_known (stream ∷ streams) (other ∷ others) are = λ i. record { must_close = are.0.0 i; stream = are.0.1 i } ∷ all_known streams others are.1 i

@@ -93,13 +93,13 @@ unfolding split_lines ended rest first_fault entry_of record_entry fields_of sta
 these_faults = ((refl, refl), ((refl, refl), ((refl, refl), ((refl, refl), ((refl, refl), ((refl, refl), ((refl, refl), ((refl, refl), tt))))))))
 
 -- What is known of two readers, of which the second one is opaque.
-these_told : known_inputs (λ (known : Option Stream). known) (true ∷ false ∷ []) (Some (stream_of x false) ∷ None ∷ [])
+these_known : known_inputs (λ (known : Option Stream). known) (true ∷ false ∷ []) (Some (stream_of x false) ∷ None ∷ [])
     ≡ record { must_close = true; stream = Some (stream_of x false) } ∷ record { must_close = false; stream = None } ∷ []
-these_told = refl
+these_known = refl
 
 -- An opaque reader may give any stream, and no readers give no streams.
 any_given : MatchesContents None (stream_of x true)
 any_given = tt
 
-no_told : MatchKnown [] []
-no_told = tt
+none_known : MatchKnown [] []
+none_known = tt

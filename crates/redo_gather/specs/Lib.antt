@@ -1,5 +1,6 @@
 pub mod Expected
 pub mod GatherFault
+pub mod Gathered
 pub mod Laws
 pub mod Private
 pub mod Sending

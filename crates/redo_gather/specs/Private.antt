@@ -1,6 +1,6 @@
 -- Definitions that only clauses of private functions cite. They help in proofs and need not be trusted.
 pub mod Collecting
-pub mod Dealing
+pub mod Distribution
 pub mod GatherFault
 pub mod Posting
 pub mod Reading

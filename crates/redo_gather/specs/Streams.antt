@@ -6,7 +6,7 @@ use Rattle.std.specs.Option.{option_map}
 use Rattle.redo_line.specs.declared.entry.Entry.{Entry}
 use Rattle.redo_line.specs.declared.stream_fault.StreamFault.{StreamFault}
 use Rattle.redo_device.specs.Feed.{Stream}
-use Rattle.redo_line.specs.Source.{StreamInput, Source, fault_from, log_from, sources}
+use Rattle.redo_line.specs.Source.{StreamInput, Source, source_fault, source_log, sources}
 use Rattle.redo_logs.specs.declared.log_state.LogState.TheVariants.{Ended}
 use Rattle.redo_logs.specs.Logs.{Log, lowest_fault}
 
@@ -50,7 +50,7 @@ complete_log target entries = record { target = target; entries = entries; state
 
 -- The log of a target and its stream, if there is one.
 abbrev pub log_with : ℕ → Source Stream → Option Log
-log_with max_bytes source = option_map (complete_log source.target) (log_from max_bytes source)
+log_with max_bytes source = option_map (complete_log source.target) (source_log max_bytes source)
 
 abbrev pub prepend_log : Option Log → Option (List Log) → Option (List Log)
 prepend_log None logs = None
@@ -68,24 +68,24 @@ logs_of max_bytes targets streams = all_of (map (log_with max_bytes) (sources ta
 
 -- The lowest number of a stream that has a fault, and its fault.
 abbrev pub fault_among : ℕ → List (List ℕ) → List (StreamInput Stream) → Option (ℕ × StreamFault)
-fault_among max_bytes targets streams = lowest_fault (map (fault_from max_bytes) (sources targets streams))
+fault_among max_bytes targets streams = lowest_fault (map (source_fault max_bytes) (sources targets streams))
 
 -- These are the logs of some streams that the readers may give.
-abbrev pub AreLogs : ℕ → List (List ℕ) → List KnownInput → List Log → Type 0
-AreLogs max_bytes targets known logs = SomeMatchingStreams known (λ streams. logs_of max_bytes targets streams ≡ Some logs)
+abbrev pub AreLogsOfReaders : ℕ → List (List ℕ) → List KnownInput → List Log → Type 0
+AreLogsOfReaders max_bytes targets known logs = SomeMatchingStreams known (λ streams. logs_of max_bytes targets streams ≡ Some logs)
 
 -- This is the fault among some streams that the readers may give.
-abbrev pub IsFault : ℕ → List (List ℕ) → List KnownInput → ℕ → StreamFault → Type 0
-IsFault max_bytes targets known number fault = SomeMatchingStreams known (λ streams. fault_among max_bytes targets streams ≡ Some (number, fault))
+abbrev pub IsLowestFault : ℕ → List (List ℕ) → List KnownInput → ℕ → StreamFault → Type 0
+IsLowestFault max_bytes targets known number fault = SomeMatchingStreams known (λ streams. fault_among max_bytes targets streams ≡ Some (number, fault))
 
 -- There are logs exactly if there is no fault.
 abbrev pub HasLogsUnlessFault : ℕ → List (List ℕ) → List (StreamInput Stream) → Type 0
 HasLogsUnlessFault max_bytes targets streams = IsSome (logs_of max_bytes targets streams) ↔ (fault_among max_bytes targets streams ≡ None)
 
--- If these streams are known, the logs of their readers (`AreLogs`) are the logs of the streams. The same holds for a fault.
+-- If these streams are known, the logs of their readers (`AreLogsOfReaders`) are the logs of the streams. The same holds for a fault.
 abbrev pub LogsAreThoseOfStreams : ℕ → List (List ℕ) → List (StreamInput Stream) → Type 0
-LogsAreThoseOfStreams max_bytes targets streams = (logs : List Log) → AreLogs max_bytes targets (map fully_known streams) logs → logs_of max_bytes targets streams ≡ Some logs
+LogsAreThoseOfStreams max_bytes targets streams = (logs : List Log) → AreLogsOfReaders max_bytes targets (map fully_known streams) logs → logs_of max_bytes targets streams ≡ Some logs
 
 abbrev pub FaultIsThatOfStreams : ℕ → List (List ℕ) → List (StreamInput Stream) → Type 0
 FaultIsThatOfStreams max_bytes targets streams =
-    (number : ℕ) (fault : StreamFault) → IsFault max_bytes targets (map fully_known streams) number fault → fault_among max_bytes targets streams ≡ Some (number, fault)
+    (number : ℕ) (fault : StreamFault) → IsLowestFault max_bytes targets (map fully_known streams) number fault → fault_among max_bytes targets streams ≡ Some (number, fault)

@@ -2,9 +2,10 @@ ghost use Rattle.std.specs.Prelude.{◌≡◌, ◌≢◌, ℕ, ◌≤◌, ◌^�
 ghost use Rattle.std.specs.Result.{result_and};
 ghost use Rattle.redo_line.specs.declared.stream_fault.StreamFault.TheVariants.{OutOfMemory};
 ghost use Rattle.redo_wire.specs.declared.item.Item.{Item};
-ghost use Rattle.redo_wire.specs.Mailbox.{AreAllMet, AreEndsOf, AreFromSenders, AreFullyTaken, IsOpened, meets};
+ghost use Rattle.redo_wire.specs.Mailbox.{AreAllMet, AreEndsOf, AreFromSenders, AreMetFullyTaken, IsOpened, after_meet};
 ghost use Rattle.redo_gather.specs.GatherFault.{IfStreamFault};
-ghost use Rattle.redo_gather.specs.Private.Collecting.{AllExpected, AllTaken, StoresAllTaken, IsGathered};
+ghost use Rattle.redo_gather.specs.Gathered.{IsGathered};
+ghost use Rattle.redo_gather.specs.Private.Collecting.{AllExpected, AllTaken, StoresAllTaken};
 ghost use Rattle.redo_gather.specs.Streams.{KnownInput};
 
 use crate::gate::Gate;
@@ -19,23 +20,24 @@ use std::sync::Wait;
 /// reported that one did, it goes on taking items and stores nothing more.
 #[derive(Drop)]
 pub struct Collector {
-    pub mailbox: TakeEnd,
+    pub take_end: TakeEnd,
     pub table: LogTable,
-    pub refused: bool,
+    pub out_of_memory: bool,
     // For each stream, how many of its entries were taken.
     counts: Vec<u64>,
 }
 
 impl Collector {
     // Creates a collector that stores items in a table.
-    fn new(alloc: Global, mailbox: TakeEnd, table: LogTable) -> Result<Collector, AllocError>
-        ensures { IfOk result (λ collector. (collector.mailbox ≡ mailbox) × (collector.table ≡ table) × (collector.refused ≡ false)) }
+    fn new(alloc: Global, take_end: TakeEnd, table: LogTable) -> Result<Collector, AllocError>
+        ensures { IfOk result (λ collector.
+            (collector.take_end ≡ take_end) × (collector.table ≡ table) × (collector.out_of_memory ≡ false)) }
     {
         let counts = vec![in alloc; 0u64; table.len() as usize]?;
         Ok(Collector {
-            mailbox,
+            take_end,
             table,
-            refused: false,
+            out_of_memory: false,
             counts,
         })
     }
@@ -50,27 +52,27 @@ impl Collector {
     ) -> Result<(Collector, Vec<PostEnd>), AllocError>
         requires capacity { (1 ≤ capacity) × (capacity ≤ 2 ^ 16) }
         requires senders { (1 ≤ senders) × (senders ≤ 64) }
-        ensures takes { IfOk result (λ opened. IsOpened capacity senders opened.0.mailbox) }
-        ensures posts { IfOk result (λ opened. AreEndsOf opened.0.mailbox.mailbox opened.1.items) }
-        ensures begins { IfOk result (λ opened. (opened.0.table ≡ table) × (opened.0.refused ≡ false)) }
+        ensures take_end { IfOk result (λ opened. IsOpened capacity senders opened.0.take_end) }
+        ensures post_ends { IfOk result (λ opened. AreEndsOf opened.0.take_end.mailbox opened.1.items) }
+        ensures begins { IfOk result (λ opened. (opened.0.table ≡ table) × (opened.0.out_of_memory ≡ false)) }
     {
-        let (mailbox, ends) = open(alloc, capacity, senders)?;
-        let collector = Collector::new(alloc, mailbox, table)?;
+        let (take_end, ends) = open(alloc, capacity, senders)?;
+        let collector = Collector::new(alloc, take_end, table)?;
         Ok((collector, ends))
     }
 
     /// Takes items until `streams` streams are over, or nothing more comes.
     pub fn take<T: Wait, G: Gate>(&mut self, rt: &T, gate: &G, streams: usize)
-        ensures unchanged { (self.new.mailbox.mailbox ≡ self.old.mailbox.mailbox) × (self.new.mailbox.met ≡ self.old.mailbox.met) }
-        ensures holds { (names : List (List ℕ)) → StoresAllTaken names self.old.mailbox.taken self.old.table self.old.refused →
-            StoresAllTaken names self.new.mailbox.taken self.new.table self.new.refused }
+        ensures unchanged { (self.new.take_end.mailbox ≡ self.old.take_end.mailbox) × (self.new.take_end.met ≡ self.old.take_end.met) }
+        ensures holds { (names : List (List ℕ)) → StoresAllTaken names self.old.take_end.taken self.old.table self.old.out_of_memory →
+            StoresAllTaken names self.new.take_end.taken self.new.table self.new.out_of_memory }
     {
         let mut left = streams;
         for _ in rt.forever() {
             if left == 0 {
                 return;
             }
-            let Some(item) = self.mailbox.take(rt) else {
+            let Some(item) = self.take_end.take(rt) else {
                 return;
             };
             if is_final(&item.what) {
@@ -83,11 +85,11 @@ impl Collector {
 
     /// Meets a post end, which posts nothing more.
     pub fn meet<T: Wait>(&mut self, rt: &T, end: PostEnd)
-        requires { end.mailbox ≡ self.old.mailbox.mailbox }
-        ensures met { self.new.mailbox ≡ meets end self.old.mailbox }
-        ensures unchanged { (self.new.table ≡ self.old.table) × (self.new.refused ≡ self.old.refused) }
+        requires { end.mailbox ≡ self.old.take_end.mailbox }
+        ensures met { self.new.take_end ≡ after_meet end self.old.take_end }
+        ensures unchanged { (self.new.table ≡ self.old.table) × (self.new.out_of_memory ≡ self.old.out_of_memory) }
     {
-        self.mailbox.meet(rt, end);
+        self.take_end.meet(rt, end);
     }
 
     /// Takes what is left after the ends of all senders were met. Returns the table, or the fault of the
@@ -95,7 +97,7 @@ impl Collector {
     pub fn finish<T: Wait, G: Gate>(mut self, rt: &T, gate: &G) -> Result<LogTable, GatherFault>
         ensures gathered { (max_bytes : ℕ) (names : List (List ℕ)) (known : List KnownInput) → AllExpected max_bytes names known self →
             IsGathered max_bytes names known result }
-        ensures no_memory { IfStreamFault result (λ number fault. fault ≢ OutOfMemory) }
+        ensures never_out_of_memory { IfStreamFault result (λ number fault. fault ≢ OutOfMemory) }
     {
         self.finish_table(rt, gate).and(Ok(self.table))
     }
@@ -104,9 +106,9 @@ impl Collector {
     fn finish_table<T: Wait, G: Gate>(&mut self, rt: &T, gate: &G) -> Result<(), GatherFault>
         ensures gathered { (max_bytes : ℕ) (names : List (List ℕ)) (known : List KnownInput) → AllExpected max_bytes names known self.old →
             IsGathered max_bytes names known (result_and result (Ok self.new.table)) }
-        ensures no_memory { IfStreamFault result (λ number fault. fault ≢ OutOfMemory) }
+        ensures never_out_of_memory { IfStreamFault result (λ number fault. fault ≢ OutOfMemory) }
     {
-        if !self.mailbox.all_met() {
+        if !self.take_end.all_met() {
             return Err(GatherFault::OutOfMemory);
         }
         self.take_rest(rt, gate);
@@ -115,16 +117,16 @@ impl Collector {
 
     // Takes what is left after all ends were met.
     fn take_rest<T: Wait, G: Gate>(&mut self, rt: &T, gate: &G)
-        requires { AreAllMet self.old.mailbox }
-        ensures met { AreAllMet self.new.mailbox }
-        ensures unchanged { (self.new.mailbox.mailbox ≡ self.old.mailbox.mailbox) × (self.new.mailbox.met ≡ self.old.mailbox.met) }
-        ensures holds { (names : List (List ℕ)) → StoresAllTaken names self.old.mailbox.taken self.old.table self.old.refused →
-            StoresAllTaken names self.new.mailbox.taken self.new.table self.new.refused }
-        ensures all_taken { AreFullyTaken self.new.mailbox }
-        ensures only_senders { AreFromSenders self.new.mailbox }
+        requires { AreAllMet self.old.take_end }
+        ensures met { AreAllMet self.new.take_end }
+        ensures unchanged { (self.new.take_end.mailbox ≡ self.old.take_end.mailbox) × (self.new.take_end.met ≡ self.old.take_end.met) }
+        ensures holds { (names : List (List ℕ)) → StoresAllTaken names self.old.take_end.taken self.old.table self.old.out_of_memory →
+            StoresAllTaken names self.new.take_end.taken self.new.table self.new.out_of_memory }
+        ensures all_taken { AreMetFullyTaken self.new.take_end }
+        ensures only_senders { AreFromSenders self.new.take_end }
     {
         for _ in rt.forever() {
-            let Some(item) = self.mailbox.rest(rt) else {
+            let Some(item) = self.take_end.rest(rt) else {
                 return;
             };
             self.store_and_notify(rt, gate, item);
@@ -136,9 +138,9 @@ impl Collector {
     fn final_result(&self) -> Result<(), GatherFault>
         ensures gathered { (max_bytes : ℕ) (names : List (List ℕ)) (known : List KnownInput) → AllTaken max_bytes names known self.now →
             IsGathered max_bytes names known (result_and result (Ok self.now.table)) }
-        ensures no_memory { IfStreamFault result (λ number fault. fault ≢ OutOfMemory) }
+        ensures never_out_of_memory { IfStreamFault result (λ number fault. fault ≢ OutOfMemory) }
     {
-        if self.refused {
+        if self.out_of_memory {
             return Err(GatherFault::OutOfMemory);
         }
         match self.table.first_fault() {
@@ -149,9 +151,9 @@ impl Collector {
 
     /// Stores an item that was taken, and notifies the gate.
     fn store_and_notify<T: Wait, G: Gate>(&mut self, rt: &T, gate: &G, item: Item)
-        ensures unchanged { self.new.mailbox ≡ self.old.mailbox }
-        ensures holds { (names : List (List ℕ)) (before : List Item) → StoresAllTaken names before self.old.table self.old.refused →
-            StoresAllTaken names (before ++ item ∷ []) self.new.table self.new.refused }
+        ensures unchanged { self.new.take_end ≡ self.old.take_end }
+        ensures holds { (names : List (List ℕ)) (before : List Item) → StoresAllTaken names before self.old.table self.old.out_of_memory →
+            StoresAllTaken names (before ++ item ∷ []) self.new.table self.new.out_of_memory }
     {
         let stream = item.stream;
         let lines = entry_count(&item.what);
@@ -165,23 +167,24 @@ impl Collector {
 
     // Stores an item, unless an allocation failed before.
     fn store(&mut self, item: Item)
-        ensures unchanged { self.new.mailbox ≡ self.old.mailbox }
-        ensures holds { (names : List (List ℕ)) (before : List Item) → StoresAllTaken names before self.old.table self.old.refused →
-            StoresAllTaken names (before ++ item ∷ []) self.new.table self.new.refused }
+        ensures unchanged { self.new.take_end ≡ self.old.take_end }
+        ensures holds { (names : List (List ℕ)) (before : List Item) → StoresAllTaken names before self.old.table self.old.out_of_memory →
+            StoresAllTaken names (before ++ item ∷ []) self.new.table self.new.out_of_memory }
     {
-        if self.refused {
+        if self.out_of_memory {
             drop(item);
             return;
         }
         let Ok(()) = store_item(&mut self.table, item) else {
-            self.refused = true;
+            self.out_of_memory = true;
             return;
         };
     }
 
     // Notifies the gate of `lines` further entries.
     fn notify_gate<T: Wait, G: Gate>(&mut self, rt: &T, gate: &G, stream: u32, lines: usize)
-        ensures { (self.new.mailbox ≡ self.old.mailbox) × (self.new.table ≡ self.old.table) × (self.new.refused ≡ self.old.refused) }
+        ensures { (self.new.take_end ≡ self.old.take_end) × (self.new.table ≡ self.old.table)
+            × (self.new.out_of_memory ≡ self.old.out_of_memory) }
     {
         if let Some(count) = self.counts.get_mut(stream as usize) {
             notify_gate_each(rt, gate, stream, count, lines);

@@ -1,13 +1,15 @@
-ghost use Rattle.std.specs.Prelude.{◌≡◌, ◌≢◌, ◌<◌, ◌≤◌, ◌^◌, true, IfOk, nat_eq, length, map};
-ghost use Rattle.std.specs.List.{AllByRecursion, IsDistinct, list_all};
+ghost use Rattle.std.specs.Prelude.{◌≡◌, ◌≢◌, ◌<◌, ◌≤◌, ◌^◌, IfOk, nat_eq, length, map};
+ghost use Rattle.std.specs.List.{AllByRecursion, IsDistinct};
 ghost use Rattle.std.specs.Cmp.Lexicographic.{pointwise};
 ghost use Rattle.redo_line.specs.declared.stream_fault.StreamFault.TheVariants.{OutOfMemory};
 ghost use Rattle.redo_line.specs.Source.{sources};
-ghost use Rattle.redo_logs.specs.Logs.{has_ended, max_logs, new_log, targets_of};
+ghost use Rattle.redo_logs.specs.Logs.{max_logs, new_log, targets_of};
 ghost use Rattle.redo_gather.specs.GatherFault.{IfStreamFault};
-ghost use Rattle.redo_gather.specs.Streams.{AreLogs, IsFault, known_input, known_inputs};
-ghost use Rattle.redo_gather.specs.Private.Collecting.{Collects, IsGathered};
-ghost use Rattle.redo_gather.specs.Private.Dealing.{AreDistributed, AreEmpty};
+ghost use Rattle.redo_gather.specs.Gathered.{IsGathered};
+ghost use Rattle.redo_gather.specs.Sending.{HasSent, numbered_source};
+ghost use Rattle.redo_gather.specs.Streams.{known_input, known_inputs};
+ghost use Rattle.redo_gather.specs.Private.Collecting.{Collects};
+ghost use Rattle.redo_gather.specs.Private.Distribution.{AreDistributed, AreEmpty};
 
 use crate::collector::Collector;
 use crate::flags::zip_flags;
@@ -27,8 +29,8 @@ use std::thread;
 use std::thread::{PromisedHandle, Scope, Threads};
 
 /// Reads streams in parallel, by the plan's senders, and returns the logs of their targets in the order of the
-/// names. Each reader gives the stream of the name at the same index. If the must-close flag at that index (`marks`)
-/// is set, the stream must end with the closing record of its log. There must be as many flags and readers as names.
+/// names. Each reader gives the stream of the name at the same index. If the must-close flag at that index is set,
+/// the stream must end with the closing record of its log. There must be as many flags and readers as names.
 /// There may be at most 1,048,575 names, or none. No name may occur twice.
 ///
 /// Sender i of n reads the streams i, i + n, i + 2n and so on, in its own thread ([`crate::send`]). If there are
@@ -54,15 +56,9 @@ pub fn gather<T: Threads + Wait + Sync, R: Feed + Send, G: Gate>(
     requires distinct { IsDistinct (pointwise nat_eq) names.items }
     requires size { length names.items ≤ max_logs }
 
-    // The logs of the streams, all of them complete.
-    ensures logs { IfOk result (AreLogs plan.now.max_bytes names.items (known_inputs R.contents flags.items readers.items)) }
-    ensures targets { IfOk result (λ table. targets_of table ≡ names.items) }
-    ensures ended { IfOk result (λ table. list_all has_ended table ≡ true) }
-
-    // The fault of the lowest-numbered stream that has one.
-    ensures fault { IfStreamFault result (IsFault plan.now.max_bytes names.items (known_inputs R.contents flags.items readers.items)) }
-    ensures number { IfStreamFault result (λ number fault. number < length names.items) }
-    ensures no_memory { IfStreamFault result (λ number fault. fault ≢ OutOfMemory) }
+    // The logs of the streams, or the fault of the lowest-numbered stream that has one, or `OutOfMemory`.
+    ensures gathered { IsGathered plan.now.max_bytes names.items (known_inputs R.contents flags.items readers.items) result }
+    ensures never_out_of_memory { IfStreamFault result (λ number fault. fault ≢ OutOfMemory) }
 {
     gather_with_keys(
         rt,
@@ -92,15 +88,9 @@ pub fn gather_with_keys<T: Threads + Wait + Sync, R: Feed + Send, G: Gate>(
     requires distinct { IsDistinct (pointwise nat_eq) names.items }
     requires size { length names.items ≤ max_logs }
 
-    // The logs of the streams, all of them complete.
-    ensures logs { IfOk result (AreLogs plan.now.max_bytes names.items (known_inputs R.contents flags.items readers.items)) }
-    ensures targets { IfOk result (λ table. targets_of table ≡ names.items) }
-    ensures ended { IfOk result (λ table. list_all has_ended table ≡ true) }
-
-    // The fault of the lowest-numbered stream that has one.
-    ensures fault { IfStreamFault result (IsFault plan.now.max_bytes names.items (known_inputs R.contents flags.items readers.items)) }
-    ensures number { IfStreamFault result (λ number fault. number < length names.items) }
-    ensures no_memory { IfStreamFault result (λ number fault. fault ≢ OutOfMemory) }
+    // The logs of the streams, or the fault of the lowest-numbered stream that has one, or `OutOfMemory`.
+    ensures gathered { IsGathered plan.now.max_bytes names.items (known_inputs R.contents flags.items readers.items) result }
+    ensures never_out_of_memory { IfStreamFault result (λ number fault. fault ≢ OutOfMemory) }
 {
     let table = new_table(alloc, keys, names)?;
     let senders = plan.senders().min(table.len());
@@ -126,7 +116,7 @@ fn gather_by<T: Threads + Wait + Sync, R: Feed + Send, G: Gate>(
     requires size { length table ≤ max_logs }
     requires senders { (1 ≤ senders) × (senders ≤ 64) }
     ensures gathered { IsGathered plan.now.max_bytes (targets_of table) (map (known_input R.contents) readers.items) result }
-    ensures no_memory { IfStreamFault result (λ number fault. fault ≢ OutOfMemory) }
+    ensures never_out_of_memory { IfStreamFault result (λ number fault. fault ≢ OutOfMemory) }
 {
     let shares = distribute(alloc, &table, readers, senders)?;
     let (collector, ends) = Collector::open(alloc, table, plan.capacity(), senders)?;
@@ -144,7 +134,7 @@ fn run_senders<T: Threads + Wait + Sync, R: Feed + Send, G: Gate>(
     gate: &G,
     collector: Collector,
 ) -> Collector
-    requires one { AllByRecursion (λ end. end.mailbox ≡ collector.mailbox.mailbox) ends.items }
+    requires one { AllByRecursion (λ end. end.mailbox ≡ collector.take_end.mailbox) ends.items }
     requires limit { (1 ≤ max_bytes) × (max_bytes ≤ 2 ^ 40) }
     ensures { Collects R.contents max_bytes ends.items (map (λ share. share.items) shares.items) collector result }
 {
@@ -152,7 +142,7 @@ fn run_senders<T: Threads + Wait + Sync, R: Feed + Send, G: Gate>(
         thread::scope_env(),
         rt,
         |scope| -> Collector
-            requires one { AllByRecursion (λ end. end.mailbox ≡ collector.mailbox.mailbox) ends.items }
+            requires one { AllByRecursion (λ end. end.mailbox ≡ collector.take_end.mailbox) ends.items }
             requires limit { (1 ≤ max_bytes) × (max_bytes ≤ 2 ^ 40) }
             ensures { Collects R.contents max_bytes ends.items (map (λ share. share.items) shares.items) collector result }
         {
@@ -224,7 +214,7 @@ fn run_next_sender<'s, T: Threads + Wait + Sync, R: Feed + Send + 's, G: Gate, E
     streams: usize,
     collector: &mut Collector,
 )
-    requires one { AllByRecursion (λ end. end.mailbox ≡ collector.old.mailbox.mailbox) ends.items }
+    requires one { AllByRecursion (λ end. end.mailbox ≡ collector.old.take_end.mailbox) ends.items }
     requires limit { (1 ≤ max_bytes) × (max_bytes ≤ 2 ^ 40) }
     ensures { Collects R.contents max_bytes ends.items (map (λ share. share.items) shares.items) collector.old collector.new }
 {
@@ -268,5 +258,10 @@ fn spawn_sender<'s, T: Threads + Wait + Sync, R: Feed + Send + 's, G: Gate, E>(
     ensures { IfOk result (λ handle. handle.promise.0.value ≡ sender) }
 {
     let owing = SenderPromise(Snapshot::of(&sender));
-    Ok(scope.spawn_with(owing, move || sender.send(rt, alloc, gate))?)
+    Ok(scope.spawn_with(
+        owing,
+        move || -> PostEnd
+            ensures { HasSent sender.max_bytes (map (numbered_source R.contents) sender.share.items) sender.end result }
+        { sender.send(rt, alloc, gate) },
+    )?)
 }

@@ -8,7 +8,7 @@ ghost use Rattle.redo_wire.specs.declared.item.Item.{Item};
 ghost use Rattle.redo_wire.specs.Mailbox.{PostEndState};
 ghost use Rattle.redo_gather.specs.Laws.{ExpectsInOrder, ExpectsLog, ExpectsFault, MayExpectAll, MayExpectPrefix, ExpectsNothing, ExpectsOne, ExpectsConcatenation};
 ghost use Rattle.redo_gather.specs.Laws.{AreSingles, StandsForEach, SingleIsUnwrapped, PostsOwnItems, ItemCountIsBounded};
-ghost use Rattle.redo_gather.specs.Sending.{NumberedInput};
+ghost use Rattle.redo_gather.specs.Sending.{NumberedSource};
 ghost use Rattle.redo_gather.specs.Streams.{MatchKnown, HasLogsUnlessFault, FaultIsThatOfStreams, LogsAreThoseOfStreams, fully_known};
 
 /// Either streams have logs, or there is a fault among them, never both.
@@ -50,7 +50,7 @@ pub fn items_for_share()
     ensures singles { (sender stream : ℕ) (entries : List Entry) (fault : Option StreamFault) → AreSingles sender stream entries fault }
     ensures each { (sender stream : ℕ) (entries : List Entry) → StandsForEach sender stream entries }
     ensures alone { (item one : Item) → SingleIsUnwrapped item one }
-    ensures own_items { (max_bytes : ℕ) (share : List NumberedInput) (before after : PostEndState) →
+    ensures own_items { (max_bytes : ℕ) (share : List NumberedSource) (before after : PostEndState) →
         PostsOwnItems max_bytes share before after }
-    ensures at_most { (before after : PostEndState) (lines : List Item) → ItemCountIsBounded before after lines }
+    ensures at_most { (items : List Item) → ItemCountIsBounded items }
 {}

@@ -108,15 +108,15 @@ fn read_chunks<R: Feed, B: Fn(u64)>(
 }
 
 // Reads the entries of the lines that end in a chunk.
-fn read_chunk(entries: &mut Entries, scan: &mut Scan, piece: &[u8]) -> Result<(), StreamFault>
+fn read_chunk(entries: &mut Entries, scan: &mut Scan, chunk: &[u8]) -> Result<(), StreamFault>
     requires { IsRead scan.old entries.old }
-    ensures took { OnOk result (scan.new ≡ consume piece.now scan.old) }
+    ensures took { OnOk result (scan.new ≡ consume chunk.now scan.old) }
     ensures read { OnOk result (IsRead scan.new entries.new) }
-    ensures refused { IfErr result (IsRefused scan.old piece.now entries.new) }
-    ensures never_read { IfErr result (λ fault. fault ≢ Read) }
+    ensures refused { IfErr result (IsRefused scan.old chunk.now entries.new) }
+    ensures never_read_fault { IfErr result (λ fault. fault ≢ Read) }
 {
     let mut from = 0;
-    'lines: while let Some(upto) = scan.step_into(piece, from, MAX_LINES_PER_STEP, entries)? {
+    'lines: while let Some(upto) = scan.step_into(chunk, from, MAX_LINES_PER_STEP, entries)? {
         from = upto;
     }
     Ok(())

@@ -1,14 +1,14 @@
-ghost use Rattle.std.specs.Prelude.{◌≡◌, ◌≢◌, ℕ, ◌<◌, ◌≤◌, ◌^◌, true, List, Some, Ok, IfOk, OnOk, nat_eq, length, map, slice_get};
-ghost use Rattle.std.specs.List.{IsDistinct, list_all};
+ghost use Rattle.std.specs.Prelude.{◌≡◌, ◌≢◌, ℕ, ◌<◌, ◌≤◌, ◌^◌, List, Some, Ok, OnOk, nat_eq, length, map, slice_get};
+ghost use Rattle.std.specs.List.{IsDistinct};
 ghost use Rattle.std.specs.Result.{result_and};
 ghost use Rattle.std.specs.Cmp.Lexicographic.{pointwise};
 ghost use Rattle.redo_line.specs.declared.stream_fault.StreamFault.TheVariants.{OutOfMemory};
 ghost use Rattle.redo_line.specs.Source.{source};
 ghost use Rattle.redo_logs.specs.declared.log_state.LogState.TheVariants.{Running};
-ghost use Rattle.redo_logs.specs.Logs.{max_logs, new_log, states_of, targets_of, has_ended};
+ghost use Rattle.redo_logs.specs.Logs.{max_logs, new_log, states_of, targets_of};
 ghost use Rattle.redo_gather.specs.GatherFault.{IfStreamFault};
-ghost use Rattle.redo_gather.specs.Streams.{AreLogs, IsFault, known_input, known_inputs};
-ghost use Rattle.redo_gather.specs.Private.Collecting.{IsGathered};
+ghost use Rattle.redo_gather.specs.Gathered.{IsGathered};
+ghost use Rattle.redo_gather.specs.Streams.{known_input, known_inputs};
 ghost use Rattle.redo_gather.specs.Private.Storing.{HasFault, IsCompleted};
 
 use crate::flags::zip_flags;
@@ -23,8 +23,8 @@ use std::alloc::Global;
 const READ_BYTES: usize = 64 * 1024;
 
 /// Reads streams one after another, and returns the logs of their targets in the order of the names.
-/// Each reader gives the stream of the name at the same index. If the must-close flag at this index (`marks`) is
-/// set, the stream must end with the closing record of its log. There must be as many flags and readers as names.
+/// Each reader gives the stream of the name at the same index. If the must-close flag at this index is set,
+/// the stream must end with the closing record of its log. There must be as many flags and readers as names.
 /// There may be at most 1,048,575 names, or none. No name may occur twice.
 ///
 /// A stream may have at most `max_bytes` bytes, from 1 to 1,099,511,627,776. Each stream is read at most
@@ -44,15 +44,9 @@ pub fn gather_plain<R: Feed>(
     requires distinct { IsDistinct (pointwise nat_eq) names.items }
     requires size { length names.items ≤ max_logs }
 
-    // The logs of the streams, all of them complete.
-    ensures logs { IfOk result (AreLogs max_bytes names.items (known_inputs R.contents flags.items readers.items)) }
-    ensures targets { IfOk result (λ table. targets_of table ≡ names.items) }
-    ensures ended { IfOk result (λ table. list_all has_ended table ≡ true) }
-
-    // The fault of the lowest-numbered stream that has one.
-    ensures fault { IfStreamFault result (IsFault max_bytes names.items (known_inputs R.contents flags.items readers.items)) }
-    ensures number { IfStreamFault result (λ number fault. number < length names.items) }
-    ensures no_memory { IfStreamFault result (λ number fault. fault ≢ OutOfMemory) }
+    // The logs of the streams, or the fault of the lowest-numbered stream that has one, or `OutOfMemory`.
+    ensures gathered { IsGathered max_bytes names.items (known_inputs R.contents flags.items readers.items) result }
+    ensures never_out_of_memory { IfStreamFault result (λ number fault. fault ≢ OutOfMemory) }
 {
     let mut room = vec![in alloc; 0u8; READ_BYTES]?;
     let mut table = new_table(alloc, HashKeys::fixed(), names)?;
@@ -76,7 +70,7 @@ fn gather_into<R: Feed>(
     requires room { 0 < length buf.old }
     ensures gathered { IsGathered max_bytes (targets_of table.old) (map (known_input R.contents) readers.items)
         (result_and result (Ok table.new)) }
-    ensures no_memory { IfStreamFault result (λ number fault. fault ≢ OutOfMemory) }
+    ensures never_out_of_memory { IfStreamFault result (λ number fault. fault ≢ OutOfMemory) }
 {
     let mut number = 0;
     for (must_close, mut reader) in readers {
@@ -113,7 +107,7 @@ fn gather_one<R: Feed>(
     ensures fault { (target : List ℕ) → slice_get (targets_of table.old) number ≡ Some target →
         IfStreamFault result (λ other fault. (other ≡ number)
         × HasFault max_bytes (source target must_close (R.contents reader.old)) fault) }
-    ensures no_memory { IfStreamFault result (λ number fault. fault ≢ OutOfMemory) }
+    ensures never_out_of_memory { IfStreamFault result (λ number fault. fault ≢ OutOfMemory) }
     ensures buf { length buf.new ≡ length buf.old }
 {
     let target = table.name(number).copy(alloc)?;

@@ -1,5 +1,5 @@
 ghost use Rattle.std.specs.Prelude.{◌≤◌, ◌^◌, map};
-ghost use Rattle.redo_gather.specs.Sending.{HasSent, numbered_input};
+ghost use Rattle.redo_gather.specs.Sending.{HasSent, numbered_source};
 
 use crate::gate::Gate;
 use crate::sending::{Share, send};
@@ -26,13 +26,13 @@ pub struct SenderPromise<R>(pub Snapshot<Sender<R>>);
 
 impl<R: Feed> Promise<PostEnd> for SenderPromise<R> {
     ghost kept_by = { λ owing end.
-        HasSent owing.0.value.max_bytes (map (numbered_input R.contents) owing.0.value.share.items) owing.0.value.end end };
+        HasSent owing.0.value.max_bytes (map (numbered_source R.contents) owing.0.value.share.items) owing.0.value.end end };
 }
 
 impl<R: Feed> Sender<R> {
     /// Sends its share, and returns its end.
     pub fn send<T: Wait, G: Gate>(self, rt: &T, alloc: Global, gate: &G) -> PostEnd
-        ensures { HasSent self.max_bytes (map (numbered_input R.contents) self.share.items) self.end result }
+        ensures { HasSent self.max_bytes (map (numbered_source R.contents) self.share.items) self.end result }
     {
         let Sender {
             end,

@@ -3,9 +3,9 @@ ghost use Rattle.redo_line.specs.declared.stream_fault.StreamFault.TheVariants.{
 ghost use Rattle.redo_line.specs.declared.entry.Entry.{Entry as EntryValue};
 ghost use Rattle.redo_line.specs.Scan.{Scanned};
 ghost use Rattle.redo_line.specs.Source.{source};
-ghost use Rattle.redo_gather.specs.Private.Posting.{AreLinesPosted, ArePiecesPosted, IsPosted, IsStreamPosted};
+ghost use Rattle.redo_gather.specs.Private.Posting.{AreLinesPosted, ArePiecesPosted, HasPosted, IsPosted, IsStreamPosted};
 ghost use Rattle.redo_gather.specs.Private.Reading.{IsRead, IsReadTo, IsRefused, fault_in};
-ghost use Rattle.redo_gather.specs.Sending.{HasPosted, HasSent, IsWellSized, final_what, line_of, max_entries, numbered_input, singles_in};
+ghost use Rattle.redo_gather.specs.Sending.{AreExpected, AreWellSized, IsWellSized, final_what, entry_item, max_entries, numbered_source, posted_since, singles, singles_in};
 
 use crate::gate::Gate;
 use redo_line::{Broken, Entries, Feed, Scan, StreamFault, TargetName};
@@ -45,7 +45,15 @@ pub fn send<T: Wait, R: Feed, G: Gate>(
 ) -> PostEnd
     requires at_least { 1 ≤ max_bytes }
     requires at_most { max_bytes ≤ 2 ^ 40 }
-    ensures { HasSent max_bytes (map (numbered_input R.contents) share.items) end result }
+    // The same end, with what it posted before.
+    ensures unchanged { (result.mailbox ≡ end.mailbox) × (result.number ≡ end.number) }
+    ensures posted { result.posted ≡ end.posted ++ posted_since end result }
+
+    // What it posted since, entry by entry, is as expected for the streams of the share, one after another.
+    ensures expected { AreExpected max_bytes end.number (map (numbered_source R.contents) share.items) (singles (posted_since end result)) }
+
+    // No item of several entries has fewer than 2 or more than 1,024.
+    ensures well_sized { AreWellSized (posted_since end result) }
 {
     let mut end = end;
     let mut room = read_buffer(alloc);
@@ -173,16 +181,16 @@ fn send_chunk<T: Wait>(
     end: &mut PostEnd,
     stream: u32,
     scan: &mut Scan,
-    piece: &[u8],
+    chunk: &[u8],
 ) -> Result<(), StreamFault>
-    ensures posted { IsPosted stream piece.now scan.old scan.new end.old end.new result }
-    ensures never_read { IfErr result (λ fault. fault ≢ Read) }
+    ensures posted { IsPosted stream chunk.now scan.old scan.new end.old end.new result }
+    ensures never_read_fault { IfErr result (λ fault. fault ≢ Read) }
 {
     let mut from = 0;
-    let mut expected = piece.len();
-    'batches: while from < piece.len() {
-        let mut batch = new_batch(alloc, expected.min(piece.len() - from))?;
-        let answer = read_batch(&mut batch, scan, piece, from);
+    let mut expected = chunk.len();
+    'batches: while from < chunk.len() {
+        let mut batch = new_batch(alloc, expected.min(chunk.len() - from))?;
+        let answer = read_batch(&mut batch, scan, chunk, from);
         post_batch(rt, alloc, end, stream, batch)?;
         let upto = answer?;
         expected = upto - from;
@@ -204,27 +212,27 @@ fn new_batch(alloc: Global, bytes: usize) -> Result<Entries, AllocError>
 fn read_batch(
     batch: &mut Entries,
     scan: &mut Scan,
-    piece: &[u8],
+    chunk: &[u8],
     from: usize,
 ) -> Result<usize, StreamFault>
     requires empty { batch.old ≡ [] }
-    requires from { from < length piece.now }
+    requires from { from < length chunk.now }
     ensures room { length batch.new ≤ max_entries }
-    ensures range { IfOk result (λ upto. (from < upto) × (upto ≤ length piece.now)) }
+    ensures range { IfOk result (λ upto. (from < upto) × (upto ≤ length chunk.now)) }
 
     // For a chunk that was consumed up to `from`, after the bytes of the scan `begun` and the entries `first`.
-    ensures read { (begun : Scanned) (first : List EntryValue) → IsReadTo begun piece.now from scan.old first →
-        IfOk result (λ upto. IsReadTo begun piece.now upto scan.new (first ++ batch.new)) }
-    ensures refused { (begun : Scanned) (first : List EntryValue) → IsReadTo begun piece.now from scan.old first →
-        IfErr result (IsRefused begun piece.now (first ++ batch.new)) }
-    ensures never_read { IfErr result (λ fault. fault ≢ Read) }
+    ensures read { (begun : Scanned) (first : List EntryValue) → IsReadTo begun chunk.now from scan.old first →
+        IfOk result (λ upto. IsReadTo begun chunk.now upto scan.new (first ++ batch.new)) }
+    ensures refused { (begun : Scanned) (first : List EntryValue) → IsReadTo begun chunk.now from scan.old first →
+        IfErr result (IsRefused begun chunk.now (first ++ batch.new)) }
+    ensures never_read_fault { IfErr result (λ fault. fault ≢ Read) }
 {
     let mut upto = from;
     'lines: loop {
         let room = (MAX_BATCH_ENTRIES - batch.len()) as u16;
-        match scan.step_into(piece, upto, room, batch)? {
+        match scan.step_into(chunk, upto, room, batch)? {
             Some(behind) => upto = behind,
-            None => return Ok(piece.len()),
+            None => return Ok(chunk.len()),
         }
         if batch.len() == MAX_BATCH_ENTRIES || bytes_of(batch) >= MAX_BATCH_BYTES {
             return Ok(upto);
@@ -247,9 +255,9 @@ fn post_batch<T: Wait>(
     batch: Entries,
 ) -> Result<(), StreamFault>
     requires { length batch ≤ max_entries }
-    ensures posted { OnOk result (HasPosted end.old end.new (map (line_of end.old.number stream) batch)) }
+    ensures posted { OnOk result (HasPosted end.old end.new (map (entry_item end.old.number stream) batch)) }
     ensures unchanged_on_err { OnErr result (end.new ≡ end.old) }
-    ensures no_memory { IfErr result (λ fault. fault ≡ OutOfMemory) }
+    ensures only_out_of_memory { IfErr result (λ fault. fault ≡ OutOfMemory) }
 {
     match batch.len() {
         0 => {}

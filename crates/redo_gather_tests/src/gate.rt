@@ -5,7 +5,7 @@ use std::sync::atomic::{AtomicU64, Ordering};
 use std::thread;
 
 /// How often a held thread yields before the gate gives up.
-const MOST_TURNS: u32 = 10_000_000;
+const MAX_TURNS: u32 = 10_000_000;
 
 /// An event of which a gate is notified.
 #[derive(Clone, Copy, Debug, PartialEq, Eq)]
@@ -44,7 +44,7 @@ impl Hold {
 
 /// Yields until a count has reached a number, and returns whether it has.
 pub(crate) fn comes_in_time(count: &AtomicU64, number: u64) -> bool {
-    for _ in 0..MOST_TURNS {
+    for _ in 0..MAX_TURNS {
         if count.load(Ordering::SeqCst) >= number {
             return true;
         }

@@ -9,7 +9,7 @@ use Rattle.std.proofs.lemmas.Map.Made.{is_some-lookup}
 use Rattle.redo_index.specs.declared.index_fault.IndexFault.TheVariants.{NameTwice, TooMany}
 use Rattle.redo_index.specs.declared.index.TargetLog.{TargetLog}
 use Rattle.redo_index.specs.declared.index_entry.IndexEntry.{IndexEntry}
-use Rattle.redo_index.specs.Index.{max_targets, numbers_of, names_of, parse_line, fault_after}
+use Rattle.redo_index.specs.Index.{max_targets, numbers_of, listed_targets, parse_line, fault_after}
 use Rattle.redo_index.specs.Private.Entries.{Hold, HoldMore, entry_of_pair, entries_of_pairs}
 use Rattle.redo_index.proofs.IndexEntries.{entries_of_pairs-more, entries_of_pairs-names}
 
@@ -24,9 +24,9 @@ module _ (numbers : List ℕ) (entries : List (List ℕ × TargetLog)) (index : 
   no_number : list_any (nat_eq number) (numbers_of index) ≡ false
   no_number = ap (list_any (nat_eq number)) (sym holds.numbers_are) ∙ number_is_new
 
-  among : (is : Bool) → is_some (lookup (pointwise nat_eq name) entries) ≡ is → list_any (pointwise nat_eq name) (names_of index) ≡ is
+  among : (is : Bool) → is_some (lookup (pointwise nat_eq name) entries) ≡ is → list_any (pointwise nat_eq name) (listed_targets index) ≡ is
   among is known =
-      ap (λ (ls : List IndexEntry). list_any (pointwise nat_eq name) (names_of ls)) (sym holds.entries_are) ∙ ap (list_any (pointwise nat_eq name)) (entries_of_pairs-names entries)
+      ap (λ (ls : List IndexEntry). list_any (pointwise nat_eq name) (listed_targets ls)) (sym holds.entries_are) ∙ ap (list_any (pointwise nat_eq name)) (entries_of_pairs-names entries)
       ∙ sym (is_some-lookup (pointwise nat_eq name) entries) ∙ known
 
   pub name_twice : is_some (lookup (pointwise nat_eq name) entries) ≡ true → fault_after (length index) index (parse_line line) ≡ Some (NameTwice (length numbers + 1))
@@ -55,7 +55,7 @@ module _ (numbers : List ℕ) (entries : List (List ℕ × TargetLog)) (index : 
           fits = record {
             size = omega (arith, few, entries_count, length-append index (last ∷ []));
             numbers_differ = subst (IsDistinct nat_eq) all_numbers numbers_differ;
-            names_differ = subst (IsDistinct (pointwise nat_eq)) (sym (entries_of_pairs-names entries') ∙ ap names_of all_entries) names_differ;
+            names_differ = subst (IsDistinct (pointwise nat_eq)) (sym (entries_of_pairs-names entries') ∙ ap listed_targets all_entries) names_differ;
           };
         };
       }

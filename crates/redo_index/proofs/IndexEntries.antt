@@ -8,7 +8,7 @@ use Rattle.std.proofs.lemmas.List.{length-map, take_more}
 use Rattle.std.proofs.lemmas.Option.{get_or_from_slice_get, slice_get-map, slice_get_within}
 use Rattle.redo_index.specs.declared.index.TargetLog.{TargetLog}
 use Rattle.redo_index.specs.declared.index_entry.IndexEntry.{IndexEntry}
-use Rattle.redo_index.specs.Index.{max_targets, numbers_of, names_of, must_close_flags, IsIndex}
+use Rattle.redo_index.specs.Index.{max_targets, numbers_of, listed_targets, must_close_flags, IsIndex}
 use Rattle.redo_index.specs.Private.Entries.{entry_of_pair, entries_of_pairs}
 
 pub entries_of_pairs-numbers : (entries : List (List ℕ × TargetLog)) → numbers_of (entries_of_pairs entries) ≡ map (λ (file : TargetLog). file.number) (values_of entries)
@@ -19,7 +19,7 @@ pub entries_of_pairs-flags : (entries : List (List ℕ × TargetLog)) → must_c
 entries_of_pairs-flags [] = refl
 entries_of_pairs-flags (entry ∷ entries) = ap (λ ms. entry.1.must_close ∷ ms) (entries_of_pairs-flags entries)
 
-pub entries_of_pairs-names : (entries : List (List ℕ × TargetLog)) → names_of (entries_of_pairs entries) ≡ keys_of entries
+pub entries_of_pairs-names : (entries : List (List ℕ × TargetLog)) → listed_targets (entries_of_pairs entries) ≡ keys_of entries
 entries_of_pairs-names [] = refl
 entries_of_pairs-names (entry ∷ entries) = ap (λ ns. entry.0 ∷ ns) (entries_of_pairs-names entries)
 
@@ -48,8 +48,8 @@ pub record IndexFacts (entries : List (List ℕ × TargetLog)) (index : List Ind
   pub size : length index ≤ max_targets
   pub numbers_are : numbers_of index ≡ map (λ (file : TargetLog). file.number) (values_of entries)
   pub flags_are : must_close_flags index ≡ map (λ (file : TargetLog). file.must_close) (values_of entries)
-  pub names_are : names_of index ≡ keys_of entries
-  pub names_differ : IsDistinct (pointwise nat_eq) (names_of index)
+  pub names_are : listed_targets index ≡ keys_of entries
+  pub names_differ : IsDistinct (pointwise nat_eq) (listed_targets index)
 
 pub index_facts : (entries : List (List ℕ × TargetLog)) (index : List IndexEntry) → entries_of_pairs entries ≡ index → IsIndex (entries_of_pairs entries) → IndexFacts entries index
 index_facts entries index is valid = record {
@@ -57,6 +57,6 @@ index_facts entries index is valid = record {
   size = let size = valid.size in omega (arith, ap length is);
   numbers_are = ap numbers_of (sym is) ∙ entries_of_pairs-numbers entries;
   flags_are = ap must_close_flags (sym is) ∙ entries_of_pairs-flags entries;
-  names_are = ap names_of (sym is) ∙ entries_of_pairs-names entries;
-  names_differ = subst (λ (ls : List IndexEntry). IsDistinct (pointwise nat_eq) (names_of ls)) is valid.names_differ;
+  names_are = ap listed_targets (sym is) ∙ entries_of_pairs-names entries;
+  names_differ = subst (λ (ls : List IndexEntry). IsDistinct (pointwise nat_eq) (listed_targets ls)) is valid.names_differ;
 }

@@ -8,7 +8,7 @@ use Rattle.redo_index.specs.declared.index_fault.IndexFault.{IndexFault}
 use Rattle.redo_index.specs.declared.index_fault.IndexFault.TheVariants.{BadLine, FidTwice, NameTwice, TooMany}
 use Rattle.redo_line.specs.Decimal.{number}
 use Rattle.redo_index.specs.declared.index_entry.IndexEntry.{IndexEntry}
-use Rattle.redo_index.specs.Index.{max_targets, IsIndexLine, parse_fields, parse_line, parse_lines, numbers_of, names_of, must_close_flags, fault_after, fault_at, AreFaultFree, IsIndexOf, IsRejected, IsIndex}
+use Rattle.redo_index.specs.Index.{max_targets, IsIndexLine, parse_fields, parse_line, parse_lines, numbers_of, listed_targets, must_close_flags, fault_after, fault_at, AreFaultFree, IsIndexOf, IsRejected, IsIndex}
 
 abbrev one : ℕ → List ℕ → IndexEntry
 one number target = record { number = number; target = target; must_close = false }
@@ -150,14 +150,14 @@ second_line_rejected = record { before = codes "1 a" ∷ []; line = codes "2 a";
 abbrev two : List IndexEntry
 two = flagged 7 (codes "b") ∷ one 3 (codes "a") ∷ []
 
-two_entries : (numbers_of two ≡ 7 ∷ 3 ∷ []) × (names_of two ≡ codes "b" ∷ codes "a" ∷ []) × (must_close_flags two ≡ true ∷ false ∷ [])
+two_entries : (numbers_of two ≡ 7 ∷ 3 ∷ []) × (listed_targets two ≡ codes "b" ∷ codes "a" ∷ []) × (must_close_flags two ≡ true ∷ false ∷ [])
 two_entries = (refl, refl, refl)
 
 -- The same of three targets. The last one has the flag.
 abbrev three : List IndexEntry
 three = one 7 (codes "b") ∷ one 3 (codes "a") ∷ flagged 5 (codes "c") ∷ []
 
-three_told : (numbers_of three ≡ 7 ∷ 3 ∷ 5 ∷ []) × (names_of three ≡ codes "b" ∷ codes "a" ∷ codes "c" ∷ []) × (must_close_flags three ≡ false ∷ false ∷ true ∷ [])
+three_told : (numbers_of three ≡ 7 ∷ 3 ∷ 5 ∷ []) × (listed_targets three ≡ codes "b" ∷ codes "a" ∷ codes "c" ∷ []) × (must_close_flags three ≡ false ∷ false ∷ true ∷ [])
 three_told = (refl, refl, refl)
 
 two_differ : IsIndex two

@@ -78,8 +78,8 @@ parse_lines lines = filter_map parse_line lines
 abbrev pub numbers_of : List IndexEntry → List ℕ
 numbers_of index = map (λ entry. entry.number) index
 
-abbrev pub names_of : List IndexEntry → List (List ℕ)
-names_of index = map (λ entry. entry.target) index
+abbrev pub listed_targets : List IndexEntry → List (List ℕ)
+listed_targets index = map (λ entry. entry.target) index
 
 abbrev pub must_close_flags : List IndexEntry → List Bool
 must_close_flags index = map (λ entry. entry.must_close) index
@@ -90,7 +90,7 @@ abbrev pub fault_after : ℕ → List IndexEntry → Option IndexEntry → Optio
 fault_after lines before None = Some (BadLine (lines + 1))
 fault_after lines before (Some entry) =
     if list_any (nat_eq entry.number) (numbers_of before) then Some (FidTwice (lines + 1))
-    else if list_any (pointwise nat_eq entry.target) (names_of before) then Some (NameTwice (lines + 1))
+    else if list_any (pointwise nat_eq entry.target) (listed_targets before) then Some (NameTwice (lines + 1))
     else if nat_le max_targets lines then Some TooMany
     else None
 
@@ -120,4 +120,4 @@ pub record IsIndexOf (lines : List (List ℕ)) (index : List IndexEntry) : Type 
 pub record IsIndex (index : List IndexEntry) : Type 0 where
   pub size : length index ≤ max_targets
   pub numbers_differ : IsDistinct nat_eq (numbers_of index)
-  pub names_differ : IsDistinct (pointwise nat_eq) (names_of index)
+  pub names_differ : IsDistinct (pointwise nat_eq) (listed_targets index)

@@ -4,7 +4,7 @@ ghost use Rattle.std.specs.List.{IsDistinct};
 ghost use Rattle.redo_line.specs.Lines.{all_lines};
 ghost use Rattle.redo_index.specs.declared.index_fault.IndexFault.TheVariants.{OutOfMemory};
 ghost use Rattle.redo_index.specs.declared.index_entry.IndexEntry.{IndexEntry};
-ghost use Rattle.redo_index.specs.Index.{max_targets, numbers_of, names_of, must_close_flags, parse_fields, parse_line, parse_number, IsIndex, IsIndexOf, IsRejected};
+ghost use Rattle.redo_index.specs.Index.{max_targets, numbers_of, listed_targets, must_close_flags, parse_fields, parse_line, parse_number, IsIndex, IsIndexOf, IsRejected};
 ghost use Rattle.redo_index.specs.Private.Entries.{Hold, HoldMore, IsFaultAfter};
 
 use crate::index_entry::IndexEntry;
@@ -97,7 +97,7 @@ impl Index {
     /// [`Index::len`].
     pub fn name(&self, i: u32) -> &TargetName
         requires { i < length self.now }
-        ensures { slice_get (names_of self.now) i ≡ Some result.now }
+        ensures { slice_get (listed_targets self.now) i ≡ Some result.now }
     {
         match self.targets.get_index(i as usize) {
             Some((name, _)) => name,
@@ -107,7 +107,7 @@ impl Index {
 
     /// Returns owned copies of all targets' names. No two are the same, and there are at most 1,048,575.
     pub fn names(&self, alloc: Global) -> Result<Vec<TargetName>, AllocError>
-        ensures names { IfOk result (λ names. names.items ≡ names_of self.now) }
+        ensures names { IfOk result (λ names. names.items ≡ listed_targets self.now) }
         ensures distinct { IfOk result (λ names. IsDistinct (pointwise nat_eq) names.items) }
         ensures size { IfOk result (λ names. length names.items ≤ max_targets) }
     {
@@ -131,7 +131,7 @@ impl Index {
 
     /// Returns the position of the target with this name, if it is listed. The look-up is by hash.
     pub fn find(&self, name: &TargetName) -> Option<u32>
-        ensures { result ≡ position (pointwise nat_eq name.now) (names_of self.now) }
+        ensures { result ≡ position (pointwise nat_eq name.now) (listed_targets self.now) }
     {
         match self.targets.get_index_of(name) {
             Some(i) => Some(i as u32),

@@ -39,19 +39,19 @@ pub upto_feed : (bytes : List ℕ) (at : ℕ) → at < length bytes → Passes (
 upto_feed bytes at below passes = take_more bytes at 0 below ∙ ap (λ (b : ℕ). take at bytes ++ b ∷ []) (eqb-true (get_or bytes at 0) line_feed passes)
 
 -- What a cutter consumes of a chunk with a line feed.
-pub line_in : (before line piece : List ℕ) (at : ℕ) → NoneBefore (Passes (is_byte line_feed) piece) 0 (length piece) at × Passes (is_byte line_feed) piece at
-    → line ≡ before ++ take at piece → Cuts before (take (at + 1) piece) (line ∷ []) []
-line_in before line piece at found line_is taken kept =
-    rw (upto_feed piece at found.0.high found.1, line_is) (cuts_line before (take at piece) (free_before piece at found.0.before) taken kept)
+pub line_in : (before line chunk : List ℕ) (at : ℕ) → NoneBefore (Passes (is_byte line_feed) chunk) 0 (length chunk) at × Passes (is_byte line_feed) chunk at
+    → line ≡ before ++ take at chunk → Cuts before (take (at + 1) chunk) (line ∷ []) []
+line_in before line chunk at found line_is taken kept =
+    rw (upto_feed chunk at found.0.high found.1, line_is) (cuts_line before (take at chunk) (free_before chunk at found.0.before) taken kept)
 
 -- Bytes in which no line feed is found contain none.
-pub holds_none : (piece : List ℕ) → Nowhere (Passes (is_byte line_feed) piece) 0 (length piece) → HasNoLineFeed piece
-holds_none piece nowhere = subst HasNoLineFeed (take_all (length piece) piece (le_refl (length piece))) (free_before piece (length piece) nowhere)
+pub holds_none : (chunk : List ℕ) → Nowhere (Passes (is_byte line_feed) chunk) 0 (length chunk) → HasNoLineFeed chunk
+holds_none chunk nowhere = subst HasNoLineFeed (take_all (length chunk) chunk (le_refl (length chunk))) (free_before chunk (length chunk) nowhere)
 
 -- What a cutter consumes of a chunk without a line feed.
-pub none_in : (before after piece : List ℕ) → Nowhere (Passes (is_byte line_feed) piece) 0 (length piece) → after ≡ before ++ piece → Cuts before piece [] after
-none_in before after piece nowhere after_is taken kept =
-    rw after_is (cuts_none before piece (holds_none piece nowhere) taken kept)
+pub none_in : (before after chunk : List ℕ) → Nowhere (Passes (is_byte line_feed) chunk) 0 (length chunk) → after ≡ before ++ chunk → Cuts before chunk [] after
+none_in before after chunk nowhere after_is taken kept =
+    rw after_is (cuts_none before chunk (holds_none chunk nowhere) taken kept)
 
-pub no_feed : (piece : List ℕ) → Nowhere (Passes (is_byte line_feed) piece) 0 (length piece) → Contains piece line_feed → ⊥
-no_feed piece nowhere here = nowhere here.0 zero-le here.1 (eq-eqb (get_or piece here.0 0) line_feed (get_or_default piece here.0 0 line_feed here.1 ∙ here.2))
+pub no_feed : (chunk : List ℕ) → Nowhere (Passes (is_byte line_feed) chunk) 0 (length chunk) → Contains chunk line_feed → ⊥
+no_feed chunk nowhere here = nowhere here.0 zero-le here.1 (eq-eqb (get_or chunk here.0 0) line_feed (get_or_default chunk here.0 0 line_feed here.1 ∙ here.2))

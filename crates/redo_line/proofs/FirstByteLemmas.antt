@@ -9,7 +9,7 @@ use Rattle.redo_line.specs.declared.stream_fault.StreamFault.{StreamFault}
 use Rattle.redo_line.specs.declared.stream_fault.StreamFault.TheVariants.{BadRecord}
 use Rattle.redo_line.specs.Entry.{entry_of}
 use Rattle.redo_line.specs.Lines.{line_feed}
-use Rattle.redo_line.specs.Scan.{Scanned, fault_so_far, IsAfterCloseOrTooLong, FailsAtFirstByte}
+use Rattle.redo_line.specs.Scan.{Scanned, fault_so_far, IsAfterCloseOrTooLong, FirstByteIsPastEnd}
 use Rattle.redo_line.specs.Private.Progress.{Progress, IsAfter, byte_fault, first_byte_fault}
 use Rattle.redo_line.specs.Private.CutLine.{Cuts}
 use Rattle.redo_line.proofs.CutLemmas.{cuts_line, cuts_none}
@@ -79,7 +79,7 @@ first_fault_known p u (byte ∷ left) fault after late_or_too_long is = one_faul
 
 -- The same for the model of a scan with this state.
 pub known_of : (p : Progress) (u left : List ℕ) (must_close : Bool) (refused : Option StreamFault) (seen : Scanned) (fault : StreamFault)
-    → record { target = p.target; max_bytes = p.max_bytes; must_close = must_close; bytes = u; failed_with = refused } ≡ seen → IsAfter p u → FailsAtFirstByte seen left fault → first_byte_fault p left ≡ Some fault
+    → record { target = p.target; max_bytes = p.max_bytes; must_close = must_close; bytes = u; failed_with = refused } ≡ seen → IsAfter p u → FirstByteIsPastEnd seen left fault → first_byte_fault p left ≡ Some fault
 known_of p u left must_close refused seen fault seen_is after first =
-    let here : FailsAtFirstByte (record { target = p.target; max_bytes = p.max_bytes; must_close = must_close; bytes = u; failed_with = refused }) left fault = subst (λ (s : Scanned). FailsAtFirstByte s left fault) (sym seen_is) first in
+    let here : FirstByteIsPastEnd (record { target = p.target; max_bytes = p.max_bytes; must_close = must_close; bytes = u; failed_with = refused }) left fault = subst (λ (s : Scanned). FirstByteIsPastEnd s left fault) (sym seen_is) first in
     first_fault_known p u left fault after here.after_close_or_too_long here.fault_is

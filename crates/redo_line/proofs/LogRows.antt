@@ -16,7 +16,7 @@ use Rattle.redo_line.specs.Log.{stream_of, closes, first_fault, fault_of, lines_
 use Rattle.redo_name.specs.Names.{reduce_suffix, normal}
 use Rattle.redo_line.specs.Parts.{split_once, after_prefix}
 use Rattle.redo_line.specs.Record.{fields_of, status_of}
-use Rattle.redo_line.specs.Scan.{Scanned, FailsAtFirstByte}
+use Rattle.redo_line.specs.Scan.{Scanned, FirstByteIsPastEnd}
 
 abbrev line : List ℕ → List ℕ
 line text = text ++ line_feed ∷ []
@@ -111,11 +111,11 @@ behind_closing = record { target = codes "a"; max_bytes = most; must_close = fal
 abbrev at_the_limit : Scanned
 at_the_limit = record { target = codes "a"; max_bytes = 27; must_close = false; bytes = closing; failed_with = None }
 
-a_late_byte_is_refused_first : FailsAtFirstByte behind_closing (codes "zz") (AfterClose 2)
+a_late_byte_is_refused_first : FirstByteIsPastEnd behind_closing (codes "zz") (AfterClose 2)
 unfolding split_lines ended rest first_fault entry_of record_entry fields_of status_of split_once after_prefix number normal reduce_suffix
 a_late_byte_is_refused_first = record { not_failed = refl; after_close_or_too_long = inl (2, refl); fault_is = refl }
 
-a_byte_too_many_is_refused_first : FailsAtFirstByte at_the_limit (codes "zz") TooLong
+a_byte_too_many_is_refused_first : FirstByteIsPastEnd at_the_limit (codes "zz") TooLong
 unfolding split_lines ended rest first_fault entry_of record_entry fields_of status_of split_once after_prefix number normal reduce_suffix
 a_byte_too_many_is_refused_first = record { not_failed = refl; after_close_or_too_long = inr refl; fault_is = refl }
 

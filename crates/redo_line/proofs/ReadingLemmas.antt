@@ -48,7 +48,7 @@ refused_into (Err fault) given read old new told refused same = (subst (λ f. Is
 pub named_read : (make : List ℕ → Entry) (target written mentioned : List ℕ) → normal (Some target) written ≡ Some mentioned → of_name make target written ≡ Some (make mentioned)
 named_read make target written mentioned is = rw is refl
 
--- A `done_or_closing` record, by its parts.
+-- A `done` record, by its parts.
 pub done_by_parts : (target : List ℕ) (pid : ℕ) (read : Option (List ℕ × List ℕ)) (status written : List ℕ) (value : ℤ) → read ≡ Some (status, written) → status_of status ≡ Some value
     → done_entry target pid read ≡ of_name (λ mentioned. done_or_closing target pid value mentioned) target written
 done_by_parts target pid read status written value parts is = rw (parts, is) refl

@@ -8,7 +8,7 @@ use Rattle.redo_line.specs.Entry.{entry_of}
 use Rattle.redo_line.specs.Fault.{end_fault}
 use Rattle.redo_line.specs.Lines.{split_lines, ended, rest, unended}
 use Rattle.redo_line.specs.Log.{line_entries, entries_of, first_fault, line_fault, or_else, fault_of, unless_fault, log_of}
-use Rattle.redo_line.specs.Scan.{so_far, entries_so_far, text_of}
+use Rattle.redo_line.specs.Scan.{so_far, entries_so_far, unended_entry}
 use Rattle.redo_line.specs.Private.Progress.{Progress, IsAfter, FailsWith}
 use Rattle.redo_line.proofs.EntryListLemmas.{IsFaultAt}
 use Rattle.redo_line.proofs.FaultLemmas.{rest_entries, fault_line}
@@ -46,13 +46,13 @@ pub each_found : (target : List ℕ) (lines : List (List ℕ)) → filter_map (�
 each_found target [] = refl
 each_found target (line ∷ lines) = ap (cons_option (entry_of target line true)) (each_found target lines)
 
-rest_found : (target last : List ℕ) → filter_map (λ entry. entry) (rest_entries target last) ≡ option_to_list (text_of (unended last))
+rest_found : (target last : List ℕ) → filter_map (λ entry. entry) (rest_entries target last) ≡ option_to_list (unended_entry (unended last))
 unfolding entry_of
 rest_found target [] = refl
 rest_found target (byte ∷ last) = refl
 
 -- The entries found and the unended line are the log.
-pub whole_log : (p : Progress) (bytes : List ℕ) → IsAfter p bytes → log_of p.target p.max_bytes (so_far bytes) ≡ Some (entries_so_far p.target p.max_bytes bytes ++ option_to_list (text_of (unended (rest bytes))))
+pub whole_log : (p : Progress) (bytes : List ℕ) → IsAfter p bytes → log_of p.target p.max_bytes (so_far bytes) ≡ Some (entries_so_far p.target p.max_bytes bytes ++ option_to_list (unended_entry (unended (rest bytes))))
 whole_log p bytes after =
     ap (λ o. unless_fault o (filter_map (λ entry. entry) (entries_of p.target bytes))) after.no_fault
     ∙ ap Some (filter_map-append (λ entry. entry) (line_entries p.target (ended bytes)) (rest_entries p.target (rest bytes))
@@ -61,9 +61,9 @@ whole_log p bytes after =
 
 -- The same, with the unended line as the code has it.
 pub log_with : (p : Progress) (bytes : List ℕ) (after : IsAfter p bytes) (last : Option (List ℕ)) → last ≡ unended p.kept
-    → log_of p.target p.max_bytes (so_far bytes) ≡ Some (entries_so_far p.target p.max_bytes bytes ++ option_to_list (text_of last))
+    → log_of p.target p.max_bytes (so_far bytes) ≡ Some (entries_so_far p.target p.max_bytes bytes ++ option_to_list (unended_entry last))
 log_with p bytes after last is =
-    whole_log p bytes after ∙ ap (λ o. Some (entries_so_far p.target p.max_bytes bytes ++ option_to_list (text_of o))) (sym (is ∙ ap unended after.kept_is))
+    whole_log p bytes after ∙ ap (λ o. Some (entries_so_far p.target p.max_bytes bytes ++ option_to_list (unended_entry o))) (sym (is ∙ ap unended after.kept_is))
 
 -- Before the first byte.
 pub nothing_yet : (target : List ℕ) (max_bytes : ℕ) (kept : List ℕ) → kept ≡ []

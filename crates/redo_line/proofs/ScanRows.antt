@@ -10,7 +10,7 @@ use Rattle.redo_line.specs.Lines.{line_feed, split_lines, ended, rest}
 use Rattle.redo_line.specs.Log.{first_fault}
 use Rattle.redo_line.specs.Parts.{split_once, after_prefix}
 use Rattle.redo_line.specs.Record.{fields_of}
-use Rattle.redo_line.specs.Scan.{Scanned, so_far, fault_so_far, entries_so_far, EndLines, EndsLine, EndsNoLine, HaveFault, IsFaultFree, consume, fail_with, FindsEntry, FindsEntries, ConsumesAll, MayFailWith, FailsWith, Steps, IsAfterCloseOrTooLong, FailsAtFirstByte, entries_in, source_in, text_of}
+use Rattle.redo_line.specs.Scan.{Scanned, so_far, fault_so_far, entries_so_far, EndLines, EndsOneLine, EndsNoLine, HaveFault, IsFaultFree, consume, fail_with, FindsEntry, FindsEntries, ConsumesAll, MayFailWith, FailsWith, Steps, IsAfterCloseOrTooLong, FirstByteIsPastEnd, entries_in, source_in, unended_entry}
 
 abbrev a : List ℕ
 a = codes "a"
@@ -35,7 +35,7 @@ entries_told : (entries_so_far a 9 (line (codes "x") ++ codes "y") ≡ Text (cod
 unfolding split_lines ended rest first_fault entry_of record_entry split_once after_prefix
 entries_told = (refl, refl)
 
-a_line_ends : EndsLine a 9 (codes "x") (line (codes "y")) (Text (codes "xy"))
+a_line_ends : EndsOneLine a 9 (codes "x") (line (codes "y")) (Text (codes "xy"))
 unfolding split_lines ended rest first_fault entry_of record_entry split_once after_prefix
 a_line_ends = record { no_fault = refl; line = codes "xy"; lines_are = refl; no_rest = refl; entry_is = refl; entries = refl }
 
@@ -43,12 +43,12 @@ no_line_ends : EndsNoLine a 9 (line (codes "x")) (codes "y")
 unfolding split_lines ended rest first_fault entry_of record_entry split_once after_prefix
 no_line_ends = record { no_fault = refl; lines = refl; entries = refl }
 
--- Not `EndsLine`: bytes with a fault, with a remainder, with two lines, or with another entry.
+-- Not `EndsOneLine`: bytes with a fault, with a remainder, with two lines, or with another entry.
 ends_no_line :
-    (EndsLine a 1 [] (line (codes "x")) (Text (codes "x")) → ⊥)
-    × (EndsLine a 9 [] (line (codes "x") ++ codes "y") (Text (codes "x")) → ⊥)
-    × (EndsLine a 9 [] (line (codes "x") ++ line (codes "y")) (Text (codes "y")) → ⊥)
-    × (EndsLine a 9 [] (line (codes "x")) (Text []) → ⊥)
+    (EndsOneLine a 1 [] (line (codes "x")) (Text (codes "x")) → ⊥)
+    × (EndsOneLine a 9 [] (line (codes "x") ++ codes "y") (Text (codes "x")) → ⊥)
+    × (EndsOneLine a 9 [] (line (codes "x") ++ line (codes "y")) (Text (codes "y")) → ⊥)
+    × (EndsOneLine a 9 [] (line (codes "x")) (Text []) → ⊥)
 unfolding split_lines ended rest first_fault entry_of record_entry split_once after_prefix
 ends_no_line = (
   (λ is. let same : Some TooLong ≡ None = is.no_fault in absurd (cc)),
@@ -188,8 +188,8 @@ may_refuse = (inl refl, inr (record { fault_is = refl; entries = refl }))
 refuses : FailsWith (scanned [] None) (scanned [] (Some TooLong)) (codes "0123456789") TooLong × FailsWith (scanned [] (Some TooLong)) (scanned [] (Some TooLong)) [] TooLong
 unfolding split_lines ended rest first_fault entry_of record_entry split_once after_prefix
 refuses = (
-  record { recorded = refl; may_fail = λ none. inr (record { fault_is = refl; entries = refl }); early = ((λ is. absurd (cc)), (λ is. absurd (cc))) },
-  record { recorded = refl; may_fail = λ none. absurd (cc); early = ((λ is. absurd (cc)), (λ is. absurd (cc))) },
+  record { fault_stored = refl; may_fail = λ none. inr (record { fault_is = refl; entries = refl }); early = ((λ is. absurd (cc)), (λ is. absurd (cc))) },
+  record { fault_stored = refl; may_fail = λ none. absurd (cc); early = ((λ is. absurd (cc)), (λ is. absurd (cc))) },
 )
 
 -- Not `FailsWith`: bytes consumed with a fault, another fault, a fault that is known only at the end, a fault that isn't stored, or
@@ -203,12 +203,12 @@ refuses_no_other :
     × (FailsWith (scanned [] None) (record { target = a; max_bytes = 8; must_close = true; bytes = []; failed_with = Some OutOfMemory }) [] OutOfMemory → ⊥)
 unfolding split_lines ended rest first_fault entry_of record_entry split_once after_prefix
 refuses_no_other = (
-  (λ is. let bytes : codes "x" ≡ [] = ap (λ (scan : Scanned). scan.bytes) is.recorded in absurd (cc)),
+  (λ is. let bytes : codes "x" ≡ [] = ap (λ (scan : Scanned). scan.bytes) is.fault_stored in absurd (cc)),
   (λ is. no_long_line (is.may_fail refl)),
   (λ is. is.early.0 refl),
   (λ is. is.early.1 refl),
-  (λ is. let refused : None ≡ Some OutOfMemory = ap (λ (scan : Scanned). scan.failed_with) is.recorded in absurd (cc)),
-  (λ is. let limit = ap (λ (scan : Scanned). scan.max_bytes) is.recorded in omega (arith, limit)),
+  (λ is. let refused : None ≡ Some OutOfMemory = ap (λ (scan : Scanned). scan.failed_with) is.fault_stored in absurd (cc)),
+  (λ is. let limit = ap (λ (scan : Scanned). scan.max_bytes) is.fault_stored in omega (arith, limit)),
 )
 
 steps :
@@ -219,7 +219,7 @@ unfolding split_lines ended rest first_fault entry_of record_entry split_once af
 steps = (
   (omega arith, omega arith, (refl, record { no_fault = refl; line = codes "xy"; lines_are = refl; no_rest = refl; entry_is = refl; entries = refl })),
   (refl, record { no_fault = refl; lines = refl; entries = refl }),
-  record { recorded = refl; may_fail = λ none. inr (record { fault_is = refl; entries = refl }); early = ((λ is. absurd (cc)), (λ is. absurd (cc))) },
+  record { fault_stored = refl; may_fail = λ none. inr (record { fault_is = refl; entries = refl }); early = ((λ is. absurd (cc)), (λ is. absurd (cc))) },
 )
 
 -- Not `Steps`: up to the offset where it began, past the chunk, with fewer bytes consumed than all or than found, or with a fault
@@ -235,7 +235,7 @@ steps_no_less = (
   (λ is. omega (arith, is.0)),
   (λ is. omega (arith, is.1)),
   (λ is. let bytes : [] ≡ codes "x" = ap (λ (scan : Scanned). scan.bytes) is.0 in absurd (cc)),
-  (λ is. let refused : None ≡ Some TooLong = ap (λ (scan : Scanned). scan.failed_with) is.recorded in absurd (cc)),
+  (λ is. let refused : None ≡ Some TooLong = ap (λ (scan : Scanned). scan.failed_with) is.fault_stored in absurd (cc)),
   (λ is. let bytes : [] ≡ line [] = ap (λ (scan : Scanned). scan.bytes) is.2.0 in absurd (cc)),
 )
 
@@ -247,11 +247,11 @@ not_late : (fault : StreamFault) → IsAfterCloseOrTooLong fault → (fault ≢ 
 not_late fault (inl late) = let same = late.1 in ((λ is. absurd (cc)), (λ is. absurd (cc)), (λ is. absurd (cc)), (λ is. absurd (cc)))
 not_late fault (inr too_long) = ((λ is. absurd (cc)), (λ is. absurd (cc)), (λ is. absurd (cc)), (λ is. absurd (cc)))
 
--- Not `FailsAtFirstByte`: after a fault was returned, with a first byte that has none, or with a fault that isn't by position.
+-- Not `FirstByteIsPastEnd`: after a fault was returned, with a first byte that has none, or with a fault that isn't by position.
 refuses_nothing_first :
-    (FailsAtFirstByte (scanned (codes "012345678") (Some TooLong)) (codes "x") TooLong → ⊥)
-    × (FailsAtFirstByte (scanned (codes "01234567") None) (codes "xy") TooLong → ⊥)
-    × (FailsAtFirstByte (scanned (codes "@@REDO:") None) (line_feed ∷ []) (BadRecord 1) → ⊥)
+    (FirstByteIsPastEnd (scanned (codes "012345678") (Some TooLong)) (codes "x") TooLong → ⊥)
+    × (FirstByteIsPastEnd (scanned (codes "01234567") None) (codes "xy") TooLong → ⊥)
+    × (FirstByteIsPastEnd (scanned (codes "@@REDO:") None) (line_feed ∷ []) (BadRecord 1) → ⊥)
 unfolding split_lines ended rest first_fault entry_of record_entry fields_of split_once after_prefix
 refuses_nothing_first = (
   (λ is. let same : Some TooLong ≡ None = is.not_failed in absurd (cc)),
@@ -262,5 +262,5 @@ refuses_nothing_first = (
 source_told : ((source_in (scanned (codes "x") None)).target ≡ a) × ((source_in (scanned (codes "x") None)).must_close ≡ true) × ((source_in (scanned (codes "x") None)).stream ≡ so_far (codes "x"))
 source_told = (refl, refl, refl)
 
-texts : (text_of (Some (codes "x")) ≡ Some (Text (codes "x"))) × (text_of None ≡ None)
+texts : (unended_entry (Some (codes "x")) ≡ Some (Text (codes "x"))) × (unended_entry None ≡ None)
 texts = (refl, refl)

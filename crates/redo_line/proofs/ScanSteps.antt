@@ -11,7 +11,7 @@ use Rattle.redo_line.specs.declared.stream_fault.StreamFault.TheVariants.{BadRec
 use Rattle.redo_line.specs.Entry.{entry_of}
 use Rattle.redo_line.specs.Lines.{ended, rest}
 use Rattle.redo_line.specs.Log.{closes, first_fault, line_entries}
-use Rattle.redo_line.specs.Scan.{Scanned, EndLines, EndsLine, FindsEntry as FindsOne, FindsEntries, entries_so_far}
+use Rattle.redo_line.specs.Scan.{Scanned, EndLines, EndsOneLine, FindsEntry as FindsOne, FindsEntries, entries_so_far}
 use Rattle.redo_line.specs.Private.Progress.{Progress, IsAfter, AdvancesBy, ConsumesAll, FailsWith, byte_fault, closed_by, first_byte_fault}
 use Rattle.redo_line.specs.Private.CutLine.{AreTextLines, Cuts}
 use Rattle.redo_line.specs.Record.{record_prefix}
@@ -39,12 +39,12 @@ cuts_nothing kept a none taken is = (
 
 -- `now` is the state as it is modelled, `p` the same state as its fields have it, `u` the bytes consumed before, `left` the chunk
 -- from an offset on, and `a` the bytes of `left` within the limit.
-module _ (now p : Progress) (same : p ≡ now) (u : List ℕ) (after_now : IsAfter now u) (piece left a : List ℕ) (from : ℕ) (left_is : left ≡ drop from piece)
+module _ (now p : Progress) (same : p ≡ now) (u : List ℕ) (after_now : IsAfter now u) (chunk left a : List ℕ) (from : ℕ) (left_is : left ≡ drop from chunk)
     (a_is : a ≡ take (p.max_bytes - p.taken) left) where
   after : IsAfter p u
   after = subst (λ q. IsAfter q u) (sym same) after_now
 
-  refuses : (fault : StreamFault) → FailsWith p u left fault → FailsWith now u (drop from piece) fault
+  refuses : (fault : StreamFault) → FailsWith p u left fault → FailsWith now u (drop from chunk) fault
   refuses fault is = subst (λ (l : List ℕ). FailsWith now u l fault) left_is (subst (λ q. FailsWith q u left fault) same is)
 
   -- What is known of the first byte.
@@ -56,7 +56,7 @@ module _ (now p : Progress) (same : p ≡ now) (u : List ℕ) (after_now : IsAft
   a_at room bytes room_is some = a_is ∙ ap (λ n. take n left) room_is ∙ ap (take room) some
 
   -- The first byte has a fault by its position.
-  pub refuses_first : (fault : StreamFault) → first_byte_fault now left ≡ Some fault → FailsWith now u (drop from piece) fault
+  pub refuses_first : (fault : StreamFault) → first_byte_fault now left ≡ Some fault → FailsWith now u (drop from chunk) fault
   refuses_first fault now_is = refuses fault (by left (p.max_bytes - p.taken) p.closed refl refl refl)
     where
       is : first_byte_fault p left ≡ Some fault
@@ -89,12 +89,12 @@ module _ (now p : Progress) (same : p ≡ now) (u : List ℕ) (after_now : IsAft
         by (byte ∷ bytes) (suc room) false some room_is closed_is = inl closed_is
 
     module _ (line : List ℕ) (upto : ℕ) (place : (0 < upto) × (upto ≤ length a)) (cut : Cuts p.kept (take upto a) (line ∷ []) []) where
-      slice_is : slice_range piece from (from + upto) ≡ take upto a
+      slice_is : slice_range chunk from (from + upto) ≡ take upto a
       slice_is =
           let count : from + upto - from ≡ upto = omega arith in
           let behind = drop (p.max_bytes - p.taken) left in
           let parts : left ≡ a ++ behind = sym (take-append-drop (p.max_bytes - p.taken) left) ∙ ap (λ (b : List ℕ). b ++ behind) (sym a_is) in
-          ap (λ n. take n (drop from piece)) count ∙ ap (take upto) (sym left_is ∙ parts) ∙ take-append-le upto a behind place.1
+          ap (λ n. take n (drop from chunk)) count ∙ ap (take upto) (sym left_is ∙ parts) ∙ take-append-le upto a behind place.1
 
       open_log : p.closed ≡ false
       open_log = by open_or_none
@@ -103,12 +103,12 @@ module _ (now p : Progress) (same : p ≡ now) (u : List ℕ) (after_now : IsAft
           by (inl closed) = closed
           by (inr none) = let size = ap length none in let low = place.0 in let high = place.1 in absurd (omega (arith, size, low, high))
 
-      pub refuses_bad : entry_of p.target line true ≡ None → FailsWith now u (drop from piece) (BadRecord (p.lines + 1))
+      pub refuses_bad : entry_of p.target line true ≡ None → FailsWith now u (drop from chunk) (BadRecord (p.lines + 1))
       refuses_bad none =
           refuses (BadRecord (p.lines + 1)) (bad_refuses p u after left a a_is (take upto a) (drop upto a) (line ∷ []) cut (sym (take-append-drop upto a)) line refl open_log none)
 
       pub line_found : (entry : Entry) (kept : List ℕ) (closed : Bool) → entry_of p.target line true ≡ Some entry → kept ≡ [] → closed ≡ closes (Some entry)
-          → AdvancesBy now (record { target = p.target; max_bytes = p.max_bytes; kept = kept; taken = p.taken + upto; lines = p.lines + 1; closed = closed }) u (slice_range piece from (from + upto)) (entry ∷ [])
+          → AdvancesBy now (record { target = p.target; max_bytes = p.max_bytes; kept = kept; taken = p.taken + upto; lines = p.lines + 1; closed = closed }) u (slice_range chunk from (from + upto)) (entry ∷ [])
       line_found entry kept closed entry_is none closed_is =
           let size : length (take upto a) ≡ upto = let few = length-take upto a in let within = place.1 in omega (arith, few, within) in
           let parts = sym (take-append-drop upto a) in
@@ -121,11 +121,11 @@ module _ (now p : Progress) (same : p ≡ now) (u : List ℕ) (after_now : IsAft
           subst (λ (s : List ℕ). AdvancesBy now then u s (entry ∷ [])) (sym slice_is) (subst (λ (q : Progress). AdvancesBy q then u (take upto a) (entry ∷ [])) same finds)
 
     module _ (kept : List ℕ) (cut : Cuts p.kept a [] kept) where
-      pub refuses_long : length a < length left → FailsWith now u (drop from piece) TooLong
+      pub refuses_long : length a < length left → FailsWith now u (drop from chunk) TooLong
       refuses_long fewer = refuses TooLong (long_refuses p u after left a a_is kept cut open_or_none fewer)
 
       pub all_taken : length left ≤ length a
-          → ConsumesAll now (record { target = p.target; max_bytes = p.max_bytes; kept = kept; taken = p.taken + length left; lines = p.lines; closed = p.closed }) u (drop from piece)
+          → ConsumesAll now (record { target = p.target; max_bytes = p.max_bytes; kept = kept; taken = p.taken + length left; lines = p.lines; closed = p.closed }) u (drop from chunk)
       all_taken fits =
           let few = ap length a_is ∙ length-take (p.max_bytes - p.taken) left in
           let all : left ≡ a = sym (a_is ∙ take_all (p.max_bytes - p.taken) left (omega (arith, few, fits))) in
@@ -151,7 +151,7 @@ texts_close_none [] = refl
 texts_close_none (line ∷ lines) = texts_close_none lines
 
 -- From an offset of a chunk on, `upto` bytes are text lines, no line has begun, and the log isn't closed.
-module _ (now p : Progress) (same : p ≡ now) (u : List ℕ) (after_now : IsAfter now u) (piece left : List ℕ) (from : ℕ) (left_is : left ≡ drop from piece)
+module _ (now p : Progress) (same : p ≡ now) (u : List ℕ) (after_now : IsAfter now u) (chunk left : List ℕ) (from : ℕ) (left_is : left ≡ drop from chunk)
     (upto count : ℕ) (are : AreTextLines (take upto left) count) (within : upto ≤ length left) (room_now : now.taken + upto ≤ now.max_bytes) (some : 0 < count) (none_now : now.kept ≡ []) (open_now : now.closed ≡ false) where
   room : p.taken + upto ≤ p.max_bytes
   room = subst (λ (q : Progress). q.taken + upto ≤ q.max_bytes) (sym same) room_now
@@ -172,7 +172,7 @@ module _ (now p : Progress) (same : p ≡ now) (u : List ℕ) (after_now : IsAft
   abbrev pub text_entries : List Entry
   text_entries = map Text (ended (take upto left))
 
-  pub texts_found : AdvancesBy now (record { target = p.target; max_bytes = p.max_bytes; kept = p.kept; taken = p.taken + upto; lines = p.lines + count; closed = p.closed }) u (slice_range piece from (from + upto)) text_entries
+  pub texts_found : AdvancesBy now (record { target = p.target; max_bytes = p.max_bytes; kept = p.kept; taken = p.taken + upto; lines = p.lines + count; closed = p.closed }) u (slice_range chunk from (from + upto)) text_entries
   texts_found =
       let slice = take upto left in
       let lines = ended slice in
@@ -194,13 +194,13 @@ module _ (now p : Progress) (same : p ≡ now) (u : List ℕ) (after_now : IsAft
             (ap (λ n. p.taken + n) (sym size)) (ap (λ n. p.lines + n) (sym are.count_is)) closed_is;
         ends = end_lines p u after left a refl slice (drop upto a) lines cut parts text_entries entries_are fine;
       } in
-      let slice_is : slice_range piece from (from + upto) ≡ slice =
+      let slice_is : slice_range chunk from (from + upto) ≡ slice =
       let whole : from + upto - from ≡ upto = omega arith in
-      ap (λ n. take n (drop from piece)) whole ∙ ap (take upto) (sym left_is) in
+      ap (λ n. take n (drop from chunk)) whole ∙ ap (take upto) (sym left_is) in
       subst (λ (s : List ℕ). AdvancesBy now then u s text_entries) (sym slice_is) (subst (λ (q : Progress). AdvancesBy q then u slice text_entries) same finds)
 
   -- So the first byte of the text lines has no fault by its position.
-  pub texts_at_once : first_byte_fault now (drop from piece) ≡ None
+  pub texts_at_once : first_byte_fault now (drop from chunk) ≡ None
   texts_at_once = ap (first_byte_fault now) (sym left_is) ∙ ap (λ q. first_byte_fault q left) (sym same) ∙ by left (p.max_bytes - p.taken) refl refl
     where
       by : (bytes : List ℕ) (left_room : ℕ) → left ≡ bytes → p.max_bytes - p.taken ≡ left_room → first_byte_fault p left ≡ None
@@ -212,10 +212,10 @@ module _ (now p : Progress) (same : p ≡ now) (u : List ℕ) (after_now : IsAft
 -- ---- a single line
 
 -- Lines with only this entry are one line.
-pub one_ends : (target : List ℕ) (max_bytes : ℕ) (before bytes : List ℕ) (more : List Entry) (entry : Entry) → more ≡ entry ∷ [] → EndLines target max_bytes before bytes more → EndsLine target max_bytes before bytes entry
+pub one_ends : (target : List ℕ) (max_bytes : ℕ) (before bytes : List ℕ) (more : List Entry) (entry : Entry) → more ≡ entry ∷ [] → EndLines target max_bytes before bytes more → EndsOneLine target max_bytes before bytes entry
 one_ends target max_bytes before bytes more entry one ends = by ends.lines refl
   where
-    by : (lines : List (List ℕ)) → ends.lines ≡ lines → EndsLine target max_bytes before bytes entry
+    by : (lines : List (List ℕ)) → ends.lines ≡ lines → EndsOneLine target max_bytes before bytes entry
     by [] is = absurd (let are = sym (ap (line_entries target) is) ∙ ends.entries_are ∙ ap (map Some) one in cc)
     by (first ∷ second ∷ lines) is = absurd (let are = sym (ap (line_entries target) is) ∙ ends.entries_are ∙ ap (map Some) one in cc)
     by (line ∷ []) is = record {

@@ -8,8 +8,8 @@ use Rattle.redo_line.specs.Entry.{entry_of}
 use Rattle.redo_line.specs.Laws.{IsEarlyFault}
 use Rattle.redo_line.specs.Lines.{ended, rest, unended}
 use Rattle.redo_line.specs.Log.{closes, entries_of, fault_of, first_fault, line_entries, log_of, or_else, unless_fault}
-use Rattle.redo_line.specs.Source.{Source, closing_fault, fault_from, is_closed, last_entry, log_from, source}
-use Rattle.redo_line.specs.Scan.{entries_so_far, so_far, text_of}
+use Rattle.redo_line.specs.Source.{Source, closing_fault, source_fault, is_closed, last_entry, source_log, source}
+use Rattle.redo_line.specs.Scan.{entries_so_far, so_far, unended_entry}
 use Rattle.redo_line.specs.Private.Progress.{closed_by, IsAfter, Progress}
 use Rattle.redo_line.proofs.EntryListLemmas.{closed_by-append, first_fault-append-none, first_fault-front-none}
 use Rattle.redo_line.proofs.FaultLemmas.{no_fault, rest_entries}
@@ -17,15 +17,15 @@ use Rattle.redo_line.proofs.ScanEnds.{log_with}
 
 module _ (max_bytes : ℕ) (given : Source Stream) where
   -- A fault that is known before the end.
-  pub fault_met : (fault : StreamFault) → fault_of given.target max_bytes given.stream ≡ Some fault → fault_from max_bytes given ≡ Some fault
+  pub fault_met : (fault : StreamFault) → fault_of given.target max_bytes given.stream ≡ Some fault → source_fault max_bytes given ≡ Some fault
   fault_met fault is = ap (λ first. or_else first (closing_fault given)) is
 
   -- If there is none, the only fault that is left is that the log isn't closed.
-  pub fault_left : fault_of given.target max_bytes given.stream ≡ None → fault_from max_bytes given ≡ closing_fault given
+  pub fault_left : fault_of given.target max_bytes given.stream ≡ None → source_fault max_bytes given ≡ closing_fault given
   fault_left none = ap (λ first. or_else first (closing_fault given)) none
 
   -- A fault that is known early is known before the end.
-  pub met_early : (fault : StreamFault) → IsEarlyFault fault → fault_from max_bytes given ≡ Some fault → fault_of given.target max_bytes given.stream ≡ Some fault
+  pub met_early : (fault : StreamFault) → IsEarlyFault fault → source_fault max_bytes given ≡ Some fault → fault_of given.target max_bytes given.stream ≡ Some fault
   met_early fault early = by (fault_of given.target max_bytes given.stream) (given.must_close && not (is_closed given.target given.stream.bytes))
     where
       by : (first : Option StreamFault) (lacks : Bool) → or_else first (cond lacks (Some NotClosed) None) ≡ Some fault → first ≡ Some fault
@@ -34,7 +34,7 @@ module _ (max_bytes : ℕ) (given : Source Stream) where
       by None false is = absurd (cc)
 
   -- A fact about the log of a stream that may end with any line.
-  pub of_log : (P : List Entry → Type 0) → IfSome (log_of given.target max_bytes given.stream) P → IfSome (log_from max_bytes given) P
+  pub of_log : (P : List Entry → Type 0) → IfSome (log_of given.target max_bytes given.stream) P → IfSome (source_log max_bytes given) P
   of_log P = by (fault_of given.target max_bytes given.stream) (closing_fault given)
     where
       all : List Entry
@@ -51,10 +51,10 @@ any_end None = refl
 any_end (Some fault) = refl
 
 module _ (target : List ℕ) (max_bytes : ℕ) (stream : Stream) where
-  pub any_fault : fault_from max_bytes (source target false stream) ≡ fault_of target max_bytes stream
+  pub any_fault : source_fault max_bytes (source target false stream) ≡ fault_of target max_bytes stream
   any_fault = any_end (fault_of target max_bytes stream)
 
-  pub any_log : log_from max_bytes (source target false stream) ≡ log_of target max_bytes stream
+  pub any_log : source_log max_bytes (source target false stream) ≡ log_of target max_bytes stream
   any_log = ap (λ fault. unless_fault fault (filter_map (λ entry. entry) (entries_of target stream.bytes))) any_fault
 
 -- ---- the last line
@@ -95,13 +95,13 @@ closed_after p bytes after = last_closes (entries_of p.target bytes) ∙ closed_
 -- ---- the end of the input
 
 module _ (p : Progress) (bytes : List ℕ) (after : IsAfter p bytes) (must_close : Bool) where
-  pub fault_in_the_end : (must closed : Bool) → must_close ≡ must → p.closed ≡ closed → fault_from p.max_bytes (source p.target must_close (so_far bytes)) ≡ cond (must && not closed) (Some NotClosed) None
+  pub fault_in_the_end : (must closed : Bool) → must_close ≡ must → p.closed ≡ closed → source_fault p.max_bytes (source p.target must_close (so_far bytes)) ≡ cond (must && not closed) (Some NotClosed) None
   fault_in_the_end must closed must_is closed_is =
       fault_left p.max_bytes (source p.target must_close (so_far bytes)) after.no_fault ∙ (λ i. cond (must_is i && not ((closed_after p bytes after ∙ closed_is) i)) (Some NotClosed) None)
 
   -- The entries found and the unended line are the log.
-  pub log_in_the_end : (last : Option (List ℕ)) → fault_from p.max_bytes (source p.target must_close (so_far bytes)) ≡ None → last ≡ unended p.kept
-      → log_from p.max_bytes (source p.target must_close (so_far bytes)) ≡ Some (entries_so_far p.target p.max_bytes bytes ++ option_to_list (text_of last))
+  pub log_in_the_end : (last : Option (List ℕ)) → source_fault p.max_bytes (source p.target must_close (so_far bytes)) ≡ None → last ≡ unended p.kept
+      → source_log p.max_bytes (source p.target must_close (so_far bytes)) ≡ Some (entries_so_far p.target p.max_bytes bytes ++ option_to_list (unended_entry last))
   log_in_the_end last none is =
       let all = filter_map (λ entry. entry) (entries_of p.target bytes) in
       ap (λ fault. unless_fault fault all) none ∙ sym (ap (λ fault. unless_fault fault all) after.no_fault) ∙ log_with p bytes after last is

@@ -12,7 +12,7 @@ use Rattle.redo_line.specs.Decimal.{number}
 use Rattle.redo_line.specs.Entry.{record_entry, entry_of}
 use Rattle.redo_line.specs.Lines.{line_feed, split_lines, ended, rest}
 use Rattle.redo_line.specs.Log.{stream_of, first_fault}
-use Rattle.redo_line.specs.Source.{StreamInput, fault_from, log_from, source_entries_before_fault, source, sources, with_stream}
+use Rattle.redo_line.specs.Source.{StreamInput, source_fault, source_log, source_entries_before_fault, source, sources, with_stream}
 use Rattle.redo_name.specs.Names.{reduce_suffix, normal}
 use Rattle.redo_line.specs.Parts.{split_once, after_prefix}
 use Rattle.redo_line.specs.Record.{fields_of, status_of}
@@ -40,7 +40,7 @@ logs =
     has_log (line (codes "x") ++ line closing) (Text (codes "x") ∷ Closing 7 (pos 0) ∷ []) ∷
     []
 
-these_logs : AllByRecursion (λ row. log_from most (source (codes "a") true (stream_of row.bytes false)) ≡ Some row.log) logs
+these_logs : AllByRecursion (λ row. source_log most (source (codes "a") true (stream_of row.bytes false)) ≡ Some row.log) logs
 unfolding split_lines ended rest first_fault entry_of record_entry fields_of status_of split_once after_prefix number normal reduce_suffix
 these_logs = (refl, (refl, tt))
 
@@ -70,7 +70,7 @@ faults =
     has_fault 4 (line (codes "abc") ++ codes "d") false TooLong (Text (codes "abc") ∷ []) ∷
     []
 
-these_faults : AllByRecursion (λ row. fault_from row.max_bytes (source (codes "a") true (stream_of row.bytes row.fails)) ≡ Some row.fault) faults
+these_faults : AllByRecursion (λ row. source_fault row.max_bytes (source (codes "a") true (stream_of row.bytes row.fails)) ≡ Some row.fault) faults
 unfolding split_lines ended rest first_fault entry_of record_entry fields_of status_of split_once after_prefix number normal reduce_suffix
 these_faults = (refl, (refl, (refl, (refl, (refl, (refl, (refl, (refl, (refl, (refl, tt))))))))))
 
@@ -78,12 +78,12 @@ these_parts : AllByRecursion (λ row. source_entries_before_fault row.max_bytes 
 unfolding split_lines ended rest first_fault entry_of record_entry fields_of status_of split_once after_prefix number normal reduce_suffix
 these_parts = (refl, (refl, (refl, (refl, (refl, (refl, (refl, (refl, (refl, (refl, tt))))))))))
 
-no_log : log_from most (source (codes "a") true (stream_of (line (codes "x")) false)) ≡ None
+no_log : source_log most (source (codes "a") true (stream_of (line (codes "x")) false)) ≡ None
 unfolding split_lines ended rest first_fault entry_of record_entry fields_of status_of split_once after_prefix number normal reduce_suffix
 no_log = refl
 
 -- If the stream may end with any line, there is no such fault.
-may_end_anywhere : log_from most (source (codes "a") false (stream_of (line (codes "x")) false)) ≡ Some (Text (codes "x") ∷ [])
+may_end_anywhere : source_log most (source (codes "a") false (stream_of (line (codes "x")) false)) ≡ Some (Text (codes "x") ∷ [])
 unfolding split_lines ended rest first_fault entry_of record_entry fields_of status_of split_once after_prefix number normal reduce_suffix
 may_end_anywhere = refl
 

@@ -10,11 +10,11 @@ use Rattle.redo_line.specs.Decimal.{number}
 use Rattle.redo_line.specs.Parts.{split_once, after_prefix}
 use Rattle.redo_line.specs.Record.{record_prefix, space, kind_of, Fields, IsRecord, IsStatus, fields_of, status_of}
 
--- The entry of a `done_or_closing` record for the target `name`. If that is the log's own target, the entry closes the log.
+-- The entry of a `done` record for the target `name`. If that is the log's own target, the entry closes the log.
 abbrev pub done_or_closing : List ℕ → ℕ → ℤ → List ℕ → Entry
 done_or_closing target pid status name = if bytes_eq name target then Closing pid status else Done pid status name
 
--- A `done_or_closing` record with this text, which is a status, a space and a name, has this entry in the log of `target`.
+-- A `done` record with this text, which is a status, a space and a name, has this entry in the log of `target`.
 pub record IsDoneEntry (target : List ℕ) (pid : ℕ) (text : List ℕ) (entry : Entry) : Type 0 where
   pub status : List ℕ
   pub value : ℤ
@@ -47,7 +47,7 @@ IsEntry target line ended entry =
     ((IsCandidate line ended → ⊥) × (entry ≡ Text line))
     ⊎ (IsCandidate line ended × IsRecordEntry target line entry)
 
--- The functions from here on compute the entry of a line. This one does it for a `done_or_closing` record, from its status and its name.
+-- The functions from here on compute the entry of a line. This one does it for a `done` record, from its status and its name.
 abbrev pub done_entry : List ℕ → ℕ → Option (List ℕ × List ℕ) → Option Entry
 done_entry target pid None = None
 done_entry target pid (Some parts) =

@@ -6,7 +6,7 @@ use Rattle.redo_line.specs.declared.stream_fault.StreamFault.TheVariants.{BadRec
 use Rattle.redo_device.specs.Feed.{Stream}
 use Rattle.redo_line.specs.Lines.{AreLines}
 use Rattle.redo_line.specs.Log.{stream_of, closes, entries_of}
-use Rattle.redo_line.specs.Source.{Source, fault_from, log_from, source_entries_before_fault, source}
+use Rattle.redo_line.specs.Source.{Source, source_fault, source_log, source_entries_before_fault, source}
 use Rattle.redo_line.specs.Scan.{fault_so_far, entries_so_far}
 
 -- Nothing has the property `P` except what was found, if anything was.
@@ -46,18 +46,18 @@ module _ (target : List ℕ) (max_bytes : ℕ) (must_close : Bool) where
   -- If bytes have a fault that is known early, every stream that begins with them has this fault.
   abbrev pub EarlyFaultIsFinal : Type 0
   EarlyFaultIsFinal =
-      (bytes more : List ℕ) (failed fails : Bool) (fault : StreamFault) → IsEarlyFault fault → fault_from max_bytes (of_bytes bytes failed) ≡ Some fault
-      → fault_from max_bytes (of_bytes (bytes ++ more) fails) ≡ Some fault
+      (bytes more : List ℕ) (failed fails : Bool) (fault : StreamFault) → IsEarlyFault fault → source_fault max_bytes (of_bytes bytes failed) ≡ Some fault
+      → source_fault max_bytes (of_bytes (bytes ++ more) fails) ≡ Some fault
 
   -- Such a stream has the same entries before the fault.
   abbrev pub EntriesBeforeItAreFinal : Type 0
   EntriesBeforeItAreFinal =
-      (bytes more : List ℕ) (failed fails : Bool) (fault : StreamFault) → IsEarlyFault fault → fault_from max_bytes (of_bytes bytes failed) ≡ Some fault
+      (bytes more : List ℕ) (failed fails : Bool) (fault : StreamFault) → IsEarlyFault fault → source_fault max_bytes (of_bytes bytes failed) ≡ Some fault
       → source_entries_before_fault max_bytes (of_bytes (bytes ++ more) fails) ≡ source_entries_before_fault max_bytes (of_bytes bytes failed)
 
   -- If bytes have no fault and then a read fails, the failed read is the fault.
   abbrev pub FailedReadIsFault : Type 0
-  FailedReadIsFault = (bytes : List ℕ) → fault_so_far target max_bytes bytes ≡ None → fault_from max_bytes (of_bytes bytes true) ≡ Some Read
+  FailedReadIsFault = (bytes : List ℕ) → fault_so_far target max_bytes bytes ≡ None → source_fault max_bytes (of_bytes bytes true) ≡ Some Read
 
   -- Such a failed read loses no entry.
   abbrev pub FailedReadKeepsEntries : Type 0
@@ -73,4 +73,4 @@ module _ (target : List ℕ) (max_bytes : ℕ) (must_close : Bool) where
   abbrev pub EntriesPrefixLog : Type 0
   EntriesPrefixLog =
       (bytes more : List ℕ) (fails : Bool) → fault_so_far target max_bytes bytes ≡ None
-      → IfSome (log_from max_bytes (of_bytes (bytes ++ more) fails)) (IsPrefix (entries_so_far target max_bytes bytes))
+      → IfSome (source_log max_bytes (of_bytes (bytes ++ more) fails)) (IsPrefix (entries_so_far target max_bytes bytes))

@@ -31,7 +31,7 @@ abbrev pub prepend_byte : ℕ → List (List ℕ) → List ℕ → SplitLines
 prepend_byte byte [] last = record { lines = []; last = byte ∷ last }
 prepend_byte byte (line ∷ lines) last = record { lines = (byte ∷ line) ∷ lines; last = last }
 
--- The split of these bytes. It is the only one for which `AreLines` holds (law `one_cutting`).
+-- The split of these bytes. It is the only one for which `AreLines` holds (law `splitting_is_unique`).
 unfoldable pub split_lines : List ℕ → SplitLines
 split_lines [] = record { lines = []; last = [] }
 split_lines (byte ∷ bytes) =

@@ -37,7 +37,7 @@ module _ (target : List ℕ) (max_bytes : ℕ) where
   entries_so_far bytes = entries_before_fault target max_bytes (so_far bytes)
 
   -- `bytes` after `before` end one more line, which has this entry. No byte follows the line, and there is no fault.
-  pub record EndsLine (before bytes : List ℕ) (entry : Entry) : Type 0 where
+  pub record EndsOneLine (before bytes : List ℕ) (entry : Entry) : Type 0 where
     pub no_fault : fault_so_far (before ++ bytes) ≡ None
     pub line : List ℕ
     pub lines_are : ended (before ++ bytes) ≡ ended before ++ line ∷ []
@@ -60,7 +60,7 @@ module _ (target : List ℕ) (max_bytes : ℕ) where
     pub lines : ended (before ++ bytes) ≡ ended before
     pub entries : entries_so_far (before ++ bytes) ≡ entries_so_far before
 
-  -- `bytes` after `before` have this fault, and no further entry is before it. More bytes don't change that (law `early_fault`).
+  -- `bytes` after `before` have this fault, and no further entry is before it. More bytes don't change that (law `early_fault_is_final`).
   pub record HaveFault (before bytes : List ℕ) (fault : StreamFault) : Type 0 where
     pub fault_is : fault_so_far (before ++ bytes) ≡ Some fault
     pub entries : entries_so_far (before ++ bytes) ≡ entries_so_far before
@@ -82,7 +82,7 @@ fail_with fault scan = record { target = scan.target; max_bytes = scan.max_bytes
 
 -- These bytes were consumed. They end one more line, which has this entry.
 abbrev pub FindsEntry : Scanned → Scanned → List ℕ → Entry → Type 0
-FindsEntry old new bytes entry = (new ≡ consume bytes old) × EndsLine old.target old.max_bytes old.bytes bytes entry
+FindsEntry old new bytes entry = (new ≡ consume bytes old) × EndsOneLine old.target old.max_bytes old.bytes bytes entry
 
 -- These bytes were consumed. They end further lines, at least one and at most `most`, and the entries of these lines were appended.
 pub record FindsEntries (old new : Scanned) (bytes : List ℕ) (most : ℕ) (first all : List Entry) : Type 0 where
@@ -103,15 +103,15 @@ MayFailWith scan bytes fault = (fault ≡ OutOfMemory) ⊎ HaveFault scan.target
 
 -- A step returned this fault, stored it, and consumed no bytes. It is never a fault that is known only at the end of the input.
 pub record FailsWith (old new : Scanned) (bytes : List ℕ) (fault : StreamFault) : Type 0 where
-  pub recorded : new ≡ fail_with fault old
+  pub fault_stored : new ≡ fail_with fault old
   pub may_fail : old.failed_with ≡ None → MayFailWith old bytes fault
   pub early : (fault ≢ Read) × (fault ≢ NotClosed)
 
 -- What a step does with a chunk from an offset on: it returns the entry of the next line, consumes all bytes, or returns a fault.
 abbrev pub Steps : Scanned → Scanned → List ℕ → ℕ → Result Step StreamFault → Type 0
-Steps old new piece from (Ok (Found entry upto)) = (from < upto) × (upto ≤ length piece) × FindsEntry old new (slice_range piece from upto) entry
-Steps old new piece from (Ok More) = ConsumesAll old new (drop from piece)
-Steps old new piece from (Err fault) = FailsWith old new (drop from piece) fault
+Steps old new chunk from (Ok (Found entry upto)) = (from < upto) × (upto ≤ length chunk) × FindsEntry old new (slice_range chunk from upto) entry
+Steps old new chunk from (Ok More) = ConsumesAll old new (drop from chunk)
+Steps old new chunk from (Err fault) = FailsWith old new (drop from chunk) fault
 
 -- Whether the fault is a byte after the closing record or past the limit.
 abbrev pub IsAfterCloseOrTooLong : StreamFault → Type 0
@@ -119,7 +119,7 @@ IsAfterCloseOrTooLong fault = ((line : ℕ) × (fault ≡ AfterClose line)) ⊎ 
 
 -- No fault was returned yet, and this is the fault of the bytes consumed and the first of `bytes`: that byte is after the closing
 -- record or past the limit.
-pub record FailsAtFirstByte (scan : Scanned) (bytes : List ℕ) (fault : StreamFault) : Type 0 where
+pub record FirstByteIsPastEnd (scan : Scanned) (bytes : List ℕ) (fault : StreamFault) : Type 0 where
   pub not_failed : scan.failed_with ≡ None
   pub after_close_or_too_long : IsAfterCloseOrTooLong fault
   pub fault_is : fault_so_far scan.target scan.max_bytes (scan.bytes ++ take 1 bytes) ≡ Some fault
@@ -133,6 +133,6 @@ abbrev pub source_in : Scanned → Source Stream
 source_in scan = source scan.target scan.must_close (so_far scan.bytes)
 
 -- The entry of the unended line, if there is one.
-abbrev pub text_of : Option (List ℕ) → Option Entry
-text_of None = None
-text_of (Some line) = Some (Text line)
+abbrev pub unended_entry : Option (List ℕ) → Option Entry
+unended_entry None = None
+unended_entry (Some line) = Some (Text line)

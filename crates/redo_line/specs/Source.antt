@@ -43,13 +43,13 @@ abbrev pub closing_fault : Source Stream → Option StreamFault
 closing_fault given = if given.must_close && not (is_closed given.target given.stream.bytes) then Some NotClosed else None
 
 -- The fault of the stream of this source, if at most `max_bytes` bytes are allowed.
-abbrev pub fault_from : ℕ → Source Stream → Option StreamFault
-fault_from max_bytes given = or_else (fault_of given.target max_bytes given.stream) (closing_fault given)
+abbrev pub source_fault : ℕ → Source Stream → Option StreamFault
+source_fault max_bytes given = or_else (fault_of given.target max_bytes given.stream) (closing_fault given)
 
 -- The entries of its ended lines within the limit, before the first invalid line if there is one.
 abbrev pub source_entries_before_fault : ℕ → Source Stream → List Entry
 source_entries_before_fault max_bytes given = entries_before_fault given.target max_bytes given.stream
 
 -- Its log, if it has no fault: the entries of all its lines.
-abbrev pub log_from : ℕ → Source Stream → Option (List Entry)
-log_from max_bytes given = unless_fault (fault_from max_bytes given) (filter_map (λ entry. entry) (entries_of given.target given.stream.bytes))
+abbrev pub source_log : ℕ → Source Stream → Option (List Entry)
+source_log max_bytes given = unless_fault (source_fault max_bytes given) (filter_map (λ entry. entry) (entries_of given.target given.stream.bytes))

@@ -49,37 +49,37 @@ impl Cutter {
         }
     }
 
-    /// Consumes the bytes of `piece` from the offset `from` up to and including the first line feed.
+    /// Consumes the bytes of `chunk` from the offset `from` up to and including the first line feed.
     /// Call it again with the returned offset until it returns `More`, and then with the next chunk.
     ///
     /// If it fails, nothing changes: the bytes from `from` on are not consumed.
     #[inline]
-    pub fn next(&mut self, piece: &[u8], from: usize) -> Result<Cut, AllocError>
-        requires { from ≤ length piece.now }
+    pub fn next(&mut self, chunk: &[u8], from: usize) -> Result<Cut, AllocError>
+        requires { from ≤ length chunk.now }
 
         // A line is returned exactly if the rest of the chunk has a line feed.
-        ensures found { IfOk result (λ cut. IsTrue (is_line cut) ↔ Contains (drop from piece.now) line_feed) }
+        ensures found { IfOk result (λ cut. IsTrue (is_line cut) ↔ Contains (drop from chunk.now) line_feed) }
 
         // Then the bytes up to the offset are consumed. They end one more line, which is this one, and no byte follows it.
-        ensures range { IfOk result (λ cut. IfLine cut (λ line upto. (from < upto) × (upto ≤ length piece.now))) }
-        ensures consumed { IfOk result (λ cut. IfLine cut (λ line upto. self.new ≡ self.old ++ slice_range piece.now from upto)) }
+        ensures range { IfOk result (λ cut. IfLine cut (λ line upto. (from < upto) × (upto ≤ length chunk.now))) }
+        ensures consumed { IfOk result (λ cut. IfLine cut (λ line upto. self.new ≡ self.old ++ slice_range chunk.now from upto)) }
         ensures line { IfOk result (λ cut. IfLine cut (λ line upto. ended self.new ≡ ended self.old ++ line ∷ [])) }
         ensures no_rest { IfOk result (λ cut. IfLine cut (λ line upto. rest self.new ≡ [])) }
 
         // Otherwise the rest of the chunk is consumed and ends no further line.
-        ensures rest_consumed { IfOk result (λ cut. IfMore cut (self.new ≡ self.old ++ drop from piece.now)) }
+        ensures rest_consumed { IfOk result (λ cut. IfMore cut (self.new ≡ self.old ++ drop from chunk.now)) }
         ensures no_line { IfOk result (λ cut. IfMore cut (ended self.new ≡ ended self.old)) }
         ensures unchanged_on_err { OnErr result (self.new ≡ self.old) }
     {
-        match self.start.next_line(&piece[from..])? {
+        match self.start.next_line(&chunk[from..])? {
             Some((line, length)) => {
                 let bytes = LineText::from_vec(line.into_vec(self.alloc)?);
                 let upto = from + length;
-                self.history = History::extended(&self.history, &piece[from..upto]);
+                self.history = History::extended(&self.history, &chunk[from..upto]);
                 Ok(Cut::Line { bytes, upto })
             }
             None => {
-                self.history = History::extended(&self.history, &piece[from..]);
+                self.history = History::extended(&self.history, &chunk[from..]);
                 Ok(Cut::More)
             }
         }

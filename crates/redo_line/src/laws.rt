@@ -6,7 +6,7 @@ ghost use Rattle.redo_line.specs.Entry.{IsEntry, entry_of};
 ghost use Rattle.redo_line.specs.Laws.{IsUnique, IsUniqueSplit, HasOneEntryPerLine, ClosesAtEnd, EarlyFaultIsFinal, EntriesBeforeItAreFinal, FailedReadIsFault, FailedReadKeepsEntries, EntriesPrefixPart, EntriesPrefixLog};
 ghost use Rattle.redo_line.specs.Lines.{AreLines, ended, rest};
 ghost use Rattle.redo_line.specs.Log.{IsFineLine, IsFirstFault, fault_of, line_fault, log_of};
-ghost use Rattle.redo_line.specs.Source.{Source, fault_from, log_from, source};
+ghost use Rattle.redo_line.specs.Source.{Source, source_fault, source_log, source};
 ghost use Rattle.redo_line.specs.Record.{Fields, IsRecord};
 
 /// Bytes are split into lines and a rest in exactly one way.
@@ -64,17 +64,17 @@ pub fn entries_are_final()
 /// If a log need not be closed, the log and its fault are the log and the fault of the stream alone.
 pub fn unflagged_log_may_end_anywhere()
     ensures fault { (target : List ℕ) (max_bytes : ℕ) (stream : Stream) →
-        fault_from max_bytes (source target false stream) ≡ fault_of target max_bytes stream }
+        source_fault max_bytes (source target false stream) ≡ fault_of target max_bytes stream }
     ensures log { (target : List ℕ) (max_bytes : ℕ) (stream : Stream) →
-        log_from max_bytes (source target false stream) ≡ log_of target max_bytes stream }
+        source_log max_bytes (source target false stream) ≡ log_of target max_bytes stream }
 {}
 
 /// A log has one entry for each line of its stream, in order.
 pub fn one_entry_per_line()
-    ensures { (max_bytes : ℕ) (given : Source Stream) → IfSome (log_from max_bytes given) (HasOneEntryPerLine given.target given.stream) }
+    ensures { (max_bytes : ℕ) (given : Source Stream) → IfSome (source_log max_bytes given) (HasOneEntryPerLine given.target given.stream) }
 {}
 
 /// In a log nothing follows the closing record.
 pub fn closing_record_is_last()
-    ensures { (max_bytes : ℕ) (given : Source Stream) → IfSome (log_from max_bytes given) ClosesAtEnd }
+    ensures { (max_bytes : ℕ) (given : Source Stream) → IfSome (source_log max_bytes given) ClosesAtEnd }
 {}

@@ -79,24 +79,24 @@ impl PartialLine {
     // there is no line feed, consumes the whole chunk and returns `None`. If it fails, nothing changes.
     pub fn next_line<'a>(
         &mut self,
-        piece: &'a [u8],
+        chunk: &'a [u8],
     ) -> Result<Option<(Line<'a>, usize)>, AllocError>
-        ensures found { IfOk result (λ found. IsSome found ↔ Contains piece.now line_feed) }
-        ensures range { IfOk result (λ found. IfSome found (λ cut. (0 < cut.1) × (cut.1 ≤ length piece.now))) }
-        ensures line { IfOk result (λ found. IfSome found (λ cut. Cuts self.old (take cut.1 piece.now) (line_bytes cut.0 ∷ []) [])) }
+        ensures found { IfOk result (λ found. IsSome found ↔ Contains chunk.now line_feed) }
+        ensures range { IfOk result (λ found. IfSome found (λ cut. (0 < cut.1) × (cut.1 ≤ length chunk.now))) }
+        ensures line { IfOk result (λ found. IfSome found (λ cut. Cuts self.old (take cut.1 chunk.now) (line_bytes cut.0 ∷ []) [])) }
         ensures no_line_feed { IfOk result (λ found. IfSome found (λ cut. HasNoLineFeed (line_bytes cut.0))) }
         ensures line_kept { IfOk result (λ found. IfSome found (λ _. self.new ≡ [])) }
         ensures borrowed { IfOk result (λ found. IfSome found (λ cut. IsBorrowed cut.0 → self.old ≡ [])) }
-        ensures rest_consumed { IfOk result (λ found. IfNone found (Cuts self.old piece.now [] self.new)) }
+        ensures rest_consumed { IfOk result (λ found. IfNone found (Cuts self.old chunk.now [] self.new)) }
         ensures unchanged_on_err { OnErr result (self.new ≡ self.old) }
     {
-        match memchr(b'\n', piece) {
+        match memchr(b'\n', chunk) {
             Some(at) => {
-                let line = self.complete_with(&piece[..at])?;
+                let line = self.complete_with(&chunk[..at])?;
                 Ok(Some((line, at + 1)))
             }
             None => {
-                self.kept.extend_from_slice(piece)?;
+                self.kept.extend_from_slice(chunk)?;
                 Ok(None)
             }
         }

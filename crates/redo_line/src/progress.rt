@@ -70,32 +70,32 @@ impl Progress {
     // of the chunk and returns `None`. After an error the state is unspecified, and `entries` are unchanged.
     pub fn advance(
         &mut self,
-        piece: &[u8],
+        chunk: &[u8],
         from: usize,
         most: u16,
         entries: &mut Entries,
     ) -> Result<Option<usize>, StreamFault>
-        requires from { from ≤ length piece.now }
+        requires from { from ≤ length chunk.now }
         requires most { 1 ≤ most }
         requires limit { self.old.max_bytes ≤ 2 ^ 40 }
         requires after { (before : List ℕ) × IsAfter self.old before }
-        ensures range { IfOk result (λ found. IfSome found (λ upto. (from < upto) × (upto ≤ length piece.now))) }
+        ensures range { IfOk result (λ found. IfSome found (λ upto. (from < upto) × (upto ≤ length chunk.now))) }
         ensures found { (before : List ℕ) → IsAfter self.old before → IfOk result (λ found. IfSome found (λ upto.
-            FindsEntries self.old self.new before (slice_range piece.now from upto) most entries.old entries.new)) }
+            FindsEntries self.old self.new before (slice_range chunk.now from upto) most entries.old entries.new)) }
         ensures rest_consumed { (before : List ℕ) → IsAfter self.old before →
-            IfOk result (λ found. IfNone found (ConsumesAll self.old self.new before (drop from piece.now))) }
+            IfOk result (λ found. IfNone found (ConsumesAll self.old self.new before (drop from chunk.now))) }
         ensures entries_unchanged { IfOk result (λ found. IfNone found (entries.new ≡ entries.old)) }
         ensures fault { (before : List ℕ) → IsAfter self.old before →
-            IfErr result (λ fault. (fault ≡ OutOfMemory) ⊎ FailsWith self.old before (drop from piece.now) fault) }
-        ensures immediate { (fault : StreamFault) → first_byte_fault self.old (drop from piece.now) ≡ Some fault → result ≡ Err fault }
+            IfErr result (λ fault. (fault ≡ OutOfMemory) ⊎ FailsWith self.old before (drop from chunk.now) fault) }
+        ensures immediate { (fault : StreamFault) → first_byte_fault self.old (drop from chunk.now) ≡ Some fault → result ≡ Err fault }
         ensures unchanged_on_err { IfErr result (λ _. entries.new ≡ entries.old) }
         ensures target { self.new.target ≡ self.old.target }
         ensures max_bytes { self.new.max_bytes ≡ self.old.max_bytes }
     {
-        let left = &piece[from..];
+        let left = &chunk[from..];
         let (length, count) = self.leading_text_lines(left, most);
         if count == 0 {
-            return self.advance_one_line(piece, from, entries);
+            return self.advance_one_line(chunk, from, entries);
         }
         entries.push_lines(&left[..length], count)?;
         self.taken += length as u64;
@@ -122,27 +122,27 @@ impl Progress {
     // Consumes the first line, of any kind, or all bytes if no line ends.
     fn advance_one_line(
         &mut self,
-        piece: &[u8],
+        chunk: &[u8],
         from: usize,
         entries: &mut Entries,
     ) -> Result<Option<usize>, StreamFault>
-        requires from { from ≤ length piece.now }
+        requires from { from ≤ length chunk.now }
         requires limit { self.old.max_bytes ≤ 2 ^ 40 }
         requires after { (before : List ℕ) × IsAfter self.old before }
-        ensures range { IfOk result (λ found. IfSome found (λ upto. (from < upto) × (upto ≤ length piece.now))) }
+        ensures range { IfOk result (λ found. IfSome found (λ upto. (from < upto) × (upto ≤ length chunk.now))) }
         ensures found { (before : List ℕ) → IsAfter self.old before → IfOk result (λ found. IfSome found (λ upto.
-            FindsEntries self.old self.new before (slice_range piece.now from upto) 1 entries.old entries.new)) }
+            FindsEntries self.old self.new before (slice_range chunk.now from upto) 1 entries.old entries.new)) }
         ensures rest_consumed { (before : List ℕ) → IsAfter self.old before →
-            IfOk result (λ found. IfNone found (ConsumesAll self.old self.new before (drop from piece.now))) }
+            IfOk result (λ found. IfNone found (ConsumesAll self.old self.new before (drop from chunk.now))) }
         ensures entries_unchanged { IfOk result (λ found. IfNone found (entries.new ≡ entries.old)) }
         ensures fault { (before : List ℕ) → IsAfter self.old before →
-            IfErr result (λ fault. (fault ≡ OutOfMemory) ⊎ FailsWith self.old before (drop from piece.now) fault) }
-        ensures immediate { (fault : StreamFault) → first_byte_fault self.old (drop from piece.now) ≡ Some fault → result ≡ Err fault }
+            IfErr result (λ fault. (fault ≡ OutOfMemory) ⊎ FailsWith self.old before (drop from chunk.now) fault) }
+        ensures immediate { (fault : StreamFault) → first_byte_fault self.old (drop from chunk.now) ≡ Some fault → result ≡ Err fault }
         ensures unchanged_on_err { IfErr result (λ _. entries.new ≡ entries.old) }
         ensures target { self.new.target ≡ self.old.target }
         ensures max_bytes { self.new.max_bytes ≡ self.old.max_bytes }
     {
-        let left = &piece[from..];
+        let left = &chunk[from..];
         if let Some(fault) = self.first_byte_fault(left) {
             return Err(fault);
         }

@@ -1,7 +1,7 @@
 ghost use Rattle.std.specs.Prelude.{◌≡◌, ◌≢◌, ◌<◌, ◌≤◌, ◌^◌, ◌++◌, [], None, Some, Ok, Err, IfOk, IfErr, IfSome, IfNone, length, drop, slice_range, option_to_list};
 ghost use Rattle.redo_line.specs.Lines.{rest, unended};
-ghost use Rattle.redo_line.specs.Source.{fault_from, log_from};
-ghost use Rattle.redo_line.specs.Scan.{FindsEntries, ConsumesAll, Steps, IsFaultFree, MayFailWith, FailsAtFirstByte, entries_in, fail_with, source_in, text_of};
+ghost use Rattle.redo_line.specs.Source.{source_fault, source_log};
+ghost use Rattle.redo_line.specs.Scan.{FindsEntries, ConsumesAll, Steps, IsFaultFree, MayFailWith, FirstByteIsPastEnd, entries_in, fail_with, source_in, unended_entry};
 ghost use Rattle.redo_line.specs.declared.stream_fault.StreamFault.{StreamFault};
 ghost use Rattle.redo_line.specs.declared.stream_fault.StreamFault.TheVariants.{NotClosed, Read};
 
@@ -73,27 +73,27 @@ impl Scan {
         }
     }
 
-    /// Consumes the bytes of `piece` from the offset `from` up to the end of the first line. Call it
+    /// Consumes the bytes of `chunk` from the offset `from` up to the end of the first line. Call it
     /// again with the returned offset until it returns `More`, and then with the next chunk.
     ///
     /// Fails at the first invalid line, or at the first byte past the limit; docs/format.md has the rule.
     /// It never returns `Read` or `NotClosed`. Once it has returned a fault, including `OutOfMemory`,
     /// every later call returns the same fault.
-    pub fn step(&mut self, piece: &[u8], from: usize) -> Result<Step, StreamFault>
-        requires { from ≤ length piece.now }
+    pub fn step(&mut self, chunk: &[u8], from: usize) -> Result<Step, StreamFault>
+        requires { from ≤ length chunk.now }
 
         // A line ends and its entry is returned, or the rest of the chunk is consumed, or a fault is returned.
-        ensures step { Steps self.old self.new piece.now from result }
+        ensures step { Steps self.old self.new chunk.now from result }
 
         // If the first byte is after the closing record or past the limit, that fault is returned, without allocating.
-        ensures immediate { (fault : StreamFault) → FailsAtFirstByte self.old (drop from piece.now) fault → result ≡ Err fault }
+        ensures immediate { (fault : StreamFault) → FirstByteIsPastEnd self.old (drop from chunk.now) fault → result ≡ Err fault }
 
         // A fault that was returned is returned by every later call.
         ensures sticky { (fault : StreamFault) → self.old.failed_with ≡ Some fault → result ≡ Err fault }
     {
         let before = History::extended(&self.history, &[]);
         let mut read = Entries::new(self.alloc);
-        let Some(upto) = self.step_into(piece, from, 1, &mut read)? else {
+        let Some(upto) = self.step_into(chunk, from, 1, &mut read)? else {
             return Ok(Step::More);
         };
         match read.into_entry(self.alloc) {
@@ -111,46 +111,46 @@ impl Scan {
     /// unchanged.
     pub fn step_into(
         &mut self,
-        piece: &[u8],
+        chunk: &[u8],
         from: usize,
         most: u16,
         entries: &mut Entries,
     ) -> Result<Option<usize>, StreamFault>
-        requires from { from ≤ length piece.now }
+        requires from { from ≤ length chunk.now }
         requires most { 1 ≤ most }
 
         // The bytes up to the offset end further lines without a fault, and their entries are appended.
-        ensures range { IfOk result (λ found. IfSome found (λ upto. (from < upto) × (upto ≤ length piece.now))) }
+        ensures range { IfOk result (λ found. IfSome found (λ upto. (from < upto) × (upto ≤ length chunk.now))) }
         ensures found { IfOk result (λ found. IfSome found (λ upto.
-            FindsEntries self.old self.new (slice_range piece.now from upto) most entries.old entries.new)) }
+            FindsEntries self.old self.new (slice_range chunk.now from upto) most entries.old entries.new)) }
 
         // Otherwise the rest of the chunk is consumed. It ends no further line and has no fault.
-        ensures rest_consumed { IfOk result (λ found. IfNone found (ConsumesAll self.old self.new (drop from piece.now))) }
+        ensures rest_consumed { IfOk result (λ found. IfNone found (ConsumesAll self.old self.new (drop from chunk.now))) }
         ensures entries_unchanged { IfOk result (λ found. IfNone found (entries.new ≡ entries.old)) }
 
         // The fault is `OutOfMemory` or the fault of the bytes, with no further entry before it.
-        ensures fault { self.old.failed_with ≡ None → IfErr result (MayFailWith self.old (drop from piece.now)) }
+        ensures fault { self.old.failed_with ≡ None → IfErr result (MayFailWith self.old (drop from chunk.now)) }
         ensures unchanged_on_err { IfErr result (λ _. entries.new ≡ entries.old) }
 
         // If the first byte is after the closing record or past the limit, that fault is returned, without allocating.
-        ensures immediate { (fault : StreamFault) → FailsAtFirstByte self.old (drop from piece.now) fault → result ≡ Err fault }
+        ensures immediate { (fault : StreamFault) → FirstByteIsPastEnd self.old (drop from chunk.now) fault → result ≡ Err fault }
 
         // A fault is stored, and returned by every later call.
-        ensures recorded { IfErr result (λ fault. self.new ≡ fail_with fault self.old) }
+        ensures fault_stored { IfErr result (λ fault. self.new ≡ fail_with fault self.old) }
         ensures sticky { (fault : StreamFault) → self.old.failed_with ≡ Some fault → result ≡ Err fault }
-        ensures never_read { IfErr result (λ fault. fault ≢ Read) }
+        ensures never_read_fault { IfErr result (λ fault. fault ≢ Read) }
         ensures never_not_closed { IfErr result (λ fault. fault ≢ NotClosed) }
     {
         if let Some(fault) = self.failed_with {
             return Err(fault);
         }
-        match self.progress.advance(piece, from, most, entries) {
+        match self.progress.advance(chunk, from, most, entries) {
             Ok(Some(upto)) => {
-                self.history = History::extended(&self.history, &piece[from..upto]);
+                self.history = History::extended(&self.history, &chunk[from..upto]);
                 Ok(Some(upto))
             }
             Ok(None) => {
-                self.history = History::extended(&self.history, &piece[from..]);
+                self.history = History::extended(&self.history, &chunk[from..]);
                 Ok(None)
             }
             Err(fault) => {
@@ -163,13 +163,13 @@ impl Scan {
     /// Returns the unended line of all bytes consumed, as text, or `None` if there is none. Fails with `NotClosed` if
     /// the log must be closed and isn't. If the scan failed before, it returns the same fault again.
     pub fn finish(self) -> Result<Option<Entry>, StreamFault>
-        ensures rest { self.failed_with ≡ None → IfOk result (λ last. last ≡ text_of (unended (rest self.bytes))) }
+        ensures rest { self.failed_with ≡ None → IfOk result (λ last. last ≡ unended_entry (unended (rest self.bytes))) }
         ensures log { self.failed_with ≡ None →
-            IfOk result (λ last. log_from self.max_bytes (source_in self) ≡ Some (entries_in self ++ option_to_list last)) }
+            IfOk result (λ last. source_log self.max_bytes (source_in self) ≡ Some (entries_in self ++ option_to_list last)) }
         ensures not_closed { self.failed_with ≡ None →
-            IfErr result (λ fault. (fault ≡ NotClosed) × (fault_from self.max_bytes (source_in self) ≡ Some NotClosed)) }
+            IfErr result (λ fault. (fault ≡ NotClosed) × (source_fault self.max_bytes (source_in self) ≡ Some NotClosed)) }
         ensures sticky { (fault : StreamFault) → self.failed_with ≡ Some fault → result ≡ Err fault }
-        ensures never_read { IfErr result (λ fault. fault ≢ Read) }
+        ensures never_read_fault { IfErr result (λ fault. fault ≢ Read) }
     {
         if let Some(refused) = self.failed_with {
             return Err(refused);
@@ -186,7 +186,7 @@ impl Scan {
     // Returns the stream's fault if the input ends after the bytes consumed.
     fn closing_fault(&self) -> Option<StreamFault>
         requires { self.now.failed_with ≡ None }
-        ensures left { result ≡ fault_from self.now.max_bytes (source_in self.now) }
+        ensures left { result ≡ source_fault self.now.max_bytes (source_in self.now) }
         ensures not_closed { IfSome result (λ fault. fault ≡ NotClosed) }
     {
         if !self.must_close {

@@ -23,13 +23,13 @@ fn add_text(alloc: Global, entries: &mut String, entry: EntryRef<'_>) -> Result<
 }
 
 /// Steps through a chunk, to its end or to a fault. Each entry must end after the previous one.
-fn take(alloc: Global, scan: &mut Scan, piece: &[u8], scanned: &mut Scanned) -> Result<(), Fail> {
+fn take(alloc: Global, scan: &mut Scan, chunk: &[u8], scanned: &mut Scanned) -> Result<(), Fail> {
     let mut from = 0;
-    for _ in 0..piece.len() + 1 {
-        if from > piece.len() {
-            return Err("a place past the piece".into());
+    for _ in 0..chunk.len() + 1 {
+        if from > chunk.len() {
+            return Err("a place past the chunk".into());
         }
-        match scan.step(piece, from) {
+        match scan.step(chunk, from) {
             Ok(Step::Found { entry, upto }) => {
                 add(alloc, &mut scanned.entries, entry)?;
                 from = upto;
@@ -69,8 +69,8 @@ fn scan(alloc: Global, mut scan: Scan, pieces: &[Vec<u8>]) -> Result<Scanned, Fa
         entries: String::new(alloc),
         fault: None,
     };
-    for piece in pieces {
-        take(alloc, &mut scan, piece, &mut scanned)?;
+    for chunk in pieces {
+        take(alloc, &mut scan, chunk, &mut scanned)?;
     }
     finish(alloc, scan, &mut scanned)?;
     Ok(scanned)
@@ -80,11 +80,11 @@ fn scan(alloc: Global, mut scan: Scan, pieces: &[Vec<u8>]) -> Result<Scanned, Fa
 fn take_together(
     alloc: Global,
     scan: &mut Scan,
-    piece: &[u8],
+    chunk: &[u8],
     table: &mut LogTable,
 ) -> Result<Option<StreamFault>, Fail> {
     let mut read = Entries::new(alloc);
-    let fault = step_through(scan, piece, &mut read)?;
+    let fault = step_through(scan, chunk, &mut read)?;
     if table.len() == 0 {
         return Err("no log".into());
     }
@@ -99,15 +99,15 @@ fn take_together(
 /// the previous one.
 fn step_through(
     scan: &mut Scan,
-    piece: &[u8],
+    chunk: &[u8],
     read: &mut Entries,
 ) -> Result<Option<StreamFault>, Fail> {
     let mut from = 0;
-    for _ in 0..piece.len() + 1 {
-        if from > piece.len() {
-            return Err("a place past the piece".into());
+    for _ in 0..chunk.len() + 1 {
+        if from > chunk.len() {
+            return Err("a place past the chunk".into());
         }
-        match scan.step_into(piece, from, 3, read) {
+        match scan.step_into(chunk, from, 3, read) {
             Ok(Some(upto)) => from = upto,
             Ok(None) => return Ok(None),
             Err(fault) => return Ok(Some(fault)),
@@ -137,8 +137,8 @@ fn take_into(
 ) -> Result<Scanned, Fail> {
     table.enter(TargetName::resolve(alloc, None, b"one")?)?;
     let mut fault = None;
-    for piece in pieces {
-        fault = fault.or(take_together(alloc, scan, piece, table)?);
+    for chunk in pieces {
+        fault = fault.or(take_together(alloc, scan, chunk, table)?);
     }
     let entries = first_entries(alloc, table)?;
     Ok(Scanned { entries, fault })
@@ -320,8 +320,8 @@ fn scan_stops_at_max_bytes(rt: HostRuntime) -> Result<(), Fail> {
 fn scan_error_is_sticky(rt: HostRuntime) -> Result<(), Fail> {
     let mut scan = new_scan(rt.alloc(), "all", 100)?;
     expect_more(&rt, &mut scan, b"@@RE");
-    for piece in ["DO:do:7\nok\n", "ok\n", ""] {
-        expect_bad_record(&rt, scan.step(piece.as_bytes(), 0).err());
+    for chunk in ["DO:do:7\nok\n", "ok\n", ""] {
+        expect_bad_record(&rt, scan.step(chunk.as_bytes(), 0).err());
     }
     expect_bad_record(&rt, scan.finish().err());
     Ok(())
@@ -332,9 +332,9 @@ fn scan_error_is_sticky(rt: HostRuntime) -> Result<(), Fail> {
 fn step_into_batches_text_lines(rt: HostRuntime) -> Result<(), Fail> {
     let mut scan = new_scan(rt.alloc(), "all", 100)?;
     let mut read = Entries::new(rt.alloc());
-    let piece = b"a\nb\nc\n@@REDO:do:7:1@@ d\ne\n";
+    let chunk = b"a\nb\nc\n@@REDO:do:7:1@@ d\ne\n";
     for (from, upto) in [(0, 4), (4, 6), (6, 24), (24, 26)] {
-        let taken = scan.step_into(piece, from, 2, &mut read);
+        let taken = scan.step_into(chunk, from, 2, &mut read);
         assert_eq!(rt; taken.ok(), Some(Some(upto)));
     }
     assert_eq!(rt; read.len(), 5);
@@ -342,8 +342,8 @@ fn step_into_batches_text_lines(rt: HostRuntime) -> Result<(), Fail> {
     Ok(())
 }
 
-fn expect_more(rt: &impl Abort, scan: &mut Scan, piece: &[u8]) {
-    assert!(rt; matches!(scan.step(piece, 0), Ok(Step::More)));
+fn expect_more(rt: &impl Abort, scan: &mut Scan, chunk: &[u8]) {
+    assert!(rt; matches!(scan.step(chunk, 0), Ok(Step::More)));
 }
 
 fn expect_bad_record(rt: &impl Abort, fault: Option<StreamFault>) {

@@ -3,36 +3,43 @@ use Rattle.std.proofs.Common.{◌≡◌, ◌⊎◌, inl, inr, ℕ, false, List, 
 use Rattle.std.specs.Global.{Vec}
 use Rattle.redo_device.specs.Feed.{Stream, SomeStream}
 use Rattle.redo_device.specs.Sink.{Output}
-use Rattle.redo_options.specs.Plan.{Numbers}
 use Rattle.redo_gather.specs.Streams.{KnownInput}
 use Rattle.redo_index.specs.declared.index_entry.IndexEntry.{IndexEntry}
-use Rattle.redo_index.specs.Index.{names_of}
+use Rattle.redo_index.specs.Index.{listed_targets}
 use Rattle.redo_options.specs.declared.options.Options.{Options}
 use Rattle.redo_run.specs.declared.run_fault.RunFault.{RunFault}
 use Rattle.redo_run.specs.declared.run_fault.RunFault.TheVariants.{Unknown, Stream as OfStream, OutOfMemory, Write}
 use Rattle.redo_options.specs.Arguments.{argument_bytes}
 use Rattle.redo_run.specs.Run.{Request, request}
-use Rattle.redo_run.specs.RunFault.{IfRejected}
-use Rattle.redo_run.specs.Outcome.{WritesUntilFailure, IsResultFault, SomeResultText, WritesAll}
+use Rattle.redo_run.specs.RunFault.{IfNoText}
+use Rattle.redo_run.specs.Outcome.{Call, IsSomeResultFault, SomeResultText, WritesSomeText, WritesSomeTextUntilFailure}
 use Rattle.redo_log_cli.specs.declared.failure.Failure.{Failure}
 use Rattle.redo_log_cli.specs.declared.failure.Failure.TheVariants.{NamesRead, Memory}
 use Rattle.redo_args.specs.Job.{JobParts}
 use Rattle.redo_log_cli.specs.NamesFile.{CannotBeRead, byte_limit}
-use Rattle.redo_log_cli.specs.Private.Program.{HasText, IsRunResult, IsFlushedAfter, IsIndexResult, request_of_job}
+use Rattle.redo_log_cli.specs.Private.Program.{HasText, IsRunResult, IsFlushedAfter, IsIndexResult, call_of_job}
+
+-- A call with this request.
+abbrev call_with : Request → List KnownInput → Call
+call_with request inputs = record { request = request; inputs = inputs }
 
 -- The run is asked what the job asks.
-pub request_is : (job : JobParts) (index : List IndexEntry) (plan : Numbers) (options : Options) (arguments : List (Vec ℕ))
-    → plan.max_bytes ≡ byte_limit → options ≡ job.options → argument_bytes arguments ≡ job.targets → request index plan options arguments ≡ request_of_job job index
-request_is job index plan options arguments max_is options_are arguments_are i = record { targets = names_of index; max_bytes = max_is i; options = options_are i; arguments = arguments_are i }
+pub call_is : (job : JobParts) (index : List IndexEntry) (inputs : List KnownInput) (max_bytes : ℕ) (options : Options) (arguments : List (Vec ℕ))
+    → max_bytes ≡ byte_limit → options ≡ job.options → argument_bytes arguments ≡ job.targets
+    → call_with (request index max_bytes options arguments) inputs ≡ call_of_job job index inputs
+call_is job index inputs max_bytes options arguments max_is options_are arguments_are i = record {
+  request = record { targets = listed_targets index; max_bytes = max_is i; options = options_are i; arguments = arguments_are i };
+  inputs = inputs;
+}
 
-module _ (requested : Request) (known : List KnownInput) where
-  a_text : (P : List ℕ → Type 0) → SomeResultText requested known P → HasText requested known
+module _ (call : Call) where
+  a_text : (P : List ℕ → Type 0) → SomeResultText call P → HasText call
   a_text P shown = (shown.0, shown.1, (shown.2.0, shown.2.1, tt))
 
   -- The clauses of `run` say this about the streams.
   pub is_run_result : (before after : Option Output) (result : Result (Unit {0}) RunFault)
-      → IfOk result (λ _. WritesAll requested known before after) → IfRejected result (λ fault. IsResultFault requested known fault) → (result ≡ Err Write → WritesUntilFailure requested known before after)
-      → IsRunResult requested known result
+      → IfOk result (λ _. WritesSomeText call before after) → IfNoText result (λ fault. IsSomeResultFault call fault) → (result ≡ Err Write → WritesSomeTextUntilFailure call before after)
+      → IsRunResult call result
   is_run_result before after (Ok done) whole fault write = a_text _ whole
   is_run_result before after (Err (Unknown place)) whole fault write = fault
   is_run_result before after (Err (OfStream number cause)) whole fault write = fault
@@ -40,10 +47,10 @@ module _ (requested : Request) (known : List KnownInput) where
   is_run_result before after (Err Write) whole fault write = a_text _ (write refl)
 
   -- It still holds after a flush.
-  pub is_run_result_flushed : (outcome result : Result (Unit {0}) RunFault) → IsFlushedAfter outcome result → IsRunResult requested known outcome → IsRunResult requested known result
-  is_run_result_flushed (Ok done) result (inl is) given = subst (IsRunResult requested known) (sym is) given
-  is_run_result_flushed (Ok done) result (inr is) given = subst (IsRunResult requested known) (sym is) given
-  is_run_result_flushed (Err fault) result is given = subst (IsRunResult requested known) (sym is) given
+  pub is_run_result_flushed : (outcome result : Result (Unit {0}) RunFault) → IsFlushedAfter outcome result → IsRunResult call outcome → IsRunResult call result
+  is_run_result_flushed (Ok done) result (inl is) given = subst (IsRunResult call) (sym is) given
+  is_run_result_flushed (Ok done) result (inr is) given = subst (IsRunResult call) (sym is) given
+  is_run_result_flushed (Err fault) result is given = subst (IsRunResult call) (sym is) given
 
 -- What holds of a fault before a flush still holds after it.
 pub holds_after_flush : (P : Result (Unit {0}) RunFault → Type 0) → P (Ok tt) → P (Err Write) → (outcome result : Result (Unit {0}) RunFault) → IsFlushedAfter outcome result → P outcome → P result

@@ -1,6 +1,6 @@
 ghost use Rattle.std.specs.Prelude.{◌≡◌, ◌<◌, ◌++◌, IfOk, codes, flat_map, length};
 ghost use Rattle.redo_log_cli.specs.Failure.{IfStreamFailure, IfUnknownFailure, failure_message, index_message, message_line, with_line_number, stream_fault_text};
-ghost use Rattle.redo_index.specs.Index.{names_of};
+ghost use Rattle.redo_index.specs.Index.{listed_targets};
 ghost use Rattle.redo_options.specs.Arguments.{argument_bytes};
 
 use crate::failure::Failure;
@@ -23,7 +23,7 @@ pub fn fault_line(
 ) -> Result<Vec<u8>, AllocError>
     requires stream_in_range { IfStreamFailure failure.now (λ number. number < length index.now) }
     requires argument_in_range { IfUnknownFailure failure.now (λ place. place < length arguments.now) }
-    ensures { IfOk result (λ line. line.items ≡ failure_message (names_of index.now) (argument_bytes arguments.now) failure.now) }
+    ensures { IfOk result (λ line. line.items ≡ failure_message (listed_targets index.now) (argument_bytes arguments.now) failure.now) }
 {
     match *failure {
         Failure::Words(WordsFault::Help) => Ok(Vec::new(alloc)),

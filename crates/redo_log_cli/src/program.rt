@@ -10,7 +10,7 @@ ghost use Rattle.redo_log_cli.specs.declared.failure.Failure.TheVariants.{Memory
 ghost use Rattle.redo_log_cli.specs.Failure.{IfStreamFailure, IfUnknownFailure, IsBeforeRun, IsStatus, status_of};
 ghost use Rattle.redo_log_cli.specs.NamesFile.{byte_limit};
 ghost use Rattle.redo_log_cli.specs.Private.Opening.{failure_after, names_path};
-ghost use Rattle.redo_log_cli.specs.Private.Program.{IsRunResult, IsFlushedAfter, IsIndexResult, request_of_job};
+ghost use Rattle.redo_log_cli.specs.Private.Program.{IsRunResult, IsFlushedAfter, IsIndexResult, call_of_job};
 
 use crate::failure::{Failure, status};
 use crate::log_file::{LogFile, open_log};
@@ -217,11 +217,11 @@ fn show<T: Threads + Wait + Sync + AllocGlobal, F: Feed + Send, W: Write>(
     out: &mut W,
 ) -> Result<(), RunFault>
     requires { length readers.items ≡ length index.now }
-    ensures run_result { IsRunResult (request_of_job job.now index.now)
-        (known_inputs F.contents (must_close_flags index.now) readers.items) result }
+    ensures run_result { IsRunResult
+        (call_of_job job.now index.now (known_inputs F.contents (must_close_flags index.now) readers.items)) result }
     ensures argument_in_range { IfUnknown result (λ place. place < length job.now.targets) }
     ensures stream_in_range { IfStreamFault result (λ number _. number < length index.now) }
-    ensures no_memory { IfStreamFault result (λ _ fault. fault ≢ stream.OutOfMemory) }
+    ensures never_out_of_memory { IfStreamFault result (λ _ fault. fault ≢ stream.OutOfMemory) }
 {
     let alloc = rt.alloc();
     let plan = plan_of(job);

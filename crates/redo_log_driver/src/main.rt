@@ -152,11 +152,11 @@ fn cutter(
     }
 }
 
-fn next(rt: &impl Print, cutter: &mut Cutter, piece: &[u8], from: usize) -> io::Result<()>
-    requires { from ≤ length piece.now }
+fn next(rt: &impl Print, cutter: &mut Cutter, chunk: &[u8], from: usize) -> io::Result<()>
+    requires { from ≤ length chunk.now }
 {
     for _ in 0..2 {
-        match cutter.next(piece, from) {
+        match cutter.next(chunk, from) {
             Ok(Cut::Line { bytes, upto }) => {
                 return println!(rt; "next from {from}: {:?} to {upto}", bytes.bytes());
             }
@@ -299,8 +299,8 @@ fn step(rt: &impl Print, alloc: Global) -> io::Result<()> {
 }
 
 fn tell_pieces(rt: &impl Print, scan: &mut Scan) -> io::Result<()> {
-    for piece in [b"@@REDO:do:7:".as_slice(), b"1@@ b\nhello\nrest".as_slice()] {
-        tell_steps(rt, scan, piece)?;
+    for chunk in [b"@@REDO:do:7:".as_slice(), b"1@@ b\nhello\nrest".as_slice()] {
+        tell_steps(rt, scan, chunk)?;
     }
     Ok(())
 }
@@ -312,13 +312,13 @@ fn tell_finish(rt: &impl Print, scan: Scan) -> io::Result<()> {
     }
 }
 
-fn tell_steps(rt: &impl Print, scan: &mut Scan, piece: &[u8]) -> io::Result<()> {
+fn tell_steps(rt: &impl Print, scan: &mut Scan, chunk: &[u8]) -> io::Result<()> {
     let mut from = 0;
     for _ in 0..4 {
-        if from > piece.len() {
-            return println!(rt; "a place past the piece");
+        if from > chunk.len() {
+            return println!(rt; "a place past the chunk");
         }
-        match tell_step(rt, scan, piece, from)? {
+        match tell_step(rt, scan, chunk, from)? {
             Some(upto) => from = upto,
             None => return Ok(()),
         }
@@ -330,12 +330,12 @@ fn tell_steps(rt: &impl Print, scan: &mut Scan, piece: &[u8]) -> io::Result<()> 
 fn tell_step(
     rt: &impl Print,
     scan: &mut Scan,
-    piece: &[u8],
+    chunk: &[u8],
     from: usize,
 ) -> io::Result<Option<usize>>
-    requires { from ≤ length piece.now }
+    requires { from ≤ length chunk.now }
 {
-    match scan.step(piece, from) {
+    match scan.step(chunk, from) {
         Ok(Step::Found { entry, upto }) => {
             println!(rt; "step from {from}: {entry:?} to {upto}")?;
             return Ok(Some(upto));
@@ -390,8 +390,8 @@ fn scan_stream(rt: &impl Print, mut scan: Scan, stream: &[u8], size: usize) -> i
 fn scan_pieces(rt: &impl Print, scan: &mut Scan, stream: &[u8], size: usize) -> io::Result<()>
     requires { 0 < size }
 {
-    for piece in stream.chunks(size) {
-        if !scan_piece(rt, scan, piece)? {
+    for chunk in stream.chunks(size) {
+        if !scan_piece(rt, scan, chunk)? {
             break;
         }
     }
@@ -415,13 +415,13 @@ fn read_job(bytes: &[u8]) -> Option<(u64, usize, &[u8], &[u8])>
 }
 
 /// Prints the entries that end in a chunk. Returns whether the scan may go on: it found no fault.
-fn scan_piece(rt: &impl Print, scan: &mut Scan, piece: &[u8]) -> io::Result<bool> {
+fn scan_piece(rt: &impl Print, scan: &mut Scan, chunk: &[u8]) -> io::Result<bool> {
     let mut from = 0;
-    for _ in 0..piece.len() + 1 {
-        if from > piece.len() {
+    for _ in 0..chunk.len() + 1 {
+        if from > chunk.len() {
             break;
         }
-        match scan.step(piece, from) {
+        match scan.step(chunk, from) {
             Ok(Step::Found { entry, upto }) => {
                 println!(rt; "{entry:?}")?;
                 from = upto;
@@ -430,7 +430,7 @@ fn scan_piece(rt: &impl Print, scan: &mut Scan, piece: &[u8]) -> io::Result<bool
             Err(_) => return Ok(false),
         }
     }
-    println!(rt; "a place past the piece")?;
+    println!(rt; "a place past the chunk")?;
     Ok(false)
 }
 

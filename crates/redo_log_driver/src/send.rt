@@ -20,7 +20,7 @@ const SHARE: [(u32, &[u8], bool, &[u8]); 3] = [
 ];
 
 /// The maximum number of items.
-const MOST_ITEMS: usize = 1000;
+const MAX_ITEMS: usize = 1000;
 
 /// A share to be sent.
 #[derive(Drop)]
@@ -53,7 +53,7 @@ pub fn send_shares(
     let Ok(shares) = shares(rt.alloc(), plan.senders()) else {
         return println!(rt; "no memory for the streams");
     };
-    match exchange(rt, plan.capacity(), shares, MOST_ITEMS) {
+    match exchange(rt, plan.capacity(), shares, MAX_ITEMS) {
         Ok(items) => tell(rt, &items, plan.senders()),
         Err(why) => println!(rt; "{why}"),
     }

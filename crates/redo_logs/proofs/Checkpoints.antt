@@ -53,7 +53,7 @@ pub checkpointed_next : (records : List PackedEntries) (checkpoints others : Lis
 checkpointed_next records checkpoints others entries are (inl same) = with_checkpoints records checkpoints others entries are (subst (AreCheckpoints records) (sym same) are.checkpoints_are)
 checkpointed_next records checkpoints others entries are (inr more) = with_checkpoints records checkpoints others entries are (subst (AreCheckpoints records) (sym more.0) (checkpointed records checkpoints entries are more.1))
 
--- One of several `PackedEntries`s is appended.
+-- One of several `PackedEntries` values is appended.
 pub one_appended : (old now new records : List PackedEntries) (index : ℕ) (one : PackedEntries) → now ≡ old ++ take index records → new ≡ now ++ one ∷ [] → index < length records → one ≡ get_or records index one
     → new ≡ old ++ take (index + 1) records
 one_appended old now new records index one so_far put below is =
@@ -66,7 +66,7 @@ pub cut_back : (old more now : List PackedEntries) (count : ℕ) → now ≡ old
 cut_back old more now count put count_is =
     (λ i. take (count_is i) (put i)) ∙ take-append-le (length old) old more (omega arith) ∙ take_all (length old) old (omega arith)
 
--- The entries before the `PackedEntries`s that were appended.
+-- The entries before the `PackedEntries` values that were appended.
 pub still_before : (old more now : List PackedEntries) (count entries : ℕ) → now ≡ old ++ more → count ≡ length old → entries ≡ count_of old → IsBefore now count entries
 still_before old more now count entries put count_is entries_are = record {
   within = omega (arith, ap length put, length-append old more, count_is);

@@ -65,7 +65,7 @@ module _ (parts : Parts) where
 -- ---- one log
 
 module _ (parts : Parts) (old new : Stored) (name_is : new.name ≡ old.name) where
-  -- The `PackedEntries`s are the same.
+  -- The `PackedEntries` values are the same.
   module _ (same : new.records ≡ old.records) where
     pub same_log : new.state ≡ old.state → log_of parts new ≡ log_of parts old
     same_log state = λ i. record { target = name_at parts.names (name_is i); entries = flat_map (denotes parts) (same i); state = state i }
@@ -76,7 +76,7 @@ module _ (parts : Parts) (old new : Stored) (name_is : new.name ≡ old.name) wh
       records = subst (AllByRecursion (Within parts)) (sym same) within.records;
     }
 
-  -- `PackedEntries`s are appended.
+  -- `PackedEntries` values are appended.
   module _ (records : List PackedEntries) (more : new.records ≡ old.records ++ records) where
     pub entries_log : (entries : List Entry) → flat_map (denotes parts) records ≡ entries → new.state ≡ old.state → log_of parts new ≡ with_entries entries (log_of parts old)
     entries_log entries are state =

@@ -1,4 +1,4 @@
-//! The `PackedEntries`s of one log. A `PackedEntries` may hold several entries.
+//! The `PackedEntries` values of one log. A `PackedEntries` may hold several entries.
 ghost use Rattle.std.specs.Prelude.{◌≡◌, ◌≤◌, ◌<◌, ◌*◌, ◌^◌, ◌⊎◌, ◌++◌, [], ◌∷◌, length, take, IfSome, IfNone, OnOk, OnErr, OnSome};
 ghost use Rattle.redo_logs.specs.Private.PackedLog.{AddsCheckpoint, IsBefore, IsLocated, count_of};
 
@@ -6,18 +6,18 @@ use crate::store::PackedEntries;
 use std::alloc::{AllocError, Global};
 use std::marker::Model;
 
-// The number of `PackedEntries`s per checkpoint.
+// The number of `PackedEntries` values per checkpoint.
 const CHECKPOINT_INTERVAL: usize = 8;
 
 // The maximum number of entries in a log, 2^62: more than memory can hold, and small enough that counts don't
 // overflow.
 const MAX_ENTRIES: usize = 4_611_686_018_427_387_904;
 
-/// The `PackedEntries`s of one log, modelled as their list.
+/// The `PackedEntries` values of one log, modelled as their list.
 #[derive(Drop)]
 pub struct PackedLog {
     items: Vec<PackedEntries>,
-    // Checkpoints: the numbers of entries before `PackedEntries`s 0, 8, 16 and so on.
+    // Checkpoints: the numbers of entries before `PackedEntries` values 0, 8, 16 and so on.
     checkpoints: Vec<usize>,
     // The number of entries.
     entries: usize,
@@ -62,7 +62,7 @@ impl PackedLog {
         Ok(())
     }
 
-    /// Appends `PackedEntries`s. If this fails, nothing changes.
+    /// Appends `PackedEntries` values. If this fails, nothing changes.
     pub fn append(&mut self, records: &[PackedEntries]) -> Result<(), AllocError>
         ensures appended { OnOk result (self.new ≡ self.old ++ records.now) }
         ensures unchanged_on_err { OnErr result (self.new ≡ self.old) }
@@ -81,7 +81,7 @@ impl PackedLog {
         Ok(())
     }
 
-    // Keeps the first `count` `PackedEntries`s, which hold `entries` entries.
+    // Keeps the first `count` `PackedEntries` values, which hold `entries` entries.
     fn cut(&mut self, count: usize, entries: usize)
         requires before { IsBefore self.old count entries }
         requires at_most { entries ≤ 2 ^ 62 }

@@ -1,8 +1,8 @@
 -- Examples of plans, computed.
 use Rattle.std.proofs.Common.{ℕ, arith}
-use Rattle.redo_options.specs.Plan.{IsPlan, Numbers}
+use Rattle.redo_options.specs.Plan.{IsPlan, PlanNumbers}
 
-abbrev plan : ℕ → ℕ → ℕ → Numbers
+abbrev plan : ℕ → ℕ → ℕ → PlanNumbers
 plan senders capacity max_bytes = record { senders = senders; capacity = capacity; max_bytes = max_bytes }
 
 min_plan : IsPlan (plan 1 1 1)

@@ -3,4 +3,4 @@ use Rattle.std.specs.Prelude.{ℕ, List, map}
 use Rattle.std.specs.Global.{Vec}
 
 abbrev pub argument_bytes : List (Vec ℕ) → List (List ℕ)
-argument_bytes words = map (λ word. word.items) words
+argument_bytes arguments = map (λ argument. argument.items) arguments

@@ -5,11 +5,11 @@ ghost use Rattle.redo_options.specs.Plan.{IsByteLimit};
 use std::marker::Model;
 
 // The maximum of each number of a plan.
-const MOST_SENDERS: u32 = 64;
+const MAX_SENDERS: u32 = 64;
 
-const MOST_CAPACITY: u32 = 65_536;
+const MAX_CAPACITY: u32 = 65_536;
 
-const MOST_BYTES: u64 = 1 << 40;
+const MAX_BYTES: u64 = 1 << 40;
 
 /// Why a plan is rejected: this number is out of range. If several are, the first in this order is reported.
 #[derive(Clone, Copy, Debug, PartialEq, Eq)]
@@ -32,9 +32,9 @@ pub struct Plan {
 }
 
 impl Model for Plan {
-    ghost use Rattle.redo_options.specs.Plan.{Numbers, IsPlan};
+    ghost use Rattle.redo_options.specs.Plan.{PlanNumbers, IsPlan};
 
-    ghost Value = { Numbers };
+    ghost Value = { PlanNumbers };
 
     ghost view = { λ plan. record { senders = plan.senders; capacity = plan.capacity; max_bytes = plan.max_bytes } };
 
@@ -53,13 +53,13 @@ impl Plan {
         ensures max_bytes { (result ≡ Err PlanFault.MaxBytes)
             ↔ (IsSenderCount senders × IsCapacity capacity × (IsByteLimit max_bytes → ⊥)) }
     {
-        if senders < 1 || senders > MOST_SENDERS {
+        if senders < 1 || senders > MAX_SENDERS {
             return Err(PlanFault::Senders);
         }
-        if capacity < 1 || capacity > MOST_CAPACITY {
+        if capacity < 1 || capacity > MAX_CAPACITY {
             return Err(PlanFault::Capacity);
         }
-        if max_bytes < 1 || max_bytes > MOST_BYTES {
+        if max_bytes < 1 || max_bytes > MAX_BYTES {
             return Err(PlanFault::MaxBytes);
         }
         Ok(Plan {

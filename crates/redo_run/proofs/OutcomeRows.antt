@@ -1,16 +1,17 @@
 -- Examples of what runs return and write, computed. Without targets, the result of a run is the same for all streams.
-use Rattle.std.proofs.Common.{◌≡◌, ℕ, true, false, List, [], ◌∷◌, Option, Some, Result, Ok, Err, length, refl, sym, ap, arith, unwrap_or}
+use Rattle.std.proofs.Common.{◌≡◌, ℕ, true, false, List, [], ◌∷◌, Option, None, Some, Result, Ok, Err, length, refl, sym, ap, arith, unwrap_or}
 use Rattle.std.specs.Prelude.{codes}
 use Rattle.std.specs.Global.{Vec}
 use Rattle.redo_line.specs.declared.stream_fault.StreamFault.TheVariants.{TooLong}
 use Rattle.redo_name.specs.Names.{reduce_suffix, normal}
+use Rattle.redo_device.specs.Feed.{Stream}
 use Rattle.redo_device.specs.Sink.{Output}
 use Rattle.redo_gather.specs.declared.gather_fault.GatherFault.TheVariants as gather
 use Rattle.redo_run.specs.declared.run_fault.RunFault.{RunFault}
 use Rattle.redo_run.specs.declared.run_fault.RunFault.TheVariants.{Unknown, Stream as OfStream, OutOfMemory, Write}
 use Rattle.redo_run.specs.Run.{Request, request}
-use Rattle.redo_run.specs.RunFault.{IfStreamFault, IfRejected, IfUnknown, run_fault_of_gather}
-use Rattle.redo_run.specs.Outcome.{WritesUntilFailure, IsResultFault, WritesAll, WritesPrefix}
+use Rattle.redo_run.specs.RunFault.{IfStreamFault, IfNoText, IfUnknown, run_fault_of_gather}
+use Rattle.redo_run.specs.Outcome.{Call, IsSomeResultFault, WritesSomePrefix, WritesSomeText, WritesSomeTextUntilFailure, call}
 
 abbrev Done : Type 0
 Done = Result (Unit {0}) RunFault
@@ -52,16 +53,16 @@ not_if_unknown is = is
 if_none_unknown : IfUnknown done (λ place. ⊥) × IfUnknown of_stream (λ place. ⊥) × IfUnknown no_memory (λ place. ⊥) × IfUnknown unwritten (λ place. ⊥)
 if_none_unknown = (tt, tt, tt, tt)
 
-if_rejected : IfRejected unknown (λ fault. fault ≡ Unknown 2) × IfRejected of_stream (λ fault. fault ≡ OfStream 3 TooLong)
+if_rejected : IfNoText unknown (λ fault. fault ≡ Unknown 2) × IfNoText of_stream (λ fault. fault ≡ OfStream 3 TooLong)
 if_rejected = (refl, refl)
 
-not_if_unknown_rejected : IfRejected unknown (λ fault. ⊥) → ⊥
+not_if_unknown_rejected : IfNoText unknown (λ fault. ⊥) → ⊥
 not_if_unknown_rejected is = is
 
-not_if_stream_rejected : IfRejected of_stream (λ fault. ⊥) → ⊥
+not_if_stream_rejected : IfNoText of_stream (λ fault. ⊥) → ⊥
 not_if_stream_rejected is = is
 
-if_none_rejected : IfRejected done (λ fault. ⊥) × IfRejected no_memory (λ fault. ⊥) × IfRejected unwritten (λ fault. ⊥)
+if_none_rejected : IfNoText done (λ fault. ⊥) × IfNoText no_memory (λ fault. ⊥) × IfNoText unwritten (λ fault. ⊥)
 if_none_rejected = (tt, tt, tt)
 
 -- A run without targets, with these arguments.
@@ -75,9 +76,22 @@ of_byte other byte = record { ptr = other.ptr; len = 1; cap = 1; alloc = other.a
 -- What a run is asked, computed from an index, a plan, options and arguments. Targets and arguments keep their order.
 request_of_run : (other : Vec ℕ)
     → request (record { number = 5; target = codes "x"; must_close = true } ∷ record { number = 3; target = codes "w"; must_close = false } ∷ [])
-    (record { senders = 1; capacity = 2; max_bytes = 9 }) (request_for []).options (of_byte other 98 ∷ of_byte other 97 ∷ [])
+    9 (request_for []).options (of_byte other 98 ∷ of_byte other 97 ∷ [])
     ≡ record { targets = codes "x" ∷ codes "w" ∷ []; max_bytes = 9; options = (request_for []).options; arguments = codes "b" ∷ codes "a" ∷ [] }
 request_of_run other = refl
+
+-- What is known of each reader stands beside the must-close flag at the same index.
+call_of_run : (other : Vec ℕ)
+    → call (λ (known : Option Stream). known) (record { number = 5; target = codes "x"; must_close = true } ∷ record { number = 3; target = codes "w"; must_close = false } ∷ [])
+    (Some (record { bytes = codes "s"; fails = false }) ∷ None ∷ []) 9 (request_for []).options (of_byte other 98 ∷ [])
+    ≡ record {
+      request = record { targets = codes "x" ∷ codes "w" ∷ []; max_bytes = 9; options = (request_for []).options; arguments = codes "b" ∷ [] };
+      inputs = record { must_close = true; stream = Some (record { bytes = codes "s"; fails = false }) } ∷ record { must_close = false; stream = None } ∷ [];
+    }
+call_of_run other = refl
+
+abbrev call_for : List (List ℕ) → Call
+call_for arguments = record { request = request_for arguments; inputs = [] }
 
 abbrev taken : List ℕ → ℕ → Option Output
 taken bytes failures = Some (record { bytes = bytes; failures = failures })
@@ -91,11 +105,11 @@ count took = length (unwrap_or took (record { bytes = []; failures = 0 })).bytes
 abbrev fails : RunFault → Option (Result (List ℕ) RunFault)
 fails fault = Some (Err fault)
 
-is_result_fault : IsResultFault (request_for (codes "x" ∷ [])) [] (Unknown 0)
+is_result_fault : IsSomeResultFault (call_for (codes "x" ∷ [])) (Unknown 0)
 unfolding reduce_suffix normal
 is_result_fault = ([], tt, refl)
 
-not_another_fault : IsResultFault (request_for (codes "x" ∷ [])) [] Write → ⊥
+not_another_fault : IsSomeResultFault (call_for (codes "x" ∷ [])) Write → ⊥
 unfolding reduce_suffix normal
 not_another_fault has = let same : fails (Unknown 0) ≡ fails Write = has.2 in absurd (cc)
 
@@ -106,24 +120,24 @@ no_text = Some (Ok [])
 empty_text : (text : List ℕ) → no_text ≡ Some (Ok text) → length text ≡ 0
 empty_text text is = let same : [] ≡ text = cc in ap length (sym same)
 
-writes_nothing : WritesAll (request_for []) [] (taken (codes "a") 2) (taken (codes "a") 2)
+writes_nothing : WritesSomeText (call_for []) (taken (codes "a") 2) (taken (codes "a") 2)
 writes_nothing = ([], tt, ([], refl, refl))
 
-not_written_more : WritesAll (request_for []) [] (taken [] 0) (taken (codes "x") 0) → ⊥
+not_written_more : WritesSomeText (call_for []) (taken [] 0) (taken (codes "x") 0) → ⊥
 not_written_more has = omega (arith, empty_text has.2.0 has.2.1, ap count has.2.2)
 
-not_written_and_failed : WritesAll (request_for []) [] (taken [] 0) (taken [] 1) → ⊥
+not_written_and_failed : WritesSomeText (call_for []) (taken [] 0) (taken [] 1) → ⊥
 not_written_and_failed has = omega (arith, ap failures has.2.2)
 
 -- No write fails within an empty text.
-not_failed_in_nothing : WritesUntilFailure (request_for []) [] (taken [] 0) (taken [] 1) → ⊥
+not_failed_in_nothing : WritesSomeTextUntilFailure (call_for []) (taken [] 0) (taken [] 1) → ⊥
 not_failed_in_nothing has = omega (arith, empty_text has.2.0 has.2.1, has.2.2.1)
 
-not_failed_without_failure : WritesUntilFailure (request_for []) [] (taken [] 0) (taken [] 0) → ⊥
+not_failed_without_failure : WritesSomeTextUntilFailure (call_for []) (taken [] 0) (taken [] 0) → ⊥
 not_failed_without_failure has = omega (arith, ap failures has.2.2.2)
 
-writes_prefix : WritesPrefix (request_for []) [] (taken (codes "a") 2) (taken (codes "a") 2)
+writes_prefix : WritesSomePrefix (call_for []) (taken (codes "a") 2) (taken (codes "a") 2)
 writes_prefix = ([], tt, ([], refl, (0, refl)))
 
-not_prefix_and_failed : WritesPrefix (request_for []) [] (taken [] 0) (taken [] 1) → ⊥
+not_prefix_and_failed : WritesSomePrefix (call_for []) (taken [] 0) (taken [] 1) → ⊥
 not_prefix_and_failed has = omega (arith, ap failures has.2.2.1)

@@ -17,7 +17,7 @@ use Rattle.redo_view.specs.View.{find_unknown}
 use Rattle.redo_run.specs.declared.run_fault.RunFault.{RunFault}
 use Rattle.redo_run.specs.declared.run_fault.RunFault.TheVariants as fault
 use Rattle.redo_run.specs.Run.{Request, find_targets, unknown_argument, fault_of_stream, fault_or, result_of}
-use Rattle.redo_run.specs.RunFault.{IfRejected, run_fault_of_gather}
+use Rattle.redo_run.specs.RunFault.{IfNoText, run_fault_of_gather}
 use Rattle.redo_run.specs.Outcome.{SomeResultText}
 
 -- A text, or the fault that is returned instead.
@@ -59,7 +59,7 @@ module _ (request : Request) (streams : List (StreamInput Stream)) where
     result_of-text logs none is = result_of-known None none ∙ ap (option_map (text_of request)) is
 
 -- What holds of a fault holds if it is returned.
-pub if_rejected : (fault : RunFault) (P : RunFault → Type 0) → P fault → IfRejected (Err fault) P
+pub if_rejected : (fault : RunFault) (P : RunFault → Type 0) → P fault → IfNoText (Err fault) P
 if_rejected (fault.Unknown place) P p = p
 if_rejected (fault.Stream number reported) P p = p
 if_rejected fault.OutOfMemory P p = tt
@@ -67,8 +67,8 @@ if_rejected fault.Write P p = tt
 
 -- The result if an argument is unknown.
 pub rejected_argument : (request : Request) (reported : List KnownInput) (failure : RunFault) → (failure ≡ fault.OutOfMemory) ⊎ (option_map fault.Unknown (unknown_argument request.targets request.arguments) ≡ Some failure)
-    → IfRejected (Err failure) (λ f. SomeMatchingStreams reported (λ streams. result_of request streams ≡ Some (Err f)))
-rejected_argument request reported failure (inl is) = subst (λ f. IfRejected (Err f) (λ g. SomeMatchingStreams reported (λ streams. result_of request streams ≡ Some (Err g)))) (sym is) tt
+    → IfNoText (Err failure) (λ f. SomeMatchingStreams reported (λ streams. result_of request streams ≡ Some (Err f)))
+rejected_argument request reported failure (inl is) = subst (λ f. IfNoText (Err f) (λ g. SomeMatchingStreams reported (λ streams. result_of request streams ≡ Some (Err g)))) (sym is) tt
 rejected_argument request reported failure (inr is) =
     if_rejected failure (λ f. SomeMatchingStreams reported (λ streams. result_of request streams ≡ Some (Err f)))
     (let streams = some_streams reported in (streams.0, streams.1, result_of-argument request streams.0 failure is))
@@ -110,7 +110,7 @@ LogsUnlessFault = (max_bytes : ℕ) (targets : List (List ℕ)) (streams : List 
 -- What holds of the expansion of these logs holds of the run's text.
 pub some_result_text : (request : Request) (reported : List KnownInput) (P : List ℕ → Type 0) (max_bytes : ℕ) (names requested : List (List ℕ)) (logs : List Log)
     → max_bytes ≡ request.max_bytes → names ≡ request.targets → unknown_argument request.targets request.arguments ≡ None → requested ≡ find_targets request.targets request.arguments → LogsUnlessFault
-    → SomeMatchingStreams reported (λ streams. logs_of max_bytes names streams ≡ Some logs) → P (expansion logs request.options requested) → SomeResultText request reported P
+    → SomeMatchingStreams reported (λ streams. logs_of max_bytes names streams ≡ Some logs) → P (expansion logs request.options requested) → SomeResultText (record { request = request; inputs = reported }) P
 some_result_text request reported P max_bytes names requested logs max_is names_are known asked_are law given shown =
     let logs_are : logs_of request.max_bytes request.targets given.0 ≡ Some logs = (λ i. logs_of (sym max_is i) (sym names_are i) given.0) ∙ given.2 in
     let none = (law request.max_bytes request.targets given.0).0 (ap is_some logs_are) in (
@@ -127,7 +127,7 @@ some_result_text request reported P max_bytes names requested logs max_is names_
 pub rejected_stream : (request : Request) (reported : List KnownInput) (max_bytes : ℕ) (names : List (List ℕ)) (failure : GatherFault)
     → max_bytes ≡ request.max_bytes → names ≡ request.targets → unknown_argument request.targets request.arguments ≡ None
     → gathering.IfStreamFault {A = Unit {0}} (Err failure) (λ number fault. SomeMatchingStreams reported (λ streams. fault_among max_bytes names streams ≡ Some (number, fault)))
-    → IfRejected (Err (run_fault_of_gather failure)) (λ f. SomeMatchingStreams reported (λ streams. result_of request streams ≡ Some (Err f)))
+    → IfNoText (Err (run_fault_of_gather failure)) (λ f. SomeMatchingStreams reported (λ streams. result_of request streams ≡ Some (Err f)))
 rejected_stream request reported max_bytes names (gather.Stream number fault) max_is names_are known given =
     (given.0, given.1, result_of-stream request given.0 known number fault ((λ i. fault_among (sym max_is i) (sym names_are i) given.0) ∙ given.2))
 rejected_stream request reported max_bytes names gather.OutOfMemory max_is names_are known given = tt

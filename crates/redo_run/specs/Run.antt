@@ -7,7 +7,6 @@ use Rattle.redo_device.specs.Feed.{Stream}
 use Rattle.redo_line.specs.Source.{StreamInput}
 use Rattle.redo_name.specs.Names.{normal}
 use Rattle.redo_logs.specs.Logs.{Log}
-use Rattle.redo_options.specs.Plan.{Numbers}
 use Rattle.redo_gather.specs.Streams.{logs_of, fault_among}
 use Rattle.redo_options.specs.declared.options.Options.{Options}
 use Rattle.redo_options.specs.Arguments.{argument_bytes}
@@ -15,7 +14,7 @@ use Rattle.redo_view.specs.Expansion.{is_among, expansion}
 use Rattle.redo_run.specs.declared.run_fault.RunFault.{RunFault}
 use Rattle.redo_run.specs.declared.run_fault.RunFault.TheVariants as fault
 use Rattle.redo_index.specs.declared.index_entry.IndexEntry.{IndexEntry}
-use Rattle.redo_index.specs.Index.{names_of}
+use Rattle.redo_index.specs.Index.{listed_targets}
 
 -- What a run is asked: all targets, the maximum number of bytes of a stream, what the text shows, and the arguments that
 -- name the requested targets.
@@ -25,8 +24,8 @@ pub record Request : Type 0 where
   pub options : Options
   pub arguments : List (List ℕ)
 
-abbrev pub request : List IndexEntry → Numbers → Options → List (Vec ℕ) → Request
-request index plan options arguments = record { targets = names_of index; max_bytes = plan.max_bytes; options = options; arguments = argument_bytes arguments }
+abbrev pub request : List IndexEntry → ℕ → Options → List (Vec ℕ) → Request
+request index max_bytes options arguments = record { targets = listed_targets index; max_bytes = max_bytes; options = options; arguments = argument_bytes arguments }
 
 -- The target that an argument names, if it is one of `targets`. An empty argument names none.
 abbrev pub find_target : List (List ℕ) → List ℕ → Option (List ℕ)

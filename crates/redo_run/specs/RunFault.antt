@@ -28,9 +28,9 @@ IfUnknown (Err OutOfMemory) P = Unit {0}
 IfUnknown (Err Write) P = Unit {0}
 
 -- `P` holds of the fault, if the run failed because of an unknown argument or of a stream. Then there is no text.
-abbrev pub IfRejected : Result (Unit {0}) RunFault → (RunFault → Type 0) → Type 0
-IfRejected (Ok done) P = Unit {0}
-IfRejected (Err (Unknown place)) P = P (Unknown place)
-IfRejected (Err (Stream number fault)) P = P (Stream number fault)
-IfRejected (Err OutOfMemory) P = Unit {0}
-IfRejected (Err Write) P = Unit {0}
+abbrev pub IfNoText : Result (Unit {0}) RunFault → (RunFault → Type 0) → Type 0
+IfNoText (Ok done) P = Unit {0}
+IfNoText (Err (Unknown place)) P = P (Unknown place)
+IfNoText (Err (Stream number fault)) P = P (Stream number fault)
+IfNoText (Err OutOfMemory) P = Unit {0}
+IfNoText (Err Write) P = Unit {0}

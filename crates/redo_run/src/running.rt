@@ -1,19 +1,20 @@
 ghost use Rattle.std.specs.Prelude.{◌≡◌, ◌≢◌, ◌<◌, ◌⊎◌, true, None, Err, IfOk, IfErr, OnOk, length, map};
 ghost use Rattle.std.specs.List.{list_all};
 ghost use Rattle.redo_line.specs.declared.stream_fault.StreamFault.TheVariants as stream;
-ghost use Rattle.redo_logs.specs.Logs.{has_ended, targets_of};
+ghost use Rattle.redo_logs.specs.Logs.{has_ended};
 ghost use Rattle.redo_gather.specs.GatherFault as gathering;
-ghost use Rattle.redo_gather.specs.Streams.{AreLogs, IsFault, known_inputs};
+ghost use Rattle.redo_gather.specs.Gathered.{IsGathered};
+ghost use Rattle.redo_gather.specs.Streams.{known_inputs};
 ghost use Rattle.redo_view.specs.Expansion.{expansion};
 ghost use Rattle.redo_view.specs.View.{find_unknown};
 ghost use Rattle.redo_view.specs.Written.{WroteAll, WrotePrefix, WroteUntilFailed};
-ghost use Rattle.redo_index.specs.Index.{must_close_flags, names_of};
+ghost use Rattle.redo_index.specs.Index.{must_close_flags, listed_targets};
 ghost use Rattle.redo_run.specs.declared.run_fault.RunFault.TheVariants.{OutOfMemory, Write};
 ghost use Rattle.redo_run.specs.Private.LookUp.{IsArgumentFault};
 ghost use Rattle.redo_options.specs.Arguments.{argument_bytes};
-ghost use Rattle.redo_run.specs.Run.{request, find_target, find_targets, unknown_argument};
-ghost use Rattle.redo_run.specs.RunFault.{IfStreamFault, IfRejected, IfUnknown};
-ghost use Rattle.redo_run.specs.Outcome.{WritesUntilFailure, IsResultFault, WritesAll, WritesPrefix};
+ghost use Rattle.redo_run.specs.Run.{find_target, find_targets, unknown_argument};
+ghost use Rattle.redo_run.specs.RunFault.{IfStreamFault, IfNoText, IfUnknown};
+ghost use Rattle.redo_run.specs.Outcome.{IsSomeResultFault, WritesSomePrefix, WritesSomeText, WritesSomeTextUntilFailure, call};
 
 use crate::run_fault::RunFault;
 use redo_gather::{Gate, GatherFault, Plan, gather_with_keys, logs_unless_fault};
@@ -55,25 +56,26 @@ pub fn run<T: Threads + Wait + Sync, R: Feed + Send, W: Sink, G: Gate>(
     requires { length readers.items ≡ length index.now }
 
     // The whole text was written, and no other byte.
-    ensures ok { IfOk result (λ _. WritesAll (request index.now plan.now options.now arguments.now)
-        (known_inputs R.contents (must_close_flags index.now) readers.items) (W.written out.old) (W.written out.new)) }
+    ensures ok { IfOk result (λ _. WritesSomeText (call R.contents index.now readers.items plan.now.max_bytes options.now arguments.now)
+        (W.written out.old) (W.written out.new)) }
 
     // An argument is unknown, or a stream has a fault: the fault says which one, and nothing was written.
-    ensures fault { IfRejected result (λ fault. IsResultFault (request index.now plan.now options.now arguments.now)
-        (known_inputs R.contents (must_close_flags index.now) readers.items) fault) }
-    ensures nothing_written { IfRejected result (λ _. W.written out.new ≡ W.written out.old) }
+    ensures fault { IfNoText result
+        (IsSomeResultFault (call R.contents index.now readers.items plan.now.max_bytes options.now arguments.now)) }
+    ensures nothing_written { IfNoText result (λ _. W.written out.new ≡ W.written out.old) }
     ensures argument_in_range { IfUnknown result (λ place. place < length arguments.now) }
     ensures stream_in_range { IfStreamFault result (λ number _. number < length index.now) }
-    ensures no_memory { IfStreamFault result (λ _ fault. fault ≢ stream.OutOfMemory) }
+    ensures never_out_of_memory { IfStreamFault result (λ _ fault. fault ≢ stream.OutOfMemory) }
 
     // A prefix of the text was written, and then one write failed.
-    ensures write { result ≡ Err Write → WritesUntilFailure (request index.now plan.now options.now arguments.now)
-        (known_inputs R.contents (must_close_flags index.now) readers.items) (W.written out.old) (W.written out.new) }
+    ensures write { result ≡ Err Write →
+        WritesSomeTextUntilFailure (call R.contents index.now readers.items plan.now.max_bytes options.now arguments.now)
+        (W.written out.old) (W.written out.new) }
 
     // An allocation failed, and no write failed: nothing was written, or a prefix of the text.
     ensures memory { result ≡ Err OutOfMemory → (W.written out.new ≡ W.written out.old) ⊎
-        WritesPrefix (request index.now plan.now options.now arguments.now)
-        (known_inputs R.contents (must_close_flags index.now) readers.items) (W.written out.old) (W.written out.new) }
+        WritesSomePrefix (call R.contents index.now readers.items plan.now.max_bytes options.now arguments.now)
+        (W.written out.old) (W.written out.new) }
 {
     let targets = find_targets(alloc, index, arguments)?;
     logs_unless_fault();
@@ -91,14 +93,9 @@ fn gather_listed<T: Threads + Wait + Sync, R: Feed + Send, G: Gate>(
     gate: &G,
 ) -> Result<LogTable, GatherFault>
     requires { length readers.items ≡ length index.now }
-    ensures logs { IfOk result
-        (AreLogs plan.now.max_bytes (names_of index.now) (known_inputs R.contents (must_close_flags index.now) readers.items)) }
-    ensures targets { IfOk result (λ table. targets_of table ≡ names_of index.now) }
-    ensures ended { IfOk result (λ table. list_all has_ended table ≡ true) }
-    ensures fault { gathering.IfStreamFault result
-        (IsFault plan.now.max_bytes (names_of index.now) (known_inputs R.contents (must_close_flags index.now) readers.items)) }
-    ensures stream_in_range { gathering.IfStreamFault result (λ number fault. number < length index.now) }
-    ensures no_memory { gathering.IfStreamFault result (λ number fault. fault ≢ stream.OutOfMemory) }
+    ensures gathered { IsGathered plan.now.max_bytes (listed_targets index.now)
+        (known_inputs R.contents (must_close_flags index.now) readers.items) result }
+    ensures never_out_of_memory { gathering.IfStreamFault result (λ number fault. fault ≢ stream.OutOfMemory) }
 {
     let names = index.names(alloc)?;
     let flags = index.must_close_flags(alloc)?;
@@ -136,9 +133,9 @@ fn find_targets(
     index: &Index,
     arguments: &[Vec<u8>],
 ) -> Result<Vec<TargetName>, RunFault>
-    ensures known { IfOk result (λ _. unknown_argument (names_of index.now) (argument_bytes arguments.now) ≡ None) }
-    ensures targets { IfOk result (λ targets. targets.items ≡ find_targets (names_of index.now) (argument_bytes arguments.now)) }
-    ensures fault { IfErr result (λ fault. IsArgumentFault (names_of index.now) (argument_bytes arguments.now) fault) }
+    ensures known { IfOk result (λ _. unknown_argument (listed_targets index.now) (argument_bytes arguments.now) ≡ None) }
+    ensures targets { IfOk result (λ targets. targets.items ≡ find_targets (listed_targets index.now) (argument_bytes arguments.now)) }
+    ensures fault { IfErr result (λ fault. IsArgumentFault (listed_targets index.now) (argument_bytes arguments.now) fault) }
 {
     let mut targets = Vec::with_capacity(alloc, arguments.len())?;
     for (place, argument) in arguments.iter().enumerate() {
@@ -155,7 +152,7 @@ fn find_target(
     index: &Index,
     argument: &[u8],
 ) -> Result<Option<TargetName>, AllocError>
-    ensures { IfOk result (λ target. target ≡ find_target (names_of index.now) argument.now) }
+    ensures { IfOk result (λ target. target ≡ find_target (listed_targets index.now) argument.now) }
 {
     match TargetName::resolve(alloc, None, argument) {
         Ok(name) => Ok(index.find(&name).is_some().then_some(name)),

@@ -79,7 +79,7 @@ pub fn view<W: Sink>(
 
     // The whole text was written, and nothing else.
     ensures ok { OnOk result (WroteAll (W.written out.old) (W.written out.new) (expansion table.now options.now requested.now)) }
-    ensures known { OnOk result (find_unknown table.now requested.now ≡ None) }
+    ensures all_found { OnOk result (find_unknown table.now requested.now ≡ None) }
 
     // A target is unknown exactly if it has no log, and then nothing was written.
     ensures unknown { (place : ℕ) → (result ≡ Err (Unknown place)) ↔ (find_unknown table.now requested.now ≡ Some place) }

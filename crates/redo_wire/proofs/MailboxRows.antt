@@ -7,7 +7,7 @@ use Rattle.std.proofs.lemmas.Option.{none-some}
 use Rattle.redo_wire.specs.declared.item.Item.{Item}
 use Rattle.redo_wire.specs.declared.item.What.TheVariants.{End}
 use Rattle.redo_wire.specs.Machine.{FindsEmpty, IsReached, IsSchedule, IsStep, State, Takes, last_of, items_of}
-use Rattle.redo_wire.specs.Mailbox.{AreAllMet, AreDistinct, AreEndsOf, ArePrefixes, ArePending, AreFromSenders, AreFullyTaken, TakeEndState, HasSchedule, IsMet, IsOpened, LeavesRoom, Mailbox, PostsByStep, TakesStep, Met, PostEndState, Observes, pending_count, meets, posts, takes}
+use Rattle.redo_wire.specs.Mailbox.{AreAllMet, AreDistinct, AreEndsOf, ArePrefixesOfMet, ArePending, AreFromSenders, AreMetFullyTaken, TakeEndState, HasSchedule, IsMet, IsOpened, MetEndsLeaveRoom, Mailbox, PostsByStep, MakesStep, Met, PostEndState, Observes, pending_count, after_meet, after_post, after_take}
 use Rattle.redo_wire.proofs.MachineRows.{a, b, c, none_else, one_posted, opened, opens, reached, reached_ends, reached_opened, reached_two_left, the_first, third, two_ends, two_left, two_met}
 use Rattle.redo_wire.proofs.Steps.{lawful_reached, lawful_takes, made_reached, items_of-append}
 
@@ -96,8 +96,8 @@ poster number posted = record { mailbox = mailbox 2; number = number; posted = p
 abbrev collector : ℕ → List Item → List Met → TakeEndState
 collector capacity taken met = record { mailbox = mailbox capacity; taken = taken; met = met }
 
-calls : (posts c (poster 0 (a ∷ [])) ≡ poster 0 (a ∷ c ∷ [])) × (takes b (collector 2 (a ∷ []) both) ≡ collector 2 (a ∷ b ∷ []) both)
-    × (meets (poster 1 (b ∷ [])) (collector 2 (a ∷ []) ((0, a ∷ c ∷ []) ∷ [])) ≡ collector 2 (a ∷ []) both)
+calls : (after_post c (poster 0 (a ∷ [])) ≡ poster 0 (a ∷ c ∷ [])) × (after_take b (collector 2 (a ∷ []) both) ≡ collector 2 (a ∷ b ∷ []) both)
+    × (after_meet (poster 1 (b ∷ [])) (collector 2 (a ∷ []) ((0, a ∷ c ∷ []) ∷ [])) ≡ collector 2 (a ∷ []) both)
 calls = (refl, refl, refl)
 
 -- ---- a new mailbox
@@ -167,32 +167,32 @@ not_first_met all = by (all 0 (omega arith))
     by (inl same) = omega (arith, same)
     by (inr none) = none
 
-are_fronts : ArePrefixes (collector 2 (a ∷ []) both)
+are_fronts : ArePrefixesOfMet (collector 2 (a ∷ []) both)
 are_fronts = ((b ∷ [], refl), ((c ∷ [], refl), tt))
 
-not_fronts : ArePrefixes (collector 2 (b ∷ c ∷ []) both) → ⊥
+not_fronts : ArePrefixesOfMet (collector 2 (b ∷ c ∷ []) both) → ⊥
 not_fronts are = omega (arith, ap (λ (item : Item). item.stream) (the_first a c (c ∷ []) are.1.0.0 are.1.0.1))
 
 -- Another item of the second end than it posted.
 abbrev e : Item
 e = record { sender = 1; stream = 3; what = End }
 
-not_front_of_the_last : ArePrefixes (collector 2 (e ∷ []) both) → ⊥
+not_front_of_the_last : ArePrefixesOfMet (collector 2 (e ∷ []) both) → ⊥
 not_front_of_the_last are = omega (arith, ap (λ (item : Item). item.stream) (the_first b e [] are.0.0 are.0.1))
 
-are_whole : AreFullyTaken (collector 2 (a ∷ b ∷ c ∷ []) both)
+are_whole : AreMetFullyTaken (collector 2 (a ∷ b ∷ c ∷ []) both)
 are_whole = (refl, (refl, tt))
 
-not_whole : AreFullyTaken (collector 2 (a ∷ b ∷ []) both) → ⊥
+not_whole : AreMetFullyTaken (collector 2 (a ∷ b ∷ []) both) → ⊥
 not_whole are = omega (arith, ap length are.1.0)
 
-not_so_ordered : AreFullyTaken (collector 2 (b ∷ c ∷ a ∷ []) both) → ⊥
+not_so_ordered : AreMetFullyTaken (collector 2 (b ∷ c ∷ a ∷ []) both) → ⊥
 not_so_ordered are = omega (arith, ap (λ (item : Item). item.stream) (the_first a c (c ∷ []) (a ∷ []) are.1.0))
 
-not_more : AreFullyTaken (collector 2 (a ∷ b ∷ c ∷ c ∷ []) both) → ⊥
+not_more : AreMetFullyTaken (collector 2 (a ∷ b ∷ c ∷ c ∷ []) both) → ⊥
 not_more are = omega (arith, ap length are.1.0)
 
-not_whole_of_the_last : AreFullyTaken (collector 2 (a ∷ c ∷ []) both) → ⊥
+not_whole_of_the_last : AreMetFullyTaken (collector 2 (a ∷ c ∷ []) both) → ⊥
 not_whole_of_the_last are = omega (arith, ap length are.0)
 
 are_of_senders : AreFromSenders (collector 2 (a ∷ b ∷ []) [])
@@ -204,13 +204,13 @@ not_of_senders are = let one = are.1.0 in omega (arith, one)
 not_first_of_senders : AreFromSenders (collector 2 (record { sender = 2; stream = 0; what = End } ∷ a ∷ []) []) → ⊥
 not_first_of_senders are = let one = are.0 in omega (arith, one)
 
-leaves_room : LeavesRoom (collector 2 (a ∷ b ∷ []) both) × LeavesRoom (collector 4 [] both)
+leaves_room : MetEndsLeaveRoom (collector 2 (a ∷ b ∷ []) both) × MetEndsLeaveRoom (collector 4 [] both)
 leaves_room = (omega arith, omega arith)
 
-no_room : LeavesRoom (collector 2 (a ∷ []) both) → ⊥
+no_room : MetEndsLeaveRoom (collector 2 (a ∷ []) both) → ⊥
 no_room room = omega (arith, room)
 
-no_room_for_three : LeavesRoom (collector 3 [] both) → ⊥
+no_room_for_three : MetEndsLeaveRoom (collector 3 [] both) → ⊥
 no_room_for_three room = omega (arith, room)
 
 are_left : ArePending (b ∷ c ∷ []) (collector 2 (a ∷ []) both)
@@ -306,27 +306,27 @@ not_of_a_stranger has =
     let all = subst (λ taken. AllByRecursion (λ (item : Item). item.sender < 2) (taken ++ has.0.queued)) (sym has.2.0) lawful.of_senders in
     let one = all.0 in omega (arith, one)
 
-finds_nothing : TakesStep FindsEmpty (collector 1 [] []) (collector 1 [] [])
+finds_nothing : MakesStep FindsEmpty (collector 1 [] []) (collector 1 [] [])
 finds_nothing = (opened, opened, reached_opened, (refl, refl, tt), (refl, refl), (refl, refl, tt))
 
-not_kept : TakesStep (Takes b) (collector 1 [] []) (collector 1 [] []) → ⊥
+not_kept : MakesStep (Takes b) (collector 1 [] []) (collector 1 [] []) → ⊥
 not_kept step = let is = ap length (step.5.0 ∙ step.4.taken) in omega (arith, is, length-append step.0.taken (b ∷ []))
 
-not_two_taken : TakesStep (Takes b) (collector 1 [] []) (collector 1 (a ∷ b ∷ []) []) → ⊥
+not_two_taken : MakesStep (Takes b) (collector 1 [] []) (collector 1 (a ∷ b ∷ []) []) → ⊥
 not_two_taken step =
     let shown = step.3.0 in let is = ap length (step.5.0 ∙ step.4.taken) in
     omega (arith, is, ap length shown, length-append step.0.taken (b ∷ []))
 
-not_from_nowhere : TakesStep FindsEmpty (collector 1 (a ∷ a ∷ []) ((0, a ∷ []) ∷ [])) (collector 1 (a ∷ a ∷ []) ((0, a ∷ []) ∷ [])) → ⊥
+not_from_nowhere : MakesStep FindsEmpty (collector 1 (a ∷ a ∷ []) ((0, a ∷ []) ∷ [])) (collector 1 (a ∷ a ∷ []) ((0, a ∷ []) ∷ [])) → ⊥
 not_from_nowhere step = not_twice (step.0, step.2, step.3)
 
-no_step_with_two_left : TakesStep (Takes a) (collector 1 [] ((0, a ∷ c ∷ []) ∷ [])) (collector 1 (a ∷ []) ((0, a ∷ c ∷ []) ∷ [])) → ⊥
+no_step_with_two_left : MakesStep (Takes a) (collector 1 [] ((0, a ∷ c ∷ []) ∷ [])) (collector 1 (a ∷ []) ((0, a ∷ c ∷ []) ∷ [])) → ⊥
 no_step_with_two_left step = no_two_left (step.0, step.2, step.3)
 
-no_step_with_an_end_twice : TakesStep FindsEmpty (collector 1 [] ((0, []) ∷ (0, []) ∷ [])) (collector 1 [] ((0, []) ∷ (0, []) ∷ [])) → ⊥
+no_step_with_an_end_twice : MakesStep FindsEmpty (collector 1 [] ((0, []) ∷ (0, []) ∷ [])) (collector 1 [] ((0, []) ∷ (0, []) ∷ [])) → ⊥
 no_step_with_an_end_twice step = no_end_twice (step.0, step.2, step.3)
 
-no_step_of_a_stranger : TakesStep (Takes third) (collector 1 [] []) (collector 1 (third ∷ []) []) → ⊥
+no_step_of_a_stranger : MakesStep (Takes third) (collector 1 [] []) (collector 1 (third ∷ []) []) → ⊥
 no_step_of_a_stranger step =
     let lawful = lawful_takes 1 2 third step.0 step.1 step.4 (lawful_reached 1 2 step.0 step.2) in
     let all = subst (λ taken. AllByRecursion (λ (item : Item). item.sender < 2) (taken ++ step.1.queued)) (sym step.5.0) lawful.of_senders in

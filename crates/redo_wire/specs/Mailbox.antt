@@ -33,22 +33,22 @@ pub record TakeEndState : Type 0 where
 -- ---- an end after a call
 
 -- The post end after it posted `item`.
-abbrev pub posts : Item → PostEndState → PostEndState
-posts item end = record { mailbox = end.mailbox; number = end.number; posted = end.posted ++ item ∷ [] }
+abbrev pub after_post : Item → PostEndState → PostEndState
+after_post item end = record { mailbox = end.mailbox; number = end.number; posted = end.posted ++ item ∷ [] }
 
 -- The take end after it took `item`.
-abbrev pub takes : Item → TakeEndState → TakeEndState
-takes item collector = record { mailbox = collector.mailbox; taken = collector.taken ++ item ∷ []; met = collector.met }
+abbrev pub after_take : Item → TakeEndState → TakeEndState
+after_take item end = record { mailbox = end.mailbox; taken = end.taken ++ item ∷ []; met = end.met }
 
--- The take end after it met `end`.
-abbrev pub meets : PostEndState → TakeEndState → TakeEndState
-meets end collector = record { mailbox = collector.mailbox; taken = collector.taken; met = (end.number, end.posted) ∷ collector.met }
+-- The take end after it met the post end `met`.
+abbrev pub after_meet : PostEndState → TakeEndState → TakeEndState
+after_meet met end = record { mailbox = end.mailbox; taken = end.taken; met = (met.number, met.posted) ∷ end.met }
 
 -- ---- a new mailbox
 
 abbrev pub IsOpened : ℕ → ℕ → TakeEndState → Type 0
-IsOpened capacity senders collector =
-    (collector.mailbox.capacity ≡ capacity) × (collector.mailbox.senders ≡ senders) × (collector.taken ≡ []) × (collector.met ≡ [])
+IsOpened capacity senders end =
+    (end.mailbox.capacity ≡ capacity) × (end.mailbox.senders ≡ senders) × (end.taken ≡ []) × (end.met ≡ [])
 
 -- One post end for each number, at the index of that number. None of them posted anything yet.
 pub record AreEndsOf (mailbox : Mailbox) (ends : List PostEndState) : Type 0 where
@@ -68,19 +68,19 @@ AreDistinct [] = ⊤
 AreDistinct (met ∷ others) = AllByRecursion (λ (other : Met). other.0 ≢ met.0) others × AreDistinct others
 
 abbrev pub AreAllMet : TakeEndState → Type 0
-AreAllMet collector = (number : ℕ) → number < collector.mailbox.senders → IsMet number collector.met
+AreAllMet end = (number : ℕ) → number < end.mailbox.senders → IsMet number end.met
 
 -- For each met end, the items taken from it are a prefix of the items that it posted.
-abbrev pub ArePrefixes : TakeEndState → Type 0
-ArePrefixes collector = AllByRecursion (λ (met : Met). IsPrefix (items_of met.0 collector.taken) met.1) collector.met
+abbrev pub ArePrefixesOfMet : TakeEndState → Type 0
+ArePrefixesOfMet end = AllByRecursion (λ (met : Met). IsPrefix (items_of met.0 end.taken) met.1) end.met
 
 -- For each met end, the items taken from it are all that it posted, and no more.
-abbrev pub AreFullyTaken : TakeEndState → Type 0
-AreFullyTaken collector = AllByRecursion (λ (met : Met). met.1 ≡ items_of met.0 collector.taken) collector.met
+abbrev pub AreMetFullyTaken : TakeEndState → Type 0
+AreMetFullyTaken end = AllByRecursion (λ (met : Met). met.1 ≡ items_of met.0 end.taken) end.met
 
 -- Each item that was taken has the number of a sender of this mailbox.
 abbrev pub AreFromSenders : TakeEndState → Type 0
-AreFromSenders collector = AllByRecursion (λ (item : Item). item.sender < collector.mailbox.senders) collector.taken
+AreFromSenders end = AllByRecursion (λ (item : Item). item.sender < end.mailbox.senders) end.taken
 
 -- How many items these ends posted that were not taken.
 abbrev pub pending_count : List Item → List Met → ℕ
@@ -88,13 +88,13 @@ pending_count taken [] = 0
 pending_count taken (met ∷ others) = (length met.1 - length (items_of met.0 taken)) + pending_count taken others
 
 -- The items that the met ends posted and that are still to be taken are fewer than the capacity.
-abbrev pub LeavesRoom : TakeEndState → Type 0
-LeavesRoom collector = pending_count collector.taken collector.met < collector.mailbox.capacity
+abbrev pub MetEndsLeaveRoom : TakeEndState → Type 0
+MetEndsLeaveRoom end = pending_count end.taken end.met < end.mailbox.capacity
 
 -- Exactly these items are left of the met ends: with them, all that these ends posted was taken, and each is of a met end.
 abbrev pub ArePending : List Item → TakeEndState → Type 0
-ArePending items collector =
-    AllByRecursion (λ (met : Met). met.1 ≡ items_of met.0 (collector.taken ++ items)) collector.met × AllByRecursion (λ (item : Item). IsMet item.sender collector.met) items
+ArePending items end =
+    AllByRecursion (λ (met : Met). met.1 ≡ items_of met.0 (end.taken ++ items)) end.met × AllByRecursion (λ (item : Item). IsMet item.sender end.met) items
 
 -- ---- the mailbox as a machine
 
@@ -107,8 +107,8 @@ abbrev pub HasSchedule : TakeEndState → Type 0
 HasSchedule end = (state : State) × IsReached end.mailbox.capacity end.mailbox.senders state × Observes end.taken end.met state
 
 -- The machine takes such a step from a state that a schedule leads to. `old` shows the state before it, `new` the state after it.
-abbrev pub TakesStep : (State → State → Type 0) → TakeEndState → TakeEndState → Type 0
-TakesStep Step old new =
+abbrev pub MakesStep : (State → State → Type 0) → TakeEndState → TakeEndState → Type 0
+MakesStep Step old new =
     (before after : State) × IsReached old.mailbox.capacity old.mailbox.senders before × Observes old.taken old.met before × Step before after × Observes new.taken new.met after
 
 -- The same for a post end, which shows what it posted.

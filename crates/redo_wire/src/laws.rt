@@ -3,7 +3,7 @@ ghost use Rattle.std.specs.Prelude.{◌≡◌, ◌↔◌, ℕ, ◌+◌, ◌<◌,
 ghost use Rattle.std.specs.List.{AllByRecursion};
 ghost use Rattle.redo_wire.specs.declared.item.Item.{Item};
 ghost use Rattle.redo_wire.specs.Machine.{IsPrefix, IsValid, IsSchedule, IsStep, IsLive, Meets, Opens, Posts, AddsEnd, State, Takes};
-ghost use Rattle.redo_wire.specs.Mailbox.{AreDistinct, ArePrefixes, ArePending, AreFullyTaken, TakeEndState, LeavesRoom};
+ghost use Rattle.redo_wire.specs.Mailbox.{AreDistinct, ArePrefixesOfMet, ArePending, AreMetFullyTaken, TakeEndState, MetEndsLeaveRoom};
 
 /// A new mailbox is in a valid state, and each step keeps the state valid: when a sender puts an item at the
 /// back, and when the front is taken. The other steps move no item. So the state is valid after each step
@@ -63,13 +63,14 @@ pub fn step_preconditions()
 /// In a mailbox for one item, room is left exactly if all that the met ends posted was taken. One direction
 /// requires that the items taken from each met end are a prefix of the items that it posted.
 pub fn room_for_one()
-    ensures all_taken { (end : TakeEndState) → end.mailbox.capacity ≡ 1 → LeavesRoom end → ArePrefixes end → AreFullyTaken end }
-    ensures leaves_room { (end : TakeEndState) → end.mailbox.capacity ≡ 1 → AreFullyTaken end → LeavesRoom end }
+    ensures met_all_taken { (end : TakeEndState) → end.mailbox.capacity ≡ 1 → MetEndsLeaveRoom end → ArePrefixesOfMet end →
+        AreMetFullyTaken end }
+    ensures leaves_room { (end : TakeEndState) → end.mailbox.capacity ≡ 1 → AreMetFullyTaken end → MetEndsLeaveRoom end }
 {}
 
 /// For every capacity: if exactly these items are left of the met ends, and no end was met twice, room is left
 /// exactly if the items are fewer than the capacity.
 pub fn room_for_any()
     ensures { (end : TakeEndState) (items : List Item) → AreDistinct end.met → ArePending items end →
-        LeavesRoom end ↔ (length items < end.mailbox.capacity) }
+        MetEndsLeaveRoom end ↔ (length items < end.mailbox.capacity) }
 {}

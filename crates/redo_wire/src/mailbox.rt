@@ -1,7 +1,7 @@
 ghost use Rattle.std.specs.Prelude.{◌≡◌, ◌<◌, ◌≤◌, ◌^◌, true, ◌↔◌, IfOk, IfErr, OnOk, IfSome, IfNone};
 ghost use Rattle.std.specs.List.{list_all};
 ghost use Rattle.redo_wire.specs.Machine.{FindsEmpty, Takes};
-ghost use Rattle.redo_wire.specs.Mailbox.{AreAllMet, AreEndsOf, ArePrefixes, AreFromSenders, AreFullyTaken, HasSchedule, IsMet, IsOpened, LeavesRoom, PostsByStep, TakesStep, meets, posts, takes};
+ghost use Rattle.redo_wire.specs.Mailbox.{AreAllMet, AreEndsOf, ArePrefixesOfMet, AreFromSenders, AreMetFullyTaken, HasSchedule, IsMet, IsOpened, MetEndsLeaveRoom, PostsByStep, MakesStep, after_meet, after_post, after_take};
 
 use crate::item::Item;
 use crate::rule::{AddEndStep, InitStep, MailboxProtocol, MeetStep, PutStep, Size, TakeStep, View};
@@ -59,8 +59,8 @@ pub fn open(
 ) -> Result<(TakeEnd, Vec<PostEnd>), AllocError>
     requires capacity { (1 ≤ capacity) × (capacity ≤ 2 ^ 16) }
     requires senders { (1 ≤ senders) × (senders ≤ 64) }
-    ensures takes { IfOk result (λ ends. IsOpened capacity senders ends.0) }
-    ensures posts { IfOk result (λ ends. AreEndsOf ends.0.mailbox ends.1.items) }
+    ensures take_end { IfOk result (λ ends. IsOpened capacity senders ends.0) }
+    ensures post_ends { IfOk result (λ ends. AreEndsOf ends.0.mailbox ends.1.items) }
 {
     open_sized::<Brand>(alloc, capacity, senders)
 }
@@ -75,8 +75,8 @@ fn open_sized<S: Size>(
     requires some_room { 0 < capacity }
     requires capacity { capacity ≡ S.capacity }
     requires senders { senders ≡ S.senders }
-    ensures takes { IfOk result (λ ends. IsOpened capacity senders ends.0) }
-    ensures posts { IfOk result (λ ends. AreEndsOf ends.0.mailbox ends.1.items) }
+    ensures take_end { IfOk result (λ ends. IsOpened capacity senders ends.0) }
+    ensures post_ends { IfOk result (λ ends. AreEndsOf ends.0.mailbox ends.1.items) }
 {
     let met = vec![in alloc; false; senders as usize]?;
     let mut ends = Vec::with_capacity(alloc, senders as usize)?;
@@ -117,9 +117,15 @@ impl PostEnd {
     #[tactic(auto, using(crate::proofs::Knowing::posting))]
     pub fn post<T: Wait>(&mut self, rt: &T, item: Item) -> Result<(), Item>
         requires { item.sender ≡ self.old.number }
-        ensures unchanged { (self.new.mailbox ≡ self.old.mailbox) × (self.new.number ≡ self.old.number) }
-        ensures posted { OnOk result (self.new ≡ posts item self.old) }
+
+        // The item was posted; or it is returned, and nothing has changed.
+        ensures posted { OnOk result (self.new ≡ after_post item self.old) }
         ensures returned { IfErr result (λ back. (back ≡ item) × (self.new ≡ self.old)) }
+
+        // In both cases it is the same end of the same mailbox.
+        ensures unchanged { (self.new.mailbox ≡ self.old.mailbox) × (self.new.number ≡ self.old.number) }
+
+        // For some schedule that leads to `self.old`, posting the item is the next step of the mailbox.
         ensures step { OnOk result (PostsByStep item self.old self.new) }
     {
         match self.sender.send_as::<PutStep, T>(rt, &mut self.pass, item) {
@@ -134,14 +140,22 @@ impl TakeEnd {
     /// `None`, all that the met ends posted was taken, and nothing has changed.
     #[tactic(auto, using(crate::proofs::Knowing::taking))]
     pub fn take<T: Wait>(&mut self, rt: &T) -> Option<Item>
-        ensures unchanged { (self.new.mailbox ≡ self.old.mailbox) × (self.new.met ≡ self.old.met) }
-        ensures taken { IfSome result (λ item. self.new ≡ takes item self.old) }
-        ensures bound { IfSome result (λ item. LeavesRoom self.new) }
+        // An item was taken; or none was, and nothing has changed.
+        ensures taken { IfSome result (λ item. self.new ≡ after_take item self.old) }
         ensures unchanged_if_none { IfNone result (self.new ≡ self.old) }
-        ensures prefixes { ArePrefixes self.new }
-        ensures all_taken { IfNone result (AreFullyTaken self.new) }
-        ensures step { IfSome result (λ item. TakesStep (Takes item) self.old self.new) }
-        ensures empty_step { IfNone result (TakesStep FindsEmpty self.old self.new) }
+        ensures unchanged { (self.new.mailbox ≡ self.old.mailbox) × (self.new.met ≡ self.old.met) }
+
+        // For each met end, the items taken from it are the first that it posted. If no item was taken, they are all.
+        ensures prefixes { ArePrefixesOfMet self.new }
+        ensures met_all_taken { IfNone result (AreMetFullyTaken self.new) }
+
+        // After an item was taken, fewer items of the met ends are left than the capacity.
+        ensures bound { IfSome result (λ item. MetEndsLeaveRoom self.new) }
+
+        // For some schedule that leads to `self.old`, taking the item is the next step of the mailbox; without an item,
+        // the next step finds nothing.
+        ensures step { IfSome result (λ item. MakesStep (Takes item) self.old self.new) }
+        ensures empty_step { IfNone result (MakesStep FindsEmpty self.old self.new) }
     {
         let Ok(item) = self.receiver.recv_as::<TakeStep, T>(rt, &mut self.pass) else {
             return None;
@@ -152,10 +166,16 @@ impl TakeEnd {
     /// Meets a post end of this mailbox: consumes it, so that it posts nothing more.
     pub fn meet<T: Wait>(&mut self, _rt: &T, end: PostEnd)
         requires { end.mailbox ≡ self.old.mailbox }
+
+        // The end counts as met, for the first time. Nothing is taken.
+        ensures met { self.new ≡ after_meet end self.old }
+        ensures newly_met { ¬ IsMet end.number self.old.met }
         ensures unchanged { (self.new.mailbox ≡ self.old.mailbox) × (self.new.taken ≡ self.old.taken) }
-        ensures met { self.new ≡ meets end self.old }
-        ensures first { ¬ IsMet end.number self.old.met }
-        ensures prefixes { ArePrefixes self.new }
+
+        // For each met end, the items taken from it are the first that it posted.
+        ensures prefixes { ArePrefixesOfMet self.new }
+
+        // Some schedule leads to the state that this end shows.
         ensures schedule { HasSchedule self.new }
     {
         let PostEnd {
@@ -179,15 +199,26 @@ impl TakeEnd {
     #[tactic(auto, using(crate::proofs::Knowing::taking))]
     pub fn rest<T: Wait>(&mut self, rt: &T) -> Option<Item>
         requires { AreAllMet self.old }
-        ensures unchanged { (self.new.mailbox ≡ self.old.mailbox) × (self.new.met ≡ self.old.met) }
-        ensures taken { IfSome result (λ item. self.new ≡ takes item self.old) }
-        ensures bound { IfSome result (λ item. LeavesRoom self.new) }
+
+        // An item was taken; or none was, and nothing has changed.
+        ensures taken { IfSome result (λ item. self.new ≡ after_take item self.old) }
         ensures unchanged_if_none { IfNone result (self.new ≡ self.old) }
-        ensures prefixes { ArePrefixes self.new }
-        ensures all_taken { IfNone result (AreFullyTaken self.new) }
+        ensures unchanged { (self.new.mailbox ≡ self.old.mailbox) × (self.new.met ≡ self.old.met) }
+
+        // For each met end, the items taken from it are the first that it posted. If no item was taken, they are all.
+        ensures prefixes { ArePrefixesOfMet self.new }
+        ensures met_all_taken { IfNone result (AreMetFullyTaken self.new) }
+
+        // If none was, every item that was taken came from a sender of this mailbox.
         ensures only_senders { IfNone result (AreFromSenders self.new) }
-        ensures step { IfSome result (λ item. TakesStep (Takes item) self.old self.new) }
-        ensures empty_step { IfNone result (TakesStep FindsEmpty self.old self.new) }
+
+        // After an item was taken, fewer items of the met ends are left than the capacity.
+        ensures bound { IfSome result (λ item. MetEndsLeaveRoom self.new) }
+
+        // For some schedule that leads to `self.old`, taking the item is the next step of the mailbox; without an item,
+        // the next step finds nothing.
+        ensures step { IfSome result (λ item. MakesStep (Takes item) self.old self.new) }
+        ensures empty_step { IfNone result (MakesStep FindsEmpty self.old self.new) }
     {
         let Ok(left) = self.receiver.try_recv_as::<TakeStep, T>(rt, &mut self.pass) else {
             return None;

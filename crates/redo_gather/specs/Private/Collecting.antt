@@ -1,23 +1,21 @@
 -- How the items that were taken are stored in a table, whatever the order in which senders post.
-use Rattle.std.specs.Prelude.{◌≡◌, ◌≢◌, ℕ, ◌<◌, Bool, true, false, List, [], ◌∷◌, Option, Result, IfOk, length, map}
-use Rattle.std.specs.List.{AllByRecursion, list_all}
+use Rattle.std.specs.Prelude.{◌≡◌, ◌≢◌, ℕ, ◌<◌, Bool, false, List, [], ◌∷◌, Option, length, map}
+use Rattle.std.specs.List.{AllByRecursion}
 use Rattle.redo_line.specs.declared.stream_fault.StreamFault.TheVariants.{OutOfMemory}
 use Rattle.redo_line.specs.Source.{sources}
 use Rattle.redo_device.specs.Feed.{Stream}
 use Rattle.redo_logs.specs.declared.log_state.LogState.{LogState}
 use Rattle.redo_logs.specs.declared.log_state.LogState.TheVariants.{Ended, Failed, Running}
-use Rattle.redo_logs.specs.Logs.{Log, update_log, has_ended, new_log, targets_of, with_entries, with_entry, with_state}
+use Rattle.redo_logs.specs.Logs.{Log, update_log, new_log, with_entries, with_entry, with_state}
 use Rattle.redo_wire.specs.declared.item.Item.{Item}
 use Rattle.redo_wire.specs.declared.item.What.{What}
 use Rattle.redo_wire.specs.declared.item.What.TheVariants.{End, Fail, Line, Lines}
-use Rattle.redo_wire.specs.Mailbox.{AreAllMet, AreFromSenders, AreFullyTaken, Met, PostEndState}
+use Rattle.redo_wire.specs.Mailbox.{AreAllMet, AreFromSenders, AreMetFullyTaken, Met, PostEndState}
 use Rattle.redo_gather.specs.declared.collector.Collector.{Collector}
-use Rattle.redo_gather.specs.declared.gather_fault.GatherFault.{GatherFault}
-use Rattle.redo_gather.specs.GatherFault.{IfStreamFault}
-use Rattle.redo_gather.specs.Expected.{Given}
-use Rattle.redo_gather.specs.Private.Dealing.{AreReady, share_of}
+use Rattle.redo_gather.specs.Expected.{KnownSource}
+use Rattle.redo_gather.specs.Private.Distribution.{AreReady, share_of}
 use Rattle.redo_gather.specs.Sending.{AreExpected, singles}
-use Rattle.redo_gather.specs.Streams.{AreLogs, IsFault, KnownInput}
+use Rattle.redo_gather.specs.Streams.{KnownInput}
 
 -- A log in this state, after an item. A log that isn't running takes nothing any more.
 abbrev pub changed_by : LogState → What → Log → Log
@@ -48,36 +46,28 @@ abbrev pub StoresAllTaken : List (List ℕ) → List Item → List Log → Bool 
 StoresAllTaken names taken table refused = refused ≡ false → (table ≡ stored (singles taken) (map new_log names)) × NoneOutOfMemory (singles taken)
 
 -- A met end posted what is expected for the share of its number.
-abbrev pub PostedExpected : ℕ → ℕ → List Given → Met → Type 0
+abbrev pub PostedExpected : ℕ → ℕ → List KnownSource → Met → Type 0
 PostedExpected max_bytes senders given met = AreExpected max_bytes met.0 (share_of senders met.0 0 given) (singles met.1)
 
 -- What was collected from ends whose senders sent these shares: the mailbox is the same, what was taken is stored, and each
 -- end that was met since `before` posted what is expected of it.
 pub record Collects {A : Type 0} (contents : A → Option Stream) (max_bytes : ℕ) (ends : List PostEndState) (shares : List (List (ℕ × List ℕ × Bool × A))) (before after : Collector) : Type 0 where
-  pub mailbox : after.mailbox.mailbox ≡ before.mailbox.mailbox
-  pub holds : (names : List (List ℕ)) → StoresAllTaken names before.mailbox.taken before.table before.refused → StoresAllTaken names after.mailbox.taken after.table after.refused
-  pub expected : (given : List Given) → AreReady contents before.mailbox.mailbox.senders given ends shares
-      → AllByRecursion (PostedExpected max_bytes before.mailbox.mailbox.senders given) before.mailbox.met
-      → AllByRecursion (PostedExpected max_bytes before.mailbox.mailbox.senders given) after.mailbox.met
+  pub mailbox : after.take_end.mailbox ≡ before.take_end.mailbox
+  pub holds : (names : List (List ℕ)) → StoresAllTaken names before.take_end.taken before.table before.out_of_memory → StoresAllTaken names after.take_end.taken after.table after.out_of_memory
+  pub expected : (given : List KnownSource) → AreReady contents before.take_end.mailbox.senders given ends shares
+      → AllByRecursion (PostedExpected max_bytes before.take_end.mailbox.senders given) before.take_end.met
+      → AllByRecursion (PostedExpected max_bytes before.take_end.mailbox.senders given) after.take_end.met
 
 -- The streams were distributed to senders, the met ends posted what is expected, and the collector stored what it took.
 pub record AllExpected (max_bytes : ℕ) (names : List (List ℕ)) (known : List KnownInput) (collector : Collector) : Type 0 where
   pub count : length names ≡ length known
-  pub some : 0 < collector.mailbox.mailbox.senders
-  pub expected : AllByRecursion (PostedExpected max_bytes collector.mailbox.mailbox.senders (sources names known)) collector.mailbox.met
-  pub holds : StoresAllTaken names collector.mailbox.taken collector.table collector.refused
+  pub some : 0 < collector.take_end.mailbox.senders
+  pub expected : AllByRecursion (PostedExpected max_bytes collector.take_end.mailbox.senders (sources names known)) collector.take_end.met
+  pub holds : StoresAllTaken names collector.take_end.taken collector.table collector.out_of_memory
 
 -- The same, and all that was posted was taken.
 pub record AllTaken (max_bytes : ℕ) (names : List (List ℕ)) (known : List KnownInput) (collector : Collector) : Type 0 where
   pub expected : AllExpected max_bytes names known collector
-  pub met : AreAllMet collector.mailbox
-  pub whole : AreFullyTaken collector.mailbox
-  pub own : AreFromSenders collector.mailbox
-
--- The logs of these streams, or the fault of the lowest-numbered one that has one, or `OutOfMemory`.
-pub record IsGathered (max_bytes : ℕ) (names : List (List ℕ)) (known : List KnownInput) (result : Result (List Log) GatherFault) : Type 0 where
-  pub logs : IfOk result (AreLogs max_bytes names known)
-  pub targets : IfOk result (λ table. targets_of table ≡ names)
-  pub ended : IfOk result (λ table. list_all has_ended table ≡ true)
-  pub fault : IfStreamFault result (IsFault max_bytes names known)
-  pub number : IfStreamFault result (λ number fault. number < length names)
+  pub met : AreAllMet collector.take_end
+  pub whole : AreMetFullyTaken collector.take_end
+  pub own : AreFromSenders collector.take_end

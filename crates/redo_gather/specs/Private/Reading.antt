@@ -14,7 +14,7 @@ pub record IsRead (scan : Scanned) (entries : List Entry) : Type 0 where
 
 -- After the bytes of the scan `begun`, the chunk was consumed up to `place`, and these are the entries of all these bytes.
 abbrev pub IsReadTo : Scanned → List ℕ → ℕ → Scanned → List Entry → Type 0
-IsReadTo begun piece place scan entries = (scan ≡ consume (take place piece) begun) × IsRead scan entries
+IsReadTo begun chunk place scan entries = (scan ≡ consume (take place chunk) begun) × IsRead scan entries
 
 -- All bytes of the reader's stream were consumed, no failed read ends them, and these are the entries of its lines.
 pub record IsReadToEnd (known : Option Stream) (old new : Scanned) (entries : List Entry) : Type 0 where
@@ -24,17 +24,17 @@ pub record IsReadToEnd (known : Option Stream) (old new : Scanned) (entries : Li
   pub read : IsRead new entries
   pub all : SomeStream known (λ stream. (stream.bytes ≡ new.bytes) × (stream.fails ≡ false))
 
-module _ (scan : Scanned) (piece : List ℕ) (entries : List Entry) where
+module _ (scan : Scanned) (chunk : List ℕ) (entries : List Entry) where
   -- The bytes up to the end of the chunk have this fault, and these are the entries before it.
   pub record IsStopped (fault : StreamFault) : Type 0 where
-    pub fault_is : fault_so_far scan.target scan.max_bytes (scan.bytes ++ piece) ≡ Some fault
-    pub entries_are : entries ≡ entries_so_far scan.target scan.max_bytes (scan.bytes ++ piece)
+    pub fault_is : fault_so_far scan.target scan.max_bytes (scan.bytes ++ chunk) ≡ Some fault
+    pub entries_are : entries ≡ entries_so_far scan.target scan.max_bytes (scan.bytes ++ chunk)
 
   -- These entries are a prefix of the entries of some prefix of these bytes, which has no fault.
   pub record IsCutIn : Type 0 where
     pub bytes : List ℕ
     pub behind : List ℕ
-    pub bytes_are : scan.bytes ++ piece ≡ bytes ++ behind
+    pub bytes_are : scan.bytes ++ chunk ≡ bytes ++ behind
     pub no_fault : fault_so_far scan.target scan.max_bytes bytes ≡ None
     pub front : IsPrefix entries (entries_so_far scan.target scan.max_bytes bytes)
 

@@ -72,5 +72,5 @@ first_byte_fault progress (byte ∷ bytes) = byte_fault (progress.max_bytes - pr
 pub record IsScan (progress : Progress) (bytes : List ℕ) (failed_with : Option StreamFault) : Type 0 where
   pub limit : progress.max_bytes ≤ 2 ^ 40
   pub after : failed_with ≡ None → IsAfter progress bytes
-  pub never_read : failed_with ≢ Some Read
+  pub never_read_fault : failed_with ≢ Some Read
   pub never_not_closed : failed_with ≢ Some NotClosed

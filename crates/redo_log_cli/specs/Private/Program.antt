@@ -5,12 +5,11 @@ use Rattle.redo_device.specs.Feed.{Stream}
 use Rattle.redo_line.specs.Lines.{all_lines}
 use Rattle.redo_index.specs.declared.index_fault.IndexFault.TheVariants as index
 use Rattle.redo_index.specs.declared.index_entry.IndexEntry.{IndexEntry}
-use Rattle.redo_index.specs.Index.{IsIndexOf, IsRejected, names_of}
+use Rattle.redo_index.specs.Index.{IsIndexOf, IsRejected, listed_targets}
 use Rattle.redo_run.specs.declared.run_fault.RunFault.{RunFault}
 use Rattle.redo_run.specs.declared.run_fault.RunFault.TheVariants.{Unknown, Stream as OfStream, OutOfMemory, Write}
 use Rattle.redo_gather.specs.Streams.{KnownInput}
-use Rattle.redo_run.specs.Run.{Request}
-use Rattle.redo_run.specs.Outcome.{IsResultFault, SomeResultText}
+use Rattle.redo_run.specs.Outcome.{Call, IsSomeResultFault, SomeResultText}
 use Rattle.redo_log_cli.specs.declared.failure.Failure.{Failure}
 use Rattle.redo_log_cli.specs.declared.failure.Failure.TheVariants.{NamesRead, Index, Memory}
 use Rattle.redo_args.specs.Job.{JobParts}
@@ -31,18 +30,21 @@ IsFlushedAfter (Ok done) result = (result ≡ Ok tt) ⊎ (result ≡ Err Write)
 IsFlushedAfter (Err fault) result = result ≡ Err fault
 
 -- The result of the run is a text.
-abbrev pub HasText : Request → List KnownInput → Type 0
-HasText request known = SomeResultText request known (λ text. Unit {0})
+abbrev pub HasText : Call → Type 0
+HasText call = SomeResultText call (λ text. Unit {0})
 
 -- What a result says about the streams, whatever happens to the writer. If it is an unknown argument or the fault of a stream,
 -- this fault is the result of the run. If the text was written, or a write failed, the result of the run is a text.
-abbrev pub IsRunResult : Request → List KnownInput → Result (Unit {0}) RunFault → Type 0
-IsRunResult request known (Ok done) = HasText request known
-IsRunResult request known (Err (Unknown place)) = IsResultFault request known (Unknown place)
-IsRunResult request known (Err (OfStream number fault)) = IsResultFault request known (OfStream number fault)
-IsRunResult request known (Err OutOfMemory) = Unit {0}
-IsRunResult request known (Err Write) = HasText request known
+abbrev pub IsRunResult : Call → Result (Unit {0}) RunFault → Type 0
+IsRunResult call (Ok done) = HasText call
+IsRunResult call (Err (Unknown place)) = IsSomeResultFault call (Unknown place)
+IsRunResult call (Err (OfStream number fault)) = IsSomeResultFault call (OfStream number fault)
+IsRunResult call (Err OutOfMemory) = Unit {0}
+IsRunResult call (Err Write) = HasText call
 
--- What a job asks a run, with the targets of an index.
-abbrev pub request_of_job : JobParts → List IndexEntry → Request
-request_of_job job index = record { targets = names_of index; max_bytes = byte_limit; options = job.options; arguments = job.targets }
+-- What a job asks a run, with the targets of an index and what is known of their readers.
+abbrev pub call_of_job : JobParts → List IndexEntry → List KnownInput → Call
+call_of_job job index inputs = record {
+  request = record { targets = listed_targets index; max_bytes = byte_limit; options = job.options; arguments = job.targets };
+  inputs = inputs;
+}

@@ -1,4 +1,4 @@
--- How entries are stored: texts in blocks, each name once, and `PackedEntries`s that refer to texts and names.
+-- How entries are stored: texts in blocks, each name once, and `PackedEntries` values that refer to texts and names.
 use Rattle.std.specs.Prelude.{◌≡◌, ℕ, zero, suc, ◌≤◌, ◌<◌, false, List, [], ◌∷◌, ◌++◌, Option, None, Some, nat_eq, length, map, drop, slice_get, slice_index_or, slice_range, ⊤}
 use Rattle.std.specs.List.{AllByRecursion, IsDistinct, flat_map, list_any}
 use Rattle.std.specs.Cmp.Lexicographic.{pointwise}

@@ -5,9 +5,9 @@ use Rattle.std.proofs.lemmas.Option.{slice_get-map}
 use Rattle.std.proofs.lemmas.Result.{IfOk-from_err}
 use Rattle.redo_line.specs.Source.{source, sources}
 use Rattle.redo_logs.specs.Logs.{targets_of}
-use Rattle.redo_gather.specs.Private.Dealing.{AreDistributed}
+use Rattle.redo_gather.specs.Private.Distribution.{AreDistributed}
 use Rattle.redo_gather.specs.Streams.{known_input}
-use Rattle.redo_gather.proofs.DealingLemmas.{all_dealt, at_place, none_dealt, one_dealt, sources-none, sources-push}
+use Rattle.redo_gather.proofs.DistributionLemmas.{all_distributed, at_place, none_distributed, one_distributed, sources-none, sources-push}
 use Rattle.redo_gather.proofs.gathering.distribute.Goals as goal
 
 pub loop-must_close-init : goal.loop-must_close-init
@@ -15,7 +15,7 @@ loop-must_close-init g c = (
   refl,
   sym c.into_iter-must_close-iterator.ensures.into_iter_gives.0,
   subst (λ given. AreDistributed g.R.Feed.contents c.args.senders given (map (λ share. share.items) c.in_ok-shares.shares.items)) (sym (sources-none (targets_of c.args.table.now) [] refl))
-      (none_dealt g.R.Feed.contents c.args.senders (map (λ share. share.items) c.in_ok-shares.shares.items) c.in_ok-shares.ensures),
+      (none_distributed g.R.Feed.contents c.args.senders (map (λ share. share.items) c.in_ok-shares.shares.items) c.in_ok-shares.ensures),
 )
 
 pub overflow_add-number : goal.overflow_add-number
@@ -42,15 +42,15 @@ loop-must_close-preserved g c =
     let within : number % c.args.senders < length shares =
     omega (arith, ap length kept.1, ap length c.in-Some.ensures.steps.0, length-append yielded c.loop-must_close.must_close-iterator.rest.items, c.requires.senders, kept.2.0, length-map shares (λ share. share.items)) in
     let there = slice_get-map (λ share. share.items) shares (number % c.args.senders) ∙ ap (option_map (λ share. share.items)) (at_place shares (number % c.args.senders) c.index_mut.result.now within c.index_mut.ensures.value) in
-    let dealt =
-    one_dealt g.R.Feed.contents c.args.senders (sources targets (map contents yielded)) (map (λ share. share.items) shares) (source c.in_ok-target.target c.in-Some.must_close (g.R.Feed.contents c.in-Some.reader)) item c.index_mut.result.now.items c.push.new.self.items
+    let distributed =
+    one_distributed g.R.Feed.contents c.args.senders (sources targets (map contents yielded)) (map (λ share. share.items) shares) (source c.in_ok-target.target c.in-Some.must_close (g.R.Feed.contents c.in-Some.reader)) item c.index_mut.result.now.items c.push.new.self.items
     (λ i. (sym place i, (source c.in_ok-target.target c.in-Some.must_close (g.R.Feed.contents c.in-Some.reader)))) (ap (λ n. slice_get (map (λ share. share.items) shares) (n % c.args.senders)) place ∙ there) c.in_ok-push.ensures.items kept.2 in (
       omega (arith, kept.0, length-append yielded (reader ∷ [])),
       kept.1 ∙ ap (λ left. yielded ++ left) c.in-Some.ensures.steps.0 ∙ sym (append_assoc yielded (reader ∷ []) c.next.new.self.rest.items),
       subst (AreDistributed g.R.Feed.contents c.args.senders (sources targets (map contents (yielded ++ reader ∷ []))))
           (ap (λ n. slice_set (map (λ share. share.items) shares) (n % c.args.senders) c.push.new.self.items) place ∙ sym (map-set (λ share. share.items) shares (number % c.args.senders) c.push.new.self))
           (subst (λ given. AreDistributed g.R.Feed.contents c.args.senders given (slice_set (map (λ share. share.items) shares) (length (sources targets (map contents yielded)) % c.args.senders) c.push.new.self.items))
-          (sym (ap (sources targets) (map_push contents yielded reader) ∙ pushed.0)) dealt),
+          (sym (ap (sources targets) (map_push contents yielded reader) ∙ pushed.0)) distributed),
     )
 
 pub returns-in_err-shares : goal.returns-in_err-shares
@@ -88,4 +88,4 @@ returns g c =
     let left = c.loop-must_close.must_close-iterator.rest in
     let none : length left.items ≡ 0 = omega (arith, c.in-None.ensures.steps.0, left.ok) in
     subst (λ read. AreDistributed g.R.Feed.contents c.args.senders (sources (targets_of c.args.table.now) (map (known_input g.R.Feed.contents) read)) (map (λ share. share.items) c.loop-must_close.shares.items))
-    (all_dealt c.args.readers.items c.loop-must_close.yielded left.items kept.1 none) kept.2
+    (all_distributed c.args.readers.items c.loop-must_close.yielded left.items kept.1 none) kept.2

@@ -1,7 +1,7 @@
 use Rattle.std.proofs.Common.{◌≡◌, ◌++◌, length, map}
 use Rattle.redo_line.specs.Source.{sources}
 use Rattle.redo_logs.specs.Logs.{targets_of}
-use Rattle.redo_gather.specs.Private.Dealing.{AreDistributed}
+use Rattle.redo_gather.specs.Private.Distribution.{AreDistributed}
 use Rattle.redo_gather.specs.Streams.{known_input}
 use Rattle.redo_gather.proofs.gathering.distribute.Given as goal
 

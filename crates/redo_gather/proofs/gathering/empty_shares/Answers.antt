@@ -1,6 +1,6 @@
 use Rattle.std.proofs.Common.{◌≡◌, [], ◌∷◌, ◌++◌, map, ap, ◌∙◌, arith, subst}
 use Rattle.std.proofs.lemmas.List.{map_push, replicate_more}
-use Rattle.redo_gather.specs.Private.Dealing.{AreEmpty}
+use Rattle.redo_gather.specs.Private.Distribution.{AreEmpty}
 use Rattle.std.proofs.lemmas.Result.{IfOk-from_err}
 use Rattle.redo_gather.proofs.gathering.empty_shares.Goals as goal
 

@@ -1,5 +1,5 @@
 use Rattle.std.proofs.Common.{map}
-use Rattle.redo_gather.specs.Private.Dealing.{AreEmpty}
+use Rattle.redo_gather.specs.Private.Distribution.{AreEmpty}
 use Rattle.redo_gather.proofs.gathering.empty_shares.Given as goal
 
 abbrev pub invariant-loop : goal.invariant-loop

@@ -1,14 +1,14 @@
-use Rattle.redo_gather.proofs.OwedLaws.{may_owe_all, may_owe_front, owes_fault, owes_in_order, owes_log}
+use Rattle.redo_gather.proofs.ExpectedLaws.{may_owe_all, may_owe_front, expects_fault, expects_in_order, expects_log}
 use Rattle.redo_gather.proofs.laws.expected_for_stream.Goals as goal
 
 pub returns-clause-order : goal.returns-clause-order
-returns-clause-order c = owes_in_order
+returns-clause-order c = expects_in_order
 
 pub returns-clause-log : goal.returns-clause-log
-returns-clause-log c = owes_log
+returns-clause-log c = expects_log
 
 pub returns-clause-fault : goal.returns-clause-fault
-returns-clause-fault c = owes_fault
+returns-clause-fault c = expects_fault
 
 pub returns-clause-all : goal.returns-clause-all
 returns-clause-all c = may_owe_all

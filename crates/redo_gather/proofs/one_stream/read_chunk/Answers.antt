@@ -5,7 +5,7 @@ use Rattle.redo_gather.proofs.ReadingLemmas.{if_none, lines_read, no_line, refus
 use Rattle.redo_gather.proofs.one_stream.read_chunk.Goals as goal
 
 pub lines-init : goal.lines-init
-lines-init c = (zero-le, took_nothing c.args.scan.now c.args.piece.now c.requires.fault_free.not_failed, c.requires)
+lines-init c = (zero-le, took_nothing c.args.scan.now c.args.chunk.now c.requires.fault_free.not_failed, c.requires)
 
 pub lines-preserved : goal.lines-preserved
 lines-preserved c =
@@ -14,7 +14,7 @@ lines-preserved c =
     let found = rw c.in-Some.is at c.in_ok-upto.ensures.found in
     let forward : c.lines.from ≤ c.in-Some.upto = omega (arith, place.0) in (
       place.1,
-      took_to c.args.scan.now c.args.piece.now c.lines.scan c.lines.from kept.1 c.step_into.new.self c.in-Some.upto forward found.taken,
+      took_to c.args.scan.now c.args.chunk.now c.lines.scan c.lines.from kept.1 c.step_into.new.self c.in-Some.upto forward found.taken,
       lines_read c.lines.scan c.step_into.new.self _ _ _ _ c.lines.entries c.step_into.new.entries found kept.2 found.put,
     )
 
@@ -24,13 +24,13 @@ returns-in_err-upto-clause-refused c =
     let given = err_from_is_err_and c.from_residual.result c.from_residual.ensures.1 in
     let known = c.in_err-upto.ensures in
     rw (given.1, given.2)
-    (subst (λ es. IsRefused c.args.scan.now c.args.piece.now es c.in_err-upto.field-0.0) (sym known.unchanged_on_err)
-    (refused_behind c.args.scan.now c.args.piece.now c.lines.scan c.lines.from kept.1 c.lines.entries kept.2 c.in_err-upto.field-0.0 (known.fault kept.2.fault_free.not_failed)))
+    (subst (λ es. IsRefused c.args.scan.now c.args.chunk.now es c.in_err-upto.field-0.0) (sym known.unchanged_on_err)
+    (refused_behind c.args.scan.now c.args.chunk.now c.lines.scan c.lines.from kept.1 c.lines.entries kept.2 c.in_err-upto.field-0.0 (known.fault kept.2.fault_free.not_failed)))
 
 pub returns-clause-took : goal.returns-clause-took
 returns-clause-took c =
     let more = if_none c.in_ok-upto.field-0 _ c.in_default.not-Some c.in_ok-upto.ensures.rest_consumed in
-    took_rest c.args.scan.now c.args.piece.now c.lines.scan c.lines.from c.lines.invariant.1 c.step_into.new.self more.0
+    took_rest c.args.scan.now c.args.chunk.now c.lines.scan c.lines.from c.lines.invariant.1 c.step_into.new.self more.0
 
 pub returns-clause-read : goal.returns-clause-read
 returns-clause-read c =

@@ -5,7 +5,7 @@ use Rattle.redo_gather.proofs.one_stream.read_chunk.Given as goal
 
 -- The chunk was consumed up to `from`.
 abbrev pub invariant-lines : goal.invariant-lines
-invariant-lines l = (l.from ≤ length l.piece) × (l.scan ≡ consume (take l.from l.piece) l.initial.scan) × IsRead l.scan l.entries
+invariant-lines l = (l.from ≤ length l.chunk) × (l.scan ≡ consume (take l.from l.chunk) l.initial.scan) × IsRead l.scan l.entries
 
 abbrev pub decreases-lines : goal.decreases-lines
-decreases-lines l = length l.piece - l.from
+decreases-lines l = length l.chunk - l.from

@@ -48,7 +48,7 @@ returns-in_err-read_chunk-in-Ok g c =
       ended = tt;
       expected =
           at_refusal c.args.scan.now.target c.args.scan.now.max_bytes c.args.scan.now.must_close _ _ _ c.reads.scan c.reads.entries kept.3 kept.2 c.in-Ok.n c.pull.new.buf some c.in-Ok.ensures.gives c.read_chunk.new.entries
-          c.in_err-read_chunk-in-Ok.field-0.0 refused.never_read refused.refused;
+          c.in_err-read_chunk-in-Ok.field-0.0 refused.never_read_fault refused.refused;
       buf = c.pull.auto.buf ∙ kept.1;
     })
 
@@ -58,8 +58,8 @@ reads-smaller g c =
     let some : 0 < c.in-Ok.n = let nonzero = c.in-Ok.n-test.1 in omega (arith, nonzero) in
     let limit = within c.args.scan.now.target c.args.scan.now.max_bytes c.args.scan.now.must_close _ _ (g.R.Feed.contents c.reads.reader) c.reads.scan c.reads.entries kept.3 kept.2 in
     let taken = ap (λ s. length s.bytes) c.in_ok-read_chunk-in-Ok.ensures.took ∙ length-append c.reads.scan.bytes (take c.in-Ok.n c.pull.new.buf) in
-    let piece = length-take c.in-Ok.n c.pull.new.buf in
-    omega (arith, some, limit, taken, piece, c.in-Ok.ensures.bound)
+    let chunk = length-take c.in-Ok.n c.pull.new.buf in
+    omega (arith, some, limit, taken, chunk, c.in-Ok.ensures.bound)
 
 pub reads-preserved : goal.reads-preserved
 reads-preserved g c =
@@ -72,5 +72,5 @@ reads-preserved g c =
       c.pull.auto.buf ∙ kept.1,
       record { target_is = ap (λ s. s.target) read.took ∙ kept.2.target_is; limit_is = ap (λ s. s.max_bytes) read.took ∙ kept.2.limit_is; flag_is = ap (λ s. s.must_close) read.took ∙ kept.2.flag_is },
       one_piece c.args.scan.now.target c.args.scan.now.max_bytes c.args.scan.now.must_close _ _ _ c.reads.scan c.reads.entries kept.3 kept.2 c.in-Ok.n buf some c.in-Ok.ensures.gives c.read_chunk.new.scan c.read_chunk.new.entries read.took read.read,
-      (let turns = kept.4 in let piece = length-take c.in-Ok.n buf in omega (arith, turns, some, taken, piece, c.in-Ok.ensures.bound)),
+      (let turns = kept.4 in let chunk = length-take c.in-Ok.n buf in omega (arith, turns, some, taken, chunk, c.in-Ok.ensures.bound)),
     )

@@ -2,7 +2,7 @@ use Rattle.std.proofs.Common.{rules, ◌≡◌, ℕ, ◌+◌, ◌<◌, ◌≤◌
 use Rattle.std.proofs.lemmas.List.{length-map}
 use Rattle.std.proofs.lemmas.Result.{err_from_is_err_and}
 use Rattle.redo_logs.specs.Logs.{Log, targets_of}
-use Rattle.redo_gather.specs.Streams.{IsFault, known_input}
+use Rattle.redo_gather.specs.Streams.{IsLowestFault, known_input}
 use Rattle.redo_gather.proofs.GatheredLemmas.{Gathered, none_gathered, weaker_fault}
 use Rattle.redo_gather.proofs.TurnLemmas.{below_names, log_runs, one_more_read, fault_read, target_below, all_logs, all_of_names, all_whole}
 use Rattle.redo_gather.proofs.plain.gather_into.Goals as goal
@@ -58,14 +58,14 @@ returns-in_err-gather_one g c =
         targets = tt;
         ended = tt;
         fault =
-            weaker_fault (Unit {0}) (List Log) _ (IsFault c.args.max_bytes names known)
-            (λ number fault is. subst (λ (n : ℕ). IsFault c.args.max_bytes names known n fault) (sym is.0) (fault_read (known_input g.R.Feed.contents) _ _ _ _ _ _ _ so_far same _ _ steps here.0 here.1 fault is.1)) _
+            weaker_fault (Unit {0}) (List Log) _ (IsLowestFault c.args.max_bytes names known)
+            (λ number fault is. subst (λ (n : ℕ). IsLowestFault c.args.max_bytes names known n fault) (sym is.0) (fault_read (known_input g.R.Feed.contents) _ _ _ _ _ _ _ so_far same _ _ steps here.0 here.1 fault is.1)) _
             (failed.fault here.0 here.1);
         number =
             weaker_fault (Unit {0}) (List Log) _ (λ number fault. number < length names)
             (λ number fault is. subst (λ (n : ℕ). n < length names) (sym is.0) (below_names (known_input g.R.Feed.contents) _ _ _ _ _ _ _ so_far same _ _ steps)) _ (failed.fault here.0 here.1);
       };
-      no_memory = failed.no_memory;
+      never_out_of_memory = failed.never_out_of_memory;
     })
 
 pub returns : goal.returns
@@ -80,5 +80,5 @@ returns g c =
         fault = tt;
         number = tt;
       };
-      no_memory = tt;
+      never_out_of_memory = tt;
     }

@@ -2,12 +2,12 @@ use Rattle.std.proofs.Common.{◌≡◌, ℕ, ◌<◌, Some, List, refl, ap, ◌
 use Rattle.std.proofs.lemmas.List.{length-map}
 use Rattle.std.proofs.lemmas.Option.{slice_get_within}
 use Rattle.redo_device.specs.Feed.{SomeStream}
-use Rattle.redo_line.specs.Source.{log_from, source}
+use Rattle.redo_line.specs.Source.{source_log, source}
 use Rattle.redo_logs.specs.declared.log_state.LogState.TheVariants.{Running}
 use Rattle.redo_logs.specs.Logs.{Log, update_log, states_of}
 use Rattle.redo_gather.specs.Private.Storing.{HasFault, completed}
 use Rattle.redo_gather.proofs.GatheredLemmas.{of_stream}
-use Rattle.redo_gather.proofs.OwedLemmas.{is_fault, is_log, no_fault_left}
+use Rattle.redo_gather.proofs.ExpectedLemmas.{is_fault, is_log, no_fault_left}
 use Rattle.redo_gather.proofs.plain.gather_one.Goals as goal
 
 pub name-requires : goal.name-requires
@@ -32,8 +32,8 @@ returns-in-Some-clause-fault g c target here =
     ))
     c.of.result c.of.ensures
 
-pub returns-in-Some-clause-no_memory : goal.returns-in-Some-clause-no_memory
-returns-in-Some-clause-no_memory g c = of_stream (Unit {0}) c.args.number c.in-Some.fault _ (λ other. other) c.of.result c.of.ensures
+pub returns-in-Some-clause-never_out_of_memory : goal.returns-in-Some-clause-never_out_of_memory
+returns-in-Some-clause-never_out_of_memory g c = of_stream (Unit {0}) c.args.number c.in-Some.fault _ (λ other. other) c.of.result c.of.ensures
 
 pub store-requires : goal.store-requires
 store-requires g c = c.requires.runs
@@ -49,7 +49,7 @@ returns-clause-completed g c target here =
     let same : c.in_ok-target.target ≡ target = cc (copied, named, here) in record {
       entries = log.entries;
       entries_are =
-          subst (λ (of : List ℕ). SomeStream known (λ stream. log_from max_bytes (source of c.args.must_close stream) ≡ Some log.entries)) same
+          subst (λ (of : List ℕ). SomeStream known (λ stream. source_log max_bytes (source of c.args.must_close stream) ≡ Some log.entries)) same
           (is_log max_bytes (source c.in_ok-target.target c.args.must_close known) log.entries log.fault c.read_stream-log.ensures.expected none);
       table_is = c.in_ok-store.ensures.stored ∙ ap (λ fault. update_log c.args.number (completed log.entries fault) c.args.table.now) none;
     }

@@ -10,7 +10,7 @@ use Rattle.redo_gather.proofs.plain.gather_plain.Goals as goal
 pub returns-in_err-room : goal.returns-in_err-room
 returns-in_err-room g c =
     let given = err_from_is_err_and c.from_residual.result c.from_residual.ensures.1 in
-    rw (given.1, given.2) (record { logs = tt; targets = tt; ended = tt; fault = tt; number = tt; no_memory = tt })
+    rw (given.1, given.2) (record { gathered = record { logs = tt; targets = tt; ended = tt; fault = tt; number = tt }; never_out_of_memory = tt })
 
 pub new_table-requires : goal.new_table-requires
 new_table-requires g c = record { distinct = c.requires.distinct; size = c.requires.size }
@@ -18,7 +18,7 @@ new_table-requires g c = record { distinct = c.requires.distinct; size = c.requi
 pub returns-in_err-table : goal.returns-in_err-table
 returns-in_err-table g c =
     let given = err_from_is_err_and c.from_residual-in_err-table.result c.from_residual-in_err-table.ensures.1 in
-    rw (given.1, given.2) (record { logs = tt; targets = tt; ended = tt; fault = tt; number = tt; no_memory = tt })
+    rw (given.1, given.2) (record { gathered = record { logs = tt; targets = tt; ended = tt; fault = tt; number = tt }; never_out_of_memory = tt })
 
 pub gather_into-requires-clause-begins : goal.gather_into-requires-clause-begins
 gather_into-requires-clause-begins g c = begins_empty c.args.names.items c.in_ok-table.table c.in_ok-table.ensures
@@ -33,7 +33,7 @@ zip_flags-requires g c = c.requires.readers ∙ sym c.requires.flags
 pub returns-in_err-readers : goal.returns-in_err-readers
 returns-in_err-readers g c =
     let given = err_from_is_err_and c.from_residual-in_err-readers.result c.from_residual-in_err-readers.ensures.1 in
-    rw (given.1, given.2) (record { logs = tt; targets = tt; ended = tt; fault = tt; number = tt; no_memory = tt })
+    rw (given.1, given.2) (record { gathered = record { logs = tt; targets = tt; ended = tt; fault = tt; number = tt }; never_out_of_memory = tt })
 
 pub gather_into-requires-clause-size : goal.gather_into-requires-clause-size
 gather_into-requires-clause-size g c = has_room c.args.names.items c.in_ok-table.table c.in_ok-table.ensures c.requires.size
@@ -45,10 +45,6 @@ returns g c =
     g.R.Feed.contents c.args.max_bytes result c.gather_into.ensures.gathered in
     rw c.and.ensures
     (record {
-      logs = gathered.logs;
-      targets = gathered.targets;
-      ended = gathered.ended;
-      fault = gathered.fault;
-      number = gathered.number;
-      no_memory = fault_of_and (Unit {0}) (List Log) (λ number fault. fault ≢ OutOfMemory) c.gather_into.result c.gather_into.new.table c.gather_into.ensures.no_memory;
+      gathered = gathered;
+      never_out_of_memory = fault_of_and (Unit {0}) (List Log) (λ number fault. fault ≢ OutOfMemory) c.gather_into.result c.gather_into.new.table c.gather_into.ensures.never_out_of_memory;
     })

@@ -8,9 +8,9 @@ use Rattle.redo_gather.proofs.sending.read_batch.Given as goal
 -- The chunk was consumed up to `upto`, and there is room for one more entry.
 abbrev pub invariant-lines : goal.invariant-lines
 invariant-lines l =
-    (l.fn.from ≤ l.upto) × (l.upto ≤ length l.piece)
+    (l.fn.from ≤ l.upto) × (l.upto ≤ length l.chunk)
     × (length l.batch < max_entries)
-    × ((begun : Scanned) (first : List Entry) → IsReadTo begun l.piece l.fn.from l.initial.scan first → IsReadTo begun l.piece l.upto l.scan (first ++ l.batch))
+    × ((begun : Scanned) (first : List Entry) → IsReadTo begun l.chunk l.fn.from l.initial.scan first → IsReadTo begun l.chunk l.upto l.scan (first ++ l.batch))
 
 abbrev pub decreases-lines : goal.decreases-lines
-decreases-lines l = length l.piece - l.upto
+decreases-lines l = length l.chunk - l.upto

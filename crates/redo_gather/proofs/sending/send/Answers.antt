@@ -1,9 +1,10 @@
 use Rattle.std.proofs.Common.{◌≡◌, ℕ, Bool, List, ◌∷◌, [], ◌++◌, length, map, refl, sym, ap, ◌∙◌, subst, arith}
 use Rattle.std.proofs.lemmas.List.{append_assoc, map_push}
 use Rattle.redo_line.specs.Source.{source}
-use Rattle.redo_gather.specs.Sending.{HasSent, numbered_input}
-use Rattle.redo_gather.proofs.DealingLemmas.{all_dealt}
-use Rattle.redo_gather.proofs.PostedLemmas.{nothing_posted, one_sent}
+use Rattle.redo_gather.specs.Private.Posting.{IsSharePosted}
+use Rattle.redo_gather.specs.Sending.{numbered_source}
+use Rattle.redo_gather.proofs.DistributionLemmas.{all_distributed}
+use Rattle.redo_gather.proofs.PostedLemmas.{all_sent, nothing_posted, one_sent}
 use Rattle.redo_gather.proofs.sending.send.Goals as goal
 
 pub loop-stream-preserved : goal.loop-stream-preserved
@@ -13,8 +14,8 @@ loop-stream-preserved g c =
     let yielded = c.loop-stream.yielded in
     let item : ℕ × List ℕ × Bool × g.row.R.Denot = (c.in-Some.stream, c.in-Some.target, c.in-Some.must_close, c.in-Some.reader) in (
       kept.0 ∙ ap (λ left. yielded ++ left) c.in-Some.ensures.steps.0 ∙ sym (append_assoc yielded (item ∷ []) c.next.new.self.rest.items),
-      subst (λ share. HasSent c.args.max_bytes share c.args.end c.send_stream.new.end) (sym (map_push (numbered_input contents) yielded item))
-          (one_sent c.args.max_bytes (map (numbered_input contents) yielded) c.in-Some.stream (source c.in-Some.target c.in-Some.must_close (contents c.in-Some.reader)) c.args.end c.loop-stream.end c.send_stream.new.end kept.1 c.send_stream.ensures),
+      subst (λ share. IsSharePosted c.args.max_bytes share c.args.end c.send_stream.new.end) (sym (map_push (numbered_source contents) yielded item))
+          (one_sent c.args.max_bytes (map (numbered_source contents) yielded) c.in-Some.stream (source c.in-Some.target c.in-Some.must_close (contents c.in-Some.reader)) c.args.end c.loop-stream.end c.send_stream.new.end kept.1 c.send_stream.ensures),
     )
 
 pub loop-stream-init : goal.loop-stream-init
@@ -25,4 +26,7 @@ returns g c =
     let kept = c.loop-stream.invariant in
     let left = c.loop-stream.stream-iterator.rest in
     let none : length left.items ≡ 0 = omega (arith, c.in-None.ensures.steps.0, left.ok) in
-    subst (λ share. HasSent c.args.max_bytes (map (numbered_input g.R.Feed.contents) share) c.args.end c.loop-stream.end) (all_dealt c.args.share.items c.loop-stream.yielded left.items kept.0 none) kept.1
+    let sent =
+    all_sent c.args.max_bytes _ c.args.end c.loop-stream.end
+    (subst (λ share. IsSharePosted c.args.max_bytes (map (numbered_source g.R.Feed.contents) share) c.args.end c.loop-stream.end) (all_distributed c.args.share.items c.loop-stream.yielded left.items kept.0 none) kept.1) in
+    record { unchanged = sent.unchanged; posted = sent.posted; expected = sent.expected; well_sized = sent.well_sized }

@@ -4,7 +4,8 @@ use Rattle.std.proofs.lemmas.Result.{err_from_is_err_and}
 use Rattle.std.proofs.Math.Seq.{take-length}
 use Rattle.redo_line.specs.Scan.{consume}
 use Rattle.redo_gather.specs.Private.Reading.{IsRead, IsRefused}
-use Rattle.redo_gather.specs.Sending.{HasPosted, line_of}
+use Rattle.redo_gather.specs.Private.Posting.{HasPosted}
+use Rattle.redo_gather.specs.Sending.{entry_item}
 use Rattle.redo_gather.proofs.PostedLemmas.{lines_posted}
 use Rattle.redo_gather.proofs.ReadingLemmas.{cut_in}
 use Rattle.redo_gather.proofs.sending.send_chunk.Goals as goal
@@ -35,7 +36,7 @@ returns-in_err-upto-clause-posted g c =
       posted = lines_posted c.args.stream c.args.end.now c.batches.end c.post_batch.new.end so_far.0 batch so_far.1 c.in_ok-post_batch.ensures.posted;
       read = λ first read. tt;
       refused = λ first read.
-          subst (λ es. IsRefused c.args.scan.now c.args.piece.now es c.in_err-upto.field-0.0) (append_assoc first so_far.0 batch)
+          subst (λ es. IsRefused c.args.scan.now c.args.chunk.now es c.in_err-upto.field-0.0) (append_assoc first so_far.0 batch)
           (c.in_err-upto.ensures.refused c.args.scan.now (first ++ so_far.0) (so_far.2 first read));
     })
 
@@ -50,32 +51,32 @@ returns-in_err-batch-clause-posted g c =
       read = λ first read. tt;
       refused = λ first read.
           let now = so_far.2 first read in
-          inr (cut_in c.args.scan.now c.args.piece.now c.batches.scan c.batches.from now.0 (first ++ so_far.0) now.1, refl);
+          inr (cut_in c.args.scan.now c.args.chunk.now c.batches.scan c.batches.from now.0 (first ++ so_far.0) now.1, refl);
     })
 
 pub returns-in_err-post_batch-clause-posted : goal.returns-in_err-post_batch-clause-posted
 returns-in_err-post_batch-clause-posted g c =
     let so_far = c.batches.invariant.1 in
     let given = err_from_is_err_and c.from_residual-in_err-post_batch.result c.from_residual-in_err-post_batch.ensures.1 in
-    rw (given.1, given.2, c.in_err-post_batch.ensures.no_memory)
+    rw (given.1, given.2, c.in_err-post_batch.ensures.only_out_of_memory)
     (record {
       entries = so_far.0;
-      posted = subst (λ end. HasPosted c.args.end.now end (map (line_of c.args.end.now.number c.args.stream) so_far.0)) (sym c.in_err-post_batch.ensures.unchanged_on_err) so_far.1;
+      posted = subst (λ end. HasPosted c.args.end.now end (map (entry_item c.args.end.now.number c.args.stream) so_far.0)) (sym c.in_err-post_batch.ensures.unchanged_on_err) so_far.1;
       read = λ first read. tt;
       refused = λ first read.
           let now = so_far.2 first read in
-          inr (cut_in c.args.scan.now c.args.piece.now c.batches.scan c.batches.from now.0 (first ++ so_far.0) now.1, refl);
+          inr (cut_in c.args.scan.now c.args.chunk.now c.batches.scan c.batches.from now.0 (first ++ so_far.0) now.1, refl);
     })
 
 pub returns-clause-posted : goal.returns-clause-posted
 returns-clause-posted g c =
     let so_far = c.batches.invariant.1 in
-    let all : c.batches.from ≡ length c.args.piece.now = omega (arith, c.batches.invariant.0, c.batches-test.false) in
+    let all : c.batches.from ≡ length c.args.chunk.now = omega (arith, c.batches.invariant.0, c.batches-test.false) in
     record {
       entries = so_far.0;
       posted = so_far.1;
       read = λ first read.
           let now = so_far.2 first read in
-          (now.0 ∙ ap (λ p. consume p c.args.scan.now) (ap (λ n. take n c.args.piece.now) all ∙ take-length c.args.piece.now), now.1);
+          (now.0 ∙ ap (λ p. consume p c.args.scan.now) (ap (λ n. take n c.args.chunk.now) all ∙ take-length c.args.chunk.now), now.1);
       refused = λ first read. tt;
     }

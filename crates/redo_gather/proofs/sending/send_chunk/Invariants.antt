@@ -1,15 +1,16 @@
 use Rattle.std.proofs.Common.{◌≤◌, ◌-◌, List, ◌++◌, length, map}
 use Rattle.redo_line.specs.declared.entry.Entry.{Entry}
 use Rattle.redo_gather.specs.Private.Reading.{IsRead, IsReadTo}
-use Rattle.redo_gather.specs.Sending.{HasPosted, line_of}
+use Rattle.redo_gather.specs.Private.Posting.{HasPosted}
+use Rattle.redo_gather.specs.Sending.{entry_item}
 use Rattle.redo_gather.proofs.sending.send_chunk.Given as goal
 
 -- The chunk was consumed up to `from`, and its lines so far were posted.
 abbrev pub invariant-batches : goal.invariant-batches
 invariant-batches g l =
-    (l.from ≤ length l.piece)
-    × ((entries : List Entry) × HasPosted l.initial.end l.end (map (line_of l.initial.end.number l.stream) entries)
-    × ((first : List Entry) → IsRead l.initial.scan first → IsReadTo l.initial.scan l.piece l.from l.scan (first ++ entries)))
+    (l.from ≤ length l.chunk)
+    × ((entries : List Entry) × HasPosted l.initial.end l.end (map (entry_item l.initial.end.number l.stream) entries)
+    × ((first : List Entry) → IsRead l.initial.scan first → IsReadTo l.initial.scan l.chunk l.from l.scan (first ++ entries)))
 
 abbrev pub decreases-batches : goal.decreases-batches
-decreases-batches g l = length l.piece - l.from
+decreases-batches g l = length l.chunk - l.from

@@ -50,8 +50,8 @@ reads-smaller g c =
     let some : 0 < c.in-Ok.n = let nonzero = c.in-Ok.n-test.1 in omega (arith, nonzero) in
     let limit = within c.args.scan.now.target c.args.scan.now.max_bytes c.args.scan.now.must_close _ _ (g.R.Feed.contents c.reads.reader) c.reads.scan kept.4.0 kept.4.2 kept.2 in
     let taken = ap (λ s. length s.bytes) now.0 ∙ length-append c.reads.scan.bytes (take c.in-Ok.n c.pull.new.buf) in
-    let piece = length-take c.in-Ok.n c.pull.new.buf in
-    omega (arith, some, limit, taken, piece, c.in-Ok.ensures.bound)
+    let chunk = length-take c.in-Ok.n c.pull.new.buf in
+    omega (arith, some, limit, taken, chunk, c.in-Ok.ensures.bound)
 
 pub reads-preserved : goal.reads-preserved
 reads-preserved g c =
@@ -64,7 +64,7 @@ reads-preserved g c =
       c.requires.callable,
       c.pull.auto.buf ∙ kept.1,
       record { target_is = ap (λ s. s.target) now.0 ∙ kept.2.target_is; limit_is = ap (λ s. s.max_bytes) now.0 ∙ kept.2.limit_is; flag_is = ap (λ s. s.must_close) now.0 ∙ kept.2.flag_is },
-      (let turns = kept.3 in let piece = length-take c.in-Ok.n buf in omega (arith, turns, some, taken, piece, c.in-Ok.ensures.bound)),
+      (let turns = kept.3 in let chunk = length-take c.in-Ok.n buf in omega (arith, turns, some, taken, chunk, c.in-Ok.ensures.bound)),
       (
         kept.4.0 ++ sent.entries,
         lines_posted c.args.stream c.args.end.now c.reads.end c.send_chunk.new.end kept.4.0 sent.entries kept.4.1 sent.posted,
@@ -85,5 +85,5 @@ returns-in_err-send_chunk-in-Ok g c =
       ended = tt;
       expected =
           at_refusal c.args.scan.now.target c.args.scan.now.max_bytes c.args.scan.now.must_close _ _ _ c.reads.scan kept.4.0 kept.4.2 kept.2 c.in-Ok.n c.pull.new.buf some c.in-Ok.ensures.gives (kept.4.0 ++ sent.posted.entries)
-          c.in_err-send_chunk-in-Ok.field-0.0 sent.never_read (sent.posted.refused kept.4.0 kept.4.2.read);
+          c.in_err-send_chunk-in-Ok.field-0.0 sent.never_read_fault (sent.posted.refused kept.4.0 kept.4.2.read);
     })

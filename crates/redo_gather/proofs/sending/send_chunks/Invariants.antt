@@ -1,6 +1,7 @@
 use Rattle.std.proofs.Common.{◌≡◌, ◌≤◌, ◌-◌, ◌+◌, List, length, map}
 use Rattle.redo_line.specs.declared.entry.Entry.{Entry}
-use Rattle.redo_gather.specs.Sending.{HasPosted, line_of}
+use Rattle.redo_gather.specs.Private.Posting.{HasPosted}
+use Rattle.redo_gather.specs.Sending.{entry_item}
 use Rattle.redo_gather.proofs.ReadingLemmas.{IsFor, Reading}
 use Rattle.redo_gather.proofs.sending.send_chunks.Given as goal
 
@@ -11,7 +12,7 @@ invariant-reads g l =
     × (length l.buf ≡ length l.initial.buf)
     × IsFor l.initial.scan.target l.initial.scan.max_bytes l.initial.scan.must_close l.scan
     × (l.turn ≤ length l.scan.bytes)
-    × ((entries : List Entry) × HasPosted l.initial.end l.end (map (line_of l.initial.end.number l.stream) entries)
+    × ((entries : List Entry) × HasPosted l.initial.end l.end (map (entry_item l.initial.end.number l.stream) entries)
     × Reading (g.R.Feed.contents l.initial.reader) (g.R.Feed.contents l.reader) l.scan entries)
 
 -- Each turn is a read. It takes bytes within the limit, or it is the last one.

@@ -3,7 +3,8 @@ use Rattle.redo_line.specs.Scan.{Scanned}
 use Rattle.redo_line.specs.Source.{source}
 use Rattle.redo_gather.specs.Expected.{IsExpectedFor}
 use Rattle.redo_gather.specs.Private.Reading.{fault_in}
-use Rattle.redo_gather.specs.Sending.{HasPosted, singles_in}
+use Rattle.redo_gather.specs.Private.Posting.{HasPosted}
+use Rattle.redo_gather.specs.Sending.{singles_in}
 use Rattle.redo_gather.proofs.PostedLemmas.{last_posted}
 use Rattle.redo_gather.proofs.sending.send_stream.Goals as goal
 

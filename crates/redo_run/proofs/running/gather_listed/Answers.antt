@@ -8,11 +8,5 @@ gather_with_keys-requires-clause-flags g c κs within =
     ap length c.in_ok-flags.ensures ∙ length-map c.args.index.now (λ (entry : IndexEntry). entry.must_close) ∙ sym (length-map c.args.index.now (λ (entry : IndexEntry). entry.target))
     ∙ sym (ap length c.in_ok-names.ensures.names)
 
-pub returns-clause-logs : goal.returns-clause-logs
-returns-clause-logs g c = rw (c.in_ok-names.ensures.names, c.in_ok-flags.ensures) at c.gather_with_keys.ensures.logs
-
-pub returns-clause-targets : goal.returns-clause-targets
-returns-clause-targets g c = rw c.in_ok-names.ensures.names at c.gather_with_keys.ensures.targets
-
-pub returns-clause-fault : goal.returns-clause-fault
-returns-clause-fault g c = rw (c.in_ok-names.ensures.names, c.in_ok-flags.ensures) at c.gather_with_keys.ensures.fault
+pub returns-clause-gathered : goal.returns-clause-gathered
+returns-clause-gathered g c = rw (c.in_ok-names.ensures.names, c.in_ok-flags.ensures) at c.gather_with_keys.ensures.gathered

@@ -1,7 +1,7 @@
 use Rattle.std.proofs.Common.{rules, ◌≡◌, ℕ, ◌<◌, length, take, refl, ◌∙◌, inr}
 use Rattle.std.proofs.lemmas.Result.{IfOk-weaker, err_from_is_err_and}
 use Rattle.redo_device.specs.Sink.{append_output}
-use Rattle.redo_index.specs.Index.{must_close_flags, names_of}
+use Rattle.redo_index.specs.Index.{must_close_flags, listed_targets}
 use Rattle.redo_gather.specs.Streams.{known_inputs}
 use Rattle.redo_options.specs.Arguments.{argument_bytes}
 use Rattle.redo_run.specs.Run.{request}
@@ -12,40 +12,40 @@ pub returns-in_err-targets-clause-fault : goal.returns-in_err-targets-clause-fau
 returns-in_err-targets-clause-fault g c =
     let given = err_from_is_err_and c.from_residual.result c.from_residual.ensures.1 in
     rw (given.1, given.2)
-    (rejected_argument (request c.args.index.now c.args.plan.now c.args.options.now c.args.arguments.now) (known_inputs g.R.Feed.contents (must_close_flags c.args.index.now) c.args.readers.items) c.in_err-targets.field-0.0 c.in_err-targets.ensures.fault)
+    (rejected_argument (request c.args.index.now c.args.plan.now.max_bytes c.args.options.now c.args.arguments.now) (known_inputs g.R.Feed.contents (must_close_flags c.args.index.now) c.args.readers.items) c.in_err-targets.field-0.0 c.in_err-targets.ensures.fault)
 
 pub returns-in_err-table-clause-fault : goal.returns-in_err-table-clause-fault
 returns-in_err-table-clause-fault g c =
     let given = err_from_is_err_and c.from_residual-in_err-table.result c.from_residual-in_err-table.ensures.1 in
     rw (given.1, given.2)
-    (rejected_stream (request c.args.index.now c.args.plan.now c.args.options.now c.args.arguments.now) (known_inputs g.R.Feed.contents (must_close_flags c.args.index.now) c.args.readers.items) c.args.plan.now.max_bytes (names_of c.args.index.now) c.in_err-table.field-0.0
-    refl refl c.in_ok-targets.ensures.known c.in_err-table.ensures.fault)
+    (rejected_stream (request c.args.index.now c.args.plan.now.max_bytes c.args.options.now c.args.arguments.now) (known_inputs g.R.Feed.contents (must_close_flags c.args.index.now) c.args.readers.items) c.args.plan.now.max_bytes (listed_targets c.args.index.now) c.in_err-table.field-0.0
+    refl refl c.in_ok-targets.ensures.known c.in_err-table.ensures.gathered.fault)
 
 pub show-requires-clause-known : goal.show-requires-clause-known
 show-requires-clause-known g c =
-    all_known c.in_ok-table.table (names_of c.args.index.now) c.deref.result.now (argument_bytes c.args.arguments.now) c.in_ok-table.ensures.targets
+    all_known c.in_ok-table.table (listed_targets c.args.index.now) c.deref.result.now (argument_bytes c.args.arguments.now) c.in_ok-table.ensures.gathered.targets
     (c.deref.ensures.value ∙ c.in_ok-targets.ensures.targets)
 
 pub returns-clause-ok : goal.returns-clause-ok
 returns-clause-ok g c =
     IfOk-weaker c.show.result _ _
     (λ _ wrote.
-    some_result_text (request c.args.index.now c.args.plan.now c.args.options.now c.args.arguments.now) (known_inputs g.R.Feed.contents (must_close_flags c.args.index.now) c.args.readers.items) (λ text. g.W.Sink.written c.show.new.out ≡ append_output (g.W.Sink.written c.args.out.now) text 0)
-    c.args.plan.now.max_bytes (names_of c.args.index.now) c.deref.result.now c.in_ok-table.table refl refl c.in_ok-targets.ensures.known
-    (c.deref.ensures.value ∙ c.in_ok-targets.ensures.targets) c.logs_unless_fault.ensures c.in_ok-table.ensures.logs wrote)
+    some_result_text (request c.args.index.now c.args.plan.now.max_bytes c.args.options.now c.args.arguments.now) (known_inputs g.R.Feed.contents (must_close_flags c.args.index.now) c.args.readers.items) (λ text. g.W.Sink.written c.show.new.out ≡ append_output (g.W.Sink.written c.args.out.now) text 0)
+    c.args.plan.now.max_bytes (listed_targets c.args.index.now) c.deref.result.now c.in_ok-table.table refl refl c.in_ok-targets.ensures.known
+    (c.deref.ensures.value ∙ c.in_ok-targets.ensures.targets) c.logs_unless_fault.ensures c.in_ok-table.ensures.gathered.logs wrote)
     c.show.ensures.ok
 
 pub returns-clause-write : goal.returns-clause-write
 returns-clause-write g c failed =
-    some_result_text (request c.args.index.now c.args.plan.now c.args.options.now c.args.arguments.now) (known_inputs g.R.Feed.contents (must_close_flags c.args.index.now) c.args.readers.items)
-    (λ text. (n : ℕ) × (n < length text) × (g.W.Sink.written c.show.new.out ≡ append_output (g.W.Sink.written c.args.out.now) (take n text) 1)) c.args.plan.now.max_bytes (names_of c.args.index.now) c.deref.result.now c.in_ok-table.table
-    refl refl c.in_ok-targets.ensures.known (c.deref.ensures.value ∙ c.in_ok-targets.ensures.targets) c.logs_unless_fault.ensures c.in_ok-table.ensures.logs (c.show.ensures.write failed)
+    some_result_text (request c.args.index.now c.args.plan.now.max_bytes c.args.options.now c.args.arguments.now) (known_inputs g.R.Feed.contents (must_close_flags c.args.index.now) c.args.readers.items)
+    (λ text. (n : ℕ) × (n < length text) × (g.W.Sink.written c.show.new.out ≡ append_output (g.W.Sink.written c.args.out.now) (take n text) 1)) c.args.plan.now.max_bytes (listed_targets c.args.index.now) c.deref.result.now c.in_ok-table.table
+    refl refl c.in_ok-targets.ensures.known (c.deref.ensures.value ∙ c.in_ok-targets.ensures.targets) c.logs_unless_fault.ensures c.in_ok-table.ensures.gathered.logs (c.show.ensures.write failed)
 
 pub returns-clause-memory : goal.returns-clause-memory
 returns-clause-memory g c refused =
-    inr (some_result_text (request c.args.index.now c.args.plan.now c.args.options.now c.args.arguments.now) (known_inputs g.R.Feed.contents (must_close_flags c.args.index.now) c.args.readers.items)
-    (λ text. (n : ℕ) × (g.W.Sink.written c.show.new.out ≡ append_output (g.W.Sink.written c.args.out.now) (take n text) 0)) c.args.plan.now.max_bytes (names_of c.args.index.now) c.deref.result.now c.in_ok-table.table
-    refl refl c.in_ok-targets.ensures.known (c.deref.ensures.value ∙ c.in_ok-targets.ensures.targets) c.logs_unless_fault.ensures c.in_ok-table.ensures.logs (c.show.ensures.memory refused))
+    inr (some_result_text (request c.args.index.now c.args.plan.now.max_bytes c.args.options.now c.args.arguments.now) (known_inputs g.R.Feed.contents (must_close_flags c.args.index.now) c.args.readers.items)
+    (λ text. (n : ℕ) × (g.W.Sink.written c.show.new.out ≡ append_output (g.W.Sink.written c.args.out.now) (take n text) 0)) c.args.plan.now.max_bytes (listed_targets c.args.index.now) c.deref.result.now c.in_ok-table.table
+    refl refl c.in_ok-targets.ensures.known (c.deref.ensures.value ∙ c.in_ok-targets.ensures.targets) c.logs_unless_fault.ensures c.in_ok-table.ensures.gathered.logs (c.show.ensures.memory refused))
 
 pub returns-in_err-table-clause-nothing_written : goal.returns-in_err-table-clause-nothing_written
 returns-in_err-table-clause-nothing_written g c = search rules

@@ -30,5 +30,5 @@ loop-number-init g c = search rules
 pub invariant_of-end : goal.invariant_of-end
 invariant_of-end g c = search rules
 
-pub returns-clause-posts : goal.returns-clause-posts
-returns-clause-posts g c = search rules
+pub returns-clause-post_ends : goal.returns-clause-post_ends
+returns-clause-post_ends g c = search rules

@@ -1,7 +1,7 @@
 use Rattle.std.proofs.Common.{◌<◌, List, length, arith, ap, sym, ◌∙◌}
 use Rattle.std.proofs.lemmas.List.{length-map}
 use Rattle.redo_logs.specs.Logs.{Log}
-use Rattle.redo_gather.specs.Streams.{IsFault}
+use Rattle.redo_gather.specs.Streams.{IsLowestFault}
 use Rattle.redo_gather.proofs.CollectedLemmas.{settled_table}
 use Rattle.redo_gather.proofs.GatheredLemmas.{of_stream}
 use Rattle.redo_gather.proofs.SettledLemmas.{failed-within, settled-ended, settled-fault, settled-logs, settled-targets}
@@ -30,6 +30,6 @@ returns-in-Some-clause-gathered c max_bytes names known taken =
       logs = tt;
       targets = tt;
       ended = tt;
-      fault = of_stream (List Log) number fault (IsFault max_bytes names known) (λ other. settled-fault max_bytes names known table taken.expected.count settled number fault found) c.of.result c.of.ensures;
+      fault = of_stream (List Log) number fault (IsLowestFault max_bytes names known) (λ other. settled-fault max_bytes names known table taken.expected.count settled number fault found) c.of.result c.of.ensures;
       number = of_stream (List Log) number fault (λ number fault. number < length names) (λ other. within) c.of.result c.of.ensures;
     }

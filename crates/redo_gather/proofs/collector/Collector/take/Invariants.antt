@@ -6,5 +6,5 @@ use Rattle.redo_gather.proofs.collector.Collector.take.Given as goal
 abbrev pub invariant-loop : goal.invariant-loop
 invariant-loop g l =
     (goal.iterator-loop g).can_next l.iterator' × (goal.iterator-loop g).is_finite l.iterator'
-    × (l.self.mailbox.mailbox ≡ l.initial.self.mailbox.mailbox) × (l.self.mailbox.met ≡ l.initial.self.mailbox.met)
-    × ((names : List (List ℕ)) → StoresAllTaken names l.initial.self.mailbox.taken l.initial.self.table l.initial.self.refused → StoresAllTaken names l.self.mailbox.taken l.self.table l.self.refused)
+    × (l.self.take_end.mailbox ≡ l.initial.self.take_end.mailbox) × (l.self.take_end.met ≡ l.initial.self.take_end.met)
+    × ((names : List (List ℕ)) → StoresAllTaken names l.initial.self.take_end.taken l.initial.self.table l.initial.self.out_of_memory → StoresAllTaken names l.self.take_end.taken l.self.table l.self.out_of_memory)

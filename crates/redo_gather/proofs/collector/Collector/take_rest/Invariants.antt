@@ -7,6 +7,6 @@ use Rattle.redo_gather.proofs.collector.Collector.take_rest.Given as goal
 abbrev pub invariant-loop : goal.invariant-loop
 invariant-loop g l =
     (goal.iterator-loop g).can_next l.iterator' × (goal.iterator-loop g).is_finite l.iterator'
-    × AreAllMet l.self.mailbox
-    × (l.self.mailbox.mailbox ≡ l.initial.self.mailbox.mailbox) × (l.self.mailbox.met ≡ l.initial.self.mailbox.met)
-    × ((names : List (List ℕ)) → StoresAllTaken names l.initial.self.mailbox.taken l.initial.self.table l.initial.self.refused → StoresAllTaken names l.self.mailbox.taken l.self.table l.self.refused)
+    × AreAllMet l.self.take_end
+    × (l.self.take_end.mailbox ≡ l.initial.self.take_end.mailbox) × (l.self.take_end.met ≡ l.initial.self.take_end.met)
+    × ((names : List (List ℕ)) → StoresAllTaken names l.initial.self.take_end.taken l.initial.self.table l.initial.self.out_of_memory → StoresAllTaken names l.self.take_end.taken l.self.table l.self.out_of_memory)

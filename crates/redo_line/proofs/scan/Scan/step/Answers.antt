@@ -4,7 +4,7 @@ use Rattle.redo_line.proofs.scan.Scan.step.Goals as goal
 
 pub returns-in-Err-clause-step : goal.returns-in-Err-clause-step
 returns-in-Err-clause-step c = record {
-  recorded = search rules;
+  fault_stored = search rules;
   may_fail = λ none. inl refl;
   early = ((λ is. absurd (cc)), (λ is. absurd (cc)));
 }

@@ -6,8 +6,8 @@ use Rattle.redo_line.proofs.FirstByteLemmas.{known_of}
 use Rattle.redo_line.proofs.ScanEnds.{refused_early}
 use Rattle.redo_line.proofs.scan.Scan.step_into.Goals as goal
 
-pub returns-in-Err-clause-never_read : goal.returns-in-Err-clause-never_read
-returns-in-Err-clause-never_read c =
+pub returns-in-Err-clause-never_read_fault : goal.returns-in-Err-clause-never_read_fault
+returns-in-Err-clause-never_read_fault c =
     let after = c.self.invariant.after c.in_default.is in
     (refused_early c.self.inside.progress c.self.inside.history.bytes _ c.in-Err.fault (c.in-Err.ensures.fault c.self.inside.history.bytes after)).0
 
@@ -23,7 +23,7 @@ invariant_of-self-in-Err c =
     record {
       limit = subst (λ (n : ℕ). n ≤ 2 ^ 40) (sym c.in-Err.ensures.max_bytes) c.self.invariant.limit;
       after = λ none. absurd (cc);
-      never_read = λ is. early.0 (same_Some c.in-Err.fault Read is);
+      never_read_fault = λ is. early.0 (same_Some c.in-Err.fault Read is);
       never_not_closed = λ is. early.1 (same_Some c.in-Err.fault NotClosed is);
     }
 

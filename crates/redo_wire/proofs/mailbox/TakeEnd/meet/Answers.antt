@@ -20,8 +20,8 @@ invariant_of-self g c =
     collector_meets c.end.inside.sender c.self.inside.receiver c.self.inside.pass c.end.inside.pass c.end.inside.number c.self.inside.met.items c.self.invariant c.end.invariant
     c.learn_as.new.pass (c.learn_as.ensures.channel.2 ∙ c.absorb.ensures.rule) c.learn_as.ensures.channel.0 one
 
-pub returns-clause-first : goal.returns-clause-first
-returns-clause-first g c among =
+pub returns-clause-newly_met : goal.returns-clause-newly_met
+returns-clause-newly_met g c among =
     let met = met_are c.end.inside.sender c.self.inside.receiver c.self.inside.pass c.end.inside.pass c.end.inside.number c.self.inside.met.items c.self.invariant c.end.invariant
     c.absorb.new.pass c.absorb.ensures.rule c.absorb.ensures.channel.0 in
     first_met _ _ _ _ met c.learn_as.ensures.rule

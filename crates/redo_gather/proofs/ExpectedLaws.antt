@@ -7,37 +7,37 @@ use Rattle.redo_line.specs.declared.stream_fault.StreamFault.{StreamFault}
 use Rattle.redo_line.specs.declared.stream_fault.StreamFault.TheVariants.{OutOfMemory}
 use Rattle.redo_device.specs.Feed.{Stream}
 use Rattle.redo_line.specs.Log.{entries_of, unless_fault}
-use Rattle.redo_line.specs.Source.{Source, fault_from, source_entries_before_fault}
+use Rattle.redo_line.specs.Source.{Source, source_fault, source_entries_before_fault}
 use Rattle.redo_wire.specs.declared.item.Item.{Item}
 use Rattle.redo_wire.specs.declared.item.What.{What}
 use Rattle.redo_wire.specs.declared.item.What.TheVariants.{End, Fail, Line}
 use Rattle.redo_gather.specs.Laws.{AreConcatenated, MayExpectAll, MayExpectPrefix, ExpectsFault, ExpectsInOrder, ExpectsConcatenation, ExpectsLog, ExpectsNothing, ExpectsOne}
 use Rattle.redo_gather.specs.Expected.{IsExpectedFor, log_or_part, reported_entries}
-use Rattle.redo_gather.specs.Sending.{AreExpected, NumberedInput, stream_items}
-use Rattle.redo_gather.proofs.OwedLemmas.{log_told}
+use Rattle.redo_gather.specs.Sending.{AreExpected, NumberedSource, stream_items}
+use Rattle.redo_gather.proofs.ExpectedLemmas.{log_known}
 
 module _ (max_bytes : ℕ) (source : Source Stream) where
   -- The entries of a stream with a fault are the entries before it.
-  part_told : (fault : StreamFault) → fault_from max_bytes source ≡ Some fault → reported_entries max_bytes source ≡ source_entries_before_fault max_bytes source
-  part_told fault some =
+  part_known : (fault : StreamFault) → source_fault max_bytes source ≡ Some fault → reported_entries max_bytes source ≡ source_entries_before_fault max_bytes source
+  part_known fault some =
       let all = filter_map (λ entry. entry) (entries_of source.target source.stream.bytes) in
       ap (λ found. log_or_part (unless_fault found all) (source_entries_before_fault max_bytes source)) some
 
-  pub owes_in_order : ExpectsInOrder max_bytes source
-  owes_in_order entries fault expected = elim expected [
+  pub expects_in_order : ExpectsInOrder max_bytes source
+  expects_in_order entries fault expected = elim expected [
     | inl whole ↦ ([], sym whole.0 ∙ sym (append-nil entries))
     | inr short ↦ short.0
   ]
 
-  pub owes_log : ExpectsLog max_bytes source
-  owes_log entries expected = elim expected [
-    | inl whole ↦ log_told max_bytes source (sym whole.1) ∙ ap Some (sym whole.0)
+  pub expects_log : ExpectsLog max_bytes source
+  expects_log entries expected = elim expected [
+    | inl whole ↦ log_known max_bytes source (sym whole.1) ∙ ap Some (sym whole.0)
     | inr short ↦ absurd (none-some OutOfMemory short.1)
   ]
 
-  pub owes_fault : ExpectsFault max_bytes source
-  owes_fault entries fault other expected = elim expected [
-    | inl whole ↦ (sym whole.1, whole.0 ∙ part_told fault (sym whole.1))
+  pub expects_fault : ExpectsFault max_bytes source
+  expects_fault entries fault other expected = elim expected [
+    | inl whole ↦ (sym whole.1, whole.0 ∙ part_known fault (sym whole.1))
     | inr short ↦ absurd (other (same short.1))
   ]
     where
@@ -59,8 +59,8 @@ behind_first [] = []
 behind_first (item ∷ items) = items
 
 module _ (max_bytes sender : ℕ) where
-  pub owes_nothing : ExpectsNothing max_bytes sender
-  owes_nothing items = (λ is. is, λ is. is)
+  pub expects_nothing : ExpectsNothing max_bytes sender
+  expects_nothing items = (λ is. is, λ is. is)
 
   abbrev all_of : List Entry → Option StreamFault → ℕ → List Item
   all_of entries fault stream = stream_items sender stream entries fault
@@ -75,19 +75,19 @@ module _ (max_bytes sender : ℕ) where
   no_more stream None other entry entries is = absurd (let whats : End ≡ Line entry = ap first_what is in cc)
   no_more stream (Some fault) other entry entries is = absurd (let whats : Fail fault ≡ Line entry = ap first_what is in cc)
 
-  told_same : (stream : ℕ) (entries others : List Entry) (fault other : Option StreamFault) → all_of entries fault stream ≡ all_of others other stream → (entries ≡ others) × (fault ≡ other)
-  told_same stream [] [] fault other is = (refl, last_same stream fault other is)
-  told_same stream [] (entry ∷ others) fault other is = absurd (no_more stream fault other entry others is)
-  told_same stream (entry ∷ entries) [] fault other is = absurd (no_more stream other fault entry entries (sym is))
-  told_same stream (entry ∷ entries) (one ∷ others) fault other is =
+  known_same : (stream : ℕ) (entries others : List Entry) (fault other : Option StreamFault) → all_of entries fault stream ≡ all_of others other stream → (entries ≡ others) × (fault ≡ other)
+  known_same stream [] [] fault other is = (refl, last_same stream fault other is)
+  known_same stream [] (entry ∷ others) fault other is = absurd (no_more stream fault other entry others is)
+  known_same stream (entry ∷ entries) [] fault other is = absurd (no_more stream other fault entry entries (sym is))
+  known_same stream (entry ∷ entries) (one ∷ others) fault other is =
       let behind : all_of entries fault stream ≡ all_of others other stream = ap behind_first is in
       let whats : Line entry ≡ Line one = ap first_what is in
       let first : entry ≡ one = cc in
-      let same = told_same stream entries others fault other behind in
+      let same = known_same stream entries others fault other behind in
       (λ i. first i ∷ same.0 i, same.1)
 
-  pub owes_one : ExpectsOne max_bytes sender
-  owes_one stream given entries fault = (
+  pub expects_one : ExpectsOne max_bytes sender
+  expects_one stream given entries fault = (
     λ expected. by expected.0 expected.1 expected.2 expected.3 expected.4 expected.5,
     λ expected. (entries, fault, [], sym (append-nil (all_of entries fault stream)), expected, refl),
   )
@@ -95,10 +95,10 @@ module _ (max_bytes sender : ℕ) where
       by : (others : List Entry) (other : Option StreamFault) (behind : List Item) → all_of entries fault stream ≡ all_of others other stream ++ behind → IsExpectedFor max_bytes given others other
           → behind ≡ [] → IsExpectedFor max_bytes given entries fault
       by others other behind is expected none =
-          let same = told_same stream entries others fault other (is ∙ ap (λ b. all_of others other stream ++ b) none ∙ append-nil (all_of others other stream)) in
+          let same = known_same stream entries others fault other (is ∙ ap (λ b. all_of others other stream ++ b) none ∙ append-nil (all_of others other stream)) in
           subst (λ f. IsExpectedFor max_bytes given entries f) (sym same.1) (subst (λ es. IsExpectedFor max_bytes given es other) (sym same.0) expected)
 
-  in_turn : (first others : List NumberedInput) (items : List Item) → AreExpected max_bytes sender (first ++ others) items → AreConcatenated max_bytes sender first others items
+  in_turn : (first others : List NumberedSource) (items : List Item) → AreExpected max_bytes sender (first ++ others) items → AreConcatenated max_bytes sender first others items
   in_turn [] others items expected = ([], items, refl, refl, expected)
   in_turn (stream ∷ first) others items (entries, fault, behind, is, expected, more) =
       let turn = in_turn first others behind more in
@@ -110,17 +110,17 @@ module _ (max_bytes sender : ℕ) where
         turn.4,
       )
 
-  from_turn : (first others : List NumberedInput) (items : List Item) → AreConcatenated max_bytes sender first others items → AreExpected max_bytes sender (first ++ others) items
+  from_turn : (first others : List NumberedSource) (items : List Item) → AreConcatenated max_bytes sender first others items → AreExpected max_bytes sender (first ++ others) items
   from_turn [] others items (front, behind, is, none, expected) = subst (AreExpected max_bytes sender others) (sym (is ∙ ap (λ f. f ++ behind) none)) expected
-  from_turn (stream ∷ first) others items (front, behind, is, (entries, fault, left, told_is, expected, more), last) =
+  from_turn (stream ∷ first) others items (front, behind, is, (entries, fault, left, known_is, expected, more), last) =
       let known = all_of entries fault stream.0 in (
         entries,
         fault,
         left ++ behind,
-        is ∙ ap (λ f. f ++ behind) told_is ∙ append_assoc known left behind,
+        is ∙ ap (λ f. f ++ behind) known_is ∙ append_assoc known left behind,
         expected,
         from_turn first others (left ++ behind) (left, behind, refl, more, last),
       )
 
-  pub owes_in_turn : ExpectsConcatenation max_bytes sender
-  owes_in_turn first others items = (in_turn first others items, from_turn first others items)
+  pub expects_in_turn : ExpectsConcatenation max_bytes sender
+  expects_in_turn first others items = (in_turn first others items, from_turn first others items)

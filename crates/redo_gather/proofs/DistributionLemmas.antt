@@ -5,13 +5,13 @@ use Rattle.std.proofs.lemmas.Bool.Decides.{eqb_tells}
 use Rattle.std.proofs.lemmas.List.{append-nil, length-replicate, length-set, map_push}
 use Rattle.redo_line.specs.Source.{source, sources}
 use Rattle.redo_device.specs.Feed.{Stream}
-use Rattle.redo_gather.specs.Expected.{Given}
-use Rattle.redo_gather.specs.Private.Dealing.{AreDistributed, AreEmpty, share_of}
-use Rattle.redo_gather.specs.Sending.{NumberedInput, numbered_input}
+use Rattle.redo_gather.specs.Expected.{KnownSource}
+use Rattle.redo_gather.specs.Private.Distribution.{AreDistributed, AreEmpty, share_of}
+use Rattle.redo_gather.specs.Sending.{NumberedSource, numbered_source}
 use Rattle.redo_gather.specs.Streams.{KnownInput}
 
 -- One more stream, which goes to one of the senders.
-pub one_more : (senders sender number : ℕ) (given : List Given) (one : Given)
+pub one_more : (senders sender number : ℕ) (given : List KnownSource) (one : KnownSource)
     → share_of senders sender number (given ++ one ∷ []) ≡ share_of senders sender number given ++ cond (nat_eq ((number + length given) % senders) sender) ((number + length given, one) ∷ []) []
 one_more senders sender number [] one = ap (λ n. cond (nat_eq (n % senders) sender) ((n, one) ∷ []) []) (omega arith)
 one_more senders sender number (first ∷ given) one =
@@ -20,12 +20,12 @@ one_more senders sender number (first ∷ given) one =
     ∙ ap (λ n. cond (nat_eq (number % senders) sender) ((number, first) ∷ share_of senders sender (suc number) given) (share_of senders sender (suc number) given)
     ++ cond (nat_eq (n % senders) sender) ((n, one) ∷ []) []) place
   where
-    by : (here : Bool) (all front last : List NumberedInput) → all ≡ front ++ last → cond here ((number, first) ∷ all) all ≡ cond here ((number, first) ∷ front) front ++ last
+    by : (here : Bool) (all front last : List NumberedSource) → all ≡ front ++ last → cond here ((number, first) ∷ all) all ≡ cond here ((number, first) ∷ front) front ++ last
     by true all front last is = ap (λ share. (number, first) ∷ share) is
     by false all front last is = is
 
 -- The same, if the first number is 0.
-first_more : (senders sender : ℕ) (given : List Given) (one : Given)
+first_more : (senders sender : ℕ) (given : List KnownSource) (one : KnownSource)
     → share_of senders sender 0 (given ++ one ∷ []) ≡ share_of senders sender 0 given ++ cond (nat_eq (length given % senders) sender) ((length given, one) ∷ []) []
 first_more senders sender given one =
     let from_0 : 0 + length given ≡ length given = omega arith in
@@ -34,9 +34,9 @@ first_more senders sender given one =
 -- ---- distributing
 
 -- If none is left, all were distributed.
-pub all_dealt : {A : Type 0} (all dealt left : List A) → all ≡ dealt ++ left → length left ≡ 0 → dealt ≡ all
-all_dealt all dealt [] is none = sym (is ∙ append-nil dealt)
-all_dealt all dealt (x ∷ left) is none = absurd (omega (arith, none))
+pub all_distributed : {A : Type 0} (all distributed left : List A) → all ≡ distributed ++ left → length left ≡ 0 → distributed ≡ all
+all_distributed all distributed [] is none = sym (is ∙ append-nil distributed)
+all_distributed all distributed (x ∷ left) is none = absurd (omega (arith, none))
 
 pub sources-none : (targets : List (List ℕ)) (none : List KnownInput) → none ≡ [] → sources targets none ≡ []
 sources-none [] none is = refl
@@ -75,25 +75,25 @@ at_place (x ∷ xs) zero there within is = ap Some (sym is)
 at_place (x ∷ xs) (suc k) there within is = at_place xs k there (omega (arith, within)) is
 
 module _ {A : Type 0} (contents : A → Option Stream) (senders : ℕ) where
-  pub none_dealt : (shares : List (List (ℕ × List ℕ × Bool × A))) → AreEmpty senders shares → AreDistributed contents senders [] shares
-  none_dealt shares empty = (
+  pub none_distributed : (shares : List (List (ℕ × List ℕ × Bool × A))) → AreEmpty senders shares → AreDistributed contents senders [] shares
+  none_distributed shares empty = (
     ap length empty ∙ length-replicate senders [],
-    λ sender share here. ap (map (numbered_input contents)) (one_of_none senders sender [] share (ap (λ s. slice_get s sender) (sym empty) ∙ here)),
+    λ sender share here. ap (map (numbered_source contents)) (one_of_none senders sender [] share (ap (λ s. slice_get s sender) (sym empty) ∙ here)),
   )
 
-  pub one_dealt : (given : List Given) (shares : List (List (ℕ × List ℕ × Bool × A))) (one : Given) (item : ℕ × List ℕ × Bool × A) (old new : List (ℕ × List ℕ × Bool × A))
-      → numbered_input contents item ≡ (length given, one) → slice_get shares (length given % senders) ≡ Some old → new ≡ old ++ item ∷ [] → AreDistributed contents senders given shares
+  pub one_distributed : (given : List KnownSource) (shares : List (List (ℕ × List ℕ × Bool × A))) (one : KnownSource) (item : ℕ × List ℕ × Bool × A) (old new : List (ℕ × List ℕ × Bool × A))
+      → numbered_source contents item ≡ (length given, one) → slice_get shares (length given % senders) ≡ Some old → new ≡ old ++ item ∷ [] → AreDistributed contents senders given shares
       → AreDistributed contents senders (given ++ one ∷ []) (slice_set shares (length given % senders) new)
-  one_dealt given shares one item old new is there new_is dealt = (
-    length-set shares (length given % senders) new ∙ dealt.0,
+  one_distributed given shares one item old new is there new_is distributed = (
+    length-set shares (length given % senders) new ∙ distributed.0,
     λ sender share here. elim (replaced shares (length given % senders) sender new share here) [
       | inl elsewhere ↦
-          dealt.1 sender share elsewhere.1 ∙ sym (append-nil (share_of senders sender 0 given))
+          distributed.1 sender share elsewhere.1 ∙ sym (append-nil (share_of senders sender 0 given))
           ∙ ap (λ b. share_of senders sender 0 given ++ cond b ((length given, one) ∷ []) []) (sym (apart sender elsewhere.0))
           ∙ sym (first_more senders sender given one)
       | inr here ↦
-          ap (map (numbered_input contents)) (here.1 ∙ new_is) ∙ map_push (numbered_input contents) old item
-          ∙ ap (λ s. s ++ numbered_input contents item ∷ []) (dealt.1 sender old (ap (slice_get shares) here.0 ∙ there))
+          ap (map (numbered_source contents)) (here.1 ∙ new_is) ∙ map_push (numbered_source contents) old item
+          ∙ ap (λ s. s ++ numbered_source contents item ∷ []) (distributed.1 sender old (ap (slice_get shares) here.0 ∙ there))
           ∙ ap (λ n. share_of senders sender 0 given ++ n ∷ []) is
           ∙ ap (λ b. share_of senders sender 0 given ++ cond b ((length given, one) ∷ []) []) (sym (eq-eqb (length given % senders) sender (sym here.0)))
           ∙ sym (first_more senders sender given one)
