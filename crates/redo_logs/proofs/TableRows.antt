@@ -1,8 +1,9 @@
 -- Examples of tables, computed: two logs are added; one gets an entry and ends, the other fails.
-use Rattle.std.proofs.Common.{◌≡◌, ℕ, true, false, List, [], ◌∷◌, ◌++◌, None, Some, length, Bor, pos, arith, refl}
+use Rattle.std.proofs.Common.{◌≡◌, ℕ, true, false, List, [], ◌∷◌, ◌++◌, Option, None, Some, length, Bor, pos, arith, refl, sym, ap}
 use Rattle.std.specs.Prelude.{codes}
-use Rattle.std.specs.List.{IsDistinct, flat_map, list_all}
-use Rattle.redo_line.specs.Lines.{with_line_feed}
+use Rattle.std.specs.List.{AllByRecursion, IsDistinct, flat_map, list_all}
+use Rattle.redo_line.specs.Lines.{HasNoLineFeed, with_line_feed}
+use Rattle.redo_line.specs.declared.entry.Entry.{Entry}
 use Rattle.redo_line.specs.declared.entry.Entry.TheVariants.{Text, Mention, Done, Closing, Note}
 use Rattle.redo_line.specs.declared.entry.How.TheVariants.{Made, Waiting, Locked, Unlocked, Unchanged}
 use Rattle.redo_line.specs.declared.stream_fault.StreamFault.TheVariants.{Read, TooLong}
@@ -106,7 +107,10 @@ have_text : HasText texts 0 1 × HasText texts 0 2 × (HasText texts 0 0 → ⊥
 have_text = ((codes "x", refl), ([], refl), (λ is. let same = is.1 in cc), (λ is. let same = is.1 in cc))
 
 are_lines : AreLinesAt texts 0 1 (120 ∷ 10 ∷ 10 ∷ []) 2 × AreLinesAt texts 0 1 (120 ∷ 10 ∷ []) 1
-are_lines = (record { texts = codes "x" ∷ [] ∷ []; are = (refl, (refl, tt)); count_is = refl; bytes_are = refl }, record { texts = codes "x" ∷ []; are = (refl, tt); count_is = refl; bytes_are = refl })
+are_lines = (
+  record { texts = codes "x" ∷ [] ∷ []; are = (refl, (refl, tt)); count_is = refl; no_line_feeds = (((λ is. omega (arith, is)), tt), (tt, tt)); bytes_are = refl },
+  record { texts = codes "x" ∷ []; are = (refl, tt); count_is = refl; no_line_feeds = (((λ is. omega (arith, is)), tt), tt); bytes_are = refl },
+)
 
 -- An empty text is one line, a line feed. No text is no line, and a mention is no line.
 empty_has_line : (texts : List (List ℕ)) → length texts ≡ 1 → [] ≡ flat_map with_line_feed texts → ⊥
@@ -121,6 +125,22 @@ none_has_none (text ∷ texts) count bytes = cc
 mention_has_none : (lines : List (List ℕ)) → AreTexts texts 0 0 lines → length lines ≡ 1 → ⊥
 mention_has_none [] are count = cc
 mention_has_none (line ∷ lines) are count = let same = are.0 in cc
+
+-- A text with a line feed is no line.
+abbrev two_lines : List Log
+two_lines = record { target = codes "a"; entries = Text (10 ∷ []) ∷ []; state = Ended } ∷ []
+
+abbrev first_byte : Option Entry → ℕ
+first_byte (Some (Text (byte ∷ text))) = byte
+first_byte other = 0
+
+no_line : AreLinesAt two_lines 0 0 (10 ∷ 10 ∷ []) 1 → ⊥
+no_line is = by is.texts is.are is.count_is is.no_line_feeds
+  where
+    by : (texts : List (List ℕ)) → AreTexts two_lines 0 0 texts → length texts ≡ 1 → AllByRecursion HasNoLineFeed texts → ⊥
+    by [] are count free = cc
+    by ([] ∷ texts) are count free = let same = are.0 in cc
+    by ((byte ∷ text) ∷ texts) are count free = free.0.0 (sym (ap first_byte are.0))
 
 no_lines : (AreLinesAt texts 0 2 [] 1 → ⊥) × (AreLinesAt texts 0 2 (10 ∷ []) 0 → ⊥) × (AreLinesAt texts 0 0 (10 ∷ []) 1 → ⊥)
 no_lines = (

@@ -132,6 +132,7 @@ module _ (parts : Parts) where
     texts = lines.texts;
     are = texts_at logs i k log lines.texts at (front_found log.records k one place within found lines.texts lines.are);
     count_is = lines.count_is;
+    no_line_feeds = lines.no_line_feeds;
     bytes_are = lines.bytes_are;
   }
 
@@ -172,6 +173,7 @@ module _ (parts : Parts) (lines block start end place : ℕ) (range left : List 
     };
     count_is =
         ap length left_lines ∙ length-drop place (ended range) ∙ ap (λ n. n - place) (ap (λ bytes. length (ended bytes)) range_is ∙ within.3.count_is);
+    no_line_feeds = (are_lines left).lines_hold_none;
     bytes_are =
         (are_lines left).whole ∙ ap (λ r. flat_map with_line_feed (ended left) ++ r) (last ∙ ap rest range_is ∙ within.3.no_rest)
         ∙ append-nil (flat_map with_line_feed (ended left));

@@ -1,7 +1,7 @@
 -- A table whose names have numbers: its logs, and its names in the order of these numbers.
 use Rattle.std.specs.Prelude.{◌≡◌, ℕ, ◌+◌, ◌<◌, List, [], ◌∷◌, Some, length, slice_index_or, ⊤}
-use Rattle.std.specs.List.{flat_map}
-use Rattle.redo_line.specs.Lines.{with_line_feed}
+use Rattle.std.specs.List.{AllByRecursion, flat_map}
+use Rattle.redo_line.specs.Lines.{HasNoLineFeed, with_line_feed}
 use Rattle.redo_line.specs.declared.entry.Entry.{Entry}
 use Rattle.redo_line.specs.declared.entry.Entry.TheVariants as entry
 use Rattle.redo_logs.specs.declared.numbered.NumberedEntry.{NumberedEntry}
@@ -45,6 +45,7 @@ pub record AreLinesAt (logs : List Log) (i k : ℕ) (bytes : List ℕ) (count : 
   pub texts : List (List ℕ)
   pub are : AreTexts logs i k texts
   pub count_is : length texts ≡ count
+  pub no_line_feeds : AllByRecursion HasNoLineFeed texts
   pub bytes_are : bytes ≡ flat_map with_line_feed texts
 
 -- Whether entry `k` of log `i` is a text line.

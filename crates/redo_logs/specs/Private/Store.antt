@@ -4,7 +4,7 @@ use Rattle.std.specs.List.{AllByRecursion, IsDistinct, flat_map, list_any}
 use Rattle.std.specs.Cmp.Lexicographic.{pointwise}
 use Rattle.redo_line.specs.declared.entry.Entry.{Entry}
 use Rattle.redo_line.specs.declared.entry.Entry.TheVariants as entry
-use Rattle.redo_line.specs.Lines.{AreCompleteLines, ended, with_line_feed}
+use Rattle.redo_line.specs.Lines.{AreCompleteLines, HasNoLineFeed, ended, with_line_feed}
 use Rattle.redo_logs.specs.declared.store.NoteSpan.{NoteSpan}
 use Rattle.redo_logs.specs.declared.store.PackedEntries.{PackedEntries}
 use Rattle.redo_logs.specs.declared.store.PackedEntries.TheVariants.{Texts, Mention, Done, Closing, Note}
@@ -87,6 +87,7 @@ pub record AreLinesOf (parts : Parts) (one : PackedEntries) (place : ℕ) (bytes
   pub texts : List (List ℕ)
   pub are : IsPrefix (map entry.Text texts) (drop place (denotes parts one))
   pub count_is : length texts ≡ count
+  pub no_line_feeds : AllByRecursion HasNoLineFeed texts
   pub bytes_are : bytes ≡ flat_map with_line_feed texts
 
 abbrev pub IsTexts : PackedEntries → Type 0
