@@ -1,18 +1,19 @@
 -- There is only one opening: what a log's entries do depends only on the openings of logs that were not opened before.
 use Rattle.std.proofs.Common.{◌≡◌, ℕ, zero, suc, ◌+◌, ◌<◌, ◌≤◌, Bool, true, false, List, [], ◌∷◌, ◌++◌, length, refl, sym, ap, ◌∙◌, arith}
-use Rattle.std.specs.Prelude.{◌&&◌, not, nat_eq}
+use Rattle.std.specs.Prelude.{nat_eq}
 use Rattle.std.specs.Cmp.Lexicographic.{pointwise}
-use Rattle.std.proofs.lemmas.Bool.{and_parts, or_left, or_right, and_from, not-true}
+use Rattle.std.proofs.lemmas.Bool.{or_left, or_right, and_from, not-true}
 use Rattle.std.proofs.lemmas.Cmp.{nat_list_eq_equiv}
 use Rattle.redo_line.specs.declared.entry.Entry.{Entry}
 use Rattle.redo_line.specs.declared.entry.Entry.TheVariants.{Text, Mention, Done, Closing, Note}
-use Rattle.redo_logs.specs.Logs.{Log, targets_of}
+use Rattle.redo_logs.specs.Logs.{Log}
 use Rattle.redo_options.specs.declared.options.Options.{Options}
-use Rattle.redo_view.specs.Expansion.{ShowLog, ViewState, is_among, entries_of_target, is_mention, show_mention_line, begin_log, should_open, show_entry, show_entries, show_log_within, show_log}
+use Rattle.redo_view.specs.Expansion.{ShowLog, ViewState, is_among, entries_of_target, is_mention, mention_opening, show_mention_line, begin_log, end_log, show_entry, show_entries, show_log_within, show_log}
 use Rattle.redo_view.specs.Private.Branches.{show_log_if, show_mention_if}
 use Rattle.redo_view.specs.Laws.{SatisfiesEquation}
 use Rattle.redo_view.specs.Reachable.{mentions_target, mentioned_in}
 use Rattle.redo_view.proofs.Growing.{Names, Keeps, more-keeps, left-le, left-lt, left-all, Growth, Grown, grown-none, grown-both, Kept, kept}
+use Rattle.redo_view.proofs.Openings.{should_open, should_open-parts}
 use Rattle.redo_view.proofs.Unopened.{left}
 
 -- Whether everything that was opened before stays opened when a log is opened.
@@ -24,18 +25,10 @@ module _ (logs : List Log) (options : Options) where
   abbrev pub left_after : List ℕ → ViewState → ℕ
   left_after name state = left logs (state.opened ++ name ∷ [])
 
-  -- A log is opened only if logs are opened recursively, the log exists, and it wasn't opened before.
-  pub should_open-parts : (name : List ℕ) (state : ViewState) → should_open logs options name state ≡ true
-      → (options.recursive ≡ true) × (is_among name (targets_of logs) ≡ true) × (not (is_among name state.opened) ≡ true)
-  should_open-parts name state is =
-      let both = and_parts (options.recursive && is_among name (targets_of logs)) (not (is_among name state.opened)) is in
-      let first = and_parts options.recursive (is_among name (targets_of logs)) both.0 in
-      (first.0, first.1, both.1)
-
-  -- Then fewer logs are left.
-  should_open-left : (name : List ℕ) (state : ViewState) → should_open logs options name state ≡ true → left_after name state < left logs state.opened
+  -- If a log is opened, fewer logs are left.
+  pub should_open-left : (name : List ℕ) (state : ViewState) → should_open logs options name state ≡ true → left_after name state < left logs state.opened
   should_open-left name state is =
-      let parts = should_open-parts name state is in left-lt logs name state.opened parts.1 (not-true (is_among name state.opened) parts.2)
+      let parts = should_open-parts logs options name state is in left-lt logs name state.opened parts.1 (not-true (is_among name state.opened) parts.2)
 
   -- ---- what entries do to the opened names
 
@@ -61,7 +54,7 @@ module _ (logs : List Log) (options : Options) where
       where
         by : (counts : Bool) → is_mention options how ≡ counts → Grown Q state.opened (show_mention_if logs options counts inner depth pid how name state).opened
         by true counts =
-            let named = show_mention_line options depth pid how name state in
+            let named = show_mention_line options depth pid how name (mention_opening logs options name state) state in
             let mentioned = and_from (is_mention options how) (pointwise nat_eq name name) counts (nat_list_eq_equiv.refl name) in
             inner_grows (λ n. mentions_target options n (Mention pid how name)) does name (depth + 1) named mentioned fits (should_open logs options name named) refl
         by false counts = grown-none Q growth state.opened
@@ -108,7 +101,7 @@ module _ (logs : List Log) (options : Options) where
       entry_agrees (Mention pid how name) depth state fits = by (is_mention options how)
         where
           by : (counts : Bool) → show_mention_if logs options counts one depth pid how name state ≡ show_mention_if logs options counts other depth pid how name state
-          by true = let named = show_mention_line options depth pid how name state in inner_agrees name (depth + 1) named fits (should_open logs options name named) refl
+          by true = let named = show_mention_line options depth pid how name (mention_opening logs options name state) state in inner_agrees name (depth + 1) named fits (should_open logs options name named) refl
           by false = refl
       entry_agrees (Done pid status name) depth state fits = refl
       entry_agrees (Closing pid status) depth state fits = refl
@@ -126,7 +119,7 @@ module _ (logs : List Log) (options : Options) where
 
   -- One level.
   within-more : (levels : ℕ) (target : List ℕ) (depth : ℕ) (state : ViewState)
-      → show_log_within logs options (suc levels) target depth state ≡ show_entries logs options (show_log_within logs options levels) depth (entries_of_target target logs) (begin_log target state)
+      → show_log_within logs options (suc levels) target depth state ≡ end_log depth (show_entries logs options (show_log_within logs options levels) depth (entries_of_target target logs) (begin_log target state))
   unfolding show_log_within
   within-more levels target depth state = refl
 
@@ -152,16 +145,16 @@ module _ (logs : List Log) (options : Options) where
   enough zero target depth state fits = absurd (omega (arith, fits))
   enough (suc levels) target depth state fits =
       within-more levels target depth state
-      ∙ entries_agree (show_log_within logs options levels) (show_log_within logs options (suc levels)) (within_keeps (suc levels)) levels (λ name d s is less. enough levels name d s less)
-      (entries_of_target target logs) depth (begin_log target state) (omega (arith, fits))
+      ∙ ap (end_log depth) (entries_agree (show_log_within logs options levels) (show_log_within logs options (suc levels)) (within_keeps (suc levels)) levels (λ name d s is less. enough levels name d s less)
+      (entries_of_target target logs) depth (begin_log target state) (omega (arith, fits)))
       ∙ sym (within-more (suc levels) target depth state)
 
   -- So there are enough levels.
   pub show_log_equation : SatisfiesEquation logs options (show_log logs options)
   show_log_equation target depth state =
       within-all target depth state ∙ within-more (length logs) target depth state
-      ∙ entries_agree (show_log_within logs options (length logs)) (show_log logs options) log_keeps (length logs) (λ name d s is less. enough (length logs) name d s less ∙ sym (within-all name d s))
-      (entries_of_target target logs) depth (begin_log target state) (left-all logs (state.opened ++ target ∷ []))
+      ∙ ap (end_log depth) (entries_agree (show_log_within logs options (length logs)) (show_log logs options) log_keeps (length logs) (λ name d s is less. enough (length logs) name d s less ∙ sym (within-all name d s))
+      (entries_of_target target logs) depth (begin_log target state) (left-all logs (state.opened ++ target ∷ [])))
 
   -- Every opening that satisfies `SatisfiesEquation` is this one, by induction on the number of logs that are left.
   module _ (other : ShowLog) (goes_over : SatisfiesEquation logs options other) where
@@ -170,7 +163,7 @@ module _ (logs : List Log) (options : Options) where
     same_below zero target depth state fits = absurd (omega (arith, fits))
     same_below (suc bound) target depth state fits =
         goes_over target depth state
-        ∙ entries_agree other (show_log logs options) log_keeps bound (λ name d s is less. same_below bound name d s less) (entries_of_target target logs) depth (begin_log target state) (omega (arith, fits))
+        ∙ ap (end_log depth) (entries_agree other (show_log logs options) log_keeps bound (λ name d s is less. same_below bound name d s less) (entries_of_target target logs) depth (begin_log target state) (omega (arith, fits)))
         ∙ sym (show_log_equation target depth state)
 
     -- For any log.

@@ -5,9 +5,10 @@ use Rattle.std.proofs.lemmas.Bool.{and_from}
 use Rattle.redo_line.specs.declared.entry.How.{How}
 use Rattle.redo_logs.specs.Logs.{Log, targets_of}
 use Rattle.redo_options.specs.declared.options.Options.{Options}
-use Rattle.redo_view.specs.Expansion.{ViewState, is_among, is_mention, show_mention_line, should_open, show_log, expand}
+use Rattle.redo_view.specs.Expansion.{ViewState, is_among, is_mention, mention_opening, show_mention_line, show_log, expand}
 use Rattle.redo_view.specs.Private.Branches.{show_log_if, show_mention_if, show_target_unless}
 use Rattle.redo_view.specs.Laws.{MentionedFirst, MentionedAgain, MentionedUnopened, RequestedFirst, RequestedAgain}
+use Rattle.redo_view.proofs.Openings.{should_open-is}
 use Rattle.redo_view.proofs.Targets.{show_targets-append}
 
 never : (first : Bool) → (first && false) ≡ false
@@ -18,10 +19,10 @@ module _ (logs : List Log) (options : Options) where
   module _ (how : How) (name : List ℕ) (depth pid : ℕ) (state : ViewState) (counts : is_mention options how ≡ true) where
     -- The state after the mention, depending on whether the log is opened.
     abbrev then : Bool → ViewState
-    then opening = show_log_if logs options opening (show_log logs options) name (depth + 1) (show_mention_line options depth pid how name state)
+    then opening = show_log_if logs options opening (show_log logs options) name (depth + 1) (show_mention_line options depth pid how name (mention_opening logs options name state) state)
 
-    unfold_mention : show_mention_if logs options (is_mention options how) (show_log logs options) depth pid how name state ≡ then (should_open logs options name (show_mention_line options depth pid how name state))
-    unfold_mention = ap (λ b. show_mention_if logs options b (show_log logs options) depth pid how name state) counts
+    unfold_mention : show_mention_if logs options (is_mention options how) (show_log logs options) depth pid how name state ≡ then (options.recursive && is_among name (targets_of logs) && not (is_among name state.opened))
+    unfold_mention = ap (λ b. show_mention_if logs options b (show_log logs options) depth pid how name state) counts ∙ ap then (should_open-is logs options name state)
 
   pub mentioned_first : (how : How) (name : List ℕ) → MentionedFirst logs options how name
   mentioned_first how name depth pid state counts recursive listed new =
@@ -45,7 +46,7 @@ module _ (logs : List Log) (options : Options) where
   one_more : (requested : List (List ℕ)) (target : List ℕ) (known : Bool) → is_among target (expand logs options requested).opened ≡ known
       → expand logs options (requested ++ target ∷ []) ≡ show_target_unless logs options known target (expand logs options requested)
   one_more requested target known is =
-      show_targets-append logs options requested (target ∷ []) (record { named = []; opened = []; text = [] })
+      show_targets-append logs options requested (target ∷ []) (record { named = []; opened = []; events = [] })
       ∙ ap (λ old. show_target_unless logs options old target (expand logs options requested)) is
 
   pub requested_first : (requested : List (List ℕ)) → RequestedFirst logs options requested

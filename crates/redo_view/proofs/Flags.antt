@@ -1,5 +1,5 @@
 -- Visited flags, and the names that they belong to.
-use Rattle.std.proofs.Common.{◌≡◌, ℕ, zero, suc, ◌<◌, Bool, true, false, ◌&&◌, ◌||◌, not, if◌then◌else◌, List, [], ◌∷◌, ◌++◌, Option, None, Some, nat_eq, get_or, length, slice_get, refl, sym, ap, ◌∙◌, subst, arith}
+use Rattle.std.proofs.Common.{◌≡◌, ℕ, zero, suc, ◌<◌, Bool, true, false, ◌||◌, if◌then◌else◌, List, [], ◌∷◌, ◌++◌, Option, None, Some, nat_eq, get_or, length, slice_get, refl, sym, ap, ◌∙◌, subst, arith}
 use Rattle.std.specs.Cmp.Lexicographic.{pointwise}
 use Rattle.std.specs.List.{AllByRecursion, IsDistinct}
 use Rattle.std.proofs.lemmas.Cmp.{nat_list_eq_equiv}
@@ -13,9 +13,10 @@ use Rattle.redo_logs.specs.Logs.{Log, log_number, targets_of}
 use Rattle.redo_logs.specs.Numbering.{IsNumbered, Numbering, name_at, numbered_value}
 use Rattle.redo_options.specs.declared.options.Options.{Options}
 use Rattle.redo_view.specs.declared.entry.Visited.{Visited}
+use Rattle.redo_view.specs.Event.{opening_of}
 use Rattle.redo_view.specs.Expansion.{ViewState, begin_log, is_among, is_mention, insert_name}
 use Rattle.redo_view.specs.Private.Progress.{MatchesFlags, flags_of}
-use Rattle.redo_view.specs.Private.EntryEffect.{Fits, unless_opened, is_set, mention_line, set_flag, named_after, nested_log, own_text}
+use Rattle.redo_view.specs.Private.EntryEffect.{Fits, is_set, log_to_open, mention_line, named_after, nested_log, opening_by, own_events, set_flag}
 use Rattle.redo_view.proofs.Growing.{Names, more-has, insert_name-new}
 use Rattle.redo_view.proofs.OneEntry as alone
 use Rattle.redo_view.proofs.Shifting.{first_log}
@@ -71,13 +72,6 @@ module _ (others : Names) where
       let less : number < length names = omega (arith, below) in
       λ i. sym (insert_other (name_at names number) name (all_at (λ other. pointwise nat_eq name other ≡ false) names number distinct.0 less)) i ∷ set_flag-inserts names number distinct.1 less i
 
-abbrev no_log : Option ℕ
-no_log = None
-
-none_there : (b : Bool) → no_log ≡ (if b then no_log else no_log)
-none_there true = refl
-none_there false = refl
-
 -- ---- a viewer's flags
 
 module _ (numbering : Numbering) where
@@ -124,17 +118,27 @@ module _ (numbering : Numbering) where
       -- ---- one entry, by the flags and by the names
 
       module _ (options : Options) where
-        -- Its text.
-        pub text_is : (depth : ℕ) (entry : NumberedEntry) → IsNumbered numbering.names entry
-            → own_text numbering options depth visited entry ≡ alone.own_text options depth state.named (numbered_value numbering.names entry)
-        text_is depth (Mention pid how name) below =
-            ap (λ was_named. if is_mention options how then mention_line options depth pid how (name_at numbering.names name) was_named else [])
+        -- Whether a mention opens its target's log.
+        opening_is : (target : List ℕ) → opening_by options.recursive visited.opened.items (log_number target numbering.logs) ≡ alone.opening_after numbering.logs options target state.opened
+        opening_is target = by (log_number target numbering.logs) refl
+          where
+            by : (place : Option ℕ) → log_number target numbering.logs ≡ place → opening_by options.recursive visited.opened.items place ≡ opening_of options.recursive (is_among target state.opened) place
+            by None placed = refl
+            by (Some number) placed = ap (λ opened. opening_of options.recursive opened (Some number)) (was_opened target number placed)
+
+        -- What it shows.
+        pub events_are : (depth : ℕ) (entry : NumberedEntry) → IsNumbered numbering.names entry
+            → own_events numbering options depth visited entry ≡ alone.own_events numbering.logs options depth state.named state.opened (numbered_value numbering.names entry)
+        events_are depth (Mention pid how name) below =
+            let target = name_at numbering.names name in
+            ap (λ opening. if is_mention options how then mention_line options depth pid how target opening (is_set visited.named.items name) else []) (opening_is target)
+            ∙ ap (λ was_named. if is_mention options how then mention_line options depth pid how target (alone.opening_after numbering.logs options target state.opened) was_named else [])
             (ap (λ flags. is_set flags name) is.named ∙ flag_at numbering.names state.named name below)
-        text_is depth (Other (other.Text line)) numbered = refl
-        text_is depth (Other (other.Mention pid how name)) numbered = absurd numbered
-        text_is depth (Other (other.Done pid status name)) numbered = refl
-        text_is depth (Other (other.Closing pid status)) numbered = refl
-        text_is depth (Other (other.Note pid kind text)) numbered = refl
+        events_are depth (Other (other.Text line)) numbered = refl
+        events_are depth (Other (other.Mention pid how name)) numbered = absurd numbered
+        events_are depth (Other (other.Done pid status name)) numbered = refl
+        events_are depth (Other (other.Closing pid status)) numbered = refl
+        events_are depth (Other (other.Note pid kind text)) numbered = refl
 
         -- Which targets are named after it.
         pub named_is : (entry : NumberedEntry) → IsNumbered numbering.names entry
@@ -152,23 +156,9 @@ module _ (numbering : Numbering) where
         named_is (Other (other.Note pid kind text)) numbered = is.named
 
         -- Which log it opens.
-        log_to_open_is : (target : List ℕ) → (if options.recursive then unless_opened visited.opened.items (log_number target numbering.logs) else None) ≡ alone.log_to_open numbering.logs options target state.opened
-        log_to_open_is target = by options.recursive (log_number target numbering.logs) refl
-          where
-            new_is : (number : ℕ) → log_number target numbering.logs ≡ Some number → (was : Bool) → is_set visited.opened.items number ≡ was
-                → (if was then None else Some number) ≡ (if not (is_among target state.opened) then Some number else None)
-            new_is number placed true was = ap (λ (b : Bool). if not b then Some number else None) (sym was ∙ was_opened target number placed)
-            new_is number placed false was = ap (λ (b : Bool). if not b then Some number else None) (sym was ∙ was_opened target number placed)
-
-            by : (recursive : Bool) (place : Option ℕ) → log_number target numbering.logs ≡ place
-                → (if recursive then unless_opened visited.opened.items place else None) ≡ (if recursive && not (is_among target state.opened) then place else None)
-            by true None placed = none_there (not (is_among target state.opened))
-            by true (Some number) placed = new_is number placed (is_set visited.opened.items number) refl
-            by false place placed = refl
-
         pub nested_log_is : (entry : NumberedEntry) → IsNumbered numbering.names entry
             → nested_log numbering options visited.opened.items entry ≡ alone.nested_log numbering.logs options state.opened (numbered_value numbering.names entry)
-        nested_log_is (Mention pid how name) below = ap (λ number. if is_mention options how then number else None) (log_to_open_is (name_at numbering.names name))
+        nested_log_is (Mention pid how name) below = ap (λ opening. if is_mention options how then log_to_open opening else None) (opening_is (name_at numbering.names name))
         nested_log_is (Other (other.Text line)) numbered = refl
         nested_log_is (Other (other.Mention pid how name)) numbered = absurd numbered
         nested_log_is (Other (other.Done pid status name)) numbered = refl
@@ -182,21 +172,21 @@ module _ (numbering : Numbering) (options : Options) (opened : List Bool) (numbe
   abbrev pub IsNewLog : Type 0
   IsNewLog = (number < length numbering.logs) × (is_set opened number ≡ false)
 
-  new_placed : (target : List ℕ) (place : Option ℕ) → log_number target numbering.logs ≡ place → unless_opened opened place ≡ Some number → IsNewLog
+  new_placed : (target : List ℕ) (place : Option ℕ) → log_number target numbering.logs ≡ place → log_to_open (opening_by options.recursive opened place) ≡ Some number → IsNewLog
   new_placed target None placed is = absurd (none-some number is)
-  new_placed target (Some other) placed is = by (is_set opened other) refl is
+  new_placed target (Some other) placed is = by options.recursive (is_set opened other) refl is
     where
-      by : (was : Bool) → is_set opened other ≡ was → (if was then no_log else Some other) ≡ Some number → IsNewLog
-      by true was is = absurd (none-some number is)
-      by false was is =
+      by : (recursive was : Bool) → is_set opened other ≡ was → log_to_open (opening_of recursive was (Some other)) ≡ Some number → IsNewLog
+      by recursive true was is = absurd (none-some number is)
+      by true false was is =
           let same = same_Some other number is in
           (subst (λ n. n < length numbering.logs) same (first_log target numbering.logs other placed).2, subst (λ n. is_set opened n ≡ false) same was)
+      by false false was is = absurd (none-some number is)
 
-  new_mentioned : (target : List ℕ) (counts recursive : Bool) → (if counts then if recursive then unless_opened opened (log_number target numbering.logs) else None else None) ≡ Some number → IsNewLog
-  new_mentioned target true true is = new_placed target (log_number target numbering.logs) refl is
-  new_mentioned target true false is = absurd (none-some number is)
-  new_mentioned target false recursive is = absurd (none-some number is)
+  new_mentioned : (target : List ℕ) (counts : Bool) → (if counts then log_to_open (opening_by options.recursive opened (log_number target numbering.logs)) else None) ≡ Some number → IsNewLog
+  new_mentioned target true is = new_placed target (log_number target numbering.logs) refl is
+  new_mentioned target false is = absurd (none-some number is)
 
   pub nested_log_is_new : (entry : NumberedEntry) → nested_log numbering options opened entry ≡ Some number → IsNewLog
-  nested_log_is_new (Mention pid how name) is = new_mentioned (name_at numbering.names name) (is_mention options how) options.recursive is
+  nested_log_is_new (Mention pid how name) is = new_mentioned (name_at numbering.names name) (is_mention options how) is
   nested_log_is_new (Other other) is = absurd (none-some number is)

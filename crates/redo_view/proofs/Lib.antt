@@ -1,11 +1,16 @@
 mod Equation
+mod EventRows
 mod ExpansionRows
 mod FirstMention
 mod Flags
 mod Growing
 mod Naming
+mod NestingLemmas
 mod OneEntry
+mod Openings
+mod PlainLines
 mod Reaching
+mod Rendered
 mod Shifting
 mod TargetEntries
 mod Targets

@@ -1,6 +1,6 @@
 -- Which targets are named.
-use Rattle.std.proofs.Common.{◌≡◌, ◌⊎◌, ◌↔◌, ℕ, zero, suc, ◌+◌, Bool, true, false, inl, inr, cond, List, [], ◌∷◌, ◌++◌, None, Some, length, refl, sym, ap, ◌∙◌, subst}
-use Rattle.std.specs.Prelude.{nat_eq}
+use Rattle.std.proofs.Common.{◌≡◌, ◌⊎◌, ◌↔◌, ℕ, zero, suc, ◌+◌, Bool, true, false, inl, inr, cond, List, [], ◌∷◌, ◌++◌, Some, length, refl, sym, ap, ◌∙◌, subst}
+use Rattle.std.specs.Prelude.{◌||◌, not, nat_eq}
 use Rattle.std.specs.Cmp.Lexicographic.{pointwise, same_text}
 use Rattle.std.proofs.lemmas.Bool.{and_parts, and_from, or_cases, or_left, or_right, not-true, both_ways}
 use Rattle.std.proofs.lemmas.Cmp.{nat_list_eq_equiv}
@@ -10,39 +10,48 @@ use Rattle.redo_line.specs.declared.entry.Entry.TheVariants.{Text, Mention, Done
 use Rattle.redo_line.specs.declared.entry.How.{How}
 use Rattle.redo_logs.specs.Logs.{Log}
 use Rattle.redo_options.specs.declared.options.Options.{Options}
-use Rattle.redo_view.specs.Text.{redo_line, mention_suffix}
-use Rattle.redo_view.specs.Expansion.{ShowLog, ViewState, is_among, insert_name, append_text, entries_of_target, is_mention, show_mention_line, begin_log, should_open, show_entry, show_entries, show_log_within, show_log, show_targets}
+use Rattle.redo_view.specs.declared.event.Opening.{Opening}
+use Rattle.redo_view.specs.Event.{Event}
+use Rattle.redo_view.specs.Event.Event.{Mentioned}
+use Rattle.redo_view.specs.Text.{event_text, mention_suffix, redo_line}
+use Rattle.redo_view.specs.Expansion.{ShowLog, ViewState, is_among, insert_name, append_event, request_event, entries_of_target, is_mention, mention_opening, show_mention_line, begin_log, show_entry, show_entries, show_log_within, show_log, show_targets}
 use Rattle.redo_view.specs.Private.Branches.{show_log_if, show_mention_if, show_target_unless}
 use Rattle.redo_view.specs.Reachable.{mentions_target, mentioned_in}
 use Rattle.redo_view.specs.Laws.{NamedFirst, NamedAgain, IsNamedIn, IsNamedBetween, AreNamed, NamedByEntries, NamedByLog, NamedFinally}
 use Rattle.redo_view.proofs.Growing.{Names, Keeps, more-keeps, more-has, more-only}
-use Rattle.redo_view.proofs.Equation.{should_open-parts, show_log_equation}
+use Rattle.redo_view.proofs.Equation.{show_log_equation}
+use Rattle.redo_view.proofs.Openings.{should_open, should_open-parts}
 
 -- ---- the line of a mention
 
-module _ (options : Options) (how : How) (name : List ℕ) (depth pid : ℕ) (state : ViewState) where
+module _ (options : Options) (how : How) (name : List ℕ) (depth pid : ℕ) (opening : Opening) (state : ViewState) where
+  abbrev line : List Event
+  line = Mentioned depth pid how name opening ∷ []
+
   -- The state after a mention without `debug_locks`, depending on whether the target is named.
   abbrev mentioned_by : Bool → ViewState
   mentioned_by known = record {
     named = cond known state.named (state.named ++ name ∷ []);
     opened = state.opened;
-    text = state.text ++ cond known [] (redo_line options depth (Some pid) name);
+    events = state.events ++ cond (not known) line [];
   }
 
-  mention_by : (known : Bool) → options.debug_locks ≡ false → is_among name state.named ≡ known → show_mention_line options depth pid how name state ≡ mentioned_by known
+  mention_by : (known : Bool) → options.debug_locks ≡ false → is_among name state.named ≡ known → show_mention_line options depth pid how name opening state ≡ mentioned_by known
   mention_by known quiet is = λ i. record {
     named = cond (is i) state.named (state.named ++ name ∷ []);
     opened = state.opened;
-    text = state.text ++ (ap (λ (locks : Bool). cond locks (redo_line options depth (Some pid) (name ++ mention_suffix how)) (cond (is_among name state.named) [] (redo_line options depth (Some pid) name))) quiet
-        ∙ ap (λ (b : Bool). cond b [] (redo_line options depth (Some pid) name)) is) i;
+    events = state.events ++ (ap (λ (locks : Bool). cond (locks || not (is_among name state.named)) line []) quiet ∙ ap (λ (b : Bool). cond (not b) line []) is) i;
   }
 
+  line_text : options.debug_locks ≡ false → event_text options (Mentioned depth pid how name opening) ≡ redo_line options depth (Some pid) name
+  line_text quiet = ap (λ (locks : Bool). redo_line options depth (Some pid) (cond locks (name ++ mention_suffix how) name)) quiet
+
 pub named_first : (options : Options) (how : How) (name : List ℕ) → NamedFirst options how name
-named_first options how name depth pid state quiet new = mention_by options how name depth pid state false quiet new
+named_first options how name depth pid opening state quiet new = (mention_by options how name depth pid opening state false quiet new, line_text options how name depth pid opening state quiet)
 
 pub named_again : (options : Options) (how : How) (name : List ℕ) → NamedAgain options how name
-named_again options how name depth pid state quiet known =
-    mention_by options how name depth pid state true quiet known ∙ (λ i. record { named = state.named; opened = state.opened; text = append-nil state.text i })
+named_again options how name depth pid opening state quiet known =
+    mention_by options how name depth pid opening state true quiet known ∙ (λ i. record { named = state.named; opened = state.opened; events = append-nil state.events i })
 
 -- ---- a name that is appended
 
@@ -165,15 +174,15 @@ module _ (logs : List Log) (options : Options) where
   abbrev NamesItsOwn : ShowLog → Type 0
   NamesItsOwn inner = (target : List ℕ) (depth : ℕ) (state : ViewState) → is_among target state.opened ≡ false → Naming Nothing state (inner target depth state)
 
-  mention_names : (depth pid : ℕ) (how : How) (name : List ℕ) (state : ViewState) → Naming (λ other. other ≡ name) state (show_mention_line options depth pid how name state)
-  mention_names depth pid how name state = record {
+  mention_names : (depth pid : ℕ) (how : How) (name : List ℕ) (opening : Opening) (state : ViewState) → Naming (λ other. other ≡ name) state (show_mention_line options depth pid how name opening state)
+  mention_names depth pid how name opening state = record {
     keeps = λ other is. is;
     are = λ other. (
       (λ is. elim ((is_named name state.named other).0 is) [ inl old ↦ inl old | inr same ↦ inr (inl same) ]),
       (λ either. elim either [
         | inl old ↦ (is_named name state.named other).1 (inl old)
         | inr (inl same) ↦ (is_named name state.named other).1 (inr same)
-        | inr (inr opening) ↦ absurd (no_log state (show_mention_line options depth pid how name state) other refl opening)
+        | inr (inr between) ↦ absurd (no_log state (show_mention_line options depth pid how name opening state) other refl between)
       ]),
     );
   }
@@ -187,7 +196,8 @@ module _ (logs : List Log) (options : Options) where
     show_mention_if_names : (depth pid : ℕ) (how : How) (name : List ℕ) (state : ViewState) (counts : Bool) → is_mention options how ≡ counts
         → Naming (λ other. mentions_target options other (Mention pid how name) ≡ true) state (show_mention_if logs options counts inner depth pid how name state)
     show_mention_if_names depth pid how name state true counts =
-        let named = show_mention_line options depth pid how name state in
+        let opening = mention_opening logs options name state in
+        let named = show_mention_line options depth pid how name opening state in
         let after = show_log_if logs options (should_open logs options name named) inner name (depth + 1) named in
         naming-as (λ other. (other ≡ name) ⊎ Nothing other) (λ other. mentions_target options other (Mention pid how name) ≡ true) state after (λ other. (
           (λ either. elim either [
@@ -196,7 +206,7 @@ module _ (logs : List Log) (options : Options) where
           ]),
           (λ is. inl (same_text other name (sym (and_parts (is_mention options how) (pointwise nat_eq other name) is).1))),
         ))
-        (naming-both (λ other. other ≡ name) Nothing state named after (mention_names depth pid how name state) (show_log_if_names name (depth + 1) named (should_open logs options name named) refl))
+        (naming-both (λ other. other ≡ name) Nothing state named after (mention_names depth pid how name opening state) (show_log_if_names name (depth + 1) named (should_open logs options name named) refl))
     show_mention_if_names depth pid how name state false counts =
         unchanged (λ other. mentions_target options other (Mention pid how name) ≡ true) state state
         (λ other is. both_ways (is_mention options how) counts (and_parts (is_mention options how) (pointwise nat_eq other name) is).0) refl refl
@@ -283,7 +293,10 @@ module _ (logs : List Log) (options : Options) where
   unfolding show_log_within
   within_names zero target depth state new = unchanged Nothing state state (λ other no. no) refl refl
   within_names (suc levels) target depth state new =
-      new_log_names target state _ (entries_name (show_log_within logs options levels) (within_names levels) depth (entries_of_target target logs) (begin_log target state)) new
+      let entries = entries_of_target target logs in
+      let after = show_entries logs options (show_log_within logs options levels) depth entries (begin_log target state) in
+      let naming = new_log_names target state after (entries_name (show_log_within logs options levels) (within_names levels) depth entries (begin_log target state)) new in
+      record { keeps = naming.keeps; are = naming.are }
 
   show_log_names : NamesItsOwn (show_log logs options)
   unfolding show_log
@@ -295,14 +308,15 @@ module _ (logs : List Log) (options : Options) where
   pub named_by_log : (target : List ℕ) → NamedByLog logs options target
   named_by_log target depth state =
       subst (λ (after : ViewState). AreNamed logs options (IsNamedIn logs options target) state after) (sym (show_log_equation logs options target depth state))
-      (log_names target state _ (entries_name (show_log logs options) show_log_names depth (entries_of_target target logs) (begin_log target state))).are
+      (log_names target state (show_entries logs options (show_log logs options) depth (entries_of_target target logs) (begin_log target state))
+      (entries_name (show_log logs options) show_log_names depth (entries_of_target target logs) (begin_log target state))).are
 
   -- ---- requested targets
 
   target_names : (known : Bool) (target : List ℕ) (state : ViewState) → is_among target state.opened ≡ known → Naming Nothing state (show_target_unless logs options known target state)
   target_names true target state is = unchanged Nothing state state (λ other no. no) refl refl
   target_names false target state is =
-      let naming = show_log_names target 1 (append_text (redo_line options 0 None target) state) is in
+      let naming = show_log_names target 1 (append_event (request_event logs target) state) is in
       record { keeps = naming.keeps; are = naming.are }
 
   targets_name : (requested : Names) (state : ViewState) → Naming Nothing state (show_targets logs options requested state)
@@ -314,7 +328,7 @@ module _ (logs : List Log) (options : Options) where
 
   pub named_finally : (requested : Names) → NamedFinally logs options requested
   named_finally requested name =
-      let naming = targets_name requested (record { named = []; opened = []; text = [] }) in (
+      let naming = targets_name requested (record { named = []; opened = []; events = [] }) in (
         (λ is. elim ((naming.are name).0 is) [
           | inl old ↦ absurd (cc)
           | inr (inl never) ↦ absurd never

@@ -1,5 +1,5 @@
 -- Which logs are opened, and that none is opened twice.
-use Rattle.std.proofs.Common.{◌≡◌, ℕ, zero, suc, ◌+◌, ◌<◌, Bool, true, false, inl, inr, List, [], ◌∷◌, ◌++◌, None, refl, sym, ap, ◌∙◌, subst, arith}
+use Rattle.std.proofs.Common.{◌≡◌, ℕ, zero, suc, ◌+◌, ◌<◌, Bool, true, false, inl, inr, List, [], ◌∷◌, ◌++◌, refl, sym, ap, ◌∙◌, subst, arith}
 use Rattle.std.specs.Prelude.{◌&&◌, not, nat_eq}
 use Rattle.std.specs.List.{IsDistinct}
 use Rattle.std.specs.Cmp.Lexicographic.{pointwise, same_text}
@@ -9,16 +9,16 @@ use Rattle.redo_line.specs.declared.entry.Entry.{Entry}
 use Rattle.redo_line.specs.declared.entry.Entry.TheVariants.{Text, Mention, Done, Closing, Note}
 use Rattle.redo_logs.specs.Logs.{Log, targets_of}
 use Rattle.redo_options.specs.declared.options.Options.{Options}
-use Rattle.redo_view.specs.Expansion.{ViewState, is_among, append_text, entries_of_target, is_mention, show_mention_line, begin_log, should_open, show_entry, show_entries, show_log, show_targets, expand}
+use Rattle.redo_view.specs.Expansion.{ViewState, is_among, append_event, request_event, entries_of_target, is_mention, mention_opening, show_mention_line, begin_log, show_entry, show_entries, show_log, show_targets, expand}
 use Rattle.redo_view.specs.Private.Branches.{show_log_if, show_mention_if, show_target_unless}
 use Rattle.redo_view.specs.Reachable.{mentions_target, mentioned_in, IsMentionChain, IsReachable}
-use Rattle.redo_view.specs.Text.{redo_line}
 use Rattle.redo_view.proofs.Growing.{Names, Keeps, more-has, more-only, more-distinct, Growth, Grown, grown-none, grown-both, Kept, kept}
-use Rattle.redo_view.proofs.Equation.{left_after, should_open-parts, entries_grow, entries_keep, log_keeps, show_log_equation}
+use Rattle.redo_view.proofs.Openings.{should_open, should_open-is, should_open-parts}
+use Rattle.redo_view.proofs.Equation.{left_after, entries_grow, entries_keep, log_keeps, show_log_equation}
 
 -- The state at the start.
 abbrev initial_state : ViewState
-initial_state = record { named = []; opened = []; text = [] }
+initial_state = record { named = []; opened = []; events = [] }
 
 module _ (logs : List Log) (options : Options) where
   -- The opened names after a log, and after requested targets.
@@ -61,7 +61,7 @@ module _ (logs : List Log) (options : Options) where
       -- The log of a requested target, unless it was opened before.
       target_grows : (target : List ℕ) (state : ViewState) → Good target → (known : Bool) → is_among target state.opened ≡ known → Grown Q state.opened (show_target_unless logs options known target state).opened
       target_grows target state good true is = grown-none Q growth state.opened
-      target_grows target state good false is = grows_below (suc (left_after logs options target state)) target 1 (append_text (redo_line options 0 None target) state) (omega arith) good is
+      target_grows target state good false is = grows_below (suc (left_after logs options target state)) target 1 (append_event (request_event logs target) state) (omega arith) good is
 
       -- Requested targets in order.
       targets_grow : (requested : Names) → ((target : List ℕ) → is_among target requested ≡ true → Good target) → (state : ViewState) → Grown Q state.opened (opened_after_targets requested state)
@@ -144,7 +144,7 @@ module _ (logs : List Log) (options : Options) where
     open_after_mention depth state true is = own name depth state
     open_after_mention depth state false is =
         let there = options.recursive && is_among name (targets_of logs) in
-        elim (and_cases there (not (is_among name state.opened)) is) [
+        elim (and_cases there (not (is_among name state.opened)) (sym (should_open-is logs options name state) ∙ is)) [
           | inl neither ↦ absurd (both_ways there neither (and_from options.recursive (is_among name (targets_of logs)) recursive listed))
           | inr known ↦ not-false (is_among name state.opened) known
         ]
@@ -157,7 +157,7 @@ module _ (logs : List Log) (options : Options) where
         subst (λ n. is_among name (show_entry logs options (show_log logs options) depth (Mention pid how n) state).opened ≡ true) (same_text name other (sym parts.1)) (by (is_mention options how) parts.0)
       where
         by : (counts : Bool) → counts ≡ true → is_among name (show_mention_if logs options counts (show_log logs options) depth pid how name state).opened ≡ true
-        by true is = let named = show_mention_line options depth pid how name state in open_after_mention (depth + 1) named (should_open logs options name named) refl
+        by true is = let named = show_mention_line options depth pid how name (mention_opening logs options name state) state in open_after_mention (depth + 1) named (should_open logs options name named) refl
         by false is = absurd (cc)
     open_after_entry (Done pid status other) mentioned depth state = absurd (cc)
     open_after_entry (Closing pid status) mentioned depth state = absurd (cc)
@@ -232,7 +232,7 @@ module _ (logs : List Log) (options : Options) where
     where
       by : (known : Bool) → is_among first state.opened ≡ known → is_among first (show_target_unless logs options known first state).opened ≡ true
       by true is = is
-      by false is = own first 1 (append_text (redo_line options 0 None first) state)
+      by false is = own first 1 (append_event (request_event logs first) state)
 
   -- Reached targets are opened.
   pub reached-opened : (requested : Names) (target : List ℕ) → IsReachable logs options requested target → is_among target (expand logs options requested).opened ≡ true

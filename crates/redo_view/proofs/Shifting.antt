@@ -1,72 +1,77 @@
--- What a log adds doesn't depend on the text before it, and its entries are shown one after the other.
-use Rattle.std.proofs.Common.{◌≡◌, ℕ, zero, suc, ◌+◌, ◌<◌, Bool, true, false, List, [], ◌∷◌, ◌++◌, Option, None, Some, is_some, length, refl, sym, ap, ◌∙◌, subst, arith}
-use Rattle.std.specs.Prelude.{◌&&◌, not, nat_eq, slice_get, cond, if◌then◌else◌}
-use Rattle.std.specs.List.{position_from}
+-- What a log adds doesn't depend on what was shown before it, and its entries are shown one after the other.
+use Rattle.std.proofs.Common.{◌≡◌, ℕ, zero, suc, ◌+◌, ◌<◌, Bool, true, false, List, [], ◌∷◌, ◌++◌, None, Some, is_some, length, refl, sym, ap, ◌∙◌, subst, arith}
+use Rattle.std.specs.Prelude.{nat_eq, slice_get, cond, if◌then◌else◌}
+use Rattle.std.specs.List.{flat_map, position_from}
 use Rattle.std.specs.Cmp.Lexicographic.{pointwise, same_text}
-use Rattle.std.proofs.lemmas.Bool.{and_from, not-true}
 use Rattle.std.proofs.lemmas.Iterator.Adapters.{position_from-zero}
+use Rattle.std.proofs.lemmas.List.Concat.{flat_map-append}
 use Rattle.std.proofs.lemmas.List.{append_assoc, append-nil}
 use Rattle.std.proofs.lemmas.Option.{none-some, same_Some}
 use Rattle.redo_line.specs.declared.entry.Entry.{Entry}
 use Rattle.redo_line.specs.declared.entry.Entry.TheVariants.{Text, Mention, Done, Closing, Note}
 use Rattle.redo_line.specs.declared.entry.How.{How}
-use Rattle.redo_line.proofs.PlaceLemmas.{some_place}
 use Rattle.redo_logs.specs.Logs.{Log, targets_of, log_number, entry_at}
 use Rattle.redo_options.specs.declared.options.Options.{Options}
-use Rattle.redo_view.specs.Expansion.{ShowLog, ViewState, is_among, insert_name, append_text, entries_of_target, is_mention, mention_text, show_mention_line, begin_log, should_open, show_entry, show_entries, show_log_within, show_log}
+use Rattle.redo_view.specs.declared.event.Opening.{Opening}
+use Rattle.redo_view.specs.Event.{Event}
+use Rattle.redo_view.specs.Event.Event.{EntryShown, LogEnds}
+use Rattle.redo_view.specs.Expansion.{ShowLog, ViewState, is_among, insert_name, append_event, entries_of_target, is_mention, mention_events, mention_opening, show_mention_line, begin_log, end_log, show_entry, show_entries, show_log_within, show_log}
 use Rattle.redo_view.specs.Private.Branches.{show_log_if, show_mention_if}
-use Rattle.redo_view.specs.Laws.{prepend_text}
-use Rattle.redo_view.proofs.OneEntry.{mid, own_text, log_to_open, nested_log}
+use Rattle.redo_view.specs.Laws.{TextIsAppendOnly, prepend_events}
+use Rattle.redo_view.specs.Text.{event_text}
+use Rattle.redo_view.specs.Private.EntryEffect.{log_to_open}
+use Rattle.redo_view.proofs.OneEntry.{mid, nested_log, opening_after}
+use Rattle.redo_view.proofs.Openings.{none_opens, placed-listed, should_open, some_opens}
 
--- ---- a text before what is shown
+-- ---- events before what is shown
 
--- The same state without text.
-abbrev without_text : ViewState → ViewState
-without_text s = record { named = s.named; opened = s.opened; text = [] }
+-- The same state, with nothing shown.
+abbrev without_events : ViewState → ViewState
+without_events s = record { named = s.named; opened = s.opened; events = [] }
 
--- A state is its text, followed by the same state without text.
-after_own : (s : ViewState) → s ≡ prepend_text s.text (without_text s)
-after_own s = λ i. record { named = s.named; opened = s.opened; text = sym (append-nil s.text) i }
+-- A state is its events before the state with nothing shown.
+after_own : (s : ViewState) → s ≡ prepend_events s.events (without_events s)
+after_own s = λ i. record { named = s.named; opened = s.opened; events = sym (append-nil s.events) i }
 
--- Whether an opening does the same after any text.
+-- Whether a function does the same after any events.
 abbrev pub Shifts : ShowLog → Type 0
-Shifts inner = (name : List ℕ) (depth : ℕ) (x : List ℕ) (s : ViewState) → inner name depth (prepend_text x s) ≡ prepend_text x (inner name depth s)
+Shifts inner = (name : List ℕ) (depth : ℕ) (x : List Event) (s : ViewState) → inner name depth (prepend_events x s) ≡ prepend_events x (inner name depth s)
 
--- Adding text does the same after any text.
-text-shift : (x text : List ℕ) (s : ViewState) → append_text text (prepend_text x s) ≡ prepend_text x (append_text text s)
-text-shift x text s = λ i. record { named = s.named; opened = s.opened; text = append_assoc x s.text text i }
+-- An event is added after any others.
+event-shift : (x : List Event) (event : Event) (s : ViewState) → append_event event (prepend_events x s) ≡ prepend_events x (append_event event s)
+event-shift x event s = λ i. record { named = s.named; opened = s.opened; events = append_assoc x s.events (event ∷ []) i }
 
--- A mention does the same after any text.
-show_mention_line-shift : (options : Options) (depth pid : ℕ) (how : How) (name x : List ℕ) (s : ViewState) → show_mention_line options depth pid how name (prepend_text x s) ≡ prepend_text x (show_mention_line options depth pid how name s)
-show_mention_line-shift options depth pid how name x s = λ i. record {
+-- A mention does the same after any events.
+show_mention_line-shift : (options : Options) (depth pid : ℕ) (how : How) (name : List ℕ) (opening : Opening) (x : List Event) (s : ViewState) → show_mention_line options depth pid how name opening (prepend_events x s) ≡ prepend_events x (show_mention_line options depth pid how name opening s)
+show_mention_line-shift options depth pid how name opening x s = λ i. record {
   named = insert_name name s.named;
   opened = s.opened;
-  text = append_assoc x s.text (mention_text options depth pid how name s.named) i;
+  events = append_assoc x s.events (mention_events options depth pid how name opening s.named) i;
 }
 
 module _ (logs : List Log) (options : Options) where
   module _ (inner : ShowLog) (shifts : Shifts inner) where
     -- The log that a mention opens, or doesn't.
-    mentioned-shift : (depth pid : ℕ) (how : How) (name x : List ℕ) (s : ViewState) (opening : Bool)
-        → show_log_if logs options opening inner name (depth + 1) (show_mention_line options depth pid how name (prepend_text x s))
-        ≡ prepend_text x (show_log_if logs options opening inner name (depth + 1) (show_mention_line options depth pid how name s))
-    mentioned-shift depth pid how name x s true = ap (inner name (depth + 1)) (show_mention_line-shift options depth pid how name x s) ∙ shifts name (depth + 1) x (show_mention_line options depth pid how name s)
-    mentioned-shift depth pid how name x s false = show_mention_line-shift options depth pid how name x s
+    mentioned-shift : (depth pid : ℕ) (how : How) (name : List ℕ) (x : List Event) (s : ViewState) (opening : Bool)
+        → show_log_if logs options opening inner name (depth + 1) (show_mention_line options depth pid how name (mention_opening logs options name s) (prepend_events x s))
+        ≡ prepend_events x (show_log_if logs options opening inner name (depth + 1) (show_mention_line options depth pid how name (mention_opening logs options name s) s))
+    mentioned-shift depth pid how name x s true = ap (inner name (depth + 1)) (show_mention_line-shift options depth pid how name (mention_opening logs options name s) x s) ∙ shifts name (depth + 1) x (show_mention_line options depth pid how name (mention_opening logs options name s) s)
+    mentioned-shift depth pid how name x s false = show_mention_line-shift options depth pid how name (mention_opening logs options name s) x s
 
     -- One entry.
-    one-shift : (depth : ℕ) (entry : Entry) (x : List ℕ) (s : ViewState) → show_entry logs options inner depth entry (prepend_text x s) ≡ prepend_text x (show_entry logs options inner depth entry s)
-    one-shift depth (Text line) x s = text-shift x (own_text options depth s.named (Text line)) s
+    one-shift : (depth : ℕ) (entry : Entry) (x : List Event) (s : ViewState) → show_entry logs options inner depth entry (prepend_events x s) ≡ prepend_events x (show_entry logs options inner depth entry s)
+    one-shift depth (Text line) x s = event-shift x (EntryShown depth (Text line)) s
     one-shift depth (Mention pid how name) x s = by (is_mention options how)
       where
-        by : (counts : Bool) → show_mention_if logs options counts inner depth pid how name (prepend_text x s) ≡ prepend_text x (show_mention_if logs options counts inner depth pid how name s)
-        by true = mentioned-shift depth pid how name x s (should_open logs options name (show_mention_line options depth pid how name s))
+        by : (counts : Bool) → show_mention_if logs options counts inner depth pid how name (prepend_events x s) ≡ prepend_events x (show_mention_if logs options counts inner depth pid how name s)
+        by true = mentioned-shift depth pid how name x s (should_open logs options name s)
         by false = refl
-    one-shift depth (Done pid status name) x s = text-shift x (own_text options depth s.named (Done pid status name)) s
-    one-shift depth (Closing pid status) x s = text-shift x (own_text options depth s.named (Closing pid status)) s
-    one-shift depth (Note pid kind text) x s = text-shift x (own_text options depth s.named (Note pid kind text)) s
+    one-shift depth (Done pid status name) x s = event-shift x (EntryShown depth (Done pid status name)) s
+    one-shift depth (Closing pid status) x s = event-shift x (EntryShown depth (Closing pid status)) s
+    one-shift depth (Note pid kind text) x s = event-shift x (EntryShown depth (Note pid kind text)) s
 
     -- Entries in order.
-    all-shift : (depth : ℕ) (entries : List Entry) (x : List ℕ) (s : ViewState) → show_entries logs options inner depth entries (prepend_text x s) ≡ prepend_text x (show_entries logs options inner depth entries s)
+    all-shift : (depth : ℕ) (entries : List Entry) (x : List Event) (s : ViewState) → show_entries logs options inner depth entries (prepend_events x s) ≡ prepend_events x (show_entries logs options inner depth entries s)
     all-shift depth [] x s = refl
     all-shift depth (entry ∷ entries) x s =
         ap (λ t. show_entries logs options inner depth entries t) (one-shift depth entry x s) ∙ all-shift depth entries x (show_entry logs options inner depth entry s)
@@ -75,31 +80,38 @@ module _ (logs : List Log) (options : Options) where
   within-shift : (levels : ℕ) → Shifts (show_log_within logs options levels)
   unfolding show_log_within
   within-shift zero target depth x s = refl
-  within-shift (suc levels) target depth x s = all-shift (show_log_within logs options levels) (within-shift levels) depth (entries_of_target target logs) x (begin_log target s)
+  within-shift (suc levels) target depth x s =
+      ap (end_log depth) (all-shift (show_log_within logs options levels) (within-shift levels) depth (entries_of_target target logs) x (begin_log target s))
+      ∙ event-shift x (LogEnds depth) (show_entries logs options (show_log_within logs options levels) depth (entries_of_target target logs) (begin_log target s))
 
-  -- So what a log adds doesn't depend on the text before it.
-  pub show_log-shift : (target : List ℕ) (depth : ℕ) (x : List ℕ) (s : ViewState) → show_log logs options target depth (prepend_text x s) ≡ prepend_text x (show_log logs options target depth s)
+  -- So what a log adds doesn't depend on the events before it.
+  pub show_log-shift : (target : List ℕ) (depth : ℕ) (x : List Event) (s : ViewState) → show_log logs options target depth (prepend_events x s) ≡ prepend_events x (show_log logs options target depth s)
   unfolding show_log
   show_log-shift target depth x s = within-shift (length logs + 1) target depth x s
 
+  -- So it is with the text.
+  pub text-shift : TextIsAppendOnly logs options (show_log logs options)
+  text-shift target depth x s =
+      ap (λ (t : ViewState). flat_map (event_text options) t.events) (show_log-shift target depth x s) ∙ flat_map-append (event_text options) x (show_log logs options target depth s).events
+
   -- Nor does what entries add.
-  pub entries-shift : (depth : ℕ) (entries : List Entry) (x : List ℕ) (s : ViewState)
-      → show_entries logs options (show_log logs options) depth entries (prepend_text x s) ≡ prepend_text x (show_entries logs options (show_log logs options) depth entries s)
+  pub entries-shift : (depth : ℕ) (entries : List Entry) (x : List Event) (s : ViewState)
+      → show_entries logs options (show_log logs options) depth entries (prepend_events x s) ≡ prepend_events x (show_entries logs options (show_log logs options) depth entries s)
   entries-shift depth entries x s = all-shift (show_log logs options) show_log-shift depth entries x s
 
-  -- ---- text is only added
+  -- ---- events are only added
 
-  -- After entries, the text begins with the text before them.
-  pub text-grows : (depth : ℕ) (entries : List Entry) (s : ViewState) → (rest : List ℕ) × ((show_entries logs options (show_log logs options) depth entries s).text ≡ s.text ++ rest)
-  text-grows depth entries s =
+  -- After entries, the events begin with the events before them.
+  pub events-grow : (depth : ℕ) (entries : List Entry) (s : ViewState) → (rest : List Event) × ((show_entries logs options (show_log logs options) depth entries s).events ≡ s.events ++ rest)
+  events-grow depth entries s =
       let suffix : ViewState → ViewState = λ t. show_entries logs options (show_log logs options) depth entries t in
-      ((suffix (without_text s)).text, ap (λ t. (suffix t).text) (after_own s) ∙ ap (λ (t : ViewState). t.text) (entries-shift depth entries s.text (without_text s)))
+      ((suffix (without_events s)).events, ap (λ t. (suffix t).events) (after_own s) ∙ ap (λ (t : ViewState). t.events) (entries-shift depth entries s.events (without_events s)))
 
   -- So it does after a log.
-  pub log_text-grows : (target : List ℕ) (depth : ℕ) (s : ViewState) → (rest : List ℕ) × ((show_log logs options target depth s).text ≡ s.text ++ rest)
-  log_text-grows target depth s = (
-    (show_log logs options target depth (without_text s)).text,
-    ap (λ t. (show_log logs options target depth t).text) (after_own s) ∙ ap (λ (t : ViewState). t.text) (show_log-shift target depth s.text (without_text s)),
+  pub log_events-grow : (target : List ℕ) (depth : ℕ) (s : ViewState) → (rest : List Event) × ((show_log logs options target depth s).events ≡ s.events ++ rest)
+  log_events-grow target depth s = (
+    (show_log logs options target depth (without_events s)).events,
+    ap (λ t. (show_log logs options target depth t).events) (after_own s) ∙ ap (λ (t : ViewState). t.events) (show_log-shift target depth s.events (without_events s)),
   )
 
   -- ---- two lists of entries
@@ -112,45 +124,24 @@ module _ (logs : List Log) (options : Options) where
 -- ---- what one entry does
 
 -- The state after a record, which counts as a mention or doesn't, without the log that it opens.
-abbrev mid_if : Bool → Options → ℕ → ℕ → How → List ℕ → ViewState → ViewState
-mid_if counts options depth pid how name s = record {
+abbrev mid_if : Bool → Options → ℕ → ℕ → How → List ℕ → Opening → ViewState → ViewState
+mid_if counts options depth pid how name opening s = record {
   named = if counts then insert_name name s.named else s.named;
   opened = s.opened;
-  text = s.text ++ (if counts then mention_text options depth pid how name s.named else []);
+  events = s.events ++ (if counts then mention_events options depth pid how name opening s.named else []);
 }
-
--- A target has a log exactly if it is listed.
-pub placed-listed : (name : List ℕ) (logs : List Log) → is_some (log_number name logs) ≡ is_among name (targets_of logs)
-placed-listed name logs = some_place (pointwise nat_eq name) (targets_of logs)
-
--- Without the number of a log, no log is opened.
-none_opens : (recursive new : Bool) (place : Option ℕ) → (if recursive && new then place else None) ≡ None → (recursive && is_some place && new) ≡ false
-none_opens true true None is = refl
-none_opens true true (Some n) is = absurd (none-some n (sym is))
-none_opens true false None is = refl
-none_opens true false (Some n) is = refl
-none_opens false new place is = refl
-
--- With the number of a log, a log is opened.
-some_opens : (recursive new : Bool) (place : Option ℕ) (number : ℕ) → (if recursive && new then place else None) ≡ Some number → (recursive ≡ true) × (new ≡ true) × (place ≡ Some number)
-some_opens true true place number is = (refl, refl, is)
-some_opens true false place number is = absurd (none-some number is)
-some_opens false new place number is = absurd (none-some number is)
 
 module _ (logs : List Log) (options : Options) (inner : ShowLog) (depth : ℕ) where
   -- An entry that opens no log.
-  pub entry-alone : (entry : Entry) (s : ViewState) → nested_log logs options s.opened entry ≡ None → show_entry logs options inner depth entry s ≡ mid options depth entry s
+  pub entry-alone : (entry : Entry) (s : ViewState) → nested_log logs options s.opened entry ≡ None → show_entry logs options inner depth entry s ≡ mid logs options depth entry s
   entry-alone (Text line) s is = refl
   entry-alone (Mention pid how name) s is = by (is_mention options how) is
     where
-      by : (counts : Bool) → (if counts then log_to_open logs options name s.opened else None) ≡ None → show_mention_if logs options counts inner depth pid how name s ≡ mid_if counts options depth pid how name s
+      by : (counts : Bool) → (if counts then log_to_open (opening_after logs options name s.opened) else None) ≡ None → show_mention_if logs options counts inner depth pid how name s ≡ mid_if counts options depth pid how name (mention_opening logs options name s) s
       by true none =
-          let mentioned = show_mention_line options depth pid how name s in
-          let new = not (is_among name s.opened) in
-          let shut : should_open logs options name mentioned ≡ false =
-          ap (λ listed. options.recursive && listed && new) (sym (placed-listed name logs)) ∙ none_opens options.recursive new (log_number name logs) none in
-          ap (λ opening. show_log_if logs options opening inner name (depth + 1) mentioned) shut
-      by false none = λ i. record { named = s.named; opened = s.opened; text = sym (append-nil s.text) i }
+          let mentioned = show_mention_line options depth pid how name (mention_opening logs options name s) s in
+          ap (λ opening. show_log_if logs options opening inner name (depth + 1) mentioned) (none_opens (opening_after logs options name s.opened) none)
+      by false none = λ i. record { named = s.named; opened = s.opened; events = sym (append-nil s.events) i }
   entry-alone (Done pid status name) s is = refl
   entry-alone (Closing pid status) s is = refl
   entry-alone (Note pid kind text) s is = refl
@@ -159,24 +150,21 @@ module _ (logs : List Log) (options : Options) (inner : ShowLog) (depth : ℕ) w
   abbrev pub OpensOne : ℕ → Entry → ViewState → Type 0
   OpensOne number entry s =
       (name : List ℕ) × (log_number name logs ≡ Some number) × (is_among name s.opened ≡ false) × (is_among name (targets_of logs) ≡ true)
-      × (show_entry logs options inner depth entry s ≡ inner name (depth + 1) (mid options depth entry s))
+      × (show_entry logs options inner depth entry s ≡ inner name (depth + 1) (mid logs options depth entry s))
 
   -- An entry with the number of a log opens that log.
   pub entry-should_open : (entry : Entry) (s : ViewState) (number : ℕ) → nested_log logs options s.opened entry ≡ Some number → OpensOne number entry s
   entry-should_open (Text line) s number is = absurd (none-some number is)
   entry-should_open (Mention pid how name) s number is = by (is_mention options how) is
     where
-      by : (counts : Bool) → (if counts then log_to_open logs options name s.opened else None) ≡ Some number
+      by : (counts : Bool) → (if counts then log_to_open (opening_after logs options name s.opened) else None) ≡ Some number
           → (n : List ℕ) × (log_number n logs ≡ Some number) × (is_among n s.opened ≡ false) × (is_among n (targets_of logs) ≡ true)
-          × (show_mention_if logs options counts inner depth pid how name s ≡ inner n (depth + 1) (mid_if counts options depth pid how name s))
+          × (show_mention_if logs options counts inner depth pid how name s ≡ inner n (depth + 1) (mid_if counts options depth pid how name (mention_opening logs options name s) s))
       by true some =
-          let mentioned = show_mention_line options depth pid how name s in
-          let new = not (is_among name s.opened) in
-          let listed = is_among name (targets_of logs) in
-          let parts = some_opens options.recursive new (log_number name logs) number some in
-          let there : listed ≡ true = sym (placed-listed name logs) ∙ ap is_some parts.2 in
-          let opened : should_open logs options name mentioned ≡ true = and_from (options.recursive && listed) new (and_from options.recursive listed parts.0 there) parts.1 in
-          (name, parts.2, not-true (is_among name s.opened) parts.1, there, ap (λ opening. show_log_if logs options opening inner name (depth + 1) mentioned) opened)
+          let mentioned = show_mention_line options depth pid how name (mention_opening logs options name s) s in
+          let parts = some_opens options.recursive (is_among name s.opened) (log_number name logs) number some in
+          let listed : is_among name (targets_of logs) ≡ true = sym (placed-listed name logs) ∙ ap is_some parts.0 in
+          (name, parts.0, parts.1, listed, ap (λ opening. show_log_if logs options opening inner name (depth + 1) mentioned) parts.2)
       by false some = absurd (none-some number some)
   entry-should_open (Done pid status name) s number is = absurd (none-some number is)
   entry-should_open (Closing pid status) s number is = absurd (none-some number is)

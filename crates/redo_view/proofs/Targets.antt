@@ -1,64 +1,66 @@
 -- Showing the requested targets, one after another.
-use Rattle.std.proofs.Common.{◌≡◌, ℕ, zero, suc, ◌+◌, ◌≤◌, ◌<◌, cond, get_or, drop, Bool, true, false, not, nat_eq, List, [], ◌∷◌, ◌++◌, Option, None, Some, Result, Ok, Err, length, take, replicate, refl, sym, ap, ◌∙◌, subst, arith}
-use Rattle.std.specs.Result.{IsErrAnd}
+use Rattle.std.proofs.Common.{◌≡◌, ℕ, zero, suc, ◌+◌, ◌≤◌, ◌<◌, cond, get_or, drop, Bool, true, false, not, nat_eq, List, [], ◌∷◌, ◌++◌, Option, None, Some, Ok, Err, length, take, replicate, refl, sym, ap, ◌∙◌, subst, arith}
 use Rattle.std.specs.Cmp.Lexicographic.{pointwise}
 use Rattle.std.specs.List.{IsDistinct, position_from}
 use Rattle.std.proofs.lemmas.Bool.{not-false}
 use Rattle.std.proofs.lemmas.Iterator.Adapters.{position_from-zero}
 use Rattle.std.proofs.lemmas.List.{append_assoc, append-nil, length-map, take_all, take_more, take-append-drop}
-use Rattle.redo_device.specs.declared.feed.Broken.{Broken}
-use Rattle.redo_device.specs.Sink.{Output, Writes, append_output}
-use Rattle.redo_device.proofs.WritesLemmas.{append_output-append_output}
-use Rattle.redo_logs.specs.Logs.{IsTable, Log, targets_of}
+use Rattle.redo_device.specs.Sink.{Output}
+use Rattle.redo_logs.specs.Logs.{IsTable, Log, log_number, targets_of}
 use Rattle.redo_logs.specs.Numbering.{Numbering}
 use Rattle.redo_options.specs.declared.options.Options.{Options}
 use Rattle.redo_view.specs.declared.entry.Visited.{Visited}
+use Rattle.redo_view.specs.declared.event.Opening.TheVariants.{OpensHere}
 use Rattle.redo_view.specs.declared.viewer.ViewFault.{ViewFault}
-use Rattle.redo_view.specs.declared.viewer.ViewFault.TheVariants.{Unknown, Write, OutOfMemory}
 use Rattle.redo_view.specs.declared.viewer.Viewer.{Viewer}
-use Rattle.redo_view.specs.Text.{redo_line}
-use Rattle.redo_view.specs.Expansion.{ViewState, is_among, append_text, show_targets, expansion}
+use Rattle.redo_view.specs.Event.{Event, opening_of}
+use Rattle.redo_view.specs.Event.Event.{Requested}
+use Rattle.redo_view.specs.Expansion.{ViewState, is_among, append_event, request_event, show_targets, shown_events}
+use Rattle.redo_view.specs.Form.{bytes_of}
 use Rattle.redo_view.specs.Private.Branches.{show_target_unless}
 use Rattle.redo_view.specs.Private.Progress.{HasShown, MatchesFlags, ShowedOrFailed, flags_of, initial_state}
 use Rattle.redo_view.specs.Private.EntryEffect.{Fits}
-use Rattle.redo_view.specs.Private.WriteResult.{WroteOrFailed}
-use Rattle.redo_view.specs.Private.Viewing.{KeepsContext}
+use Rattle.redo_view.specs.Private.Rendering.{Rendering, rendered}
+use Rattle.redo_view.specs.Private.WriteResult.{WroteUntilFault}
+use Rattle.redo_view.specs.Private.Viewing.{KeepsContext, rendering_of}
 use Rattle.redo_view.specs.Private.Viewing as viewing
 use Rattle.redo_view.specs.View.{find_unknown}
-use Rattle.redo_view.proofs.Shifting.{log_text-grows}
-use Rattle.redo_view.proofs.Walking.{append_output-nothing, context_then, stopped}
+use Rattle.redo_view.proofs.Rendered.{events_stopped, rendered-nothing, rendered-rendered}
+use Rattle.redo_view.proofs.Shifting.{log_events-grow}
+use Rattle.redo_view.proofs.Walking.{context_then}
 
-module _ (numbering : Numbering) (options : Options) (target : List ℕ) (first output : Option Output) (before : Visited) (state : ViewState) (has : HasShown numbering first output before state) where
-  abbrev line : List ℕ
-  line = redo_line options 0 None target
+-- The line of a requested target, by the number of its log.
+request_by : (target : List ℕ) (logs : List Log) (number : ℕ) → log_number target logs ≡ Some number → Requested target (OpensHere number) ≡ request_event logs target
+request_by target logs number placed = ap (λ place. Requested target (opening_of true false place)) (sym placed)
 
+module _ {F : Type 0} (bytes : F → Event → List ℕ) (form_after : F → Event → F) (numbering : Numbering) (options : Options) (target : List ℕ) (first now : Rendering F) (visited : Visited) (state : ViewState) (has : HasShown bytes form_after numbering first now visited state) where
   -- Its log was opened before.
-  pub target_again : is_among target state.opened ≡ true → HasShown numbering first output before (show_target_unless numbering.logs options (is_among target state.opened) target state)
-  target_again old = subst (λ b. HasShown numbering first output before (show_target_unless numbering.logs options b target state)) (sym old) has
+  pub target_again : is_among target state.opened ≡ true → HasShown bytes form_after numbering first now visited (show_target_unless numbering.logs options (is_among target state.opened) target state)
+  target_again old = subst (λ b. HasShown bytes form_after numbering first now visited (show_target_unless numbering.logs options b target state)) (sym old) has
 
-  module _ (new : is_among target state.opened ≡ false) where
+  module _ (number : ℕ) (placed : log_number target numbering.logs ≡ Some number) where
+    abbrev line : Event
+    line = Requested target (OpensHere number)
+
     -- Its line wasn't written completely.
-    pub line_stopped : (now : Option Output) (after : Visited) (broken : Broken) (done : Result (Unit {0}) ViewFault) → IsErrAnd done (λ stop. stop ≡ Write) → Writes output now line (Err broken)
-        → ShowedOrFailed numbering first now after (show_target_unless numbering.logs options (is_among target state.opened) target state) done
-    line_stopped now after broken (Ok x) is wrote = absurd is
-    line_stopped now after broken (Err stop) is wrote =
-        let more = log_text-grows numbering.logs options target 1 (append_text line state) in
-        subst (λ b. ShowedOrFailed numbering {A = Unit {0}} first now after (show_target_unless numbering.logs options b target state) (Err stop)) (sym new)
-        (subst (λ (s : ViewFault). ShowedOrFailed numbering {A = Unit {0}} first now after (show_target_unless numbering.logs options false target state) (Err s)) (sym is)
-        (stopped (Unit {0}) (Unit {0}) first output now state.text line more.0 (show_target_unless numbering.logs options false target state).text Write has.taken wrote (sym more.1)))
+    pub line_stopped : is_among target state.opened ≡ false → (after : Rendering F) (seen : Visited) (fault : ViewFault) → WroteUntilFault now.output after.output (bytes_of bytes form_after now.form (line ∷ [])) fault
+        → ShowedOrFailed bytes form_after numbering {A = Unit {0}} first after seen (show_target_unless numbering.logs options (is_among target state.opened) target state) (Err fault)
+    line_stopped new after seen fault wrote =
+        let requested = append_event (request_event numbering.logs target) state in
+        let more = log_events-grow numbering.logs options target 1 requested in
+        subst (λ b. ShowedOrFailed bytes form_after numbering {A = Unit {0}} first after seen (show_target_unless numbering.logs options b target state) (Err fault)) (sym new)
+        (events_stopped bytes form_after first now after.output state.events (request_event numbering.logs target ∷ []) more.0 (show_target_unless numbering.logs options false target state).events fault has.rendering
+        (subst (λ event. WroteUntilFault now.output after.output (bytes_of bytes form_after now.form (event ∷ [])) fault) (request_by target numbering.logs number placed) wrote) (sym more.1))
 
     -- Its line was written.
-    pub line_written : (now : Option Output) → now ≡ append_output output line 0 → HasShown numbering first now before (append_text line state)
-    line_written now wrote = record {
+    pub line_written : (after : Rendering F) → after ≡ rendered bytes form_after now (line ∷ []) → HasShown bytes form_after numbering first after visited (append_event (request_event numbering.logs target) state)
+    line_written after shown = record {
       flags = record { named = has.flags.named; opened = has.flags.opened };
-      taken = wrote ∙ ap (λ t. append_output t line 0) has.taken ∙ append_output-append_output first state.text line 0 0;
+      rendering =
+          shown ∙ ap (λ event. rendered bytes form_after now (event ∷ [])) (request_by target numbering.logs number placed)
+          ∙ ap (λ (r : Rendering F). rendered bytes form_after r (request_event numbering.logs target ∷ [])) has.rendering
+          ∙ rendered-rendered bytes form_after first state.events (request_event numbering.logs target ∷ []);
     }
-
--- An error states how much was written, and nothing else.
-wrote_stopped : (A : Type 0) (numbering : Numbering) (first now : Option Output) (visited : Visited) (whole : ViewState) (stop : ViewFault) → ShowedOrFailed numbering {A = A} first now visited whole (Err stop) → WroteOrFailed {A = A} first now whole.text (Err stop)
-wrote_stopped A numbering first now visited whole (Unknown place) shows = absurd shows
-wrote_stopped A numbering first now visited whole Write shows = shows
-wrote_stopped A numbering first now visited whole OutOfMemory shows = shows
 
 no_flags : (names : List (List ℕ)) → replicate (length names) false ≡ flags_of names []
 no_flags [] = refl
@@ -76,19 +78,20 @@ module _ (logs : List Log) (options : Options) where
   show_targets-append [] others state = refl
   show_targets-append (name ∷ first) others state = show_targets-append first others (show_target_unless logs options (is_among name state.opened) name state)
 
-  -- The text only grows.
-  one_grows : (b : Bool) (name : List ℕ) (state : ViewState) → (rest : List ℕ) × ((show_target_unless logs options b name state).text ≡ state.text ++ rest)
-  one_grows true name state = ([], sym (append-nil state.text))
+  -- What was shown stays a prefix.
+  one_grows : (b : Bool) (name : List ℕ) (state : ViewState) → (rest : List Event) × ((show_target_unless logs options b name state).events ≡ state.events ++ rest)
+  one_grows true name state = ([], sym (append-nil state.events))
   one_grows false name state =
-      let more = log_text-grows logs options name 1 (append_text (redo_line options 0 None name) state) in
-      (redo_line options 0 None name ++ more.0, more.1 ∙ append_assoc state.text (redo_line options 0 None name) more.0)
+      let line = request_event logs name ∷ [] in
+      let more = log_events-grow logs options name 1 (append_event (request_event logs name) state) in
+      (line ++ more.0, more.1 ∙ append_assoc state.events line more.0)
 
-  targets_grow : (requested : List (List ℕ)) (state : ViewState) → (rest : List ℕ) × ((show_targets logs options requested state).text ≡ state.text ++ rest)
-  targets_grow [] state = ([], sym (append-nil state.text))
+  targets_grow : (requested : List (List ℕ)) (state : ViewState) → (rest : List Event) × ((show_targets logs options requested state).events ≡ state.events ++ rest)
+  targets_grow [] state = ([], sym (append-nil state.events))
   targets_grow (name ∷ requested) state =
       let one = one_grows (is_among name state.opened) name state in
       let more = targets_grow requested (show_target_unless logs options (is_among name state.opened) name state) in
-      (one.0 ++ more.0, more.1 ∙ ap (λ t. t ++ more.0) one.1 ∙ append_assoc state.text one.0 more.0)
+      (one.0 ++ more.0, more.1 ∙ ap (λ t. t ++ more.0) one.1 ∙ append_assoc state.events one.0 more.0)
 
 -- A requested target has a log if none is unknown.
 none_unknown : (logs : List Log) (requested : List (List ℕ)) (from k : ℕ) (default : List ℕ) → position_from (λ name. not (is_among name (targets_of logs))) from requested ≡ None → k < length requested
@@ -122,22 +125,22 @@ flipped a false is = sym (ap not is)
 abbrev pub targets_so_far : List Log → Options → List (List ℕ) → ℕ → ViewState
 targets_so_far logs options requested k = show_targets logs options (take k requested) initial_state
 
--- Since its creation, the viewer kept its logs, options and writer, and it showed the first `k` requested targets.
-pub record HasShownTargets {W : Type 0} (written : W → Option Output) (requested : List (List ℕ)) (k : ℕ) (first now : Viewer W) : Type 0 where
+-- Since its creation, the viewer kept its logs, options, form and writer, and it showed the first `k` requested targets.
+pub record HasShownTargets {F W : Type 0} (bytes : F → Event → List ℕ) (form_after : F → Event → F) (written : W → Option Output) (requested : List (List ℕ)) (k : ℕ) (first now : Viewer F W) : Type 0 where
   pub context : KeepsContext first now
   pub names_differ : IsDistinct (pointwise nat_eq) now.logs.now.names
   pub table : IsTable now.logs.now.logs
-  pub has : HasShown now.logs.now (written first.out.now) (written now.out.now) now.visited.now (targets_so_far now.logs.now.logs now.options requested k)
+  pub has : HasShown bytes form_after now.logs.now (rendering_of written first) (rendering_of written now) now.visited.now (targets_so_far now.logs.now.logs now.options requested k)
 
-module _ {W : Type 0} {written : W → Option Output} {requested : List (List ℕ)} {k : ℕ} {first now : Viewer W} (so_far : HasShownTargets written requested k first now) where
+module _ {F W : Type 0} {bytes : F → Event → List ℕ} {form_after : F → Event → F} {written : W → Option Output} {requested : List (List ℕ)} {k : ℕ} {first now : Viewer F W} (so_far : HasShownTargets bytes form_after written requested k first now) where
   abbrev logs : List Log
   logs = now.logs.now.logs
 
   abbrev state : ViewState
   state = targets_so_far logs now.options requested k
 
-  abbrev output : Option Output
-  output = written first.out.now
+  abbrev start : Rendering F
+  start = rendering_of written first
 
   -- There is a flag for each name and each log.
   pub fits_still : Fits now.logs.now now.visited.now
@@ -150,13 +153,13 @@ module _ {W : Type 0} {written : W → Option Output} {requested : List (List �
         ∙ length-map logs (λ (log : Log). log.target);
   }
 
-  same : expansion logs now.options requested ≡ expansion first.logs.now.logs first.options requested
-  same = λ i. expansion (so_far.context.logs i).logs (so_far.context.options i) requested
+  same : shown_events logs now.options requested ≡ shown_events first.logs.now.logs first.options requested
+  same = λ i. shown_events (so_far.context.logs i).logs (so_far.context.options i) requested
 
   -- All targets were shown.
-  pub all_shown : length requested ≤ k → viewing.Wrote written {A = Unit {0}} first now (expansion first.logs.now.logs first.options requested) (Ok tt)
+  pub all_shown : length requested ≤ k → viewing.WroteEvents bytes form_after written {A = Unit {0}} first now (shown_events first.logs.now.logs first.options requested) (Ok tt)
   all_shown end =
-      so_far.has.taken ∙ ap (λ names. append_output output (show_targets logs now.options names initial_state).text 0) (take_all k requested end) ∙ ap (λ text. append_output output text 0) same
+      so_far.has.rendering ∙ ap (λ names. rendered bytes form_after start (show_targets logs now.options names initial_state).events) (take_all k requested end) ∙ ap (rendered bytes form_after start) same
 
   module _ (default : List ℕ) {name : List ℕ} (below : k < length requested) (name_is : get_or requested k default ≡ name) where
     -- The next target has a log.
@@ -173,22 +176,22 @@ module _ {W : Type 0} {written : W → Option Output} {requested : List (List �
         ∙ show_targets-append logs now.options (take k requested) (name ∷ []) initial_state)
 
     -- The next target was shown.
-    pub one_more_shown : {after : Viewer W} {done : Unit {0}} → viewing.ShowedTargetOrFailed written name now after (Ok done) → HasShownTargets written requested (k + 1) first after
+    pub one_more_shown : {after : Viewer F W} {done : Unit {0}} → viewing.ShowedTargetOrFailed bytes form_after written name now after (Ok done) → HasShownTargets bytes form_after written requested (k + 1) first after
     one_more_shown {after = after} shows = record {
       context = context_then so_far.context shows.context;
       names_differ = rw shows.context.logs so_far.names_differ;
       table = rw shows.context.logs so_far.table;
-      has = rw (shows.context.logs, shows.context.options) (subst (HasShown now.logs.now output (written after.out.now) after.visited.now) next_is (shows.shows output state so_far.has));
+      has = rw (shows.context.logs, shows.context.options) (subst (HasShown bytes form_after now.logs.now start (rendering_of written after) after.visited.now) next_is (shows.shows start state so_far.has));
     }
 
     -- The next target wasn't shown, or not completely.
-    pub one_stopped : {after : Viewer W} {fault : ViewFault} → viewing.ShowedTargetOrFailed written {A = Unit {0}} name now after (Err fault)
-        → viewing.Wrote written {A = Unit {0}} first after (expansion first.logs.now.logs first.options requested) (Err fault)
+    pub one_stopped : {after : Viewer F W} {fault : ViewFault} → viewing.ShowedTargetOrFailed bytes form_after written {A = Unit {0}} name now after (Err fault)
+        → viewing.WroteEvents bytes form_after written {A = Unit {0}} first after (shown_events first.logs.now.logs first.options requested) (Err fault)
     one_stopped {after = after} {fault = fault} shows =
         let more = targets_grow logs now.options (drop (k + 1) requested) (targets_so_far logs now.options requested (k + 1)) in
-        stopped (Unit {0}) (Unit {0}) output output (written after.out.now) [] next.text more.0 (expansion first.logs.now.logs first.options requested) fault (append_output-nothing output)
-        (wrote_stopped (Unit {0}) now.logs.now output (written after.out.now) after.visited.now next fault (shows.shows output state so_far.has))
-        (ap (λ (s : ViewState). s.text ++ more.0) next_is ∙ sym more.1 ∙ ap (λ (s : ViewState). s.text)
+        events_stopped bytes form_after start start (written after.out.now) [] next.events more.0 (shown_events first.logs.now.logs first.options requested) fault (rendered-nothing bytes form_after start)
+        (shows.shows start state so_far.has)
+        (ap (λ (s : ViewState). s.events ++ more.0) next_is ∙ sym more.1 ∙ ap (λ (s : ViewState). s.events)
         (sym (show_targets-append logs now.options (take (k + 1) requested) (drop (k + 1) requested) initial_state)
         ∙ ap (λ names. show_targets logs now.options names initial_state) (take-append-drop (k + 1) requested))
         ∙ same)

@@ -1,31 +1,34 @@
 -- What the laws state about the expansion.
-use Rattle.std.specs.Prelude.{◌≡◌, ◌↔◌, ℕ, ◌+◌, true, false, ◌⊎◌, nat_eq, List, [], ◌∷◌, ◌++◌, None, Some, slice_get}
-use Rattle.std.specs.List.{IsDistinct}
+use Rattle.std.specs.Prelude.{◌≡◌, ◌↔◌, ℕ, ◌+◌, true, false, ◌⊎◌, nat_eq, List, [], ◌∷◌, ◌++◌, Some, slice_get}
+use Rattle.std.specs.List.{IsDistinct, flat_map}
 use Rattle.std.specs.Cmp.Lexicographic.{pointwise}
 use Rattle.redo_line.specs.declared.entry.Entry.{Entry}
 use Rattle.redo_line.specs.declared.entry.Entry.TheVariants.{Mention}
 use Rattle.redo_line.specs.declared.entry.How.{How}
 use Rattle.redo_logs.specs.Logs.{Log, targets_of}
 use Rattle.redo_options.specs.declared.options.Options.{Options}
-use Rattle.redo_view.specs.Expansion.{ShowLog, ViewState, is_among, append_text, entries_of_target, is_mention, show_mention_line, begin_log}
-use Rattle.redo_view.specs.Expansion.{show_entry, show_entries, show_log, expand}
+use Rattle.redo_view.specs.declared.event.Opening.{Opening}
+use Rattle.redo_view.specs.Event.{Event}
+use Rattle.redo_view.specs.Event.Event.{Mentioned}
+use Rattle.redo_view.specs.Expansion.{ShowLog, ViewState, is_among, append_event, entries_of_target, is_mention, show_mention_line, begin_log, end_log}
+use Rattle.redo_view.specs.Expansion.{mention_opening, request_event, show_entry, show_entries, show_log, expand}
 use Rattle.redo_view.specs.Reachable.{mentioned_in, IsReachable}
-use Rattle.redo_view.specs.Text.{redo_line}
+use Rattle.redo_view.specs.Text.{event_text, redo_line}
 
--- The same state, with `text` before its text.
-abbrev pub prepend_text : List ℕ → ViewState → ViewState
-prepend_text text state = record { named = state.named; opened = state.opened; text = text ++ state.text }
+-- The same state, with `before` shown before everything else.
+abbrev pub prepend_events : List Event → ViewState → ViewState
+prepend_events before state = record { named = state.named; opened = state.opened; events = before ++ state.events }
 
 -- Whether the entries of each log's target are the entries of this log.
 abbrev pub HaveTheirEntries : List Log → Type 0
 HaveTheirEntries logs = (place : ℕ) (log : Log) → slice_get logs place ≡ Some log → entries_of_target log.target logs ≡ log.entries
 
 module _ (logs : List Log) (options : Options) where
-  -- Whether opening a log begins it and shows its entries, and opens the logs that they mention in the same way.
+  -- Whether opening a log begins it, shows its entries and ends it, and opens the logs that they mention in the same way.
   abbrev pub SatisfiesEquation : ShowLog → Type 0
   SatisfiesEquation show =
       (target : List ℕ) (depth : ℕ) (state : ViewState)
-      → show target depth state ≡ show_entries logs options show depth (entries_of_target target logs) (begin_log target state)
+      → show target depth state ≡ end_log depth (show_entries logs options show depth (entries_of_target target logs) (begin_log target state))
 
   -- Whether every other opening that does so shows the same as this one.
   abbrev pub IsUniqueSolution : ShowLog → Type 0
@@ -47,11 +50,18 @@ module _ (logs : List Log) (options : Options) where
       → show_entries logs options show depth (first ++ others) state
       ≡ show_entries logs options show depth others (show_entries logs options show depth first state)
 
-  -- A text before everything that was shown stays there, and nothing else depends on it.
+  -- Events before everything that was shown stay there, and nothing else depends on them.
   abbrev pub IsAppendOnly : ShowLog → Type 0
   IsAppendOnly show =
-      (target : List ℕ) (depth : ℕ) (text : List ℕ) (state : ViewState)
-      → show target depth (prepend_text text state) ≡ prepend_text text (show target depth state)
+      (target : List ℕ) (depth : ℕ) (before : List Event) (state : ViewState)
+      → show target depth (prepend_events before state) ≡ prepend_events before (show target depth state)
+
+  -- The same for the text.
+  abbrev pub TextIsAppendOnly : ShowLog → Type 0
+  TextIsAppendOnly show =
+      (target : List ℕ) (depth : ℕ) (before : List Event) (state : ViewState)
+      → flat_map (event_text options) (show target depth (prepend_events before state)).events
+      ≡ flat_map (event_text options) before ++ flat_map (event_text options) (show target depth state).events
 
   -- The targets whose logs are opened for the requested targets, in the order in which they are opened.
   abbrev pub opened_for : List (List ℕ) → List (List ℕ)
@@ -76,26 +86,26 @@ module _ (logs : List Log) (options : Options) where
       (depth pid : ℕ) (state : ViewState) → is_mention options how ≡ true → options.recursive ≡ true
       → is_among name (targets_of logs) ≡ true → is_among name state.opened ≡ false
       → show_entry logs options (show_log logs options) depth (Mention pid how name) state
-      ≡ show_log logs options name (depth + 1) (show_mention_line options depth pid how name state)
+      ≡ show_log logs options name (depth + 1) (show_mention_line options depth pid how name (mention_opening logs options name state) state)
 
   -- If the target's log was opened before, only the mention's line is shown.
   abbrev pub MentionedAgain : How → List ℕ → Type 0
   MentionedAgain how name =
       (depth pid : ℕ) (state : ViewState) → is_mention options how ≡ true → is_among name state.opened ≡ true
-      → show_entry logs options (show_log logs options) depth (Mention pid how name) state ≡ show_mention_line options depth pid how name state
+      → show_entry logs options (show_log logs options) depth (Mention pid how name) state ≡ show_mention_line options depth pid how name (mention_opening logs options name state) state
 
   -- Without `recursive`, or if the target has no log, only the mention's line is shown.
   abbrev pub MentionedUnopened : How → List ℕ → Type 0
   MentionedUnopened how name =
       (depth pid : ℕ) (state : ViewState) → is_mention options how ≡ true → (options.recursive ≡ false) ⊎ (is_among name (targets_of logs) ≡ false)
-      → show_entry logs options (show_log logs options) depth (Mention pid how name) state ≡ show_mention_line options depth pid how name state
+      → show_entry logs options (show_log logs options) depth (Mention pid how name) state ≡ show_mention_line options depth pid how name (mention_opening logs options name state) state
 
   -- One more requested target shows its line and its log after the others, if its log wasn't opened before.
   abbrev pub RequestedFirst : List (List ℕ) → Type 0
   RequestedFirst requested =
       (target : List ℕ) → is_among target (opened_for requested) ≡ false
       → expand logs options (requested ++ target ∷ [])
-      ≡ show_log logs options target 1 (append_text (redo_line options 0 None target) (expand logs options requested))
+      ≡ show_log logs options target 1 (append_event (request_event logs target) (expand logs options requested))
 
   -- It shows nothing if its log was opened before.
   abbrev pub RequestedAgain : List (List ℕ) → Type 0
@@ -106,18 +116,19 @@ module _ (logs : List Log) (options : Options) where
 -- ---- which targets are named
 
 module _ (options : Options) where
-  -- Without `debug_locks`, a mention of a target that isn't named shows its line and names the target.
+  -- Without `debug_locks`, a mention of a target that isn't named shows its line, which is the target's, and names the target.
   abbrev pub NamedFirst : How → List ℕ → Type 0
   NamedFirst how name =
-      (depth pid : ℕ) (state : ViewState) → options.debug_locks ≡ false → is_among name state.named ≡ false
-      → show_mention_line options depth pid how name state
-      ≡ record { named = state.named ++ name ∷ []; opened = state.opened; text = state.text ++ redo_line options depth (Some pid) name }
+      (depth pid : ℕ) (opening : Opening) (state : ViewState) → options.debug_locks ≡ false → is_among name state.named ≡ false
+      → (show_mention_line options depth pid how name opening state
+      ≡ record { named = state.named ++ name ∷ []; opened = state.opened; events = state.events ++ Mentioned depth pid how name opening ∷ [] })
+      × (event_text options (Mentioned depth pid how name opening) ≡ redo_line options depth (Some pid) name)
 
   -- Without `debug_locks`, a mention of a target that is named changes nothing.
   abbrev pub NamedAgain : How → List ℕ → Type 0
   NamedAgain how name =
-      (depth pid : ℕ) (state : ViewState) → options.debug_locks ≡ false → is_among name state.named ≡ true
-      → show_mention_line options depth pid how name state ≡ state
+      (depth pid : ℕ) (opening : Opening) (state : ViewState) → options.debug_locks ≡ false → is_among name state.named ≡ true
+      → show_mention_line options depth pid how name opening state ≡ state
 
 module _ (logs : List Log) (options : Options) where
   -- Whether the log of `target` names `name`: a log names its target and the targets that its entries mention.

@@ -1,5 +1,9 @@
+pub mod Event
+pub mod EventRef
 pub mod Expansion
+pub mod Form
 pub mod Laws
+pub mod Nesting
 pub mod Private
 pub mod Reachable
 pub mod Text

@@ -1,4 +1,4 @@
--- The text of an entry.
+-- How events look as plain text.
 use Rattle.std.specs.Prelude.{ℕ, ◌+◌, ◌-◌, ◌*◌, ℤ, pos, zero, List, [], ◌++◌, Option, None, Some, length, replicate, codes, decimal, if◌then◌else◌}
 use Rattle.std.specs.Fmt.{signed_decimal}
 use Rattle.std.specs.Str.{bytes_eq}
@@ -8,6 +8,8 @@ use Rattle.redo_line.specs.declared.entry.How.{How}
 use Rattle.redo_line.specs.declared.entry.How.TheVariants.{Made, Waiting, Locked, Unlocked, Unchanged}
 use Rattle.redo_line.specs.Lines.{with_line_feed}
 use Rattle.redo_options.specs.declared.options.Options.{Options}
+use Rattle.redo_view.specs.Event.{Event}
+use Rattle.redo_view.specs.Event.Event.{Requested, Mentioned, EntryShown, LogEnds}
 
 abbrev pub spaces : ℕ → List ℕ
 spaces count = replicate count 32
@@ -57,3 +59,14 @@ entry_text options depth (Text line) = if options.details then with_line_feed li
 entry_text options depth (Done pid status name) = exit_text options depth pid status name
 entry_text options depth (Note pid kind text) = note_text options depth pid kind text
 entry_text options depth entry = []
+
+-- The redo line of a mention. With `debug_locks` it has a suffix.
+abbrev pub mention_text : Options → ℕ → ℕ → How → List ℕ → List ℕ
+mention_text options depth pid how name = redo_line options depth (Some pid) (if options.debug_locks then name ++ mention_suffix how else name)
+
+-- The text of an event.
+abbrev pub event_text : Options → Event → List ℕ
+event_text options (Requested name opening) = redo_line options 0 None name
+event_text options (Mentioned depth pid how name opening) = mention_text options depth pid how name
+event_text options (EntryShown depth entry) = entry_text options depth entry
+event_text options (LogEnds depth) = []

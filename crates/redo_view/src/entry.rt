@@ -1,15 +1,15 @@
-//! Shows one entry of a log: its own text, and which log it opens.
+//! Shows one entry of a log: its own line, and which log it opens.
 ghost use Rattle.std.specs.Prelude.{◌≡◌, ◌<◌, ◌^◌, Some, false, length, IfOk, OnOk};
-ghost use Rattle.redo_device.specs.Sink.{Writes};
 ghost use Rattle.redo_logs.specs.declared.numbered.NumberedEntry.TheVariants.{Mention};
 ghost use Rattle.redo_view.specs.Expansion.{is_mention};
 ghost use Rattle.redo_view.specs.Private.Progress.{BeginsLog, MatchesFlags, initial_state};
-ghost use Rattle.redo_view.specs.Private.EntryEffect.{Fits, IsNumberedRecord, is_set, set_flag};
-ghost use Rattle.redo_view.specs.Private.Viewing.{KeepsContext, Wrote, own_text, mention_line, named_after, log_to_open, nested_log};
+ghost use Rattle.redo_view.specs.Private.EntryEffect.{Fits, IsNumberedRecord, is_set, log_to_open, set_flag};
+ghost use Rattle.redo_view.specs.Private.Viewing.{KeepsContext, WroteEvents, own_events, mention_line, mention_opening, named_after, nested_log};
 
-use crate::texts::{write_entry, write_mention, write_target};
+use crate::event::{EventRef, Opening};
+use crate::form::Form;
 use crate::viewer::{ViewFault, Viewer};
-use redo_line::{Broken, How, Sink};
+use redo_line::{How, Sink};
 use redo_logs::{Numbered, NumberedEntry};
 use redo_options::Options;
 use std::alloc::{AllocError, Global};
@@ -49,7 +49,7 @@ impl Visited {
     }
 }
 
-impl<W: Sink> Viewer<'_, W> {
+impl<F: Form, W: Sink> Viewer<'_, '_, F, W> {
     /// Shows an entry that is no text line, and marks the target that it mentions as named. Returns the number of the
     /// log to open next, if the entry opens one.
     pub fn show_entry(
@@ -61,7 +61,7 @@ impl<W: Sink> Viewer<'_, W> {
         requires entry { IsNumberedRecord self.old.logs.now.names entry }
         requires fits { Fits self.old.logs.now self.old.visited.now }
         ensures context { KeepsContext self.old self.new }
-        ensures own_text { Wrote W.written self.old self.new (own_text self.old depth entry.entry) result }
+        ensures own_events { WroteEvents F.bytes F.after W.written self.old self.new (own_events self.old depth entry.entry) result }
         ensures named { OnOk result (self.new.visited.now.named.items ≡ named_after self.old entry.entry) }
         ensures opened { self.new.visited.now.opened.items ≡ self.old.visited.now.opened.items }
         ensures nested_log { IfOk result (λ inner. inner ≡ nested_log self.old entry.entry) }
@@ -69,7 +69,10 @@ impl<W: Sink> Viewer<'_, W> {
         match entry {
             NumberedEntry::Mention { pid, how, name } => self.show_mention(depth, pid, how, name),
             NumberedEntry::Other(other) => {
-                write_entry(&self.options, depth, other, self.out)?;
+                self.show_event(EventRef::EntryShown {
+                    depth,
+                    entry: other,
+                })?;
                 Ok(None)
             }
         }
@@ -86,7 +89,7 @@ impl<W: Sink> Viewer<'_, W> {
         requires name_in_range { name < length self.old.logs.now.names }
         requires fits { Fits self.old.logs.now self.old.visited.now }
         ensures context { KeepsContext self.old self.new }
-        ensures own_text { Wrote W.written self.old self.new (own_text self.old depth (Mention pid how name)) result }
+        ensures own_events { WroteEvents F.bytes F.after W.written self.old self.new (own_events self.old depth (Mention pid how name)) result }
         ensures named { OnOk result (self.new.visited.now.named.items ≡ named_after self.old (Mention pid how name)) }
         ensures opened { self.new.visited.now.opened.items ≡ self.old.visited.now.opened.items }
         ensures nested_log { IfOk result (λ inner. inner ≡ nested_log self.old (Mention pid how name)) }
@@ -94,47 +97,67 @@ impl<W: Sink> Viewer<'_, W> {
         if !is_mention(&self.options, how) {
             return Ok(None);
         }
-        self.write_mention_line(depth, pid, how, name)?;
+        let opening = self.mention_opening(name);
+        self.show_mention_line(depth, pid, how, name, opening)?;
         self.visited.named[name] = true;
-        Ok(self.log_to_open(name))
+        Ok(log_to_open(opening))
     }
 
-    // Writes a mention's line. Without `debug_locks` there is one only if the target wasn't named before.
-    fn write_mention_line(
+    // Shows a mention's line. Without `debug_locks` there is one only if the target wasn't named before.
+    fn show_mention_line(
         &mut self,
         depth: usize,
         pid: u32,
         how: How,
         name: usize,
-    ) -> Result<(), Broken>
+        opening: Opening,
+    ) -> Result<(), ViewFault>
         requires depth { depth < 2 ^ 60 }
         requires name_in_range { name < length self.old.logs.now.names }
         requires fits { Fits self.old.logs.now self.old.visited.now }
         ensures context { KeepsContext self.old self.new }
         ensures visited { self.new.visited.now ≡ self.old.visited.now }
-        ensures line { Writes (W.written self.old.out.now) (W.written self.new.out.now) (mention_line self.old depth pid how name) result }
+        ensures line { WroteEvents F.bytes F.after W.written self.old self.new (mention_line self.old depth pid how name opening) result }
     {
-        let target = self.logs.name(name);
-        if self.options.debug_locks {
-            write_mention(&self.options, depth, pid, how, target, self.out)
-        } else if self.visited.named[name] {
-            Ok(())
-        } else {
-            write_target(&self.options, depth, Some(pid), target, self.out)
+        if !self.options.debug_locks && self.visited.named[name] {
+            return Ok(());
         }
+        let name = self.logs.name(name);
+        self.show_event(EventRef::Mentioned {
+            depth,
+            pid,
+            how,
+            name,
+            opening,
+        })
     }
 
-    // Returns the number of a mentioned target's log, if it is to be opened.
-    fn log_to_open(&self, name: usize) -> Option<u32>
+    // Returns whether a mention opens its target's log.
+    fn mention_opening(&self, name: usize) -> Opening
         requires name_in_range { name < length self.now.logs.now.names }
         requires fits { length self.now.visited.now.opened.items ≡ length self.now.logs.now.logs }
-        ensures { result ≡ log_to_open self.now name }
+        ensures { result ≡ mention_opening self.now name }
     {
-        if !self.options.recursive {
-            return None;
+        let Some(number) = self.logs.log_of(name) else {
+            return Opening::NotOpened;
+        };
+        if self.visited.opened[number as usize] {
+            Opening::OpenedBefore(number)
+        } else if self.options.recursive {
+            Opening::OpensHere(number)
+        } else {
+            Opening::NotOpened
         }
-        let number = self.logs.log_of(name)?;
-        (!self.visited.opened[number as usize]).then_some(number)
+    }
+}
+
+// Returns the number of the log that is opened, if one is.
+fn log_to_open(opening: Opening) -> Option<u32>
+    ensures { result ≡ log_to_open opening }
+{
+    match opening {
+        Opening::OpensHere(number) => Some(number),
+        _ => None,
     }
 }
 

@@ -7,9 +7,10 @@ ghost use Rattle.redo_line.specs.declared.entry.How.{How};
 ghost use Rattle.redo_logs.specs.Logs.{Log, targets_of};
 ghost use Rattle.redo_options.specs.declared.options.Options.{Options};
 ghost use Rattle.redo_view.specs.Expansion.{ShowLog, is_among, entries_of_target, show_log};
-ghost use Rattle.redo_view.specs.Laws.{SatisfiesEquation, IsUniqueSolution, LastEntryIsShownLast, PartsAreShownInOrder, IsAppendOnly, HasNoDuplicates, OnlyReachable, AllReachable};
+ghost use Rattle.redo_view.specs.Laws.{SatisfiesEquation, IsUniqueSolution, LastEntryIsShownLast, PartsAreShownInOrder, IsAppendOnly, TextIsAppendOnly, HasNoDuplicates, OnlyReachable, AllReachable};
 ghost use Rattle.redo_view.specs.Laws.{MentionedFirst, MentionedAgain, MentionedUnopened, RequestedFirst, RequestedAgain};
 ghost use Rattle.redo_view.specs.Laws.{HaveTheirEntries, NamedFirst, NamedAgain, NamedByEntries, NamedByLog, NamedFinally};
+ghost use Rattle.redo_view.specs.Nesting.{AreNested};
 
 /// If no two logs have the same target, as in a table, a target's entries are the entries of its log. Without a log
 /// it has none.
@@ -19,8 +20,8 @@ pub fn entries_match_log()
         entries_of_target target logs ≡ [] }
 {}
 
-/// Opening a target's log marks the target as named and the log as opened, and shows the entries in order. The logs
-/// that they mention are opened in the same way, one level deeper. No other function does this.
+/// Opening a target's log marks the target as named and the log as opened, shows the entries in order, and ends the
+/// log. The logs that they mention are opened in the same way, one level deeper. No other function does this.
 pub fn show_log_equation()
     ensures holds { (logs : List Log) (options : Options) → SatisfiesEquation logs options (show_log logs options) }
     ensures unique { (logs : List Log) (options : Options) → IsUniqueSolution logs options (show_log logs options) }
@@ -32,9 +33,10 @@ pub fn entries_in_order()
     ensures concatenation { (logs : List Log) (options : Options) (show : ShowLog) → PartsAreShownInOrder logs options show }
 {}
 
-/// What a log adds to the text follows the text before it, and doesn't depend on that text.
+/// What a log adds follows everything shown before it, and doesn't depend on that. So it is with the text.
 pub fn text_is_append_only()
-    ensures { (logs : List Log) (options : Options) → IsAppendOnly logs options (show_log logs options) }
+    ensures events { (logs : List Log) (options : Options) → IsAppendOnly logs options (show_log logs options) }
+    ensures text { (logs : List Log) (options : Options) → TextIsAppendOnly logs options (show_log logs options) }
 {}
 
 /// No log is opened twice. The opened logs are the logs of the requested targets and, with `recursive`, the logs to
@@ -65,4 +67,10 @@ pub fn named_once()
     ensures entries { (logs : List Log) (options : Options) (entries : List Entry) → NamedByEntries logs options entries }
     ensures log { (logs : List Log) (options : Options) (target : List ℕ) → NamedByLog logs options target }
     ensures final_state { (logs : List Log) (options : Options) (requested : List (List ℕ)) → NamedFinally logs options requested }
+{}
+
+/// Logs are nested. The depth of each event is the number of open logs, each log that is opened ends, and no other log
+/// ends.
+pub fn logs_nest()
+    ensures { (logs : List Log) (options : Options) (requested : List (List ℕ)) → AreNested logs options requested }
 {}

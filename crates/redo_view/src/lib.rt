@@ -1,15 +1,22 @@
-//! From logs to one text: the expansion of the logs at the requested targets.
+//! From logs to one text: what is shown of the logs at the requested targets, as events, and the form in which these
+//! are written.
 #![tactic(auto)]
 
 mod entry;
+mod event;
+mod form;
 mod laws;
 mod log;
+mod plain;
 mod texts;
 mod viewer;
 
+pub use event::{EventRef, Opening};
+pub use form::{Form, FormFault};
 pub use laws::{
-    at_first_mention, each_log_once, entries_in_order, entries_match_log, named_once,
+    at_first_mention, each_log_once, entries_in_order, entries_match_log, logs_nest, named_once,
     show_log_equation, text_is_append_only,
 };
+pub use plain::PlainText;
 pub use redo_options::Options;
-pub use viewer::{ViewFault, view};
+pub use viewer::{ViewFault, view, view_as};

@@ -1,9 +1,14 @@
 //! Shows a whole log, with the logs that it mentions.
-ghost use Rattle.std.specs.Prelude.{◌≡◌, ◌<◌, false, length};
+ghost use Rattle.std.specs.Prelude.{◌≡◌, ◌<◌, ◌^◌, [], ◌∷◌, false, length};
+ghost use Rattle.redo_line.specs.Lines.{ended, rest};
+ghost use Rattle.redo_view.specs.Event.Event.{LogEnds};
+ghost use Rattle.redo_view.specs.EventRef.{IsWrittenAlone, event_value};
+ghost use Rattle.redo_view.specs.Form.{text_events};
 ghost use Rattle.redo_view.specs.Private.EntryEffect.{Fits, is_set};
-ghost use Rattle.redo_view.specs.Private.Viewing.{ShowedLogOrFailed};
+ghost use Rattle.redo_view.specs.Private.Viewing.{KeepsContext, ShowedLogOrFailed, WroteEvents};
 
-use crate::texts::write_lines;
+use crate::event::EventRef;
+use crate::form::Form;
 use crate::viewer::{ViewFault, Viewer};
 use redo_line::Sink;
 
@@ -14,14 +19,14 @@ pub struct Frame {
     next_entry: usize,
 }
 
-impl<W: Sink> Viewer<'_, W> {
+impl<F: Form, W: Sink> Viewer<'_, '_, F, W> {
     /// Opens log `number`, and shows it with the logs that are opened from it, each one level deeper than the log
     /// that mentions it.
     pub fn show_log(&mut self, number: u32) -> Result<(), ViewFault>
         requires log_in_range { number < length self.old.logs.now.logs }
         requires unopened { is_set self.old.visited.now.opened.items number ≡ false }
         requires fits { Fits self.old.logs.now self.old.visited.now }
-        ensures { ShowedLogOrFailed W.written number self.old self.new result }
+        ensures { ShowedLogOrFailed F.bytes F.after W.written number self.old self.new result }
     {
         self.visited.begin_log(self.logs, number);
         let mut outer = Vec::new(self.alloc);
@@ -30,13 +35,14 @@ impl<W: Sink> Viewer<'_, W> {
             next_entry: 0,
         };
         'entries: loop {
+            let depth = outer.len() + 1;
             let (lines, count) = self.logs.lines(frame.log, frame.next_entry);
             if count > 0 {
-                write_lines(&self.options, lines, self.out)?;
+                self.show_lines(depth, lines)?;
                 frame.next_entry += count;
             } else if let Some(entry) = self.logs.entry(frame.log, frame.next_entry) {
                 frame.next_entry += 1;
-                if let Some(inner) = self.show_entry(outer.len() + 1, entry)? {
+                if let Some(inner) = self.show_entry(depth, entry)? {
                     self.visited.begin_log(self.logs, inner);
                     outer.push(frame)?;
                     frame = Frame {
@@ -44,11 +50,36 @@ impl<W: Sink> Viewer<'_, W> {
                         next_entry: 0,
                     };
                 }
-            } else if let Some(back) = outer.pop() {
-                frame = back;
             } else {
-                return Ok(());
+                self.show_event(EventRef::LogEnds { depth })?;
+                match outer.pop() {
+                    Some(back) => frame = back,
+                    None => return Ok(()),
+                }
             }
         }
+    }
+
+    /// Shows an event that is no text line.
+    pub fn show_event(&mut self, event: EventRef<'_>) -> Result<(), ViewFault>
+        requires { IsWrittenAlone event }
+        ensures context { KeepsContext self.old self.new }
+        ensures visited { self.new.visited.now ≡ self.old.visited.now }
+        ensures event { WroteEvents F.bytes F.after W.written self.old self.new (event_value event.entry ∷ []) result }
+    {
+        self.form.write(event, self.out)?;
+        Ok(())
+    }
+
+    // Shows text lines at this depth, which are passed with their line feeds.
+    fn show_lines(&mut self, depth: usize, lines: &[u8]) -> Result<(), ViewFault>
+        requires depth { depth < 2 ^ 60 }
+        requires complete { rest lines.now ≡ [] }
+        ensures context { KeepsContext self.old self.new }
+        ensures visited { self.new.visited.now ≡ self.old.visited.now }
+        ensures lines { WroteEvents F.bytes F.after W.written self.old self.new (text_events depth (ended lines.now)) result }
+    {
+        self.form.write_texts(depth, lines, self.out)?;
+        Ok(())
     }
 }

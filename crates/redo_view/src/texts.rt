@@ -3,7 +3,7 @@ ghost use Rattle.std.specs.Prelude.{◌≡◌, ◌<◌, ◌^◌, ◌++◌, [], S
 ghost use Rattle.redo_line.specs.Lines.{with_line_feed};
 ghost use Rattle.redo_device.specs.Sink.{Writes};
 ghost use Rattle.redo_logs.specs.EntryRef.{entry_value};
-ghost use Rattle.redo_view.specs.Private.EntryEffect.{IsDoneOrNote};
+ghost use Rattle.redo_view.specs.EventRef.{IsDoneOrNote};
 ghost use Rattle.redo_view.specs.Text.{spaces, pad_to_six, pid_column, indent, redo_line, mention_suffix, exit_text, note_text, entry_text};
 ghost use Rattle.redo_view.specs.Private.EntryParts.{exit_suffix, check_text};
 

@@ -2,15 +2,20 @@ ghost use Rattle.std.specs.Prelude.{◌≡◌, ◌↔◌, ℕ, true, not, None, 
 ghost use Rattle.std.specs.List.{list_all};
 ghost use Rattle.redo_logs.specs.Logs.{has_ended, targets_of};
 ghost use Rattle.redo_view.specs.declared.viewer.ViewFault.TheVariants.{Unknown, Write, OutOfMemory};
-ghost use Rattle.redo_view.specs.Expansion.{is_among, expansion};
+ghost use Rattle.redo_view.specs.Expansion.{is_among, shown_events, expansion};
+ghost use Rattle.redo_view.specs.Form.{bytes_of, state_after};
 ghost use Rattle.redo_view.specs.Private.Progress.{MatchesFlags, initial_state};
 ghost use Rattle.redo_view.specs.Private.EntryEffect.{Fits};
-ghost use Rattle.redo_view.specs.Private.Viewing.{KeepsContext, ShowedTargetOrFailed, Wrote};
+ghost use Rattle.redo_view.specs.Private.Rendering.{RenderedOrFailed, rendering};
+ghost use Rattle.redo_view.specs.Private.Viewing.{KeepsContext, ShowedTargetOrFailed, WroteEvents};
+ghost use Rattle.redo_view.specs.Private.WriteResult.{view_fault};
 ghost use Rattle.redo_view.specs.View.{find_unknown};
 ghost use Rattle.redo_view.specs.Written.{WroteAll, WrotePrefix, WroteNothing, WroteUntilFailed};
 
 use crate::entry::Visited;
-use crate::texts::write_target;
+use crate::event::{EventRef, Opening};
+use crate::form::{Form, FormFault};
+use crate::plain::PlainText;
 use redo_line::{Broken, Sink, TargetName};
 use redo_logs::{LogTable, Numbered};
 use redo_options::Options;
@@ -36,6 +41,17 @@ impl From<Broken> for ViewFault {
     }
 }
 
+impl From<FormFault> for ViewFault {
+    ghost from_gives = { λ form_fault fault. fault ≡ view_fault form_fault };
+
+    fn from(fault: FormFault) -> ViewFault {
+        match fault {
+            FormFault::Write => ViewFault::Write,
+            FormFault::OutOfMemory => ViewFault::OutOfMemory,
+        }
+    }
+}
+
 impl From<AllocError> for ViewFault {
     ghost from_gives = { λ _ fault. fault ≡ OutOfMemory };
 
@@ -52,13 +68,14 @@ impl<T: Drop> From<AllocFailed<T>> for ViewFault {
     }
 }
 
-/// The state of showing logs: how they are shown, what was shown so far, and where the text goes.
+/// The state of showing logs: what is shown of them, what was shown so far, in which form and where the text goes.
 #[derive(Drop)]
-pub struct Viewer<'a, W> {
+pub struct Viewer<'a, 'f, F, W> {
     pub alloc: Global,
     pub logs: &'a Numbered<'a>,
     pub options: Options,
     pub visited: &'a mut Visited,
+    pub form: &'f mut F,
     pub out: &'a mut W,
 }
 
@@ -93,9 +110,62 @@ pub fn view<W: Sink>(
     ensures memory { result ≡ Err OutOfMemory →
         WrotePrefix (W.written out.old) (W.written out.new) (expansion table.now options.now requested.now) }
 {
+    let mut form = PlainText { options: *options };
+    view_as(alloc, table, options, &mut form, requested, out)
+}
+
+/// Writes what [`view`] shows in any form. `options` determine what is shown, and the form determines the bytes.
+///
+/// The form is passed each event, in order. If a target has no log, it is passed none. After any other fault, nothing
+/// is known of its state. The rest is as for `view`.
+pub fn view_as<F: Form, W: Sink>(
+    alloc: Global,
+    table: &LogTable,
+    options: &Options,
+    form: &mut F,
+    requested: &[TargetName],
+    out: &mut W,
+) -> Result<(), ViewFault>
+    requires { list_all has_ended table.now ≡ true }
+
+    // The bytes of all events were written, and nothing else. The form has the state after them.
+    ensures ok { OnOk result (WroteAll (W.written out.old) (W.written out.new)
+        (bytes_of F.bytes F.after form.old (shown_events table.now options.now requested.now))) }
+    ensures state { OnOk result (form.new ≡ state_after F.after form.old (shown_events table.now options.now requested.now)) }
+    ensures known { OnOk result (find_unknown table.now requested.now ≡ None) }
+
+    // A target is unknown exactly if it has no log, and then nothing was written, and the form is unchanged.
+    ensures unknown { (place : ℕ) → (result ≡ Err (Unknown place)) ↔ (find_unknown table.now requested.now ≡ Some place) }
+    ensures nothing_written { (place : ℕ) → result ≡ Err (Unknown place) → WroteNothing (W.written out.old) (W.written out.new) }
+    ensures unchanged { (place : ℕ) → result ≡ Err (Unknown place) → form.new ≡ form.old }
+
+    // The writer failed, once, after a prefix of these bytes.
+    ensures write { result ≡ Err Write → WroteUntilFailed (W.written out.old) (W.written out.new)
+        (bytes_of F.bytes F.after form.old (shown_events table.now options.now requested.now)) }
+
+    // An allocation failed: a prefix of these bytes was written, and the writer didn't fail.
+    ensures memory { result ≡ Err OutOfMemory → WrotePrefix (W.written out.old) (W.written out.new)
+        (bytes_of F.bytes F.after form.old (shown_events table.now options.now requested.now)) }
+{
     if let Some(place) = find_unknown(table, requested) {
         return Err(ViewFault::Unknown { place });
     }
+    view_known(alloc, table, options, form, requested, out)
+}
+
+// The same, if each requested target has a log.
+fn view_known<F: Form, W: Sink>(
+    alloc: Global,
+    table: &LogTable,
+    options: &Options,
+    form: &mut F,
+    requested: &[TargetName],
+    out: &mut W,
+) -> Result<(), ViewFault>
+    requires { find_unknown table.now requested.now ≡ None }
+    ensures { RenderedOrFailed F.bytes F.after (rendering (W.written out.old) form.old) (rendering (W.written out.new) form.new)
+        (shown_events table.now options.now requested.now) result }
+{
     let logs = table.numbered();
     let mut visited = Visited::new(alloc, &logs)?;
     let mut viewer = Viewer {
@@ -103,6 +173,7 @@ pub fn view<W: Sink>(
         logs: &logs,
         options: *options,
         visited: &mut visited,
+        form,
         out,
     };
     viewer.show_targets(requested)
@@ -119,14 +190,14 @@ fn find_unknown(table: &LogTable, requested: &[TargetName]) -> Option<usize>
     )
 }
 
-impl<W: Sink> Viewer<'_, W> {
+impl<F: Form, W: Sink> Viewer<'_, '_, F, W> {
     // Shows the requested targets, each of which must have a log. Nothing may have been shown before.
     fn show_targets(&mut self, requested: &[TargetName]) -> Result<(), ViewFault>
         requires known { find_unknown self.old.logs.now.logs requested.now ≡ None }
         requires fits { Fits self.old.logs.now self.old.visited.now }
         requires initial { MatchesFlags self.old.logs.now self.old.visited.now initial_state }
         ensures context { KeepsContext self.old self.new }
-        ensures wrote { Wrote W.written self.old self.new (expansion self.old.logs.now.logs self.old.options requested.now) result }
+        ensures events { WroteEvents F.bytes F.after W.written self.old self.new (shown_events self.old.logs.now.logs self.old.options requested.now) result }
     {
         for name in requested {
             self.show_target(name)?;
@@ -138,7 +209,7 @@ impl<W: Sink> Viewer<'_, W> {
     fn show_target(&mut self, name: &TargetName) -> Result<(), ViewFault>
         requires known { is_among name.now (targets_of self.old.logs.now.logs) ≡ true }
         requires fits { Fits self.old.logs.now self.old.visited.now }
-        ensures { ShowedTargetOrFailed W.written name.now self.old self.new result }
+        ensures { ShowedTargetOrFailed F.bytes F.after W.written name.now self.old self.new result }
     {
         let Some(number) = self.logs.find(name) else {
             unreachable!()
@@ -146,7 +217,8 @@ impl<W: Sink> Viewer<'_, W> {
         if self.visited.opened[number as usize] {
             return Ok(());
         }
-        write_target(&self.options, 0, None, name, self.out)?;
+        let opening = Opening::OpensHere(number);
+        self.show_event(EventRef::Requested { name, opening })?;
         self.show_log(number)
     }
 }

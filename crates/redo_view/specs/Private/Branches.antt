@@ -1,10 +1,9 @@
 -- What the expansion does in each case of a decision.
-use Rattle.std.specs.Prelude.{ℕ, Bool, List, None, if◌then◌else◌}
+use Rattle.std.specs.Prelude.{ℕ, Bool, List, if◌then◌else◌}
 use Rattle.redo_line.specs.declared.entry.How.{How}
 use Rattle.redo_logs.specs.Logs.{Log}
 use Rattle.redo_options.specs.declared.options.Options.{Options}
-use Rattle.redo_view.specs.Expansion.{ShowLog, ViewState, append_text, show_mention, show_log}
-use Rattle.redo_view.specs.Text.{redo_line}
+use Rattle.redo_view.specs.Expansion.{ShowLog, ViewState, append_event, request_event, show_mention, show_log}
 
 module _ (logs : List Log) (options : Options) where
   -- Opens the log of a mentioned target, or doesn't.
@@ -18,5 +17,4 @@ module _ (logs : List Log) (options : Options) where
 
   -- Shows a requested target, or nothing if its log was opened before.
   abbrev pub show_target_unless : Bool → List ℕ → ViewState → ViewState
-  show_target_unless opened target state =
-      if opened then state else show_log logs options target 1 (append_text (redo_line options 0 None target) state)
+  show_target_unless opened target state = if opened then state else show_log logs options target 1 (append_event (request_event logs target) state)

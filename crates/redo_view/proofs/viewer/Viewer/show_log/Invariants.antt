@@ -3,7 +3,7 @@ use Rattle.redo_view.proofs.viewer.Viewer.show_log.Given as goal
 
 -- What was shown so far, and what is left of the frames.
 abbrev pub invariant-entries : goal.invariant-entries
-invariant-entries g l = Stands g.W.Sink.written l.number l.fn.self l.self l.outer.items l.frame
+invariant-entries g l = Stands g.F.Form.bytes g.F.Form.after g.W.Sink.written l.number l.fn.self l.self l.outer.items l.frame
 
 -- Each step shows an entry, opens a log or leaves a log.
 abbrev pub decreases-entries : goal.decreases-entries

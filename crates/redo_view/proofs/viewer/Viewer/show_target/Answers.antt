@@ -1,12 +1,13 @@
-use Rattle.std.proofs.Common.{None, true≢false, is_some, refl, sym, ap, ◌∙◌, subst}
-use Rattle.redo_view.specs.Expansion.{append_text}
+use Rattle.std.proofs.Common.{true≢false, is_some, refl, sym, ap, ◌∙◌, subst}
+use Rattle.std.proofs.lemmas.Result.{err_from_is_err_and}
+use Rattle.redo_view.specs.Expansion.{append_event, request_event}
 use Rattle.redo_view.specs.Private.Branches.{show_target_unless}
-use Rattle.redo_view.specs.Text.{redo_line}
 use Rattle.redo_view.specs.Private.Progress.{ShowedOrFailed}
+use Rattle.redo_view.specs.Private.Viewing.{rendering_of}
 use Rattle.redo_view.proofs.Targets.{target_again, line_stopped, line_written}
 use Rattle.redo_view.proofs.Flags.{flag_is}
-use Rattle.redo_view.proofs.Shifting.{placed-listed}
-use Rattle.redo_view.proofs.Walking.{same_context}
+use Rattle.redo_view.proofs.Openings.{placed-listed}
+use Rattle.redo_view.proofs.Walking.{context_then, same_context}
 use Rattle.redo_view.proofs.viewer.Viewer.show_target.Goals as goal
 
 pub unreachable-requires : goal.unreachable-requires
@@ -15,31 +16,38 @@ unreachable-requires g c =
 
 pub returns-then-index : goal.returns-then-index
 returns-then-index g c = record {
-  context = same_context refl refl refl;
+  context = same_context refl refl refl refl;
   shows = λ first state has.
       let placed = sym c.find.ensures ∙ c.in-Some.is in
       let was = flag_is c.args.self.now.logs.now c.args.self.now.visited.now state has.flags c.args.name.now c.in-Some.number c.index.result.now c.requires.fits placed c.index.ensures in
-      target_again c.args.self.now.logs.now c.args.self.now.options c.args.name.now first _ c.args.self.now.visited.now state has (sym was ∙ c.if-index.true);
+      target_again g.F.Form.bytes g.F.Form.after c.args.self.now.logs.now c.args.self.now.options c.args.name.now first _ c.args.self.now.visited.now state has (sym was ∙ c.if-index.true);
 }
 
-pub returns-in_err-write_target : goal.returns-in_err-write_target
-returns-in_err-write_target g c = record {
-  context = same_context refl refl refl;
-  shows = λ first state has.
-      let placed = sym c.find.ensures ∙ c.in-Some.is in
-      let was = flag_is c.args.self.now.logs.now c.args.self.now.visited.now state has.flags c.args.name.now c.in-Some.number c.index.result.now c.requires.fits placed c.index.ensures in
-      line_stopped c.args.self.now.logs.now c.args.self.now.options c.args.name.now first _ c.args.self.now.visited.now state has (sym was ∙ c.if-index.false) _ _ c.in_err-write_target.field-0.0 c.from_residual.result c.from_residual.ensures.1
-      c.in_err-write_target.ensures;
-}
+pub returns-in_err-show_event : goal.returns-in_err-show_event
+returns-in_err-show_event g c =
+    let given = err_from_is_err_and c.from_residual.result c.from_residual.ensures.1 in
+    let stopped = c.in_err-show_event.ensures in
+    rw (given.1, given.2) record {
+      context = stopped.context;
+      shows = λ first state has.
+          let placed = sym c.find.ensures ∙ c.in-Some.is in
+          let was = flag_is c.args.self.now.logs.now c.args.self.now.visited.now state has.flags c.args.name.now c.in-Some.number c.index.result.now c.requires.fits placed c.index.ensures in
+          line_stopped g.F.Form.bytes g.F.Form.after c.args.self.now.logs.now c.args.self.now.options c.args.name.now first _ c.args.self.now.visited.now state has c.in-Some.number placed (sym was ∙ c.if-index.false)
+          (rendering_of g.W.Sink.written c.show_event.new.self) c.show_event.new.self.visited.now c.in_err-show_event.field-0.0 stopped.event;
+    }
 
 pub returns : goal.returns
-returns g c = record {
-  context = same_context c.show_log.ensures.context.logs c.show_log.ensures.context.options c.show_log.ensures.context.out;
-  shows = λ first state has.
-      let placed = sym c.find.ensures ∙ c.in-Some.is in
-      let was = flag_is c.args.self.now.logs.now c.args.self.now.visited.now state has.flags c.args.name.now c.in-Some.number c.index.result.now c.requires.fits placed c.index.ensures in
-      subst (λ opened. ShowedOrFailed c.args.self.now.logs.now first (g.W.Sink.written c.show_log.new.self.out.now) c.show_log.new.self.visited.now (show_target_unless c.args.self.now.logs.now.logs c.args.self.now.options opened c.args.name.now state) c.show_log.result)
-      (sym c.if-index.false ∙ was)
-      (c.show_log.ensures.shows c.args.name.now first (append_text (redo_line c.args.self.now.options 0 None c.args.name.now) state) placed
-      (line_written c.args.self.now.logs.now c.args.self.now.options c.args.name.now first _ c.args.self.now.visited.now state has (sym was ∙ c.if-index.false) _ c.in_ok-write_target.ensures));
-}
+returns g c =
+    let line = c.in_ok-show_event.ensures in
+    let logs = line.context.logs in
+    let options = line.context.options in record {
+      context = context_then line.context c.show_log.ensures.context;
+      shows = λ first state has.
+          let placed = sym c.find.ensures ∙ c.in-Some.is in
+          let was = flag_is c.args.self.now.logs.now c.args.self.now.visited.now state has.flags c.args.name.now c.in-Some.number c.index.result.now c.requires.fits placed c.index.ensures in
+          let written = line_written g.F.Form.bytes g.F.Form.after c.args.self.now.logs.now c.args.self.now.options c.args.name.now first _ c.args.self.now.visited.now state has c.in-Some.number placed _ line.event in
+          let requested = append_event (request_event c.show_event.new.self.logs.now.logs c.args.name.now) state in
+          subst (λ opened. ShowedOrFailed g.F.Form.bytes g.F.Form.after c.args.self.now.logs.now first (rendering_of g.W.Sink.written c.show_log.new.self) c.show_log.new.self.visited.now (show_target_unless c.args.self.now.logs.now.logs c.args.self.now.options opened c.args.name.now state) c.show_log.result)
+          (sym c.if-index.false ∙ was)
+          (rw (sym logs, sym options) (c.show_log.ensures.shows c.args.name.now first requested (rw logs placed) (rw (logs, line.visited) written)));
+    }

@@ -1,6 +1,6 @@
 use Rattle.std.proofs.Common.{not, is_some, ap, ◌∙◌}
 use Rattle.redo_view.proofs.Targets.{flipped}
-use Rattle.redo_view.proofs.Shifting.{placed-listed}
+use Rattle.redo_view.proofs.Openings.{placed-listed}
 use Rattle.redo_view.proofs.viewer.fn.find_unknown.position.Goals as goal
 
 pub returns : goal.returns
