@@ -41,6 +41,9 @@ locks = record options { debug_locks = true }
 abbrev shallow : Options
 shallow = record options { recursive = false }
 
+abbrev shallow_locks : Options
+shallow_locks = record locks { recursive = false }
+
 -- Whether a log is opened: it may be or not, it was or not, and it has a number or not.
 openings :
     (opening_of true false None ≡ NotOpened) × (opening_of true false (Some 3) ≡ OpensHere 3) × (opening_of false false (Some 3) ≡ NotOpened)
@@ -64,9 +67,12 @@ all_events :
     × (shown_events logs shallow (b ∷ a ∷ [])
     ≡ Requested b (OpensHere 1) ∷ Mentioned 1 9 Made a NotOpened ∷ EntryShown 1 (Done 9 (pos 2) x) ∷ LogEnds 1
     ∷ Requested a (OpensHere 0) ∷ Mentioned 1 7 Made x NotOpened ∷ EntryShown 1 (Text (codes "t")) ∷ EntryShown 1 (Closing 7 (pos 0)) ∷ LogEnds 1 ∷ [])
+    × (shown_events logs shallow_locks (a ∷ [])
+    ≡ Requested a (OpensHere 0) ∷ Mentioned 1 7 Made b NotOpened ∷ Mentioned 1 8 Waiting b NotOpened ∷ Mentioned 1 7 Made x NotOpened
+    ∷ EntryShown 1 (Text (codes "t")) ∷ EntryShown 1 (Closing 7 (pos 0)) ∷ LogEnds 1 ∷ [])
     × (shown_events logs options (x ∷ []) ≡ Requested x NotOpened ∷ LogEnds 1 ∷ [])
 unfolding show_log_within show_log
-all_events = (refl, refl, refl, refl)
+all_events = (refl, refl, refl, refl, refl)
 
 -- The text of each event.
 texts :

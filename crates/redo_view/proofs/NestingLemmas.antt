@@ -53,10 +53,11 @@ module _ (logs : List Log) (options : Options) where
   abbrev IsSettled : ViewState → List ℕ → Type 0
   IsSettled state name = options.recursive ≡ true → is_among name (targets_of logs) ≡ true → is_among name state.named ≡ true → is_among name state.opened ≡ true
 
-  -- Whether this holds for all targets, except perhaps one.
+  -- Whether this holds for all targets.
   abbrev Settled : ViewState → Type 0
   Settled state = (name : List ℕ) → IsSettled state name
 
+  -- Whether this holds for all targets but one.
   abbrev SettledBut : List ℕ → ViewState → Type 0
   SettledBut target state = (name : List ℕ) → (name ≡ target) ⊎ IsSettled state name
 

@@ -11,7 +11,8 @@ use Rattle.redo_view.specs.declared.viewer.ViewFault.TheVariants.{Unknown, Write
 use Rattle.redo_view.specs.Event.{Event}
 use Rattle.redo_view.specs.Form.{FormWrites, bytes_of, state_after}
 use Rattle.redo_view.specs.Private.Rendering.{Rendering, rendered, rendering}
-use Rattle.redo_view.specs.Private.WriteResult.{WroteUntilFault, view_fault}
+use Rattle.redo_view.specs.Private.WriteResult.{WroteUntilFault}
+use Rattle.redo_view.specs.View.{view_fault}
 use Rattle.redo_view.specs.Written.{WrotePrefix}
 use Rattle.redo_view.proofs.WritingLemmas.{in_middle}
 

@@ -89,7 +89,8 @@ impl<F: Form, W: Sink> Viewer<'_, '_, F, W> {
         requires name_in_range { name < length self.old.logs.now.names }
         requires fits { Fits self.old.logs.now self.old.visited.now }
         ensures context { KeepsContext self.old self.new }
-        ensures own_events { WroteEvents F.bytes F.after W.written self.old self.new (own_events self.old depth (Mention pid how name)) result }
+        ensures own_events { WroteEvents F.bytes F.after W.written self.old self.new
+            (own_events self.old depth (Mention pid how name)) result }
         ensures named { OnOk result (self.new.visited.now.named.items ≡ named_after self.old (Mention pid how name)) }
         ensures opened { self.new.visited.now.opened.items ≡ self.old.visited.now.opened.items }
         ensures nested_log { IfOk result (λ inner. inner ≡ nested_log self.old (Mention pid how name)) }

@@ -8,8 +8,7 @@ ghost use Rattle.redo_view.specs.Private.Progress.{MatchesFlags, initial_state};
 ghost use Rattle.redo_view.specs.Private.EntryEffect.{Fits};
 ghost use Rattle.redo_view.specs.Private.Rendering.{RenderedOrFailed, rendering};
 ghost use Rattle.redo_view.specs.Private.Viewing.{KeepsContext, ShowedTargetOrFailed, WroteEvents};
-ghost use Rattle.redo_view.specs.Private.WriteResult.{view_fault};
-ghost use Rattle.redo_view.specs.View.{find_unknown};
+ghost use Rattle.redo_view.specs.View.{find_unknown, view_fault};
 ghost use Rattle.redo_view.specs.Written.{WroteAll, WrotePrefix, WroteNothing, WroteUntilFailed};
 
 use crate::entry::Visited;
@@ -197,7 +196,8 @@ impl<F: Form, W: Sink> Viewer<'_, '_, F, W> {
         requires fits { Fits self.old.logs.now self.old.visited.now }
         requires initial { MatchesFlags self.old.logs.now self.old.visited.now initial_state }
         ensures context { KeepsContext self.old self.new }
-        ensures events { WroteEvents F.bytes F.after W.written self.old self.new (shown_events self.old.logs.now.logs self.old.options requested.now) result }
+        ensures events { WroteEvents F.bytes F.after W.written self.old self.new
+            (shown_events self.old.logs.now.logs self.old.options requested.now) result }
     {
         for name in requested {
             self.show_target(name)?;

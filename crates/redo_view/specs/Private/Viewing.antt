@@ -1,4 +1,5 @@
--- What a viewer does, from its state before. `bytes` and `after` are those of its form, `written` gives what is known of its writer.
+-- What a viewer does, from its state before. `bytes` and `after` are the ghost members of its form, and `written` gives what is
+-- known of its writer.
 use Rattle.std.specs.Prelude.{◌≡◌, ℕ, Bool, List, Option, Result}
 use Rattle.redo_device.specs.Sink.{Output}
 use Rattle.redo_line.specs.declared.entry.How.{How}

@@ -1,16 +1,9 @@
 -- How much of a text was written, depending on the result.
 use Rattle.std.specs.Prelude.{ℕ, List, Option, Result, Ok, Err}
 use Rattle.redo_device.specs.Sink.{Output}
-use Rattle.redo_view.specs.declared.form.FormFault.{FormFault}
-use Rattle.redo_view.specs.declared.form.FormFault.TheVariants as form
 use Rattle.redo_view.specs.declared.viewer.ViewFault.{ViewFault}
 use Rattle.redo_view.specs.declared.viewer.ViewFault.TheVariants.{Unknown, Write, OutOfMemory}
 use Rattle.redo_view.specs.Written.{WroteAll, WroteUntilFailed, WrotePrefix}
-
--- The fault of a view whose form had this fault.
-abbrev pub view_fault : FormFault → ViewFault
-view_fault form.Write = Write
-view_fault form.OutOfMemory = OutOfMemory
 
 abbrev pub WroteUntilFault : Option Output → Option Output → List ℕ → ViewFault → Type 0
 WroteUntilFault before after text (Unknown place) = ⊥
