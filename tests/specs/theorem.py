@@ -9,7 +9,7 @@ from contracts import TOP, Names, closing, read
 PAGE = "docs/theorem.md"
 CLAUSE_OF = "redo_run/src/running.rt"
 # The maximum number of quoted lines.
-MOST_LINES = 400
+MOST_LINES = 430
 MARK = re.compile(r"^<!-- (\w+) (\w+): ([^>]*?) -->\n(?:```\n.*?\n```\n)?", re.M | re.S)
 
 

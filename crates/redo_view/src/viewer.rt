@@ -131,7 +131,7 @@ pub fn view_as<F: Form, W: Sink>(
     ensures ok { OnOk result (WroteAll (W.written out.old) (W.written out.new)
         (bytes_of F.bytes F.after form.old (shown_events table.now options.now requested.now))) }
     ensures state { OnOk result (form.new ≡ state_after F.after form.old (shown_events table.now options.now requested.now)) }
-    ensures known { OnOk result (find_unknown table.now requested.now ≡ None) }
+    ensures all_found { OnOk result (find_unknown table.now requested.now ≡ None) }
 
     // A target is unknown exactly if it has no log, and then nothing was written, and the form is unchanged.
     ensures unknown { (place : ℕ) → (result ≡ Err (Unknown place)) ↔ (find_unknown table.now requested.now ≡ Some place) }
