@@ -14,7 +14,7 @@ from kept import crates_kept, kept  # noqa: E402
 
 GUARANTEES, MUTANTS, KILLERS = "docs/guarantees.md", "docs/mutants.md", "tests/specs/killers.txt"
 PART = re.compile(r"^(<!-- generated: ([\w ]+) -->\n)(.*?)(^<!-- end -->$)", re.M | re.S)
-TABLE = re.compile(r"^\| Guarantee \| Clause \| Definition \|\n\|[-|]+\n((?:\|.*\n?)+)", re.M)
+TABLE = re.compile(r"^Guarantee \| Clause \| Definition\n[-|]+\n((?:.* \| .*\n?)+)", re.M)
 LAWS = "## What each law rules out"
 QUOTED = re.compile(r"`([^`]+)`")
 WORD = re.compile(r"[^\W\d]\w*")
@@ -138,7 +138,7 @@ def faults_of_guarantees(specs):
     places = {(module.rsplit(".", 1)[-1], name) for module, name in specs.texts}
     faults = list(stale(specs, GUARANTEES, ("files",)))
     for row in (row for table in TABLE.findall(read(GUARANTEES)) for row in table.splitlines()):
-        cells = [cell.strip() for cell in row.strip("|").split(" | ")]
+        cells = [cell.strip() for cell in re.split(r" \|(?: |$)", row)]
         faults += [f"{GUARANTEES}: {cells[0][:50]}: not three cells"] * (len(cells) != 3)
         faults += [f"{GUARANTEES}: {cells[1]}: {fault}" for fault in unknown(cells[1])]
         for part in cells[-1].split(";"):
