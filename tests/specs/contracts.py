@@ -21,9 +21,10 @@ def read(*path):
 
 
 def files(folder, ending):
-    """Returns the files below a directory of the repository, as paths relative to it."""
+    """Returns the files below a directory of the repository, as paths relative to it, except what was built in `out`."""
     top = os.path.join(TOP, folder)
-    return sorted(os.path.relpath(os.path.join(here, name), top) for here, _, names in os.walk(top) for name in names if name.endswith(ending))
+    found = (os.path.relpath(os.path.join(here, name), top) for here, _, names in os.walk(top) for name in names if name.endswith(ending))
+    return sorted(path for path in found if "/out/" not in path)
 
 
 def libraries_of(program):
