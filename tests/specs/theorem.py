@@ -1,6 +1,7 @@
 """Checks docs/theorem.md. It must quote each definition that the clause of a run depends on: once, verbatim, and after the
-definitions that it cites. No two quoted definitions may share a name. An HTML comment states what is quoted:
-`<!-- CRATE FILE: NAMES -->`. `run --quote` writes the block after it."""
+definitions that it cites. No two quoted definitions may share a name. `<!-- CRATE FILE -->` is replaced by the definitions of a file
+that a reader needs and that no comment before it quotes, `<!-- CRATE FILE: LAST -->` by those of them up to LAST, and
+`<!-- CRATE FILE: FIRST to LAST -->` by those between two. `run --quote` writes the block after it."""
 import os
 import re
 
@@ -10,7 +11,7 @@ PAGE = "docs/theorem.md"
 CLAUSE_OF = "redo_run/src/running.rt"
 # The maximum number of quoted lines.
 MOST_LINES = 430
-MARK = re.compile(r"^<!-- (\w+) (\w+): ([^>]*?) -->\n(?:```\n.*?\n```\n)?", re.M | re.S)
+MARK = re.compile(r"^(<!-- (\w+) (\w+)(?:: (?:(\S+) to )?(\S+))? -->\n)(?:```\n.*?\n```\n)?", re.M | re.S)
 
 
 def clause():
@@ -39,17 +40,23 @@ def quoted(specs, crate, file, name):
 
 def blocks(specs, page):
     """Yields what each comment quotes: the places, and the text."""
-    for crate, file, names in MARK.findall(page):
+    needed = reached(specs, clause()[1])
+    left = {}
+    for _, crate, file, first, last in MARK.findall(page):
         if file == "run":
             yield [], clause()[0]
-        else:
-            words = names.split()
-            yield [(f"Rattle.{crate}.specs.{file}", name) for name in words], "\n\n".join(quoted(specs, crate, file, name) for name in words)
+            continue
+        module = f"Rattle.{crate}.specs.{file}"
+        names = left.setdefault(module, [name for place, name in specs.texts if place == module and (place, name) in needed])
+        begin = names.index(first) if first in names else 0
+        end = names.index(last) + 1 if last in names else len(names)
+        yield [(module, name) for name in names[begin:end]], "\n\n".join(quoted(specs, crate, file, name) for name in names[begin:end])
+        del names[begin:end]
 
 
 def with_quotes(specs, page):
     texts = iter([text for _, text in blocks(specs, page)])
-    return MARK.sub(lambda mark: f"<!-- {mark[1]} {mark[2]}: {mark[3]} -->\n```\n{next(texts)}\n```\n", page)
+    return MARK.sub(lambda mark: f"{mark[1]}```\n{next(texts)}\n```\n", page)
 
 
 def faults(specs):
@@ -58,7 +65,6 @@ def faults(specs):
     places = [place for quotes, _ in blocks(specs, page) for place in quotes]
     told = lambda place: ".".join(place[0].split(".")[1::2] + [place[1]])
     found = [f"{told(place)} is needed, but not quoted" for place in sorted(needed - set(places))]
-    found += [f"{told(place)} is quoted, but not needed" for place in places if place not in needed]
     names = [name for _, name in places]
     found += [f"{name} is quoted twice" for name in sorted(set(names)) if names.count(name) > 1]
     for at, place in enumerate(places):
