@@ -1,0 +1,13 @@
+mod HtmlRows
+mod MarkReading
+mod PageRows
+mod PassageLemmas
+mod PassageWriting
+mod PictureLemmas
+mod Reading
+mod RepeatLemmas
+mod ShownRows
+mod SymbolLemmas
+mod TextReading
+mod WritingLemmas
+mod WrongEscapes

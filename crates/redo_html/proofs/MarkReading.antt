@@ -1,0 +1,133 @@
+-- How the tags of a page are read.
+use Rattle.std.proofs.Common.{◌≡◌, ℕ, true, false, List, [], ◌∷◌, ◌++◌, refl, sym, ◌∙◌, ap, arith}
+use Rattle.std.specs.Prelude.{◌==◌, nat_le, codes}
+use Rattle.std.specs.List.{list_all}
+use Rattle.std.proofs.lemmas.Bool.{and_parts, leb-true, ne_eqb}
+use Rattle.std.proofs.lemmas.List.{append_assoc, append-nil}
+use Rattle.redo_html.specs.declared.markup.Markup.{Markup}
+use Rattle.redo_html.specs.declared.markup.Markup.TheVariants.{Doctype, Html, EndHtml, Head, EndHead, Charset, Viewport, ColorScheme, Referrer, Policy, BodyGood, BodyBad, BodyOpen, EndBody, Header, EndHeader, Title1, EndTitle1, Sign, EndSign, Nav, EndNav, Main, EndMain, FailedSection, SummarySection, TreeSection, EndSection, FailedHeading, SummaryHeading, TreeHeading, EndHeading, FailedLink, SummaryLink, TreeLink, TargetLink, OutputLink, EndLink, Article, EndArticle, Title3, EndTitle3, Paragraph, MetaParagraph, QuietParagraph, CutParagraph, ProblemParagraph, EndParagraph, Unordered, Tree, EndUnordered, Ordered, OrderedFrom, EndOrdered, Item, NoteItem, TargetItem, EndItem, Details, OpenDetails, QuietDetails, MoreDetails, EndDetails, Summary, EndSummary, Pre, EndPre, Bdi, EndBdi, Code, EndCode, ExitBadge, OpenBadge, EndBadge, Warnings, EndWarnings, Small, EndSmall, Footer, EndFooter}
+use Rattle.redo_html.specs.Html.{DataState, Normal, AttributeValue, Step, is_digit, emit_tag, read_from}
+use Rattle.redo_html.specs.Html.Token.{Tag}
+use Rattle.redo_html.specs.Laws.{ReadsAs}
+use Rattle.redo_html.specs.Shown.{number_text}
+use Rattle.redo_html.specs.Tags.{markup_text, markup_html}
+use Rattle.redo_html.proofs.TextReading.{number_digits}
+
+-- ---- digits in an attribute
+
+digit_read : (digit : ℕ) (tag behind : List ℕ) → is_digit digit ≡ true → read_from (AttributeValue tag) (digit ∷ behind) ≡ read_from (AttributeValue (tag ++ digit ∷ [])) behind
+digit_read digit tag behind is =
+    let parts = and_parts (nat_le 48 digit) (nat_le digit 57) is in
+    let low = leb-true 48 digit parts.0 in
+    let quote : (digit == 34) ≡ false = ne_eqb digit 34 (λ e. omega (arith, low, e)) in
+    let amp : (digit == 38) ≡ false = ne_eqb digit 38 (λ e. omega (arith, low, e)) in
+    let nul : (digit == 0) ≡ false = ne_eqb digit 0 (λ e. omega (arith, low, e)) in
+    let cr : (digit == 13) ≡ false = ne_eqb digit 13 (λ e. omega (arith, low, e)) in
+    simp (quote, amp, nul, cr)
+
+digits_read : (digits tag behind : List ℕ) → list_all is_digit digits ≡ true → read_from (AttributeValue tag) (digits ++ behind) ≡ read_from (AttributeValue (tag ++ digits)) behind
+digits_read [] tag behind are = ap (λ t. read_from (AttributeValue t) behind) (sym (append-nil tag))
+digits_read (digit ∷ digits) tag behind are =
+    let parts = and_parts (is_digit digit) (list_all is_digit digits) are in
+    digit_read digit tag (digits ++ behind) parts.0 ∙ digits_read digits (tag ++ digit ∷ []) behind parts.1 ∙ ap (λ t. read_from (AttributeValue t) behind) (append_assoc tag (digit ∷ []) digits)
+
+-- A tag whose last attribute ends with a number. `begin` is what precedes the number.
+abbrev numbered : List ℕ → ℕ → List ℕ
+numbered begin number = begin ++ number_text number ++ codes "\""
+
+number_tail : (begin digits behind : List ℕ) → ((begin ++ digits ++ codes "\"") ++ codes ">" ++ []) ++ behind ≡ begin ++ (digits ++ 34 ∷ 62 ∷ behind)
+number_tail begin digits behind = simp append_assoc
+
+numbered_reads : (begin : List ℕ) (number : ℕ) → ((rest : List ℕ) → read_from (DataState Normal) (60 ∷ (begin ++ rest)) ≡ read_from (AttributeValue begin) rest)
+    → emit_tag (numbered begin number) ≡ (DataState Normal, Tag (numbered begin number) ∷ []) → ReadsAs (codes "<" ++ numbered begin number ++ codes ">" ++ []) (Tag (numbered begin number) ∷ [])
+numbered_reads begin number opens emits behind =
+    ap (λ b. read_from (DataState Normal) (60 ∷ b)) (number_tail begin (number_text number) behind) ∙ opens (number_text number ++ 34 ∷ 62 ∷ behind)
+    ∙ digits_read (number_text number) begin (34 ∷ 62 ∷ behind) (number_digits number) ∙ ap (λ (step : Step). step.1 ++ read_from step.0 behind) emits
+
+-- ---- tags
+
+pub markup_reads : (markup : Markup) → ReadsAs (markup_html markup) (Tag (markup_text markup) ∷ [])
+markup_reads Doctype behind = refl
+markup_reads Html behind = refl
+markup_reads EndHtml behind = refl
+markup_reads Head behind = refl
+markup_reads EndHead behind = refl
+markup_reads Charset behind = refl
+markup_reads Viewport behind = refl
+markup_reads ColorScheme behind = refl
+markup_reads Referrer behind = refl
+markup_reads Policy behind = refl
+markup_reads BodyGood behind = refl
+markup_reads BodyBad behind = refl
+markup_reads BodyOpen behind = refl
+markup_reads EndBody behind = refl
+markup_reads Header behind = refl
+markup_reads EndHeader behind = refl
+markup_reads Title1 behind = refl
+markup_reads EndTitle1 behind = refl
+markup_reads Sign behind = refl
+markup_reads EndSign behind = refl
+markup_reads Nav behind = refl
+markup_reads EndNav behind = refl
+markup_reads Main behind = refl
+markup_reads EndMain behind = refl
+markup_reads FailedSection behind = refl
+markup_reads SummarySection behind = refl
+markup_reads TreeSection behind = refl
+markup_reads EndSection behind = refl
+markup_reads FailedHeading behind = refl
+markup_reads SummaryHeading behind = refl
+markup_reads TreeHeading behind = refl
+markup_reads EndHeading behind = refl
+markup_reads FailedLink behind = refl
+markup_reads SummaryLink behind = refl
+markup_reads TreeLink behind = refl
+markup_reads (TargetLink number) behind = numbered_reads (codes "a href=\"#t") number (λ rest. refl) refl behind
+markup_reads (OutputLink number) behind = numbered_reads (codes "a href=\"#f") number (λ rest. refl) refl behind
+markup_reads EndLink behind = refl
+markup_reads (Article number) behind = numbered_reads (codes "article id=\"f") number (λ rest. refl) refl behind
+markup_reads EndArticle behind = refl
+markup_reads Title3 behind = refl
+markup_reads EndTitle3 behind = refl
+markup_reads Paragraph behind = refl
+markup_reads MetaParagraph behind = refl
+markup_reads QuietParagraph behind = refl
+markup_reads CutParagraph behind = refl
+markup_reads ProblemParagraph behind = refl
+markup_reads EndParagraph behind = refl
+markup_reads Unordered behind = refl
+markup_reads Tree behind = refl
+markup_reads EndUnordered behind = refl
+markup_reads Ordered behind = refl
+markup_reads (OrderedFrom number) behind = numbered_reads (codes "ol class=\"list\" start=\"") number (λ rest. refl) refl behind
+markup_reads EndOrdered behind = refl
+markup_reads Item behind = refl
+markup_reads NoteItem behind = refl
+markup_reads (TargetItem number) behind = numbered_reads (codes "li id=\"t") number (λ rest. refl) refl behind
+markup_reads EndItem behind = refl
+markup_reads (Details number) behind = numbered_reads (codes "details id=\"t") number (λ rest. refl) refl behind
+markup_reads (OpenDetails number) behind = numbered_reads (codes "details open id=\"t") number (λ rest. refl) refl behind
+markup_reads QuietDetails behind = refl
+markup_reads MoreDetails behind = refl
+markup_reads EndDetails behind = refl
+markup_reads Summary behind = refl
+markup_reads EndSummary behind = refl
+markup_reads Pre behind = refl
+markup_reads EndPre behind = refl
+markup_reads Bdi behind = refl
+markup_reads EndBdi behind = refl
+markup_reads Code behind = refl
+markup_reads EndCode behind = refl
+markup_reads ExitBadge behind = refl
+markup_reads OpenBadge behind = refl
+markup_reads EndBadge behind = refl
+markup_reads Warnings behind = refl
+markup_reads EndWarnings behind = refl
+markup_reads Small behind = refl
+markup_reads EndSmall behind = refl
+markup_reads Footer behind = refl
+markup_reads EndFooter behind = refl
+
+-- The end of a tag whose last attribute ends with a number, as it is written.
+pub number_end : (begin digits : List ℕ) → begin ++ digits ++ codes "\">" ≡ ((begin ++ digits) ++ codes "\"") ++ codes ">" ++ []
+number_end begin digits = sym (append-nil ((begin ++ digits ++ codes "\"") ++ codes ">") ∙ append_assoc (begin ++ digits) (codes "\"") (codes ">"))

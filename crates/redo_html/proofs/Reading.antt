@@ -1,0 +1,420 @@
+-- How passages and pages are read.
+use Rattle.std.proofs.Common.{◌≡◌, ℕ, Bool, true, false, List, [], ◌∷◌, ◌++◌, map, refl, sym, ◌∙◌, ap, subst}
+use Rattle.std.specs.Prelude.{◌==◌, ◌||◌, ◌&&◌, not, codes, if◌then◌else◌}
+use Rattle.std.specs.List.{flat_map, list_all}
+use Rattle.std.proofs.lemmas.Bool.{and_parts, and_from, cond-true, eqb-true}
+use Rattle.std.proofs.lemmas.List.{append_assoc, append-nil}
+use Rattle.std.proofs.lemmas.List.Concat.{flat_map-append}
+use Rattle.std.proofs.lemmas.List.Folds.{list_all-append}
+use Rattle.redo_html.specs.declared.form.Form.{Form}
+use Rattle.redo_html.specs.declared.form.Form.TheVariants.{Log, Name, Title}
+use Rattle.redo_html.specs.declared.look.Look.{Look}
+use Rattle.redo_html.specs.declared.style.Hue.{Hue}
+use Rattle.redo_html.specs.declared.style.Hue.TheVariants.{Plain, Red, Green, Yellow, Blue, Magenta, Cyan}
+use Rattle.redo_html.specs.declared.style.Style.{Style}
+use Rattle.redo_html.specs.Passage.{Inline, hue_class, style_name, mark_text, has_marks, mark_html, mark_tokens, inline_html, inline_tokens, is_plain_hue, has_element, style_start, style_end, hue_number, same_bool, is_same_style, mark_if, marks_between, after_letter, with_wanted, plain_look, inlines_from, html_from, passage_html, passage_tokens}
+use Rattle.redo_html.specs.Passage.Inline.{OddStart, OddEnd, StyleStart, StyleEnd, Text}
+use Rattle.redo_html.specs.Html.{Token, DataState, Normal, Rcdata, read_from, characters_of, text_of, tag_of, tags_of, nests_in}
+use Rattle.redo_html.specs.Html.Token.{Character, Tag}
+use Rattle.redo_html.specs.Laws.{ReadsAs, is_mark, IsReadAsShown}
+use Rattle.redo_html.specs.Parts.{Part, part_html, part_tokens, part_text}
+use Rattle.redo_html.specs.Parts.Part.{MarkupPart, LogPart, NamePart, NumberPart, TitlePart, StylePart}
+use Rattle.redo_html.specs.Shown.{Run, is_odd, letters_text, run_text, runs_of, shown_text, number_text}
+use Rattle.redo_html.specs.Shown.Run.{Letters, Restyle}
+use Rattle.redo_html.specs.Style.{restyled}
+use Rattle.redo_html.specs.StyleSheet.{style_sheet}
+use Rattle.redo_html.specs.Symbols.{symbols}
+use Rattle.redo_html.proofs.MarkReading.{markup_reads}
+use Rattle.redo_html.proofs.TextReading.{ReadsIn, each_reads, escaped_reads, is_raw, raw_reads, letters_clean, all_weaker, number_safe, safe_escaped, is_safe, is_clean, safe_clean}
+
+-- ---- marks and letters
+
+style_reads : (bold : Bool) (hue : Hue) → ReadsAs (60 ∷ ((style_name bold ++ hue_class hue) ++ 62 ∷ [])) (Tag (style_name bold ++ hue_class hue) ∷ [])
+style_reads true Plain behind = refl
+style_reads true Red behind = refl
+style_reads true Green behind = refl
+style_reads true Yellow behind = refl
+style_reads true Blue behind = refl
+style_reads true Magenta behind = refl
+style_reads true Cyan behind = refl
+style_reads false Plain behind = refl
+style_reads false Red behind = refl
+style_reads false Green behind = refl
+style_reads false Yellow behind = refl
+style_reads false Blue behind = refl
+style_reads false Magenta behind = refl
+style_reads false Cyan behind = refl
+
+style_end_reads : (bold : Bool) → ReadsAs (60 ∷ ((47 ∷ style_name bold) ++ 62 ∷ [])) (Tag (47 ∷ style_name bold) ∷ [])
+style_end_reads true behind = refl
+style_end_reads false behind = refl
+
+mark_reads : (form : Form) (tag : List ℕ) → ReadsAs (60 ∷ (tag ++ 62 ∷ [])) (Tag tag ∷ []) → ReadsAs (mark_html form tag) (mark_tokens form tag)
+mark_reads Log tag reads = reads
+mark_reads Name tag reads = reads
+mark_reads Title tag reads = λ behind. refl
+
+inline_reads : (form : Form) (inline : Inline) → ReadsAs (inline_html form inline) (inline_tokens form inline)
+inline_reads form OddStart = mark_reads form (codes "i") (λ behind. refl)
+inline_reads form OddEnd = mark_reads form (codes "/i") (λ behind. refl)
+inline_reads form (StyleStart style) = mark_reads form (style_name style.bold ++ hue_class style.hue) (style_reads style.bold style.hue)
+inline_reads form (StyleEnd style) = mark_reads form (47 ∷ style_name style.bold) (style_end_reads style.bold)
+inline_reads form (Text letter count) = escaped_reads Normal tt (letters_text letter count) (letters_clean letter count)
+
+title_inline_reads : (inline : Inline) → ReadsIn Rcdata (inline_html Title inline) (inline_tokens Title inline)
+title_inline_reads OddStart behind = refl
+title_inline_reads OddEnd behind = refl
+title_inline_reads (StyleStart style) behind = refl
+title_inline_reads (StyleEnd style) behind = refl
+title_inline_reads (Text letter count) behind = escaped_reads Rcdata tt (letters_text letter count) (letters_clean letter count) behind
+
+pub passage_reads : (form : Form) (bytes : List ℕ) → ReadsAs (passage_html form bytes) (passage_tokens form bytes)
+unfolding html_from
+passage_reads form bytes = each_reads Normal (inline_html form) (inline_tokens form) (inline_reads form) (inlines_from plain_look (runs_of (symbols form bytes)))
+
+title_passage_reads : (bytes : List ℕ) → ReadsIn Rcdata (passage_html Title bytes) (passage_tokens Title bytes)
+unfolding html_from
+title_passage_reads bytes = each_reads Rcdata (inline_html Title) (inline_tokens Title) title_inline_reads (inlines_from plain_look (runs_of (symbols Title bytes)))
+
+-- ---- the text
+
+text_characters : (text : List ℕ) → text_of (map Character text) ≡ text
+text_characters [] = refl
+text_characters (byte ∷ text) = ap (λ (t : List ℕ). byte ∷ t) (text_characters text)
+
+tags_characters : (text : List ℕ) → tags_of (map Character text) ≡ []
+tags_characters [] = refl
+tags_characters (byte ∷ text) = tags_characters text
+
+-- The text and the tags of parts of a passage.
+abbrev text_in : Form → List Inline → List ℕ
+text_in form inlines = text_of (flat_map (inline_tokens form) inlines)
+
+abbrev tags_in : Form → List Inline → List (List ℕ)
+tags_in form inlines = tags_of (flat_map (inline_tokens form) inlines)
+
+text_in-append : (form : Form) (a b : List Inline) → text_in form (a ++ b) ≡ text_in form a ++ text_in form b
+text_in-append form a b = ap text_of (flat_map-append (inline_tokens form) a b) ∙ flat_map-append characters_of (flat_map (inline_tokens form) a) (flat_map (inline_tokens form) b)
+
+tags_in-append : (form : Form) (a b : List Inline) → tags_in form (a ++ b) ≡ tags_in form a ++ tags_in form b
+tags_in-append form a b = ap tags_of (flat_map-append (inline_tokens form) a b) ∙ flat_map-append tag_of (flat_map (inline_tokens form) a) (flat_map (inline_tokens form) b)
+
+no_text : (form : Form) (tag : List ℕ) → text_of (mark_tokens form tag) ≡ []
+no_text Log tag = refl
+no_text Name tag = refl
+no_text Title tag = refl
+
+abbrev IsSilent : Form → List Inline → Type 0
+IsSilent form inlines = text_in form inlines ≡ []
+
+silent_append : (form : Form) (a b : List Inline) → IsSilent form a → IsSilent form b → IsSilent form (a ++ b)
+silent_append form a b first second = text_in-append form a b ∙ ap (λ (t : List ℕ). t ++ text_in form b) first ∙ second
+
+silent_if : (form : Form) (wanted : Bool) (mark : Inline) → inline_tokens form mark ≡ mark_tokens form (mark_text mark) → IsSilent form (mark_if wanted mark)
+silent_if form false mark is = refl
+silent_if form true mark is = ap text_of (append-nil (inline_tokens form mark) ∙ is) ∙ no_text form (mark_text mark)
+
+silent_styles : (form : Form) (look : Look) (same : Bool) → IsSilent form (if same then [] else style_end look.current ++ style_start look.wanted)
+silent_styles form look true = refl
+silent_styles form look false =
+    silent_append form (style_end look.current) (style_start look.wanted) (silent_if form (has_element look.current) (StyleEnd look.current) refl) (silent_if form (has_element look.wanted) (StyleStart look.wanted) refl)
+
+silent_marks : (form : Form) (look : Look) (odd : Bool) → IsSilent form (marks_between look odd)
+silent_marks form look odd =
+    let same = is_same_style look.wanted look.current in
+    let styles = if same then [] else style_end look.current ++ style_start look.wanted in
+    let first = mark_if (look.odd && not (same && odd)) OddEnd in
+    let last = mark_if (odd && not (same && look.odd)) OddStart in
+    silent_append form (first ++ styles) last (silent_append form first styles (silent_if form (look.odd && not (same && odd)) OddEnd refl) (silent_styles form look same)) (silent_if form (odd && not (same && look.odd)) OddStart refl)
+
+runs_text : (form : Form) (look : Look) (runs : List Run) → text_in form (inlines_from look runs) ≡ flat_map run_text runs
+runs_text form look [] = silent_append form (mark_if look.odd OddEnd) (style_end look.current) (silent_if form look.odd OddEnd refl) (silent_if form (has_element look.current) (StyleEnd look.current) refl)
+runs_text form look (Restyle numbers ∷ runs) = runs_text form (with_wanted look (restyled look.wanted numbers)) runs
+runs_text form look (Letters letter count ∷ runs) =
+    let odd = is_odd letter in
+    let rest = inlines_from (after_letter look odd) runs in
+    let text = letters_text letter count in
+    text_in-append form (marks_between look odd) (Text letter count ∷ rest) ∙ ap (λ (t : List ℕ). t ++ text_in form (Text letter count ∷ rest)) (silent_marks form look odd)
+    ∙ flat_map-append characters_of (map Character text) (flat_map (inline_tokens form) rest) ∙ ap (λ (t : List ℕ). t ++ text_in form rest) (text_characters text) ∙ ap (λ (t : List ℕ). text ++ t) (runs_text form (after_letter look odd) runs)
+
+pub passage_text : (form : Form) (bytes : List ℕ) → text_of (passage_tokens form bytes) ≡ shown_text form bytes
+passage_text form bytes = runs_text form plain_look (runs_of (symbols form bytes))
+
+-- ---- the tags
+
+-- Letters have no tags.
+text_tags : (form : Form) (letter count : ℕ) (inlines : List Inline) → tags_in form (Text letter count ∷ inlines) ≡ tags_in form inlines
+text_tags form letter count inlines =
+    flat_map-append tag_of (map Character (letters_text letter count)) (flat_map (inline_tokens form) inlines) ∙ ap (λ (t : List (List ℕ)). t ++ tags_in form inlines) (tags_characters (letters_text letter count))
+
+no_tags : (inlines : List Inline) → tags_in Title inlines ≡ []
+no_tags [] = refl
+no_tags (OddStart ∷ inlines) = no_tags inlines
+no_tags (OddEnd ∷ inlines) = no_tags inlines
+no_tags (StyleStart style ∷ inlines) = no_tags inlines
+no_tags (StyleEnd style ∷ inlines) = no_tags inlines
+no_tags (Text letter count ∷ inlines) = text_tags Title letter count inlines ∙ no_tags inlines
+
+pub title_tags : (bytes : List ℕ) → tags_of (passage_tokens Title bytes) ≡ []
+title_tags bytes = no_tags (inlines_from plain_look (runs_of (symbols Title bytes)))
+
+abbrev AreMarks : List (List ℕ) → Type 0
+AreMarks tags = list_all is_mark tags ≡ true
+
+marks_append : (a b : List (List ℕ)) → AreMarks a → AreMarks b → AreMarks (a ++ b)
+marks_append a b first second = list_all-append is_mark a b ∙ and_from (list_all is_mark a) (list_all is_mark b) first second
+
+style_is_mark : (bold : Bool) (hue : Hue) → (bold || not (is_plain_hue hue)) ≡ true → is_mark (style_name bold ++ hue_class hue) ≡ true
+style_is_mark true Plain has = refl
+style_is_mark true Red has = refl
+style_is_mark true Green has = refl
+style_is_mark true Yellow has = refl
+style_is_mark true Blue has = refl
+style_is_mark true Magenta has = refl
+style_is_mark true Cyan has = refl
+style_is_mark false Plain has = absurd (cc)
+style_is_mark false Red has = refl
+style_is_mark false Green has = refl
+style_is_mark false Yellow has = refl
+style_is_mark false Blue has = refl
+style_is_mark false Magenta has = refl
+style_is_mark false Cyan has = refl
+
+style_end_is_mark : (bold : Bool) → is_mark (47 ∷ style_name bold) ≡ true
+style_end_is_mark true = refl
+style_end_is_mark false = refl
+
+mark_tags : (form : Form) (tag : List ℕ) → is_mark tag ≡ true → AreMarks (tags_of (mark_tokens form tag))
+mark_tags Log tag is = and_from (is_mark tag) true is refl
+mark_tags Name tag is = and_from (is_mark tag) true is refl
+mark_tags Title tag is = refl
+
+marks_if : (form : Form) (wanted : Bool) (mark : Inline) → inline_tokens form mark ≡ mark_tokens form (mark_text mark) → (wanted ≡ true → is_mark (mark_text mark) ≡ true) → AreMarks (tags_in form (mark_if wanted mark))
+marks_if form false mark is one = refl
+marks_if form true mark is one = subst (λ (ts : List Token). AreMarks (tags_of ts)) (sym (append-nil (inline_tokens form mark) ∙ is)) (mark_tags form (mark_text mark) (one refl))
+
+abbrev marks_in : Form → List Inline → Type 0
+marks_in form inlines = AreMarks (tags_in form inlines)
+
+marks_in-append : (form : Form) (a b : List Inline) → marks_in form a → marks_in form b → marks_in form (a ++ b)
+marks_in-append form a b first second = subst AreMarks (sym (tags_in-append form a b)) (marks_append (tags_in form a) (tags_in form b) first second)
+
+style_marks : (form : Form) (look : Look) (same : Bool) → marks_in form (if same then [] else style_end look.current ++ style_start look.wanted)
+style_marks form look true = refl
+style_marks form look false =
+    marks_in-append form (style_end look.current) (style_start look.wanted) (marks_if form (has_element look.current) (StyleEnd look.current) refl (λ has. style_end_is_mark look.current.bold))
+    (marks_if form (has_element look.wanted) (StyleStart look.wanted) refl (λ has. style_is_mark look.wanted.bold look.wanted.hue has))
+
+between_marks : (form : Form) (look : Look) (odd : Bool) → marks_in form (marks_between look odd)
+between_marks form look odd =
+    let same = is_same_style look.wanted look.current in
+    let styles = if same then [] else style_end look.current ++ style_start look.wanted in
+    let first = mark_if (look.odd && not (same && odd)) OddEnd in
+    let last = mark_if (odd && not (same && look.odd)) OddStart in
+    marks_in-append form (first ++ styles) last (marks_in-append form first styles (marks_if form (look.odd && not (same && odd)) OddEnd refl (λ wanted. refl)) (style_marks form look same))
+    (marks_if form (odd && not (same && look.odd)) OddStart refl (λ wanted. refl))
+
+runs_marks : (form : Form) (look : Look) (runs : List Run) → marks_in form (inlines_from look runs)
+runs_marks form look [] =
+    marks_in-append form (mark_if look.odd OddEnd) (style_end look.current) (marks_if form look.odd OddEnd refl (λ wanted. refl)) (marks_if form (has_element look.current) (StyleEnd look.current) refl (λ has. style_end_is_mark look.current.bold))
+runs_marks form look (Restyle numbers ∷ runs) = runs_marks form (with_wanted look (restyled look.wanted numbers)) runs
+runs_marks form look (Letters letter count ∷ runs) =
+    let odd = is_odd letter in
+    let rest = inlines_from (after_letter look odd) runs in
+    marks_in-append form (marks_between look odd) (Text letter count ∷ rest) (between_marks form look odd)
+    (subst AreMarks (sym (text_tags form letter count rest)) (runs_marks form (after_letter look odd) runs))
+
+-- ---- nesting
+
+abbrev tag_if : Bool → List ℕ → List (List ℕ)
+tag_if wanted tag = if wanted then tag ∷ [] else []
+
+abbrev push_if : Bool → List ℕ → List (List ℕ) → List (List ℕ)
+push_if wanted name around = if wanted then name ∷ around else around
+
+-- What is open inside of `open`.
+abbrev opened : Bool → Style → List (List ℕ) → List (List ℕ)
+opened odd style around = push_if odd (codes "i") (push_if (has_element style) (style_name style.bold) around)
+
+tags_if : (form : Form) → has_marks form ≡ true → (wanted : Bool) (mark : Inline) → inline_tokens form mark ≡ mark_tokens form (mark_text mark) → tags_in form (mark_if wanted mark) ≡ tag_if wanted (mark_text mark)
+tags_if form has false mark is = refl
+tags_if form has true mark is = ap tags_of (append-nil (inline_tokens form mark) ∙ is ∙ cond-true (has_marks form) (Tag (mark_text mark) ∷ []) [] has)
+
+odd_ends : (odd : Bool) (around tags : List (List ℕ)) → nests_in (push_if odd (codes "i") around) (tag_if odd (codes "/i") ++ tags) ≡ nests_in around tags
+odd_ends true around tags = refl
+odd_ends false around tags = refl
+
+odd_starts : (odd : Bool) (around tags : List (List ℕ)) → nests_in around (tag_if odd (codes "i") ++ tags) ≡ nests_in (push_if odd (codes "i") around) tags
+odd_starts true around tags = refl
+odd_starts false around tags = refl
+
+style_ends : (has bold : Bool) (around tags : List (List ℕ)) → nests_in (push_if has (style_name bold) around) (tag_if has (47 ∷ style_name bold) ++ tags) ≡ nests_in around tags
+style_ends true true around tags = refl
+style_ends true false around tags = refl
+style_ends false bold around tags = refl
+
+style_starts : (has bold : Bool) (hue : Hue) (around tags : List (List ℕ)) → nests_in around (tag_if has (style_name bold ++ hue_class hue) ++ tags) ≡ nests_in (push_if has (style_name bold) around) tags
+style_starts false bold hue around tags = refl
+style_starts true true Plain around tags = refl
+style_starts true true Red around tags = refl
+style_starts true true Green around tags = refl
+style_starts true true Yellow around tags = refl
+style_starts true true Blue around tags = refl
+style_starts true true Magenta around tags = refl
+style_starts true true Cyan around tags = refl
+style_starts true false Plain around tags = refl
+style_starts true false Red around tags = refl
+style_starts true false Green around tags = refl
+style_starts true false Yellow around tags = refl
+style_starts true false Blue around tags = refl
+style_starts true false Magenta around tags = refl
+style_starts true false Cyan around tags = refl
+
+same_bools : (a b : Bool) → same_bool a b ≡ true → a ≡ b
+same_bools true true is = refl
+same_bools true false is = absurd (cc)
+same_bools false true is = absurd (cc)
+same_bools false false is = refl
+
+plain_by_number : (hue : Hue) → is_plain_hue hue ≡ (hue_number hue == 0)
+plain_by_number Plain = refl
+plain_by_number Red = refl
+plain_by_number Green = refl
+plain_by_number Yellow = refl
+plain_by_number Blue = refl
+plain_by_number Magenta = refl
+plain_by_number Cyan = refl
+
+-- The elements of two styles that are the same have the same name.
+same_opened : (one other : Style) (around : List (List ℕ)) → is_same_style one other ≡ true → push_if (has_element other) (style_name other.bold) around ≡ push_if (has_element one) (style_name one.bold) around
+same_opened one other around is =
+    let parts = and_parts (same_bool one.bold other.bold) (hue_number one.hue == hue_number other.hue) is in
+    let bold : other.bold ≡ one.bold = sym (same_bools one.bold other.bold parts.0) in
+    let hue : is_plain_hue other.hue ≡ is_plain_hue one.hue = plain_by_number other.hue ∙ ap (λ (n : ℕ). n == 0) (sym (eqb-true (hue_number one.hue) (hue_number other.hue) parts.1)) ∙ sym (plain_by_number one.hue) in
+    ap (λ (b : Bool). push_if (b || not (is_plain_hue other.hue)) (style_name b) around) bold ∙ ap (λ (p : Bool). push_if (one.bold || not p) (style_name one.bold) around) hue
+
+between_nests : (look : Look) (odd same was : Bool) (around tags : List (List ℕ)) → is_same_style look.wanted look.current ≡ same → look.odd ≡ was
+    → nests_in (opened was look.current around) (tag_if (was && not (same && odd)) (codes "/i") ++ (tag_if (not same && has_element look.current) (47 ∷ style_name look.current.bold) ++ (tag_if (not same && has_element look.wanted) (style_name look.wanted.bold ++ hue_class look.wanted.hue)
+    ++ (tag_if (odd && not (same && was)) (codes "i") ++ tags)))) ≡ nests_in (opened odd look.wanted around) tags
+between_nests look true true true around tags is was = ap (λ (inner : List (List ℕ)). nests_in (codes "i" ∷ inner) tags) (same_opened look.wanted look.current around is)
+between_nests look false true true around tags is was = ap (λ (inner : List (List ℕ)). nests_in inner tags) (same_opened look.wanted look.current around is)
+between_nests look true true false around tags is was = ap (λ (inner : List (List ℕ)). nests_in (codes "i" ∷ inner) tags) (same_opened look.wanted look.current around is)
+between_nests look false true false around tags is was = ap (λ (inner : List (List ℕ)). nests_in inner tags) (same_opened look.wanted look.current around is)
+between_nests look odd false was around tags is odd_is = by was odd
+  where
+    styles : (ts : List (List ℕ)) → nests_in (push_if (has_element look.current) (style_name look.current.bold) around) (tag_if (has_element look.current) (47 ∷ style_name look.current.bold) ++ (tag_if (has_element look.wanted) (style_name look.wanted.bold ++ hue_class look.wanted.hue) ++ ts))
+        ≡ nests_in (push_if (has_element look.wanted) (style_name look.wanted.bold) around) ts
+    styles ts = style_ends (has_element look.current) look.current.bold around (tag_if (has_element look.wanted) (style_name look.wanted.bold ++ hue_class look.wanted.hue) ++ ts) ∙ style_starts (has_element look.wanted) look.wanted.bold look.wanted.hue around ts
+
+    by : (was odd : Bool) → nests_in (opened was look.current around) (tag_if (was && true) (codes "/i") ++ (tag_if (has_element look.current) (47 ∷ style_name look.current.bold) ++ (tag_if (has_element look.wanted) (style_name look.wanted.bold ++ hue_class look.wanted.hue)
+        ++ (tag_if (odd && true) (codes "i") ++ tags)))) ≡ nests_in (opened odd look.wanted around) tags
+    by true true = styles (codes "i" ∷ tags)
+    by true false = styles tags
+    by false true = styles (codes "i" ∷ tags)
+    by false false = styles tags
+
+styles_tags : (form : Form) → has_marks form ≡ true → (look : Look) (same : Bool) → tags_in form (if same then [] else style_end look.current ++ style_start look.wanted)
+    ≡ tag_if (not same && has_element look.current) (47 ∷ style_name look.current.bold) ++ tag_if (not same && has_element look.wanted) (style_name look.wanted.bold ++ hue_class look.wanted.hue)
+styles_tags form has look true = refl
+styles_tags form has look false =
+    tags_in-append form (style_end look.current) (style_start look.wanted)
+    ∙ ap (λ (t : List (List ℕ)). t ++ tags_in form (style_start look.wanted)) (tags_if form has (has_element look.current) (StyleEnd look.current) refl)
+    ∙ ap (λ (t : List (List ℕ)). tag_if (has_element look.current) (47 ∷ style_name look.current.bold) ++ t) (tags_if form has (has_element look.wanted) (StyleStart look.wanted) refl)
+
+four_parts : (a b c d e : List (List ℕ)) → ((a ++ (b ++ c)) ++ d) ++ e ≡ a ++ (b ++ (c ++ (d ++ e)))
+four_parts a b c d e = append_assoc (a ++ (b ++ c)) d e ∙ append_assoc a (b ++ c) (d ++ e) ∙ ap (λ (t : List (List ℕ)). a ++ t) (append_assoc b c (d ++ e))
+
+marks_nest : (form : Form) → has_marks form ≡ true → (look : Look) (odd : Bool) (around tags : List (List ℕ)) → nests_in (opened look.odd look.current around) (tags_in form (marks_between look odd) ++ tags) ≡ nests_in (opened odd look.wanted around) tags
+marks_nest form has look odd around tags =
+    let same = is_same_style look.wanted look.current in
+    let styles = if same then [] else style_end look.current ++ style_start look.wanted in
+    let a = look.odd && not (same && odd) in
+    let d = odd && not (same && look.odd) in
+    let ends = tag_if (not same && has_element look.current) (47 ∷ style_name look.current.bold) in
+    let starts = tag_if (not same && has_element look.wanted) (style_name look.wanted.bold ++ hue_class look.wanted.hue) in
+    ap (λ (t : List (List ℕ)). nests_in (opened look.odd look.current around) (t ++ tags))
+    (tags_in-append form (mark_if a OddEnd ++ styles) (mark_if d OddStart) ∙ ap (λ (t : List (List ℕ)). t ++ tags_in form (mark_if d OddStart)) (tags_in-append form (mark_if a OddEnd) styles)
+    ∙ ap (λ (t : List (List ℕ)). (t ++ tags_in form styles) ++ tags_in form (mark_if d OddStart)) (tags_if form has a OddEnd refl)
+    ∙ ap (λ (t : List (List ℕ)). (tag_if a (codes "/i") ++ t) ++ tags_in form (mark_if d OddStart)) (styles_tags form has look same)
+    ∙ ap (λ (t : List (List ℕ)). (tag_if a (codes "/i") ++ (ends ++ starts)) ++ t) (tags_if form has d OddStart refl))
+    ∙ ap (nests_in (opened look.odd look.current around)) (four_parts (tag_if a (codes "/i")) ends starts (tag_if d (codes "i")) tags)
+    ∙ between_nests look odd same look.odd around tags refl refl
+
+runs_nest : (form : Form) → has_marks form ≡ true → (look : Look) (runs : List Run) (around tags : List (List ℕ)) → nests_in (opened look.odd look.current around) (tags_in form (inlines_from look runs) ++ tags) ≡ nests_in around tags
+runs_nest form has look [] around tags =
+    let end = style_end look.current in
+    ap (λ (t : List (List ℕ)). nests_in (opened look.odd look.current around) (t ++ tags))
+    (tags_in-append form (mark_if look.odd OddEnd) end ∙ ap (λ (t : List (List ℕ)). t ++ tags_in form end) (tags_if form has look.odd OddEnd refl)
+    ∙ ap (λ (t : List (List ℕ)). tag_if look.odd (codes "/i") ++ t) (tags_if form has (has_element look.current) (StyleEnd look.current) refl))
+    ∙ ap (nests_in (opened look.odd look.current around)) (append_assoc (tag_if look.odd (codes "/i")) (tag_if (has_element look.current) (47 ∷ style_name look.current.bold)) tags)
+    ∙ odd_ends look.odd (push_if (has_element look.current) (style_name look.current.bold) around) (tag_if (has_element look.current) (47 ∷ style_name look.current.bold) ++ tags)
+    ∙ style_ends (has_element look.current) look.current.bold around tags
+runs_nest form has look (Restyle numbers ∷ runs) around tags = runs_nest form has (with_wanted look (restyled look.wanted numbers)) runs around tags
+runs_nest form has look (Letters letter count ∷ runs) around tags =
+    let odd = is_odd letter in
+    let rest = inlines_from (after_letter look odd) runs in
+    ap (λ (t : List (List ℕ)). nests_in (opened look.odd look.current around) (t ++ tags)) (tags_in-append form (marks_between look odd) (Text letter count ∷ rest) ∙ ap (λ (t : List (List ℕ)). tags_in form (marks_between look odd) ++ t) (text_tags form letter count rest))
+    ∙ ap (nests_in (opened look.odd look.current around)) (append_assoc (tags_in form (marks_between look odd)) (tags_in form rest) tags)
+    ∙ marks_nest form has look odd around (tags_in form rest ++ tags) ∙ runs_nest form has (after_letter look odd) runs around tags
+
+passage_nests : (form : Form) (bytes : List ℕ) (around tags : List (List ℕ)) → nests_in around (tags_of (passage_tokens form bytes) ++ tags) ≡ nests_in around tags
+passage_nests Log bytes around tags = runs_nest Log refl plain_look (runs_of (symbols Log bytes)) around tags
+passage_nests Name bytes around tags = runs_nest Name refl plain_look (runs_of (symbols Name bytes)) around tags
+passage_nests Title bytes around tags = ap (λ (t : List (List ℕ)). nests_in around (t ++ tags)) (title_tags bytes)
+
+pub passage_is_read : (form : Form) (bytes : List ℕ) → IsReadAsShown form bytes
+passage_is_read form bytes = record {
+  reads = passage_reads form bytes;
+  text = passage_text form bytes;
+  marks = runs_marks form plain_look (runs_of (symbols form bytes));
+  nests = passage_nests form bytes;
+}
+
+-- ---- pages
+
+title_reads : (title : List ℕ) → ReadsAs (part_html (TitlePart title)) (part_tokens (TitlePart title))
+title_reads title behind =
+    let html = passage_html Title title in
+    let tokens = passage_tokens Title title in
+    let end = codes "</title>" in
+    ap (read_from (DataState Normal)) (append_assoc (codes "<title>" ++ html) end behind ∙ append_assoc (codes "<title>") html (end ++ behind))
+    ∙ ap (λ (ts : List Token). Tag (codes "title") ∷ ts) (title_passage_reads title (end ++ behind) ∙ sym (append_assoc tokens (Tag (codes "/title") ∷ []) (read_from (DataState Normal) behind)))
+
+style_is_raw : list_all is_raw style_sheet ≡ true
+unfolding style_sheet
+style_is_raw = refl
+
+style_sheet_reads : ReadsAs (part_html StylePart) (part_tokens StylePart)
+style_sheet_reads behind =
+    let end = codes "</style>" in
+    ap (read_from (DataState Normal)) (append_assoc (codes "<style>" ++ style_sheet) end behind ∙ append_assoc (codes "<style>") style_sheet (end ++ behind))
+    ∙ ap (λ (ts : List Token). Tag (codes "style") ∷ ts) (raw_reads style_sheet style_is_raw (end ++ behind) ∙ sym (append_assoc (map Character style_sheet) (Tag (codes "/style") ∷ []) (read_from (DataState Normal) behind)))
+
+number_reads : (number : ℕ) → ReadsAs (number_text number) (map Character (number_text number))
+number_reads number =
+    subst (λ (bytes : List ℕ). ReadsAs bytes (map Character (number_text number))) (safe_escaped (number_text number) (number_safe number))
+    (escaped_reads Normal tt (number_text number) (all_weaker is_safe is_clean safe_clean (number_text number) (number_safe number)))
+
+part_reads : (part : Part) → ReadsAs (part_html part) (part_tokens part)
+part_reads (MarkupPart markup) = markup_reads markup
+part_reads (LogPart text) = passage_reads Log text
+part_reads (NamePart name) = passage_reads Name name
+part_reads (NumberPart number) = number_reads number
+part_reads (TitlePart title) = title_reads title
+part_reads StylePart = style_sheet_reads
+
+pub parts_read : (parts : List Part) → ReadsAs (flat_map part_html parts) (flat_map part_tokens parts)
+parts_read parts = each_reads Normal part_html part_tokens part_reads parts
+
+part_shows : (part : Part) → text_of (part_tokens part) ≡ part_text part
+part_shows (MarkupPart markup) = refl
+part_shows (LogPart text) = passage_text Log text
+part_shows (NamePart name) = passage_text Name name
+part_shows (NumberPart number) = text_characters (number_text number)
+part_shows (TitlePart title) = flat_map-append characters_of (passage_tokens Title title) (Tag (codes "/title") ∷ []) ∙ append-nil (text_of (passage_tokens Title title)) ∙ passage_text Title title
+part_shows StylePart = flat_map-append characters_of (map Character style_sheet) (Tag (codes "/style") ∷ []) ∙ append-nil (text_of (map Character style_sheet)) ∙ text_characters style_sheet
+
+pub parts_show : (parts : List Part) → text_of (flat_map part_tokens parts) ≡ flat_map part_text parts
+parts_show [] = refl
+parts_show (part ∷ parts) =
+    flat_map-append characters_of (part_tokens part) (flat_map part_tokens parts) ∙ ap (λ (t : List ℕ). t ++ text_of (flat_map part_tokens parts)) (part_shows part) ∙ ap (λ (t : List ℕ). part_text part ++ t) (parts_show parts)

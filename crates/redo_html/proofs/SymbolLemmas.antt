@@ -1,0 +1,273 @@
+-- Lemmas about the symbols of a text.
+use Rattle.std.proofs.Common.{◌≡◌, ℕ, zero, suc, ◌+◌, ◌-◌, ◌<◌, ◌≤◌, Bool, true, false, List, [], ◌∷◌, ◌++◌, Option, None, Some, length, take, drop, slice_index, replicate, refl, sym, ◌∙◌, ap, subst, arith, ⊎_elim, inl, inr, ◌⊎◌}
+use Rattle.std.specs.Char.{encode_utf8}
+use Rattle.std.specs.Prelude.{◌==◌, ◌||◌, ◌&&◌, not, nat_lt}
+use Rattle.std.specs.List.{list_any}
+use Rattle.std.proofs.lemmas.Bool.{agree_below_at, cases_lt, and_parts, and_left, and_right, and_from, cond-true, cond-false, eqb-true, eq-eqb, ne_eqb, ltb-true, lt-ltb, le-ltb, or_left, or_cases, not-true}
+use Rattle.std.proofs.lemmas.Bool.Decides.{nat_tests}
+use Rattle.std.proofs.lemmas.List.{get_or_past, take_at, take_rest}
+use Rattle.bstr.specs.Utf8.{decoded, good}
+use Rattle.bstr.proofs.lemmas.PieceLemmas.{value-1, piece-bounds}
+use Rattle.bstr.proofs.lemmas.SoundLemmas.{SpellsChar-decoded}
+use Rattle.redo_html.specs.declared.form.Form.{Form}
+use Rattle.redo_html.specs.Passage.{escaped_byte}
+use Rattle.redo_html.specs.Laws.{is_plain}
+use Rattle.redo_html.specs.Shown.{is_odd, is_control, is_between, unseen_ranges, Run, with_letter, runs_of}
+use Rattle.redo_html.specs.Shown.Run.{Letters, Restyle}
+use Rattle.redo_html.specs.Symbols.{Symbol, letter_of, size_of, first_letter, letter_len, begins_sequence, final_byte, parameter_count, sequence_len, numbers_from, sequence_numbers, has_colours, is_sequence, first_symbol, symbol_len, symbols_after, symbols}
+use Rattle.redo_html.specs.Symbols.Symbol.{Letter, Sequence}
+use Rattle.redo_html.specs.Private.Writing.{IsSequence, BeginsOther, symbol_letter}
+
+-- ---- symbols, one after the other
+
+pub symbols-nil : (form : Form) → symbols form [] ≡ []
+unfolding symbols_after
+symbols-nil form = refl
+
+skipped_symbols : (form : Form) (skipped : ℕ) (bytes : List ℕ) → symbols_after form skipped bytes ≡ symbols form (drop skipped bytes)
+unfolding symbols_after
+skipped_symbols form zero bytes = refl
+skipped_symbols form (suc skipped) [] = refl
+skipped_symbols form (suc skipped) (byte ∷ bytes) = skipped_symbols form skipped bytes
+
+letter_some : (char : Option ℕ) (size : ℕ) → 0 < size → 0 < size_of char size
+letter_some None size some = omega arith
+letter_some (Some c) size some = some
+
+letter_within : (char : Option ℕ) (size n : ℕ) → 0 < n → size ≤ n → size_of char size ≤ n
+letter_within None size n some within = omega arith
+letter_within (Some c) size n some within = within
+
+pub letter_bounds : (bytes : List ℕ) → 0 < length bytes → (0 < letter_len bytes) × (letter_len bytes ≤ length bytes)
+unfolding letter_len
+letter_bounds bytes some =
+    let bounds = piece-bounds bytes some in
+    (letter_some (decoded bytes).char (decoded bytes).size (omega (arith, bounds.0)), letter_within (decoded bytes).char (decoded bytes).size (length bytes) some bounds.2)
+
+index_within : (bytes : List ℕ) (i byte : ℕ) → slice_index bytes i ≡ byte → 0 < byte → i < length bytes
+index_within bytes i byte is some = ⊎_elim (λ inside. inside) (λ past. let none = get_or_past bytes i 0 past in absurd (omega (arith, none, is))) (cases_lt i (length bytes))
+
+pub sequence_parts : (bytes : List ℕ) → 0 < sequence_len bytes → IsSequence bytes (sequence_len bytes)
+unfolding sequence_len
+sequence_parts bytes some = by (begins_sequence bytes) refl
+  where
+    by : (begins : Bool) → begins_sequence bytes ≡ begins → IsSequence bytes (sequence_len bytes)
+    by false is = let none : sequence_len bytes ≡ 0 = cond-false (begins_sequence bytes) (3 + parameter_count bytes) 0 is in absurd (omega (arith, none))
+    by true is =
+        let parts = and_parts (slice_index bytes 0 == 27 && slice_index bytes 1 == 91) (final_byte bytes == 109 || final_byte bytes == 75) is in
+        let final : (final_byte bytes ≡ 109) ⊎ (final_byte bytes ≡ 75) =
+        ⊎_elim (λ m. inl (eqb-true (final_byte bytes) 109 m)) (λ k. inr (eqb-true (final_byte bytes) 75 k)) (or_cases (final_byte bytes == 109) (final_byte bytes == 75) parts.1) in
+        let inside : 2 + parameter_count bytes < length bytes =
+        ⊎_elim (λ m. index_within bytes (2 + parameter_count bytes) 109 m (omega arith)) (λ k. index_within bytes (2 + parameter_count bytes) 75 k (omega arith)) final in
+        let len : sequence_len bytes ≡ 3 + parameter_count bytes = cond-true (begins_sequence bytes) (3 + parameter_count bytes) 0 is in
+        record { size = len; within = omega (arith, inside, len) }
+
+pub symbol_bounds : (form : Form) (bytes : List ℕ) → 0 < length bytes → (0 < symbol_len form bytes) × (symbol_len form bytes ≤ length bytes)
+unfolding symbol_len is_sequence
+symbol_bounds form bytes some = by (is_sequence form bytes) refl
+  where
+    by : (sequence : Bool) → is_sequence form bytes ≡ sequence → (0 < symbol_len form bytes) × (symbol_len form bytes ≤ length bytes)
+    by false is = rw is (letter_bounds bytes some)
+    by true is =
+        let positive = ltb-true 0 (sequence_len bytes) (and_parts (has_colours form) (nat_lt 0 (sequence_len bytes)) is).1 in
+        let parts = sequence_parts bytes positive in
+        rw is (positive, parts.within)
+
+drop_cons : (byte : ℕ) (bytes : List ℕ) (n : ℕ) → 0 < n → drop (n - 1) bytes ≡ drop n (byte ∷ bytes)
+drop_cons byte bytes zero some = absurd (omega arith)
+drop_cons byte bytes (suc n) some = ap (λ (k : ℕ). drop k bytes) (omega arith)
+
+pub symbols-step : (form : Form) (bytes : List ℕ) → 0 < length bytes → symbols form bytes ≡ first_symbol form bytes ∷ symbols form (drop (symbol_len form bytes) bytes)
+unfolding symbols_after
+symbols-step form [] some = absurd (omega arith)
+symbols-step form (byte ∷ bytes) some =
+    ap (λ (rest : List Symbol). first_symbol form (byte ∷ bytes) ∷ rest)
+    (skipped_symbols form (symbol_len form (byte ∷ bytes) - 1) bytes ∙ ap (symbols form) (drop_cons byte bytes (symbol_len form (byte ∷ bytes)) (symbol_bounds form (byte ∷ bytes) some).0))
+
+-- ---- plain bytes
+
+plain_below : (byte : ℕ) → is_plain byte ≡ true → byte < 127
+plain_below byte plain = grind (arith, nat_tests)
+
+plain_facts : (byte : ℕ) → is_plain byte ≡ true → (not (byte == 27) && not (is_odd byte)) ≡ true
+unfolding is_odd
+plain_facts byte plain = ⊎_elim (λ not_plain. absurd (let e : true ≡ false = sym plain ∙ not-true (is_plain byte) not_plain in cc)) (λ facts. facts)
+    (or_cases (not (is_plain byte)) (not (byte == 27) && not (is_odd byte)) (agree_below_at (λ b. not (is_plain b) || (not (b == 27) && not (is_odd b))) (λ b. true) 128 byte refl (let below = plain_below byte plain in omega arith)))
+
+plain_others : (byte : ℕ) → is_plain byte ≡ true → (not (byte == 38) && (not (byte == 60) && not (byte == 62))) ≡ true
+plain_others byte plain = ⊎_elim (λ not_plain. absurd (let e : true ≡ false = sym plain ∙ not-true (is_plain byte) not_plain in cc)) (λ facts. facts)
+    (or_cases (not (is_plain byte)) (not (byte == 38) && (not (byte == 60) && not (byte == 62))) (agree_below_at (λ b. not (is_plain b) || (not (b == 38) && (not (b == 60) && not (b == 62)))) (λ b. true) 128 byte refl (let below = plain_below byte plain in omega arith)))
+
+pub plain_visible : (byte : ℕ) → is_plain byte ≡ true → is_odd byte ≡ false
+plain_visible byte plain = not-true (is_odd byte) (and_parts (not (byte == 27)) (not (is_odd byte)) (plain_facts byte plain)).1
+
+no_sequence : (form : Form) (byte : ℕ) (bytes : List ℕ) → (byte == 27) ≡ false → is_sequence form (byte ∷ bytes) ≡ false
+unfolding is_sequence sequence_len
+no_sequence form byte bytes other = and_right (has_colours form) (nat_lt 0 (sequence_len (byte ∷ bytes))) (rw other refl)
+
+pub plain_symbol : (form : Form) (byte : ℕ) (bytes : List ℕ) → is_plain byte ≡ true → (first_symbol form (byte ∷ bytes) ≡ Letter byte) × (symbol_len form (byte ∷ bytes) ≡ 1)
+unfolding first_symbol symbol_len first_letter letter_len
+plain_symbol form byte bytes plain =
+    let none = no_sequence form byte bytes (not-true (byte == 27) (and_parts (not (byte == 27)) (not (is_odd byte)) (plain_facts byte plain)).0) in
+    let all = byte ∷ bytes in
+    let decodes : decoded all ≡ good byte 1 = value-1 (length all) byte (slice_index all 1) (slice_index all 2) (slice_index all 3) (omega arith, (let below = plain_below byte plain in omega arith)) in
+    (rw (none, decodes) refl, rw (none, decodes) refl)
+
+pub plain_encoded : (byte : ℕ) → is_plain byte ≡ true → encode_utf8 byte ≡ byte ∷ []
+unfolding encode_utf8
+plain_encoded byte plain = let below = plain_below byte plain in cond-true _ _ _ (lt-ltb byte 128 (omega arith))
+
+pub plain_escaped : (byte : ℕ) → is_plain byte ≡ true → escaped_byte byte ≡ byte ∷ []
+plain_escaped byte plain =
+    let others = and_parts (not (byte == 38)) (not (byte == 60) && not (byte == 62)) (plain_others byte plain) in
+    let two = and_parts (not (byte == 60)) (not (byte == 62)) others.1 in
+    let amp = not-true (byte == 38) others.0 in
+    let lt = not-true (byte == 60) two.0 in
+    let gt = not-true (byte == 62) two.1 in
+    rw (amp, lt, gt) refl
+
+-- ---- visible letters
+
+odd_byte : (byte : ℕ) → byte < 256 → is_odd (0xDC00 + byte) ≡ true
+unfolding is_odd
+odd_byte byte below = agree_below_at (λ b. is_odd (0xDC00 + b)) (λ b. true) 256 byte refl below
+
+-- The bytes of a visible letter are its UTF-8.
+pub visible_bytes : (form : Form) (bytes : List ℕ) (letter : ℕ) → 0 < length bytes → slice_index bytes 0 < 256 → first_symbol form bytes ≡ Letter letter → is_odd letter ≡ false → take (symbol_len form bytes) bytes ≡ encode_utf8 letter
+unfolding first_symbol symbol_len first_letter letter_len
+visible_bytes form bytes letter some byte first visible = by (is_sequence form bytes) refl
+  where
+    spelled : (char : Option ℕ) → (decoded bytes).char ≡ char → letter_of char (slice_index bytes 0) ≡ letter → take (size_of char (decoded bytes).size) bytes ≡ encode_utf8 letter
+    spelled None is same = absurd (let e : false ≡ true = sym visible ∙ ap is_odd (sym same) ∙ odd_byte (slice_index bytes 0) byte in cc)
+    spelled (Some c) is same =
+        let spells = SpellsChar-decoded bytes c is in
+        ap (λ (b : List ℕ). take (decoded bytes).size b) spells.bytes ∙ take_at (encode_utf8 c) (drop (decoded bytes).size bytes) (decoded bytes).size spells.width ∙ ap encode_utf8 same
+
+    by : (sequence : Bool) → is_sequence form bytes ≡ sequence → take (symbol_len form bytes) bytes ≡ encode_utf8 letter
+    by true is = absurd (let e : Sequence (sequence_numbers bytes) ≡ Letter letter = sym (cond-true (is_sequence form bytes) (Sequence (sequence_numbers bytes)) (Letter (first_letter bytes)) is) ∙ first in cc)
+    by false is =
+        let same : Letter (first_letter bytes) ≡ Letter letter = sym (cond-false (is_sequence form bytes) (Sequence (sequence_numbers bytes)) (Letter (first_letter bytes)) is) ∙ first in
+        rw is (spelled (decoded bytes).char refl cc)
+
+-- ---- runs
+
+pub visible_run : (letter : ℕ) (runs : List Run) → is_odd letter ≡ false → with_letter letter runs ≡ Letters letter 1 ∷ runs
+visible_run letter [] visible = refl
+visible_run letter (Restyle numbers ∷ runs) visible = refl
+visible_run letter (Letters next count ∷ runs) visible = rw visible refl
+
+other_run : (letter other : ℕ) (runs : List Run) → (letter == other) ≡ false → with_letter letter (with_letter other runs) ≡ Letters letter 1 ∷ with_letter other runs
+other_run letter other [] differs = rw (and_right (is_odd letter) (letter == other) differs) refl
+other_run letter other (Restyle numbers ∷ runs) differs = rw (and_right (is_odd letter) (letter == other) differs) refl
+other_run letter other (Letters next count ∷ runs) differs = by (is_odd other && other == next) refl
+  where
+    by : (same : Bool) → (is_odd other && other == next) ≡ same → with_letter letter (with_letter other (Letters next count ∷ runs)) ≡ Letters letter 1 ∷ with_letter other (Letters next count ∷ runs)
+    by true is =
+        let equal = eqb-true other next (and_parts (is_odd other) (other == next) is).1 in
+        let apart : (letter == next) ≡ false = subst (λ (n : ℕ). (letter == n) ≡ false) equal differs in
+        rw (is, and_right (is_odd letter) (letter == next) apart) refl
+    by false is = rw (is, and_right (is_odd letter) (letter == other) differs) refl
+
+first_run : (letter : ℕ) (symbols : List Symbol) → BeginsOther letter symbols → with_letter letter (runs_of symbols) ≡ Letters letter 1 ∷ runs_of symbols
+first_run letter [] other = refl
+first_run letter (Sequence numbers ∷ symbols) other = refl
+first_run letter (Letter next ∷ symbols) other = other_run letter next (runs_of symbols) other
+
+-- The run of an odd letter that occurs in a row.
+pub odd_run : (letter count : ℕ) (symbols : List Symbol) → is_odd letter ≡ true → BeginsOther letter symbols → runs_of (replicate (suc count) (Letter letter) ++ symbols) ≡ Letters letter (suc count) ∷ runs_of symbols
+odd_run letter zero symbols odd other = first_run letter symbols other
+odd_run letter (suc count) symbols odd other = ap (with_letter letter) (odd_run letter count symbols odd other) ∙ rw (odd, eq-eqb letter letter refl) refl
+
+-- ---- the numbers of a sequence
+
+pub numbers_of_sgr : (bytes : List ℕ) (len : ℕ) → IsSequence bytes len → slice_index bytes (len - 1) ≡ 109 → sequence_numbers bytes ≡ numbers_from 0 (take (len - 3) (take (length bytes - 2) (drop 2 bytes)))
+unfolding sequence_numbers
+numbers_of_sgr bytes len sequence last =
+    let count : len - 3 ≡ parameter_count bytes = omega (arith, sequence.size) in
+    let at : len - 1 ≡ 2 + parameter_count bytes = omega (arith, sequence.size) in
+    cond-true (final_byte bytes == 109) (numbers_from 0 (take (parameter_count bytes) (drop 2 bytes))) [] (eq-eqb (final_byte bytes) 109 (ap (slice_index bytes) (sym at) ∙ last))
+    ∙ ap (λ (n : ℕ). numbers_from 0 (take n (drop 2 bytes))) (sym count) ∙ ap (λ (b : List ℕ). numbers_from 0 (take (len - 3) b)) (sym (take_rest bytes 2))
+
+pub numbers_of_other : (bytes : List ℕ) (len : ℕ) → IsSequence bytes len → (slice_index bytes (len - 1) ≡ 109 → ⊥) → sequence_numbers bytes ≡ []
+unfolding sequence_numbers
+numbers_of_other bytes len sequence last =
+    let at : len - 1 ≡ 2 + parameter_count bytes = omega (arith, sequence.size) in
+    cond-false (final_byte bytes == 109) (numbers_from 0 (take (parameter_count bytes) (drop 2 bytes))) [] (ne_eqb (final_byte bytes) 109 (λ is. last (ap (slice_index bytes) at ∙ is)))
+
+-- ---- the size of a sequence
+
+module _ (bytes : List ℕ) where
+  pub no_escape : (slice_index bytes 0 ≡ 27 → ⊥) → 0 ≡ sequence_len bytes
+  unfolding sequence_len
+  no_escape other = sym (cond-false (begins_sequence bytes) (3 + parameter_count bytes) 0
+      (and_left (slice_index bytes 0 == 27 && slice_index bytes 1 == 91) (final_byte bytes == 109 || final_byte bytes == 75) (and_left (slice_index bytes 0 == 27) (slice_index bytes 1 == 91) (ne_eqb (slice_index bytes 0) 27 other))))
+
+  pub no_bracket : (slice_index bytes 1 ≡ 91 → ⊥) → 0 ≡ sequence_len bytes
+  unfolding sequence_len
+  no_bracket other = sym (cond-false (begins_sequence bytes) (3 + parameter_count bytes) 0
+      (and_left (slice_index bytes 0 == 27 && slice_index bytes 1 == 91) (final_byte bytes == 109 || final_byte bytes == 75) (and_right (slice_index bytes 0 == 27) (slice_index bytes 1 == 91) (ne_eqb (slice_index bytes 1) 91 other))))
+
+  pub no_final : (final_byte bytes == 109 || final_byte bytes == 75) ≡ false → 0 ≡ sequence_len bytes
+  unfolding sequence_len
+  no_final other = sym (cond-false (begins_sequence bytes) (3 + parameter_count bytes) 0
+      (and_right (slice_index bytes 0 == 27 && slice_index bytes 1 == 91) (final_byte bytes == 109 || final_byte bytes == 75) other))
+
+  pub all_parts : slice_index bytes 0 ≡ 27 → slice_index bytes 1 ≡ 91 → (final_byte bytes == 109 || final_byte bytes == 75) ≡ true → 3 + parameter_count bytes ≡ sequence_len bytes
+  unfolding sequence_len
+  all_parts escape bracket final = sym (cond-true (begins_sequence bytes) (3 + parameter_count bytes) 0
+      (and_from (slice_index bytes 0 == 27 && slice_index bytes 1 == 91) (final_byte bytes == 109 || final_byte bytes == 75) (and_from (slice_index bytes 0 == 27) (slice_index bytes 1 == 91) (eq-eqb (slice_index bytes 0) 27 escape) (eq-eqb (slice_index bytes 1) 91 bracket)) final))
+
+  pub bracket_within : slice_index bytes 1 ≡ 91 → 2 ≤ length bytes
+  bracket_within is = let inside = index_within bytes 1 91 is (omega arith) in omega arith
+
+-- ---- the first letter
+
+module _ (bytes : List ℕ) (char : Option ℕ) (decodes : char ≡ (decoded bytes).char) where
+  pub some_letter : (c : ℕ) → char ≡ Some c → (c ≡ first_letter bytes) × ((decoded bytes).size ≡ letter_len bytes)
+  unfolding first_letter letter_len
+  some_letter c is =
+      let there = sym is ∙ decodes in
+      (ap (λ (o : Option ℕ). letter_of o (slice_index bytes 0)) there, ap (λ (o : Option ℕ). size_of o (decoded bytes).size) there)
+
+  pub no_letter : char ≡ None → (0xDC00 + slice_index bytes 0 ≡ first_letter bytes) × (1 ≡ letter_len bytes)
+  unfolding first_letter letter_len
+  no_letter is =
+      let none = sym is ∙ decodes in
+      (ap (λ (o : Option ℕ). letter_of o (slice_index bytes 0)) none, ap (λ (o : Option ℕ). size_of o (decoded bytes).size) none)
+
+-- ---- the first symbol
+
+module _ (form : Form) (bytes : List ℕ) where
+  pub sequence_symbol : has_colours form ≡ true → 0 < sequence_len bytes → (None ≡ symbol_letter (first_symbol form bytes)) × (sequence_len bytes ≡ symbol_len form bytes)
+  unfolding is_sequence first_symbol symbol_len
+  sequence_symbol has some =
+      let is : is_sequence form bytes ≡ true = and_from (has_colours form) (nat_lt 0 (sequence_len bytes)) has (lt-ltb 0 (sequence_len bytes) some) in
+      (rw is refl, rw is refl)
+
+  pub letter_symbol : (has_colours form ≡ false) ⊎ (sequence_len bytes ≡ 0) → (Some (first_letter bytes) ≡ symbol_letter (first_symbol form bytes)) × (letter_len bytes ≡ symbol_len form bytes)
+  unfolding is_sequence first_symbol symbol_len
+  letter_symbol none =
+      let is : is_sequence form bytes ≡ false =
+      ⊎_elim (λ no. and_left (has_colours form) (nat_lt 0 (sequence_len bytes)) no) (λ zero. and_right (has_colours form) (nat_lt 0 (sequence_len bytes)) (le-ltb 0 (sequence_len bytes) (omega (arith, zero)))) none in
+      (rw is refl, rw is refl)
+
+-- ---- odd letters
+
+pub control_odd : (letter : ℕ) → is_control letter ≡ true → is_odd letter ≡ true
+unfolding is_odd
+control_odd letter is = or_left (is_control letter) (list_any (is_between letter) unseen_ranges) is
+
+pub unseen_odd : (letter : ℕ) → is_control letter ≡ false → is_odd letter ≡ list_any (is_between letter) unseen_ranges
+unfolding is_odd
+unseen_odd letter is = ap (λ (control : Bool). control || list_any (is_between letter) unseen_ranges) is
+
+-- A first symbol that is no letter is a sequence.
+pub sequence_found : (form : Form) (bytes : List ℕ) → None ≡ symbol_letter (first_symbol form bytes) → (first_symbol form bytes ≡ Sequence (sequence_numbers bytes)) × IsSequence bytes (symbol_len form bytes)
+unfolding first_symbol symbol_len is_sequence
+sequence_found form bytes none = by (is_sequence form bytes) refl
+  where
+    by : (sequence : Bool) → is_sequence form bytes ≡ sequence → (first_symbol form bytes ≡ Sequence (sequence_numbers bytes)) × IsSequence bytes (symbol_len form bytes)
+    by true is =
+        let positive = ltb-true 0 (sequence_len bytes) (and_parts (has_colours form) (nat_lt 0 (sequence_len bytes)) is).1 in
+        (cond-true (is_sequence form bytes) (Sequence (sequence_numbers bytes)) (Letter (first_letter bytes)) is, rw is (sequence_parts bytes positive))
+    by false is = absurd (let letter : None ≡ Some (first_letter bytes) = none ∙ ap symbol_letter (cond-false (is_sequence form bytes) (Sequence (sequence_numbers bytes)) (Letter (first_letter bytes)) is) in cc)

@@ -1,0 +1,45 @@
+use Rattle.std.proofs.Common.{◌≤◌, ℕ, List, [], Err, length, drop, ap, subst, arith}
+use Rattle.std.proofs.lemmas.List.{take_rest, length-drop, drop-drop, drop_all}
+use Rattle.redo_device.specs.Sink.{Writes}
+use Rattle.redo_html.specs.Passage.{passage_html, html_from}
+use Rattle.redo_html.specs.Private.Writing.{WroteUpTo, WroteSome}
+use Rattle.redo_html.proofs.WritingLemmas.{begin_parts, wrote_on, wrote_rest, same_error}
+use Rattle.redo_html.proofs.passage.write_passage.Goals as goal
+
+pub loop-done-init : goal.loop-done-init
+loop-done-init g c = record { within = omega arith; wrote = begin_parts _ _ _ (ap (λ look. html_from c.args.form look c.args.bytes.now) c.at_start-look.ensures) }
+
+pub returns-in_err-next : goal.returns-in_err-next
+returns-in_err-next g c =
+    let bytes = c.args.bytes.now in
+    let done = c.loop-done.done in
+    let middle = g.W.Sink.written c.loop-done.out in
+    let after = g.W.Sink.written c.write_some.new.out in
+    let wrote : Writes middle after (html_from c.args.form c.loop-done.look (drop done bytes)) (Err c.in_err-next.field-0.0) =
+    subst (λ (rest : List ℕ). Writes middle after (html_from c.args.form c.loop-done.look rest) (Err c.in_err-next.field-0.0)) (take_rest bytes done) c.in_err-next.ensures in
+    same_error _ _ (passage_html c.args.form bytes) c.in_err-next.field-0.0 _ c.from_residual.ensures.0 (wrote_rest _ middle after (passage_html c.args.form bytes) (html_from c.args.form c.loop-done.look (drop done bytes)) (Err c.in_err-next.field-0.0) c.loop-done.invariant.wrote wrote)
+
+pub loop-done-preserved : goal.loop-done-preserved
+loop-done-preserved g c =
+    let before = g.W.Sink.written c.args.out.now in
+    let bytes = c.args.bytes.now in
+    let done = c.loop-done.done in
+    let middle = g.W.Sink.written c.loop-done.out in
+    let after = g.W.Sink.written c.write_some.new.out in
+    let some : WroteSome middle after c.args.form c.loop-done.look (drop done bytes) c.in_ok-next.next c.in_ok-next.len =
+    subst (λ (rest : List ℕ). WroteSome middle after c.args.form c.loop-done.look rest c.in_ok-next.next c.in_ok-next.len) (take_rest bytes done) c.in_ok-next.ensures in
+    let within = some.within in
+    let rest = length-drop done bytes in
+    record {
+      within = omega arith;
+      wrote = subst (λ (left : List ℕ). WroteUpTo before after (passage_html c.args.form bytes) (html_from c.args.form c.in_ok-next.next left)) (drop-drop c.in_ok-next.len done bytes) (wrote_on before middle after _ _ _ c.loop-done.invariant.wrote some.wrote);
+    }
+
+pub returns : goal.returns
+returns g c =
+    let bytes = c.args.bytes.now in
+    let before = g.W.Sink.written c.args.out.now in
+    let middle = g.W.Sink.written c.loop-done.out in
+    let past : length bytes ≤ c.loop-done.done = c.loop-done-test.false in
+    wrote_rest before middle _ (passage_html c.args.form bytes) (html_from c.args.form c.loop-done.look []) _
+    (subst (λ (left : List ℕ). WroteUpTo before middle (passage_html c.args.form bytes) (html_from c.args.form c.loop-done.look left)) (drop_all c.loop-done.done bytes past) c.loop-done.invariant.wrote) c.write_end.ensures

@@ -1,0 +1,203 @@
+-- How a browser reads bytes as HTML: the tokenizer of the HTML standard, section 13.2.5, in those of its states that a page needs which
+-- has elements, attributes in double quotes, and text. Each state has the standard's name, and the number of its section.
+--
+-- If the standard goes to any other state, or reports a parse error, this reading is `Lost`, and stays lost. So whatever is read here is
+-- read in the same way by the standard. The model reads bytes. A browser decodes them first; the pages declare UTF-8, which leaves bytes
+-- below 128 as they are.
+use Rattle.std.specs.Prelude.{ℕ, Bool, true, false, ◌==◌, ◌||◌, ◌&&◌, nat_le, List, [], ◌∷◌, ◌++◌, Option, None, Some, bytes_eq, codes, if◌then◌else◌}
+use Rattle.std.specs.List.{flat_map}
+
+-- What is read: a character of the text, or rather a byte of its UTF-8; a tag, by the bytes between `<` and `>`; or what can't be read.
+pub data Token : Type 0 where
+  Character : ℕ → Token
+  Tag : List ℕ → Token
+  Lost : Token
+
+-- Where text is: in an element whose text may have tags and references (13.2.5.1), in a `title`, whose text may have references alone
+-- (13.2.5.2), or in a `style`, whose text has neither (13.2.5.3).
+pub data Place : Type 0 where
+  Normal : Place
+  Rcdata : Place
+  Rawtext : Place
+
+-- A state, with what was read of a tag or of a reference.
+pub data State : Type 0 where
+  -- 13.2.5.1 to 13.2.5.3: the data, RCDATA and RAWTEXT states
+  DataState : Place → State
+  -- the data state directly after `<pre>`, where a browser drops a line feed (13.2.6.4.7, "A start tag whose tag name is pre")
+  PreState : State
+  -- 13.2.5.72, 13.2.5.73
+  CharacterReference : Place → List ℕ → State
+  -- 13.2.5.6
+  TagOpen : State
+  -- 13.2.5.7
+  EndTagOpen : State
+  -- 13.2.5.9 to 13.2.5.11, 13.2.5.12 to 13.2.5.14: `<` in the text of a `title` or `style`, and what follows it
+  TextLessThan : Place → List ℕ → State
+  -- 13.2.5.42, 13.2.5.53 to 13.2.5.55
+  MarkupDeclaration : List ℕ → State
+  -- 13.2.5.8
+  TagName : List ℕ → State
+  -- 13.2.5.32
+  BeforeAttributeName : List ℕ → State
+  -- 13.2.5.33
+  AttributeName : List ℕ → State
+  -- 13.2.5.35
+  BeforeAttributeValue : List ℕ → State
+  -- 13.2.5.36
+  AttributeValue : List ℕ → State
+  -- 13.2.5.39
+  AfterAttributeValue : List ℕ → State
+  LostState : State
+
+-- The state after a byte, and the tokens that are emitted there.
+abbrev pub Step : Type 0
+Step = State × List Token
+
+abbrev pub on : State → Step
+on state = (state, [])
+
+abbrev pub lost : Step
+lost = (LostState, Lost ∷ [])
+
+-- The name of the element that a tag begins: everything before its first space.
+abbrev pub start_name : List ℕ → List ℕ
+start_name [] = []
+start_name (byte ∷ bytes) = if byte == 32 then [] else byte ∷ start_name bytes
+
+abbrev pub is_one_of : List ℕ → List (List ℕ) → Bool
+is_one_of name [] = false
+is_one_of name (one ∷ others) = bytes_eq name one || is_one_of name others
+
+-- The elements whose content a browser reads in the data state, wherever in the body of a page they are. In all others it may go to
+-- another state: after `script`, `textarea`, `iframe`, `noscript`, `plaintext`, `svg` and more.
+abbrev pub plain_elements : List (List ℕ)
+plain_elements =
+    codes "html" ∷ codes "head" ∷ codes "meta" ∷ codes "body" ∷ codes "header" ∷ codes "nav" ∷ codes "main" ∷ codes "section" ∷ codes "article" ∷ codes "footer" ∷ codes "h1" ∷ codes "h2" ∷ codes "h3" ∷ codes "p" ∷ codes "ul"
+    ∷ codes "ol" ∷ codes "li" ∷ codes "details" ∷ codes "summary" ∷ codes "a" ∷ codes "b" ∷ codes "bdi" ∷ codes "code" ∷ codes "em" ∷ codes "i" ∷ codes "small" ∷ codes "span" ∷ codes "strong" ∷ codes "wbr" ∷ []
+
+-- A start tag, and the state after it.
+abbrev pub start_tag : List ℕ → Step
+start_tag tag =
+    if is_one_of (start_name tag) plain_elements then (DataState Normal, Tag tag ∷ [])
+    else if bytes_eq (start_name tag) (codes "pre") then (PreState, Tag tag ∷ [])
+    else if bytes_eq (start_name tag) (codes "title") then (DataState Rcdata, Tag tag ∷ [])
+    else if bytes_eq (start_name tag) (codes "style") then (DataState Rawtext, Tag tag ∷ [])
+    else lost
+
+-- A tag. After an end tag, text is in the data state.
+abbrev pub emit_tag : List ℕ → Step
+emit_tag [] = lost
+emit_tag (byte ∷ bytes) = if byte == 47 then (DataState Normal, Tag (byte ∷ bytes) ∷ []) else start_tag (byte ∷ bytes)
+
+abbrev pub is_lower_letter : ℕ → Bool
+is_lower_letter byte = nat_le 97 byte && nat_le byte 122
+
+abbrev pub is_digit : ℕ → Bool
+is_digit byte = nat_le 48 byte && nat_le byte 57
+
+-- The standard rejects the byte 0 in text, and reads a carriage return as a line feed (13.2.3.5).
+abbrev pub is_rejected : ℕ → Bool
+is_rejected byte = byte == 0 || byte == 13
+
+-- The character that a reference names. Of all names in the standard's table, those for `<`, `>` and `&` are known here.
+abbrev pub named_character : List ℕ → Option ℕ
+named_character name = if bytes_eq name (codes "lt") then Some 60 else if bytes_eq name (codes "gt") then Some 62 else if bytes_eq name (codes "amp") then Some 38 else None
+
+abbrev pub after_reference : Place → Option ℕ → Step
+after_reference place None = lost
+after_reference place (Some character) = (DataState place, Character character ∷ [])
+
+-- Text, in each of the three places. A tag ends a `title` or a `style` only if it is the end tag of that element.
+abbrev pub text_step : Place → ℕ → Step
+text_step Normal byte = if byte == 60 then on TagOpen else if byte == 38 then on (CharacterReference Normal []) else if is_rejected byte then lost else (DataState Normal, Character byte ∷ [])
+text_step Rcdata byte =
+    if byte == 60 then on (TextLessThan Rcdata []) else if byte == 38 then on (CharacterReference Rcdata []) else if is_rejected byte then lost else (DataState Rcdata, Character byte ∷ [])
+text_step Rawtext byte = if byte == 60 then on (TextLessThan Rawtext []) else if is_rejected byte then lost else (DataState Rawtext, Character byte ∷ [])
+
+-- The end tag that ends the element around text in this place.
+abbrev pub closing_tag : Place → List ℕ
+closing_tag Normal = []
+closing_tag Rcdata = codes "/title"
+closing_tag Rawtext = codes "/style"
+
+abbrev pub step : State → ℕ → Step
+step (DataState place) byte = text_step place byte
+step PreState byte = if byte == 10 then on (DataState Normal) else text_step Normal byte
+step (CharacterReference place name) byte =
+    if is_lower_letter byte then on (CharacterReference place (name ++ byte ∷ [])) else if byte == 59 then after_reference place (named_character name) else lost
+step TagOpen byte = if byte == 47 then on EndTagOpen else if byte == 33 then on (MarkupDeclaration (33 ∷ [])) else if is_lower_letter byte then on (TagName (byte ∷ [])) else lost
+step EndTagOpen byte = if is_lower_letter byte then on (TagName (47 ∷ byte ∷ [])) else lost
+step (TextLessThan place tag) byte = if byte == 62 then (if bytes_eq tag (closing_tag place) then emit_tag tag else lost) else on (TextLessThan place (tag ++ byte ∷ []))
+step (MarkupDeclaration tag) byte = if byte == 62 then (if bytes_eq tag (codes "!doctype html") then (DataState Normal, Tag tag ∷ []) else lost) else on (MarkupDeclaration (tag ++ byte ∷ []))
+step (TagName tag) byte =
+    if byte == 62 then emit_tag tag
+    else if byte == 32 then on (BeforeAttributeName (tag ++ byte ∷ []))
+    else if is_lower_letter byte || is_digit byte then on (TagName (tag ++ byte ∷ []))
+    else lost
+step (BeforeAttributeName tag) byte = if is_lower_letter byte then on (AttributeName (tag ++ byte ∷ [])) else lost
+step (AttributeName tag) byte =
+    if byte == 62 then emit_tag tag
+    else if byte == 32 then on (BeforeAttributeName (tag ++ byte ∷ []))
+    else if byte == 61 then on (BeforeAttributeValue (tag ++ byte ∷ []))
+    else if is_lower_letter byte || byte == 45 then on (AttributeName (tag ++ byte ∷ []))
+    else lost
+step (BeforeAttributeValue tag) byte = if byte == 34 then on (AttributeValue (tag ++ byte ∷ [])) else lost
+step (AttributeValue tag) byte = if byte == 34 then on (AfterAttributeValue (tag ++ byte ∷ [])) else if byte == 38 || is_rejected byte then lost else on (AttributeValue (tag ++ byte ∷ []))
+step (AfterAttributeValue tag) byte = if byte == 62 then emit_tag tag else if byte == 32 then on (BeforeAttributeName (tag ++ byte ∷ [])) else lost
+step LostState byte = on LostState
+
+-- At the end of the bytes nothing may be open.
+abbrev pub at_end : State → List Token
+at_end (DataState Normal) = []
+at_end PreState = []
+at_end LostState = []
+at_end state = Lost ∷ []
+
+-- What is read from a state on.
+abbrev pub read_from : State → List ℕ → List Token
+read_from state [] = at_end state
+read_from state (byte ∷ bytes) = let next = step state byte in next.1 ++ read_from next.0 bytes
+
+-- What is read of a page.
+abbrev pub read : List ℕ → List Token
+read bytes = read_from (DataState Normal) bytes
+
+-- The text of what was read, and its tags.
+abbrev pub characters_of : Token → List ℕ
+characters_of (Character byte) = byte ∷ []
+characters_of (Tag tag) = []
+characters_of Lost = []
+
+abbrev pub text_of : List Token → List ℕ
+text_of tokens = flat_map characters_of tokens
+
+abbrev pub tag_of : Token → List (List ℕ)
+tag_of (Character byte) = []
+tag_of (Tag tag) = tag ∷ []
+tag_of Lost = []
+
+abbrev pub tags_of : List Token → List (List ℕ)
+tags_of tokens = flat_map tag_of tokens
+
+-- Elements that have no end tag, and the declaration at the head of a page, which is none.
+abbrev pub is_void : List ℕ → Bool
+is_void name = is_one_of name (codes "!doctype" ∷ codes "meta" ∷ codes "wbr" ∷ [])
+
+-- Whether each end tag ends the element that was begun last, and no element is open at the end. `around` has the names of the elements that
+-- are open, the innermost first.
+abbrev pub after_end_tag : List ℕ → List (List ℕ) → (List (List ℕ) → Bool) → Bool
+after_end_tag name [] nests = false
+after_end_tag name (inner ∷ outer) nests = bytes_eq name inner && nests outer
+
+abbrev pub is_empty : List (List ℕ) → Bool
+is_empty [] = true
+is_empty (name ∷ names) = false
+
+abbrev pub nests_in : List (List ℕ) → List (List ℕ) → Bool
+nests_in around [] = is_empty around
+nests_in around ([] ∷ tags) = false
+nests_in around ((byte ∷ bytes) ∷ tags) =
+    if byte == 47 then after_end_tag bytes around (λ outer. nests_in outer tags)
+    else if is_void (start_name (byte ∷ bytes)) then nests_in around tags
+    else nests_in (start_name (byte ∷ bytes) ∷ around) tags

@@ -1,0 +1,28 @@
+-- Definitions that state the laws about reading.
+use Rattle.std.specs.Prelude.{◌≡◌, ℕ, Bool, true, ◌==◌, ◌||◌, ◌&&◌, not, nat_lt, nat_le, List, [], ◌∷◌, ◌++◌, codes}
+use Rattle.std.specs.List.{list_all}
+use Rattle.redo_html.specs.declared.form.Form.{Form}
+use Rattle.redo_html.specs.Passage.{passage_html, passage_tokens}
+use Rattle.redo_html.specs.Html.{Token, DataState, Normal, read_from, text_of, tags_of, nests_in, is_one_of}
+use Rattle.redo_html.specs.Shown.{shown_text}
+
+-- Bytes that are in text are read as these tokens, whatever follows them. What follows is read as text again.
+abbrev pub ReadsAs : List ℕ → List Token → Type 0
+ReadsAs bytes tokens = (behind : List ℕ) → read_from (DataState Normal) (bytes ++ behind) ≡ tokens ++ read_from (DataState Normal) behind
+
+-- The marks of a passage.
+abbrev pub is_mark : List ℕ → Bool
+is_mark tag =
+    is_one_of tag (codes "i" ∷ codes "/i" ∷ codes "b" ∷ codes "b class=\"r\"" ∷ codes "b class=\"g\"" ∷ codes "b class=\"y\"" ∷ codes "b class=\"b\"" ∷ codes "b class=\"m\"" ∷ codes "b class=\"c\"" ∷ codes "/b"
+    ∷ codes "span class=\"r\"" ∷ codes "span class=\"g\"" ∷ codes "span class=\"y\"" ∷ codes "span class=\"b\"" ∷ codes "span class=\"m\"" ∷ codes "span class=\"c\"" ∷ codes "/span" ∷ [])
+
+-- A passage is read as its tokens, of which the characters are the text that is shown, and the tags are marks that nest.
+pub record IsReadAsShown (form : Form) (bytes : List ℕ) : Type 0 where
+  pub reads : ReadsAs (passage_html form bytes) (passage_tokens form bytes)
+  pub text : text_of (passage_tokens form bytes) ≡ shown_text form bytes
+  pub marks : list_all is_mark (tags_of (passage_tokens form bytes)) ≡ true
+  pub nests : (around tags : List (List ℕ)) → nests_in around (tags_of (passage_tokens form bytes) ++ tags) ≡ nests_in around tags
+
+-- Printable ASCII other than `&`, `<` and `>`; tabs; line feeds.
+abbrev pub is_plain : ℕ → Bool
+is_plain byte = (nat_le 32 byte && nat_lt byte 127 && not (byte == 38 || byte == 60 || byte == 62)) || byte == 9 || byte == 10

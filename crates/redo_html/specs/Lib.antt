@@ -1,0 +1,10 @@
+pub mod Html
+pub mod Laws
+pub mod Parts
+pub mod Passage
+pub mod Private
+pub mod Shown
+pub mod Style
+pub mod StyleSheet
+pub mod Symbols
+pub mod Tags

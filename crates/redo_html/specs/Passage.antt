@@ -1,0 +1,150 @@
+-- A passage of text as HTML: what it shows, with marks for odd letters and for styles. All elements that are begun in a passage end in it.
+use Rattle.std.specs.Prelude.{ℕ, Bool, true, false, ◌==◌, ◌||◌, ◌&&◌, not, List, [], ◌∷◌, ◌++◌, map, codes, if◌then◌else◌}
+use Rattle.std.specs.List.{flat_map}
+use Rattle.redo_html.specs.declared.form.Form.{Form}
+use Rattle.redo_html.specs.declared.form.Form.TheVariants.{Log, Name, Title}
+use Rattle.redo_html.specs.declared.look.Look.{Look}
+use Rattle.redo_html.specs.declared.style.Hue.{Hue}
+use Rattle.redo_html.specs.declared.style.Hue.TheVariants.{Plain, Red, Green, Yellow, Blue, Magenta, Cyan}
+use Rattle.redo_html.specs.declared.style.Style.{Style}
+use Rattle.redo_html.specs.Html.{Token}
+use Rattle.redo_html.specs.Html.Token.{Character, Tag}
+use Rattle.redo_html.specs.Shown.{Run, runs_of, letters_text, is_odd}
+use Rattle.redo_html.specs.Shown.Run.{Letters, Restyle}
+use Rattle.redo_html.specs.Style.{plain_style, restyled}
+use Rattle.redo_html.specs.Symbols.{symbols}
+
+-- Text, with references for the three bytes that would begin or end something else.
+abbrev pub escaped_byte : ℕ → List ℕ
+escaped_byte byte = if byte == 38 then codes "&amp;" else if byte == 60 then codes "&lt;" else if byte == 62 then codes "&gt;" else byte ∷ []
+
+abbrev pub escaped : List ℕ → List ℕ
+escaped bytes = flat_map escaped_byte bytes
+
+-- The class of a hue, as an attribute.
+abbrev pub hue_class : Hue → List ℕ
+hue_class Plain = []
+hue_class Red = codes " class=\"r\""
+hue_class Green = codes " class=\"g\""
+hue_class Yellow = codes " class=\"y\""
+hue_class Blue = codes " class=\"b\""
+hue_class Magenta = codes " class=\"m\""
+hue_class Cyan = codes " class=\"c\""
+
+abbrev pub style_name : Bool → List ℕ
+style_name true = codes "b"
+style_name false = codes "span"
+
+-- A part of a passage: where a mark begins or ends, or letters.
+pub data Inline : Type 0 where
+  OddStart : Inline
+  OddEnd : Inline
+  StyleStart : Style → Inline
+  StyleEnd : Style → Inline
+  Text : ℕ → ℕ → Inline
+
+-- The text between the `<` and the `>` of a mark.
+abbrev pub mark_text : Inline → List ℕ
+mark_text OddStart = codes "i"
+mark_text OddEnd = codes "/i"
+mark_text (StyleStart style) = style_name style.bold ++ hue_class style.hue
+mark_text (StyleEnd style) = 47 ∷ style_name style.bold
+mark_text (Text letter count) = []
+
+-- In a `title` there are no elements.
+abbrev pub has_marks : Form → Bool
+has_marks Log = true
+has_marks Name = true
+has_marks Title = false
+
+abbrev pub mark_html : Form → List ℕ → List ℕ
+mark_html form tag = if has_marks form then 60 ∷ (tag ++ 62 ∷ []) else []
+
+abbrev pub mark_tokens : Form → List ℕ → List Token
+mark_tokens form tag = if has_marks form then Tag tag ∷ [] else []
+
+-- A part of a passage, as it is written and as it is read.
+abbrev pub inline_html : Form → Inline → List ℕ
+inline_html form (Text letter count) = escaped (letters_text letter count)
+inline_html form OddStart = mark_html form (mark_text OddStart)
+inline_html form OddEnd = mark_html form (mark_text OddEnd)
+inline_html form (StyleStart style) = mark_html form (mark_text (StyleStart style))
+inline_html form (StyleEnd style) = mark_html form (mark_text (StyleEnd style))
+
+abbrev pub inline_tokens : Form → Inline → List Token
+inline_tokens form (Text letter count) = map Character (letters_text letter count)
+inline_tokens form OddStart = mark_tokens form (mark_text OddStart)
+inline_tokens form OddEnd = mark_tokens form (mark_text OddEnd)
+inline_tokens form (StyleStart style) = mark_tokens form (mark_text (StyleStart style))
+inline_tokens form (StyleEnd style) = mark_tokens form (mark_text (StyleEnd style))
+
+-- A style other than the page's own has an element.
+abbrev pub is_plain_hue : Hue → Bool
+is_plain_hue Plain = true
+is_plain_hue Red = false
+is_plain_hue Green = false
+is_plain_hue Yellow = false
+is_plain_hue Blue = false
+is_plain_hue Magenta = false
+is_plain_hue Cyan = false
+
+abbrev pub has_element : Style → Bool
+has_element style = style.bold || not (is_plain_hue style.hue)
+
+abbrev pub style_start : Style → List Inline
+style_start style = if has_element style then StyleStart style ∷ [] else []
+
+abbrev pub style_end : Style → List Inline
+style_end style = if has_element style then StyleEnd style ∷ [] else []
+
+abbrev pub hue_number : Hue → ℕ
+hue_number Plain = 0
+hue_number Red = 1
+hue_number Green = 2
+hue_number Yellow = 3
+hue_number Blue = 4
+hue_number Magenta = 5
+hue_number Cyan = 6
+
+abbrev pub same_bool : Bool → Bool → Bool
+same_bool true other = other
+same_bool false other = not other
+
+abbrev pub is_same_style : Style → Style → Bool
+is_same_style one other = same_bool one.bold other.bold && hue_number one.hue == hue_number other.hue
+
+-- The marks between two letters. `look.wanted` is the style of the next letter. Open are the mark of the style `look.current`, and within it, if `look.odd`
+-- is set, the mark for odd letters. `odd` states whether the next letter is odd.
+abbrev pub mark_if : Bool → Inline → List Inline
+mark_if condition mark = if condition then mark ∷ [] else []
+
+abbrev pub marks_between : Look → Bool → List Inline
+marks_between look odd =
+    let same = is_same_style look.wanted look.current in
+    mark_if (look.odd && not (same && odd)) OddEnd ++ (if same then [] else style_end look.current ++ style_start look.wanted) ++ mark_if (odd && not (same && look.odd)) OddStart
+
+abbrev pub after_letter : Look → Bool → Look
+after_letter look odd = record { wanted = look.wanted; current = look.wanted; odd = odd }
+
+abbrev pub with_wanted : Look → Style → Look
+with_wanted look style = record { wanted = style; current = look.current; odd = look.odd }
+
+abbrev pub plain_look : Look
+plain_look = record { wanted = plain_style; current = plain_style; odd = false }
+
+-- The parts of the rest of a passage. At its end, all marks end.
+abbrev pub inlines_from : Look → List Run → List Inline
+inlines_from look [] = mark_if look.odd OddEnd ++ style_end look.current
+inlines_from look (Letters letter count ∷ runs) = marks_between look (is_odd letter) ++ Text letter count ∷ inlines_from (after_letter look (is_odd letter)) runs
+inlines_from look (Restyle numbers ∷ runs) = inlines_from (with_wanted look (restyled look.wanted numbers)) runs
+
+-- The HTML of the rest of a passage.
+unfoldable pub html_from : Form → Look → List ℕ → List ℕ
+html_from form look bytes = flat_map (inline_html form) (inlines_from look (runs_of (symbols form bytes)))
+
+-- A passage, as it is written and as it is read.
+abbrev pub passage_html : Form → List ℕ → List ℕ
+passage_html form bytes = html_from form plain_look bytes
+
+abbrev pub passage_tokens : Form → List ℕ → List Token
+passage_tokens form bytes = flat_map (inline_tokens form) (inlines_from plain_look (runs_of (symbols form bytes)))

@@ -1,0 +1,61 @@
+-- What writers in parts ensure.
+use Rattle.std.specs.Prelude.{◌≡◌, ⊤, ℕ, ◌+◌, fold, ◌<◌, ◌≤◌, Bool, false, ◌==◌, ◌&&◌, List, [], ◌∷◌, ◌++◌, Option, None, Some, length, drop, replicate, Result, Ok, Err, if◌then◌else◌}
+use Rattle.redo_device.specs.declared.feed.Broken.{Broken}
+use Rattle.redo_device.specs.Sink.{Output, append_output, Writes}
+use Rattle.redo_html.specs.declared.form.Form.{Form}
+use Rattle.redo_html.specs.declared.look.Look.{Look}
+use Rattle.redo_html.specs.Passage.{has_marks, html_from}
+use Rattle.redo_html.specs.declared.style.Setting.{Setting}
+use Rattle.redo_html.specs.Style.{setting_after}
+use Rattle.redo_html.specs.Symbols.{Symbol, symbols, parameter_count, numbers_from}
+use Rattle.redo_html.specs.Symbols.Symbol.{Letter, Sequence}
+
+-- Of a text, everything except `rest` was written, and no write failed.
+pub record WroteUpTo (before after : Option Output) (text rest : List ℕ) : Type 0 where
+  pub prefix : List ℕ
+  pub wrote : after ≡ append_output before prefix 0
+  pub splits : prefix ++ rest ≡ text
+
+-- The first `count` bytes, at least one, were written as a part of a passage, and then the look is `next`.
+pub record WroteSome (before after : Option Output) (form : Form) (look : Look) (bytes : List ℕ) (next : Look) (count : ℕ) : Type 0 where
+  pub some : 0 < count
+  pub within : count ≤ length bytes
+  pub wrote : WroteUpTo before after (html_from form look bytes) (html_from form next (drop count bytes))
+
+-- Some of a passage was written, or a write failed.
+abbrev pub WroteSomeOrFailed : Option Output → Option Output → Form → Look → List ℕ → Result (Look × ℕ) Broken → Type 0
+WroteSomeOrFailed before after form look bytes (Ok step) = WroteSome before after form look bytes step.0 step.1
+WroteSomeOrFailed before after form look bytes (Err broken) = Writes before after (html_from form look bytes) (Err broken)
+
+-- The letter that a symbol is, if it is one.
+abbrev pub symbol_letter : Symbol → Option ℕ
+symbol_letter (Letter letter) = Some letter
+symbol_letter (Sequence numbers) = None
+
+-- Whether symbols don't begin with this letter.
+abbrev pub BeginsOther : ℕ → List Symbol → Type 0
+BeginsOther letter [] = ⊤
+BeginsOther letter (Sequence numbers ∷ symbols) = ⊤
+BeginsOther letter (Letter other ∷ symbols) = (letter == other) ≡ false
+
+-- The symbols of some bytes begin with a letter that occurs `count` times in a row, and no more often. These are the first `len` bytes.
+pub record IsRepeated (form : Form) (letter : ℕ) (bytes : List ℕ) (count len : ℕ) : Type 0 where
+  pub some : 0 < count
+  pub bytes_taken : 0 < len
+  pub within : len ≤ length bytes
+  pub repeated : symbols form bytes ≡ replicate count (Letter letter) ++ symbols form (drop len bytes)
+  pub other : BeginsOther letter (symbols form (drop len bytes))
+
+-- A mark, if it is wanted and the form has marks.
+abbrev pub optional_mark : Form → Bool → List ℕ → List ℕ
+optional_mark form wanted html = if wanted && has_marks form then html else []
+
+-- A sequence is at the start of some bytes, and has `len` bytes.
+pub record IsSequence (bytes : List ℕ) (len : ℕ) : Type 0 where
+  pub size : len ≡ 3 + parameter_count bytes
+  pub within : len ≤ length bytes
+
+-- Reading a byte of parameters in this state leads to the other state, whatever follows.
+pub record ReadsParameter (before after : Setting) (value byte next : ℕ) : Type 0 where
+  pub bound : next ≤ 999
+  pub same : (rest : List ℕ) → fold setting_after after (numbers_from next rest) ≡ fold setting_after before (numbers_from value (byte ∷ rest))

@@ -1,0 +1,83 @@
+-- What a text consists of: letters, and the sequences by which compilers set colours.
+use Rattle.std.specs.Prelude.{ℕ, zero, suc, ◌+◌, ◌-◌, ◌*◌, min, Bool, true, false, ◌==◌, ◌||◌, ◌&&◌, nat_le, nat_lt, List, [], ◌∷◌, take, drop, Option, None, Some, slice_index, if◌then◌else◌}
+use Rattle.std.specs.List.{prefix_len}
+use Rattle.bstr.specs.Utf8.{decoded}
+use Rattle.redo_html.specs.declared.form.Form.{Form}
+use Rattle.redo_html.specs.declared.form.Form.TheVariants.{Log, Name, Title}
+
+-- A letter is a character of valid UTF-8, by its number. A byte that is no part of such a character is a letter of its own: its number is
+-- U+DC00 plus the byte, which is the number of no character. (Python's `surrogateescape` does the same.)
+--
+-- A sequence is `ESC [`, parameters, and `m` or `K`. It has the numbers of an SGR sequence (`m`), or none (`K`, which erases a line).
+pub data Symbol : Type 0 where
+  Letter : ℕ → Symbol
+  Sequence : List ℕ → Symbol
+
+abbrev pub letter_of : Option ℕ → ℕ → ℕ
+letter_of None byte = 0xDC00 + byte
+letter_of (Some character) byte = character
+
+abbrev pub size_of : Option ℕ → ℕ → ℕ
+size_of None size = 1
+size_of (Some character) size = size
+
+-- The letter at the start of some bytes, and the number of its bytes. Table 3-7 of the Unicode Standard defines which bytes are a character.
+unfoldable pub first_letter : List ℕ → ℕ
+first_letter bytes = letter_of (decoded bytes).char (slice_index bytes 0)
+
+unfoldable pub letter_len : List ℕ → ℕ
+letter_len bytes = size_of (decoded bytes).char (decoded bytes).size
+
+-- Parameters are digits and semicolons.
+abbrev pub is_parameter : ℕ → Bool
+is_parameter byte = (nat_le 48 byte && nat_le byte 57) || byte == 59
+
+abbrev pub parameter_count : List ℕ → ℕ
+parameter_count bytes = prefix_len is_parameter (drop 2 bytes)
+
+-- The byte after the parameters, or 0 if there is none.
+abbrev pub final_byte : List ℕ → ℕ
+final_byte bytes = slice_index bytes (2 + parameter_count bytes)
+
+abbrev pub begins_sequence : List ℕ → Bool
+begins_sequence bytes = slice_index bytes 0 == 27 && slice_index bytes 1 == 91 && (final_byte bytes == 109 || final_byte bytes == 75)
+
+-- The number of bytes of the sequence at the start of some bytes, or 0 if there is none.
+unfoldable pub sequence_len : List ℕ → ℕ
+sequence_len bytes = if begins_sequence bytes then 3 + parameter_count bytes else 0
+
+-- The numbers of parameters. The digits before them have the value `value`. A missing number is 0. A number above 999 counts as 999, which
+-- means nothing.
+abbrev pub numbers_from : ℕ → List ℕ → List ℕ
+numbers_from value [] = value ∷ []
+numbers_from value (byte ∷ bytes) = if byte == 59 then value ∷ numbers_from 0 bytes else numbers_from (min 999 (10 * value + (byte - 48))) bytes
+
+unfoldable pub sequence_numbers : List ℕ → List ℕ
+sequence_numbers bytes = if final_byte bytes == 109 then numbers_from 0 (take (parameter_count bytes) (drop 2 bytes)) else []
+
+-- Only the text of a log has colours. In a name, each ESC is a letter.
+abbrev pub has_colours : Form → Bool
+has_colours Log = true
+has_colours Name = false
+has_colours Title = false
+
+-- Whether a sequence is at the start of some bytes.
+unfoldable pub is_sequence : Form → List ℕ → Bool
+is_sequence form bytes = has_colours form && nat_lt 0 (sequence_len bytes)
+
+-- The first symbol of some bytes, and the number of its bytes.
+unfoldable pub first_symbol : Form → List ℕ → Symbol
+first_symbol form bytes = if is_sequence form bytes then Sequence (sequence_numbers bytes) else Letter (first_letter bytes)
+
+unfoldable pub symbol_len : Form → List ℕ → ℕ
+symbol_len form bytes = if is_sequence form bytes then sequence_len bytes else letter_len bytes
+
+-- The symbols of some bytes, without the first `skipped` bytes, which belong to the symbol before them.
+unfoldable pub symbols_after : Form → ℕ → List ℕ → List Symbol
+symbols_after form skipped [] = []
+symbols_after form zero (byte ∷ bytes) = first_symbol form (byte ∷ bytes) ∷ symbols_after form (symbol_len form (byte ∷ bytes) - 1) bytes
+symbols_after form (suc skipped) (byte ∷ bytes) = symbols_after form skipped bytes
+
+-- The symbols of a text.
+abbrev pub symbols : Form → List ℕ → List Symbol
+symbols form bytes = symbols_after form 0 bytes

@@ -1,0 +1,56 @@
+//! Text as HTML: how bytes are shown, how a browser reads them, and the tags of a page.
+//!
+//! The crates above rely on this: whatever the bytes of a log or of a name are, [`write_pieces`] writes them so that they are read as
+//! text, in the form that `specs/Shown.antt` defines, and so that no byte of them is in a tag. [`Markup`] has the tags, which have no
+//! bytes but numbers of their own. The laws say so of any pieces; `specs/Html.antt` models how a browser reads.
+//!
+//! # Terms
+//!
+//! - *Letter*: a character of a text, or one byte that is no part of a character.
+//! - *Sequence*: `ESC [`, digits and semicolons, and `m` (SGR, which sets colours) or `K` (which erases a line).
+//! - *Odd letter*: a letter that a browser would hide, change or act on: a control character, an invalid byte, an
+//!   invisible or bidirectional character. Its *picture* is shown in its place: `^M`, `\xff`, `[U+202E]`.
+//! - *Passage*: a text of which all marks end at its end. A *mark* is an element around odd letters or for a style.
+//! - *Markup*: a tag of a page.
+//!
+//! # Design
+//!
+//! **Text** (`Symbols`, `Shown`). From five equal odd letters in a row on, one picture and a count are shown. In logs, the
+//! sequences by which compilers set colours are consumed, and all other escape characters are odd letters.
+//!
+//! **Marks** (`Passage`, `Style`). Odd letters, bold text and six hues have elements. A `Look` has the style of the next
+//! letter and what is open. All elements that are begun in a passage end in it. The marks between two letters are written
+//! before the second letter, so a sequence that changes nothing writes nothing. What is bold, and in which hue, is part of
+//! the definition of a passage. Background colours and concealed text are ignored, because they can hide what a log says.
+//!
+//! **Reading** (`Html`). The tokenizer of the HTML standard, in the states that a page needs. The laws compose: each part
+//! of a page is read from the data state to the data state (`ReadsAs`), whatever follows it. A reading that leaves the
+//! modelled states is lost, and no law allows that. The model reads tokens, not the tree that a browser builds. It knows
+//! two rules of the tree: the text of `title` and `style` is read by other states, and a line feed directly after `<pre>`
+//! is dropped. Only elements of a list are read, because others switch the tokenizer to other states.
+//!
+//! **Tags** (`Tags`). A tag is a value of an enum that has no bytes, only numbers. So it is a matter of types that no byte
+//! of a log is in a tag.
+//!
+//! **Speed.** Single bytes decide how long a stretch of plain text is (`plain_len`), which is one write. Every other
+//! letter is a write of its own.
+#![tactic(auto)]
+
+mod form;
+mod laws;
+mod look;
+mod markup;
+mod passage;
+mod picture;
+mod piece;
+mod style;
+mod style_sheet;
+mod symbol;
+
+pub use laws::{
+    parts_are_read, parts_show_their_text, passages_are_read_as_shown, plain_text_is_unchanged,
+    titles_have_no_tags,
+};
+pub use markup::{Markup, write_markup, write_number};
+pub use passage::{write_log_text, write_name, write_title_text};
+pub use piece::{Piece, write_pieces};

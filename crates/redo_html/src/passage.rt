@@ -1,0 +1,287 @@
+//! Passages of text: writes what they show, with marks for odd letters and for styles.
+ghost use Rattle.std.specs.Prelude.{◌≡◌, ◌≤◌, ◌<◌, ◌↔◌, ◌∷◌, ◌++◌, ◌&&◌, not, [], true, false, IsTrue, Some, length, take, encode_utf8};
+ghost use Rattle.std.specs.List.{flat_map, list_all};
+ghost use Rattle.redo_device.specs.Sink.{Writes};
+ghost use Rattle.redo_html.specs.declared.form.Form.TheVariants as form;
+ghost use Rattle.redo_html.specs.Passage.{escaped, has_element, is_same_style, mark_text, has_marks, inline_html, marks_between, passage_html, html_from};
+ghost use Rattle.redo_html.specs.Passage.Inline.{StyleStart, StyleEnd};
+ghost use Rattle.redo_html.specs.Laws.{is_plain};
+ghost use Rattle.redo_html.specs.Shown.{is_odd};
+ghost use Rattle.redo_html.specs.Symbols.{first_symbol, symbol_len};
+ghost use Rattle.redo_html.specs.Symbols.Symbol.{Letter};
+ghost use Rattle.redo_html.specs.Private.Writing.{WroteSomeOrFailed, IsRepeated, optional_mark};
+
+use crate::form::Form;
+use crate::look::{Look, at_start, with_letter, with_style};
+use crate::picture::write_odd;
+use crate::style::{Hue, Style, after_sequence, has_own_element, is_same};
+use crate::symbol::{is_odd_letter, plain_len, symbol_at};
+use redo_device::{Broken, Sink, push_all};
+
+/// Writes the text of a log. Its colours are shown, and end with the passage.
+pub fn write_log_text<W: Sink>(bytes: &[u8], out: &mut W) -> Result<(), Broken>
+    ensures { Writes (W.written out.old) (W.written out.new) (passage_html form.Log bytes.now) result }
+{
+    write_passage(Form::Log, bytes, out)
+}
+
+/// Writes a name, or words of the program.
+pub fn write_name<W: Sink>(bytes: &[u8], out: &mut W) -> Result<(), Broken>
+    ensures { Writes (W.written out.old) (W.written out.new) (passage_html form.Name bytes.now) result }
+{
+    write_passage(Form::Name, bytes, out)
+}
+
+/// Writes the text of a title, which has no elements.
+pub fn write_title_text<W: Sink>(bytes: &[u8], out: &mut W) -> Result<(), Broken>
+    ensures { Writes (W.written out.old) (W.written out.new) (passage_html form.Title bytes.now) result }
+{
+    write_passage(Form::Title, bytes, out)
+}
+
+fn write_passage<W: Sink>(form: Form, bytes: &[u8], out: &mut W) -> Result<(), Broken>
+    ensures { Writes (W.written out.old) (W.written out.new) (passage_html form bytes.now) result }
+{
+    let mut look = at_start();
+    let mut done = 0;
+    while done < bytes.len() {
+        let (next, len) = write_some(form, look, &bytes[done..], out)?;
+        look = next;
+        done += len;
+    }
+    write_end(form, look, out)
+}
+
+// Writes the start of the rest of a passage, which isn't empty. Returns the look after it, and the number of its bytes.
+fn write_some<W: Sink>(
+    form: Form,
+    look: Look,
+    bytes: &[u8],
+    out: &mut W,
+) -> Result<(Look, usize), Broken>
+    requires { 0 < length bytes.now }
+    ensures { WroteSomeOrFailed (W.written out.old) (W.written out.new) form look bytes.now result }
+{
+    let plain = plain_len(bytes);
+    if plain > 0 {
+        return write_plain(form, look, bytes, plain, out);
+    }
+    let (symbol, len) = symbol_at(form, bytes);
+    match symbol {
+        None => Ok((
+            with_style(look, after_sequence(look.wanted, bytes, len)),
+            len,
+        )),
+        Some(letter) => {
+            if is_odd_letter(letter) {
+                write_odd_run(form, look, letter, bytes, out)
+            } else {
+                write_visible(form, look, letter, bytes, len, out)
+            }
+        }
+    }
+}
+
+// Writes bytes that are shown as they are.
+fn write_plain<W: Sink>(
+    form: Form,
+    look: Look,
+    bytes: &[u8],
+    len: usize,
+    out: &mut W,
+) -> Result<(Look, usize), Broken>
+    requires some { 0 < len }
+    requires within { len ≤ length bytes.now }
+    requires plain { list_all is_plain (take len bytes.now) ≡ true }
+    ensures { WroteSomeOrFailed (W.written out.old) (W.written out.new) form look bytes.now result }
+{
+    write_marks(form, look, false, out)?;
+    push_all(out, &bytes[..len])?;
+    Ok((with_letter(look, false), len))
+}
+
+// Writes a letter that is not odd.
+fn write_visible<W: Sink>(
+    form: Form,
+    look: Look,
+    letter: u32,
+    bytes: &[u8],
+    len: usize,
+    out: &mut W,
+) -> Result<(Look, usize), Broken>
+    requires some { 0 < length bytes.now }
+    requires letter { first_symbol form bytes.now ≡ Letter letter }
+    requires visible { is_odd letter ≡ false }
+    requires len { len ≡ symbol_len form bytes.now }
+    ensures { WroteSomeOrFailed (W.written out.old) (W.written out.new) form look bytes.now result }
+{
+    write_marks(form, look, false, out)?;
+    write_letter(letter, &bytes[..len], out)?;
+    Ok((with_letter(look, false), len))
+}
+
+// Writes the odd letter at the start, as often as it occurs in a row.
+fn write_odd_run<W: Sink>(
+    form: Form,
+    look: Look,
+    letter: u32,
+    bytes: &[u8],
+    out: &mut W,
+) -> Result<(Look, usize), Broken>
+    requires some { 0 < length bytes.now }
+    requires letter { first_symbol form bytes.now ≡ Letter letter }
+    requires odd { is_odd letter ≡ true }
+    ensures { WroteSomeOrFailed (W.written out.old) (W.written out.new) form look bytes.now result }
+{
+    let (count, len) = repeats(form, letter, bytes);
+    write_marks(form, look, true, out)?;
+    write_odd(letter, count, out)?;
+    Ok((with_letter(look, true), len))
+}
+
+// Returns how often the letter at the start occurs in a row, and the number of bytes of all of them.
+fn repeats(form: Form, letter: u32, bytes: &[u8]) -> (usize, usize)
+    requires some { 0 < length bytes.now }
+    requires letter { first_symbol form bytes.now ≡ Letter letter }
+    ensures { IsRepeated form letter bytes.now result.0 result.1 }
+{
+    let mut count = 0;
+    let mut len = 0;
+    while len < bytes.len() {
+        let (symbol, more) = symbol_at(form, &bytes[len..]);
+        if !is_letter(symbol, letter) {
+            return (count, len);
+        }
+        count += 1;
+        len += more;
+    }
+    (count, len)
+}
+
+fn is_letter(symbol: Option<u32>, letter: u32) -> bool
+    ensures { IsTrue result ↔ (symbol ≡ Some letter) }
+{
+    match symbol {
+        Some(other) => other == letter,
+        None => false,
+    }
+}
+
+// Writes a letter whose bytes these are.
+fn write_letter<W: Sink>(letter: u32, bytes: &[u8], out: &mut W) -> Result<(), Broken>
+    requires { bytes.now ≡ encode_utf8 letter }
+    ensures { Writes (W.written out.old) (W.written out.new) (escaped (encode_utf8 letter)) result }
+{
+    if letter == 38 {
+        push_all(out, b"&amp;")
+    } else if letter == 60 {
+        push_all(out, b"&lt;")
+    } else if letter == 62 {
+        push_all(out, b"&gt;")
+    } else {
+        push_all(out, bytes)
+    }
+}
+
+// Writes the marks before a letter.
+fn write_marks<W: Sink>(form: Form, look: Look, odd: bool, out: &mut W) -> Result<(), Broken>
+    ensures { Writes (W.written out.old) (W.written out.new) (flat_map (inline_html form) (marks_between look odd)) result }
+{
+    let odd_ends = ends_odd(look, odd);
+    let style_ends = ends_style(look);
+    let style_starts = starts_style(look);
+    let odd_starts = starts_odd(look, odd);
+    let end_tag = style_end_tag(look.current);
+    let start_tag = style_start_tag(look.wanted);
+    write_mark(form, odd_ends, b"</i>", out)?;
+    write_mark(form, style_ends, end_tag, out)?;
+    write_mark(form, style_starts, start_tag, out)?;
+    write_mark(form, odd_starts, b"<i>", out)
+}
+
+// Returns whether the mark for odd letters ends before a letter.
+fn ends_odd(look: Look, odd: bool) -> bool
+    ensures { result ≡ (look.odd && not (is_same_style look.wanted look.current && odd)) }
+{
+    look.odd && !(is_same(look.wanted, look.current) && odd)
+}
+
+fn starts_odd(look: Look, odd: bool) -> bool
+    ensures { result ≡ (odd && not (is_same_style look.wanted look.current && look.odd)) }
+{
+    odd && !(is_same(look.wanted, look.current) && look.odd)
+}
+
+// Returns whether the mark of the open style ends before the next letter.
+fn ends_style(look: Look) -> bool
+    ensures { result ≡ (not (is_same_style look.wanted look.current) && has_element look.current) }
+{
+    !is_same(look.wanted, look.current) && has_own_element(look.current)
+}
+
+fn starts_style(look: Look) -> bool
+    ensures { result ≡ (not (is_same_style look.wanted look.current) && has_element look.wanted) }
+{
+    !is_same(look.wanted, look.current) && has_own_element(look.wanted)
+}
+
+// Writes the marks at the end of a passage.
+fn write_end<W: Sink>(form: Form, look: Look, out: &mut W) -> Result<(), Broken>
+    ensures { Writes (W.written out.old) (W.written out.new) (html_from form look []) result }
+{
+    let style_ends = has_own_element(look.current);
+    let end_tag = style_end_tag(look.current);
+    write_mark(form, look.odd, b"</i>", out)?;
+    write_mark(form, style_ends, end_tag, out)
+}
+
+fn write_mark<W: Sink>(form: Form, wanted: bool, tag: &[u8], out: &mut W) -> Result<(), Broken>
+    ensures { Writes (W.written out.old) (W.written out.new) (optional_mark form wanted tag.now) result }
+{
+    if wanted && shows_marks(form) {
+        push_all(out, tag)
+    } else {
+        Ok(())
+    }
+}
+
+fn shows_marks(form: Form) -> bool
+    ensures { result ≡ has_marks form }
+{
+    match form {
+        Form::Log | Form::Name => true,
+        Form::Title => false,
+    }
+}
+
+fn style_start_tag(style: Style) -> &'static [u8]
+    ensures { result.now ≡ 60 ∷ (mark_text (StyleStart style) ++ 62 ∷ []) }
+{
+    if style.bold {
+        match style.hue {
+            Hue::Plain => b"<b>",
+            Hue::Red => b"<b class=\"r\">",
+            Hue::Green => b"<b class=\"g\">",
+            Hue::Yellow => b"<b class=\"y\">",
+            Hue::Blue => b"<b class=\"b\">",
+            Hue::Magenta => b"<b class=\"m\">",
+            Hue::Cyan => b"<b class=\"c\">",
+        }
+    } else {
+        match style.hue {
+            Hue::Plain => b"<span>",
+            Hue::Red => b"<span class=\"r\">",
+            Hue::Green => b"<span class=\"g\">",
+            Hue::Yellow => b"<span class=\"y\">",
+            Hue::Blue => b"<span class=\"b\">",
+            Hue::Magenta => b"<span class=\"m\">",
+            Hue::Cyan => b"<span class=\"c\">",
+        }
+    }
+}
+
+fn style_end_tag(style: Style) -> &'static [u8]
+    ensures { result.now ≡ 60 ∷ (mark_text (StyleEnd style) ++ 62 ∷ []) }
+{
+    if style.bold { b"</b>" } else { b"</span>" }
+}

@@ -1,0 +1,189 @@
+//! The styles that compilers set.
+ghost use Rattle.std.specs.Prelude.{◌≡◌, ◌≤◌};
+ghost use Rattle.redo_html.specs.Passage.{hue_number, is_same_style, has_element};
+ghost use Rattle.redo_html.specs.Style.{plain_style, digit_hue, attribute_added, setting_after, restyled};
+ghost use Rattle.redo_html.specs.Symbols.{sequence_numbers, numbers_from};
+ghost use Rattle.redo_html.specs.Private.Writing.{IsSequence, ReadsParameter};
+
+/// A hue. `Plain` is the colour of the page's text.
+#[derive(Clone, Copy)]
+pub enum Hue {
+    Plain,
+    Red,
+    Green,
+    Yellow,
+    Blue,
+    Magenta,
+    Cyan,
+}
+
+/// How letters look.
+#[derive(Clone, Copy)]
+pub struct Style {
+    pub bold: bool,
+    pub hue: Hue,
+}
+
+/// A style while the numbers of a sequence are read, and how many of them are still to be ignored.
+#[derive(Clone, Copy)]
+pub struct Setting {
+    pub style: Style,
+    pub ahead: u8,
+}
+
+/// Returns the style of a page's text.
+pub fn plain() -> Style
+    ensures { result ≡ plain_style }
+{
+    Style {
+        bold: false,
+        hue: Hue::Plain,
+    }
+}
+
+/// Returns whether two styles are the same.
+pub fn is_same(one: Style, other: Style) -> bool
+    ensures { result ≡ is_same_style one other }
+{
+    one.bold == other.bold && number(one.hue) == number(other.hue)
+}
+
+/// Returns whether a style has an element of its own.
+pub fn has_own_element(style: Style) -> bool
+    ensures { result ≡ has_element style }
+{
+    style.bold || number(style.hue) != 0
+}
+
+fn number(hue: Hue) -> u8
+    ensures { result ≡ hue_number hue }
+{
+    match hue {
+        Hue::Plain => 0,
+        Hue::Red => 1,
+        Hue::Green => 2,
+        Hue::Yellow => 3,
+        Hue::Blue => 4,
+        Hue::Magenta => 5,
+        Hue::Cyan => 6,
+    }
+}
+
+/// Returns the style after the sequence at the start of `bytes`, which has `len` bytes.
+pub fn after_sequence(style: Style, bytes: &[u8], len: usize) -> Style
+    requires { IsSequence bytes.now len }
+    ensures { result ≡ restyled style (sequence_numbers bytes.now) }
+{
+    if bytes[len - 1] == b'm' {
+        let rest = &bytes[2..];
+        after_parameters(style, &rest[..len - 3])
+    } else {
+        style
+    }
+}
+
+// Returns the style after an SGR sequence with these parameters.
+fn after_parameters(style: Style, parameters: &[u8]) -> Style
+    ensures { result ≡ restyled style (numbers_from 0 parameters.now) }
+{
+    let mut setting = Setting { style, ahead: 0 };
+    let mut value = 0;
+    for byte in parameters {
+        (setting, value) = after_byte(setting, value, *byte);
+    }
+    after_number(setting, value).style
+}
+
+// Returns the state after one byte of the parameters: the setting, and the value of the digits so far.
+fn after_byte(setting: Setting, value: u32, byte: u8) -> (Setting, u32)
+    requires { value ≤ 999 }
+    ensures { ReadsParameter setting result.0 value byte result.1 }
+{
+    if byte == b';' {
+        (after_number(setting, value), 0)
+    } else {
+        (
+            setting,
+            (10 * value + u32::from(byte.saturating_sub(48))).min(999),
+        )
+    }
+}
+
+fn after_number(setting: Setting, number: u32) -> Setting
+    ensures { result ≡ setting_after setting number }
+{
+    let style = setting.style;
+    if setting.ahead == 4 {
+        Setting {
+            style,
+            ahead: if number == 5 { 1 } else { 3 },
+        }
+    } else if setting.ahead >= 1 {
+        Setting {
+            style,
+            ahead: setting.ahead - 1,
+        }
+    } else if number == 38 || number == 48 || number == 58 {
+        Setting { style, ahead: 4 }
+    } else {
+        Setting {
+            style: with_attribute(style, number),
+            ahead: 0,
+        }
+    }
+}
+
+fn with_attribute(style: Style, number: u32) -> Style
+    ensures { result ≡ attribute_added style number }
+{
+    if number == 0 {
+        plain()
+    } else if number == 1 {
+        Style {
+            bold: true,
+            ..style
+        }
+    } else if number == 22 {
+        Style {
+            bold: false,
+            ..style
+        }
+    } else if number == 39 {
+        Style {
+            hue: Hue::Plain,
+            ..style
+        }
+    } else if 30 <= number && number <= 37 {
+        Style {
+            hue: hue_of(number - 30),
+            ..style
+        }
+    } else if 90 <= number && number <= 97 {
+        Style {
+            hue: hue_of(number - 90),
+            ..style
+        }
+    } else {
+        style
+    }
+}
+
+fn hue_of(digit: u32) -> Hue
+    ensures { result ≡ digit_hue digit }
+{
+    if digit == 1 {
+        Hue::Red
+    } else if digit == 2 {
+        Hue::Green
+    } else if digit == 3 {
+        Hue::Yellow
+    } else if digit == 4 {
+        Hue::Blue
+    } else if digit == 5 {
+        Hue::Magenta
+    } else if digit == 6 {
+        Hue::Cyan
+    } else {
+        Hue::Plain
+    }
+}

@@ -1,0 +1,172 @@
+//! The symbols of a text: letters, and sequences that set colours.
+ghost use Rattle.std.specs.Prelude.{◌≡◌, ◌≤◌, ◌<◌, ◌==◌, ◌||◌, true, length, take, slice_index};
+ghost use Rattle.std.specs.List.{list_all, list_any, prefix_len};
+ghost use Rattle.redo_html.specs.Laws.{is_plain};
+ghost use Rattle.redo_html.specs.Shown.{is_odd, is_control, is_between, unseen_ranges};
+ghost use Rattle.redo_html.specs.Symbols.{first_letter, letter_len, is_parameter, sequence_len, has_colours, first_symbol, symbol_len};
+ghost use Rattle.redo_html.specs.Private.Writing.{symbol_letter};
+
+use crate::form::Form;
+use bstr::decode_utf8;
+
+// Characters that can't be seen, by their first and last numbers, and bytes that are no part of a character.
+const UNSEEN: [(u32, u32); 18] = [
+    (0x80, 0x9F),
+    (0xAD, 0xAD),
+    (0x34F, 0x34F),
+    (0x61C, 0x61C),
+    (0x115F, 0x1160),
+    (0x17B4, 0x17B5),
+    (0x180B, 0x180F),
+    (0x200B, 0x200B),
+    (0x200E, 0x200F),
+    (0x2028, 0x202E),
+    (0x2060, 0x206F),
+    (0x3164, 0x3164),
+    (0xD800, 0xDFFF),
+    (0xFE00, 0xFE0E),
+    (0xFEFF, 0xFEFF),
+    (0xFFA0, 0xFFA0),
+    (0xFFF0, 0xFFFB),
+    (0xE0000, 0xE0FFF),
+];
+
+/// Returns the number of bytes at the start that are shown as they are, as far as this is known from single bytes.
+pub fn plain_len(bytes: &[u8]) -> usize
+    ensures within { result ≤ length bytes.now }
+    ensures plain { list_all is_plain (take result bytes.now) ≡ true }
+{
+    for (at, byte) in bytes.iter().enumerate() {
+        if !is_plain_byte(*byte) {
+            return at;
+        }
+    }
+    bytes.len()
+}
+
+fn is_plain_byte(byte: u8) -> bool
+    ensures { result ≡ is_plain byte }
+{
+    (32 <= byte && byte < 127 && !(byte == b'&' || byte == b'<' || byte == b'>'))
+        || byte == b'\t'
+        || byte == b'\n'
+}
+
+/// Returns the letter that is the first symbol of `bytes`, or `None` if that is a sequence; and the number of its bytes.
+pub fn symbol_at(form: Form, bytes: &[u8]) -> (Option<u32>, usize)
+    requires { 0 < length bytes.now }
+    ensures letter { result.0 ≡ symbol_letter (first_symbol form bytes.now) }
+    ensures len { result.1 ≡ symbol_len form bytes.now }
+{
+    if !is_log(form) {
+        let (letter, len) = letter_at(bytes);
+        return (Some(letter), len);
+    }
+    let len = sequence_size(bytes);
+    if len > 0 {
+        return (None, len);
+    }
+    let (letter, len) = letter_at(bytes);
+    (Some(letter), len)
+}
+
+fn is_log(form: Form) -> bool
+    ensures { result ≡ has_colours form }
+{
+    match form {
+        Form::Log => true,
+        Form::Name | Form::Title => false,
+    }
+}
+
+// Returns the first letter, and the number of its bytes.
+fn letter_at(bytes: &[u8]) -> (u32, usize)
+    requires { 0 < length bytes.now }
+    ensures letter { result.0 ≡ first_letter bytes.now }
+    ensures len { result.1 ≡ letter_len bytes.now }
+{
+    match decode_utf8(bytes) {
+        (Some(character), len) => (u32::from(character), len),
+        (None, _) => (0xDC00 + u32::from(bytes[0]), 1),
+    }
+}
+
+// Returns the number of bytes of the sequence at the start, or 0 if there is none.
+fn sequence_size(bytes: &[u8]) -> usize
+    ensures { result ≡ sequence_len bytes.now }
+{
+    if byte_at(bytes, 0) != 27 {
+        return 0;
+    }
+    if byte_at(bytes, 1) != b'[' {
+        return 0;
+    }
+    let end = 2 + parameters_len(&bytes[2..]);
+    if is_final(byte_at(bytes, end)) {
+        end + 1
+    } else {
+        0
+    }
+}
+
+// Returns a byte, or 0 after the end.
+fn byte_at(bytes: &[u8], at: usize) -> u8
+    ensures { result ≡ slice_index bytes.now at }
+{
+    if at < bytes.len() { bytes[at] } else { 0 }
+}
+
+fn is_final(byte: u8) -> bool
+    ensures { result ≡ (byte == 109 || byte == 75) }
+{
+    byte == b'm' || byte == b'K'
+}
+
+// Returns the number of parameter bytes at the start.
+fn parameters_len(bytes: &[u8]) -> usize
+    ensures value { result ≡ prefix_len is_parameter bytes.now }
+    ensures within { result ≤ length bytes.now }
+{
+    for (at, byte) in bytes.iter().enumerate() {
+        if !is_parameter_byte(*byte) {
+            return at;
+        }
+    }
+    bytes.len()
+}
+
+fn is_parameter_byte(byte: u8) -> bool
+    ensures { result ≡ is_parameter byte }
+{
+    (b'0' <= byte && byte <= b'9') || byte == b';'
+}
+
+/// Returns whether a picture is shown in place of a letter.
+pub fn is_odd_letter(letter: u32) -> bool
+    ensures { result ≡ is_odd letter }
+{
+    is_control_letter(letter) || is_unseen(letter)
+}
+
+fn is_control_letter(letter: u32) -> bool
+    ensures { result ≡ is_control letter }
+{
+    (letter < 32 && letter != 9 && letter != 10) || letter == 127
+}
+
+fn is_unseen(letter: u32) -> bool
+    ensures { result ≡ list_any (is_between letter) unseen_ranges }
+{
+    for range in &UNSEEN {
+        if is_in(letter, *range) {
+            return true;
+        }
+    }
+    false
+}
+
+fn is_in(letter: u32, range: (u32, u32)) -> bool
+    ensures { result ≡ is_between letter range }
+{
+    range.0 <= letter && letter <= range.1
+}

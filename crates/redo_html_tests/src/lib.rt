@@ -1,0 +1,9 @@
+//! Tests of the HTML of texts and of pages.
+#![tactic(auto)]
+
+#[cfg(test)]
+mod cases;
+#[cfg(test)]
+mod page;
+#[cfg(test)]
+mod text;
