@@ -66,7 +66,7 @@ safe_escaped (byte ∷ bytes) safe =
     let one : escaped_byte byte ≡ byte ∷ [] = rw (amp, lt, gt) refl in
     ap (λ (b : List ℕ). b ++ escaped bytes) one ∙ ap (λ (b : List ℕ). byte ∷ b) (safe_escaped bytes parts.1)
 
--- Text that may have references: normal text, and that of a `title`.
+-- Text that may have references: normal text, and the text of a `title`.
 abbrev pub HasReferences : Place → Type 0
 HasReferences Normal = ⊤
 HasReferences Rcdata = ⊤

@@ -43,7 +43,7 @@ wrote_on before middle after text rest left so_far more =
 pub wrote_rest : (before middle after : Option Output) (text rest : List ℕ) (done : Result (Unit {0}) Broken) → WroteUpTo before middle text rest → Writes middle after rest done → Writes before after text done
 wrote_rest before middle after text rest done so_far wrote = at_last before text middle after so_far.prefix rest done so_far.wrote wrote so_far.splits
 
--- Whichever error is returned, it is that of the failed write.
+-- Whichever error is returned, the failed write returned it.
 pub same_error : (before after : Option Output) (text : List ℕ) (broken : Broken) (done : Result (Unit {0}) Broken) → IsErr done → Writes before after text (Err broken) → Writes before after text done
 same_error before after text broken done failed wrote = at_first before text after text [] broken done failed wrote (append-nil text)
 

@@ -1,5 +1,5 @@
--- How a browser reads bytes as HTML: the tokenizer of the HTML standard, section 13.2.5, in those of its states that a page needs which
--- has elements, attributes in double quotes, and text. Each state has the standard's name, and the number of its section.
+-- How a browser reads bytes as HTML: the tokenizer of the HTML standard, section 13.2.5. It has the states for a page that consists of
+-- elements, attributes in double quotes, and text. Each state has the standard's name, and the number of its section.
 --
 -- If the standard goes to any other state, or reports a parse error, this reading is `Lost`, and stays lost. So whatever is read here is
 -- read in the same way by the standard. The model reads bytes. A browser decodes them first; the pages declare UTF-8, which leaves bytes

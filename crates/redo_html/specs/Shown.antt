@@ -20,7 +20,7 @@ is_between letter range = nat_le range.0 letter && nat_le letter range.1
 abbrev pub is_control : ℕ → Bool
 is_control letter = (nat_lt letter 32 && not (letter == 9) && not (letter == 10)) || letter == 127
 
--- Whether a picture is shown in place of a letter.
+-- Whether a picture is shown instead of a letter.
 unfoldable pub is_odd : ℕ → Bool
 is_odd letter = is_control letter || list_any (is_between letter) unseen_ranges
 
@@ -40,7 +40,7 @@ code_picture letter =
     if nat_lt letter 0x10000 then 91 ∷ 85 ∷ 43 ∷ upper_hex (letter / 4096) ∷ upper_hex (letter / 256) ∷ upper_hex (letter / 16) ∷ upper_hex letter ∷ 93 ∷ []
     else 91 ∷ 85 ∷ 43 ∷ upper_hex (letter / 65536) ∷ upper_hex (letter / 4096) ∷ upper_hex (letter / 256) ∷ upper_hex (letter / 16) ∷ upper_hex letter ∷ 93 ∷ []
 
--- The picture of an odd letter. That of a control character is a caret and the letter 64 places after it: `^M`.
+-- The picture of an odd letter. The picture of a control character is a caret and the letter 64 places after it: `^M`.
 unfoldable pub picture : ℕ → List ℕ
 picture letter =
     if nat_lt letter 32 then 94 ∷ (letter + 64) ∷ []

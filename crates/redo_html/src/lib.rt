@@ -9,7 +9,7 @@
 //! - *Letter*: a character of a text, or one byte that is no part of a character.
 //! - *Sequence*: `ESC [`, digits and semicolons, and `m` (SGR, which sets colours) or `K` (which erases a line).
 //! - *Odd letter*: a letter that a browser would hide, change or act on: a control character, an invalid byte, an
-//!   invisible or bidirectional character. Its *picture* is shown in its place: `^M`, `\xff`, `[U+202E]`.
+//!   invisible or bidirectional character. Its *picture* is shown instead: `^M`, `\xff`, `[U+202E]`.
 //! - *Passage*: a text of which all marks end at its end. A *mark* is an element around odd letters or for a style.
 //! - *Markup*: a tag of a page.
 //!

@@ -141,7 +141,7 @@ fn is_parameter_byte(byte: u8) -> bool
     (b'0' <= byte && byte <= b'9') || byte == b';'
 }
 
-/// Returns whether a picture is shown in place of a letter.
+/// Returns whether a picture is shown instead of a letter.
 pub fn is_odd_letter(letter: u32) -> bool
     ensures { result ≡ is_odd letter }
 {

@@ -80,7 +80,7 @@ request_of_run : (other : Vec ℕ)
     ≡ record { targets = codes "x" ∷ codes "w" ∷ []; max_bytes = 9; options = (request_for []).options; arguments = codes "b" ∷ codes "a" ∷ [] }
 request_of_run other = refl
 
--- What is known of each reader stands beside the must-close flag at the same index.
+-- Each reader is paired with the must-close flag at the same index.
 call_of_run : (other : Vec ℕ)
     → call (λ (known : Option Stream). known) (record { number = 5; target = codes "x"; must_close = true } ∷ record { number = 3; target = codes "w"; must_close = false } ∷ [])
     (Some (record { bytes = codes "s"; fails = false }) ∷ None ∷ []) 9 (request_for []).options (of_byte other 98 ∷ [])
