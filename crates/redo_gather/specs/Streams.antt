@@ -26,15 +26,12 @@ abbrev pub MatchesContents : Option Stream → Stream → Type 0
 MatchesContents None stream = Unit {0}
 MatchesContents (Some known) stream = stream ≡ known
 
-abbrev pub MatchesKnown : KnownInput → StreamInput Stream → Type 0
-MatchesKnown known given = (given.must_close ≡ known.must_close) × MatchesContents known.stream given.stream
-
 -- The readers may give these streams, one each, with these must-close flags.
 abbrev pub MatchKnown : List KnownInput → List (StreamInput Stream) → Type 0
 MatchKnown [] [] = Unit {0}
-MatchKnown [] (given ∷ streams) = ⊥
-MatchKnown (known ∷ others) [] = ⊥
-MatchKnown (known ∷ others) (given ∷ streams) = MatchesKnown known given × MatchKnown others streams
+MatchKnown (known ∷ others) (given ∷ streams) =
+    ((given.must_close ≡ known.must_close) × MatchesContents known.stream given.stream) × MatchKnown others streams
+MatchKnown known streams = ⊥
 
 -- `P` holds of some streams that the readers may give.
 abbrev pub SomeMatchingStreams : List KnownInput → (List (StreamInput Stream) → Type 0) → Type 0
@@ -53,9 +50,8 @@ abbrev pub log_with : ℕ → Source Stream → Option Log
 log_with max_bytes source = option_map (complete_log source.target) (source_log max_bytes source)
 
 abbrev pub prepend_log : Option Log → Option (List Log) → Option (List Log)
-prepend_log None logs = None
-prepend_log (Some log) None = None
 prepend_log (Some log) (Some logs) = Some (log ∷ logs)
+prepend_log log logs = None
 
 -- All of these logs, if each of them exists.
 abbrev pub all_of : List (Option Log) → Option (List Log)

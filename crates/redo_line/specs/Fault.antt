@@ -6,6 +6,4 @@ use Rattle.redo_device.specs.Feed.{Stream}
 
 -- The fault of a stream without an invalid line, if at most `max_bytes` bytes are allowed.
 abbrev pub end_fault : ℕ → Stream → Option StreamFault
-end_fault max_bytes stream =
-    if nat_lt max_bytes (length stream.bytes) then Some TooLong
-    else if stream.fails then Some Read else None
+end_fault max_bytes stream = if nat_lt max_bytes (length stream.bytes) then Some TooLong else if stream.fails then Some Read else None

@@ -34,10 +34,8 @@ prepend_byte byte (line ∷ lines) last = record { lines = (byte ∷ line) ∷ l
 -- The split of these bytes. It is the only one for which `AreLines` holds (law `splitting_is_unique`).
 unfoldable pub split_lines : List ℕ → SplitLines
 split_lines [] = record { lines = []; last = [] }
-split_lines (byte ∷ bytes) =
-    let after = split_lines bytes in
-    if byte == line_feed then record { lines = [] ∷ after.lines; last = after.last }
-    else prepend_byte byte after.lines after.last
+split_lines (byte ∷ bytes) = let after = split_lines bytes in
+    if byte == line_feed then record { lines = [] ∷ after.lines; last = after.last } else prepend_byte byte after.lines after.last
 
 -- The ended lines of these bytes.
 unfoldable pub ended : List ℕ → List (List ℕ)

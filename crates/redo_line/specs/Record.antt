@@ -52,8 +52,7 @@ kind_of name =
     else if bytes_eq name (codes "locked") then Mention Locked
     else if bytes_eq name (codes "unlocked") then Mention Unlocked
     else if bytes_eq name (codes "unchanged") then Mention Unchanged
-    else if bytes_eq name (codes "done") then Done
-    else Note
+    else if bytes_eq name (codes "done") then Done else Note
 
 -- The text is a status, a space and a name that isn't empty.
 pub record IsDone (text : List ℕ) : Type 0 where
@@ -112,15 +111,9 @@ validated fields = if is_kind fields.kind && is_pid fields.pid && is_time fields
 -- The fields of a record, from the bytes after the record prefix, without a test of whether its text fits its kind.
 unfoldable pub fields_of : List ℕ → Option Fields
 fields_of bytes =
-    option_and_then (λ (kind : List ℕ × List ℕ).
-    option_and_then (λ (pid : List ℕ × List ℕ).
-    option_and_then (λ (time : List ℕ × List ℕ).
-    option_and_then (λ (text : List ℕ).
-    validated (record { kind = kind.0; pid = pid.0; time = time.0; text = text }))
-    (after_prefix (at_sign ∷ space ∷ []) time.1))
-    (split_once at_sign pid.1))
-    (split_once colon kind.1))
-    (split_once colon bytes)
+    option_and_then (λ (kind : List ℕ × List ℕ). option_and_then (λ (pid : List ℕ × List ℕ). option_and_then (λ (time : List ℕ × List ℕ).
+    option_and_then (λ (text : List ℕ). validated (record { kind = kind.0; pid = pid.0; time = time.0; text = text }))
+    (after_prefix (at_sign ∷ space ∷ []) time.1)) (split_once at_sign pid.1)) (split_once colon kind.1)) (split_once colon bytes)
 
 abbrev pub signed_status : List ℕ → Option (List ℕ) → Option ℤ
 signed_status bytes None = option_and_then (λ (value : ℕ). Some (pos value)) (number_of 9 bytes)

@@ -26,9 +26,8 @@ pub record StreamInput (A : Type 0) : Type 0 where
 
 -- The source of each target, with the stream at the same index.
 abbrev pub sources : {A : Type 0} → List (List ℕ) → List (StreamInput A) → List (Source A)
-sources [] streams = []
-sources (target ∷ targets) [] = []
 sources (target ∷ targets) (given ∷ streams) = source target given.must_close given.stream ∷ sources targets streams
+sources targets streams = []
 
 -- The entry of the last of these lines, if there is a line and it has an entry.
 abbrev pub last_entry : List (Option Entry) → Option Entry

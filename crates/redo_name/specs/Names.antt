@@ -29,15 +29,12 @@ is_absolute (byte ∷ bytes) = byte == slash
 
 -- All segments except the last. For a target's name, these are the segments of its directory.
 abbrev pub without_last : List (List ℕ) → List (List ℕ)
-without_last [] = []
-without_last (segment ∷ []) = []
 without_last (segment ∷ next ∷ others) = segment ∷ without_last (next ∷ others)
+without_last segments = []
 
 -- What a segment is for the normal form: empty or `.` (skipped), `..` (upward), or any other (ordinary).
 pub data SegmentKind : Type 0 where
-  Skipped : SegmentKind
-  Upward : SegmentKind
-  Ordinary : SegmentKind
+  Skipped Upward Ordinary : SegmentKind
 
 abbrev pub segment_kind : List ℕ → SegmentKind
 segment_kind [] = Skipped
@@ -89,8 +86,7 @@ directory_of false (Some target) = (is_absolute target, without_last (segments t
 -- The normal form of a name in the log of the target `of`, or of a name in no log. The empty name has none.
 unfoldable pub normal : Option (List ℕ) → List ℕ → Option (List ℕ)
 normal target [] = None
-normal target (byte ∷ bytes) =
-    let directory = directory_of (is_absolute (byte ∷ bytes)) target in
+normal target (byte ∷ bytes) = let directory = directory_of (is_absolute (byte ∷ bytes)) target in
     Some (join_segments directory.0 (remaining_segments directory.0 (reduce_suffix (directory.1 ++ segments (byte ∷ bytes)))))
 
 -- Whether a name is its own normal form.
