@@ -1,4 +1,5 @@
 mod Finding
 mod OutcomeRows
+mod RenderedRows
 mod Results
 mod RunRows

@@ -12,21 +12,25 @@ use Rattle.redo_gather.specs.declared.gather_fault.GatherFault.{GatherFault}
 use Rattle.redo_gather.specs.declared.gather_fault.GatherFault.TheVariants as gather
 use Rattle.redo_gather.specs.GatherFault as gathering
 use Rattle.redo_gather.specs.Streams.{MatchKnown, MatchesContents, SomeMatchingStreams, KnownInput, fault_among, logs_of}
-use Rattle.redo_view.specs.Expansion.{is_among, expansion}
+use Rattle.redo_view.specs.Expansion.{is_among}
 use Rattle.redo_view.specs.View.{find_unknown}
 use Rattle.redo_run.specs.declared.run_fault.RunFault.{RunFault}
 use Rattle.redo_run.specs.declared.run_fault.RunFault.TheVariants as fault
-use Rattle.redo_run.specs.Run.{Request, find_targets, unknown_argument, fault_of_stream, fault_or, result_of}
+use Rattle.redo_run.specs.Run.{find_targets, unknown_argument, fault_or}
+use Rattle.redo_run.specs.Rendered.{IsSomeRenderedFault, RenderCall, SomeRenderedText, rendered_result}
 use Rattle.redo_run.specs.RunFault.{IfNoText, run_fault_of_gather}
-use Rattle.redo_run.specs.Outcome.{SomeResultText}
 
 -- A text, or the fault that is returned instead.
 abbrev RunResult : Type 0
 RunResult = Result (List ℕ) RunFault
 
--- The expansion of logs at the requested targets.
-abbrev text_of : Request → List Log → RunResult
-text_of request logs = Ok (expansion logs request.options (find_targets request.targets request.arguments))
+-- The fault of a run whose stream has a fault, from the stream's number and this fault.
+abbrev stream_fault : ℕ × StreamFault → RunFault
+stream_fault found = fault.Stream found.0 found.1
+
+-- The text of logs at the requested targets.
+abbrev text_of : RenderCall → List Log → RunResult
+text_of call logs = Ok (call.text logs (find_targets call.targets call.arguments))
 
 -- Readers give some streams.
 some_stream : (reported : Option Stream) → (stream : Stream) × MatchesContents reported stream
@@ -40,23 +44,23 @@ some_streams (one ∷ reported) =
     let given = some_stream one.stream in
     (record { must_close = one.must_close; stream = given.0 } ∷ others.0, ((refl, given.1), others.1))
 
-module _ (request : Request) (streams : List (StreamInput Stream)) where
+module _ (call : RenderCall) (streams : List (StreamInput Stream)) where
   -- The result if no argument is unknown.
   abbrev after_arguments : Option (ℕ × StreamFault) → Option RunResult
-  after_arguments reported = fault_or (option_map fault_of_stream reported) (option_map (text_of request) (logs_of request.max_bytes request.targets streams))
+  after_arguments reported = fault_or (option_map stream_fault reported) (option_map (text_of call) (logs_of call.max_bytes call.targets streams))
 
-  pub result_of-argument : (failure : RunFault) → option_map fault.Unknown (unknown_argument request.targets request.arguments) ≡ Some failure → result_of request streams ≡ Some (Err failure)
-  result_of-argument failure is = ap (λ first. fault_or first (after_arguments (fault_among request.max_bytes request.targets streams))) is
+  pub rendered-argument : (failure : RunFault) → option_map fault.Unknown (unknown_argument call.targets call.arguments) ≡ Some failure → rendered_result call streams ≡ Some (Err failure)
+  rendered-argument failure is = ap (λ first. fault_or first (after_arguments (fault_among call.max_bytes call.targets streams))) is
 
-  module _ (known : unknown_argument request.targets request.arguments ≡ None) where
-    result_of-known : (reported : Option (ℕ × StreamFault)) → fault_among request.max_bytes request.targets streams ≡ reported → result_of request streams ≡ after_arguments reported
-    result_of-known reported is = ap (λ place. fault_or (option_map fault.Unknown place) (after_arguments (fault_among request.max_bytes request.targets streams))) known ∙ ap after_arguments is
+  module _ (known : unknown_argument call.targets call.arguments ≡ None) where
+    rendered-known : (reported : Option (ℕ × StreamFault)) → fault_among call.max_bytes call.targets streams ≡ reported → rendered_result call streams ≡ after_arguments reported
+    rendered-known reported is = ap (λ place. fault_or (option_map fault.Unknown place) (after_arguments (fault_among call.max_bytes call.targets streams))) known ∙ ap after_arguments is
 
-    pub result_of-stream : (number : ℕ) (reported : StreamFault) → fault_among request.max_bytes request.targets streams ≡ Some (number, reported) → result_of request streams ≡ Some (Err (fault.Stream number reported))
-    result_of-stream number reported is = result_of-known (Some (number, reported)) is
+    pub rendered-stream : (number : ℕ) (reported : StreamFault) → fault_among call.max_bytes call.targets streams ≡ Some (number, reported) → rendered_result call streams ≡ Some (Err (fault.Stream number reported))
+    rendered-stream number reported is = rendered-known (Some (number, reported)) is
 
-    pub result_of-text : (logs : List Log) → fault_among request.max_bytes request.targets streams ≡ None → logs_of request.max_bytes request.targets streams ≡ Some logs → result_of request streams ≡ Some (text_of request logs)
-    result_of-text logs none is = result_of-known None none ∙ ap (option_map (text_of request)) is
+    pub rendered-text : (logs : List Log) → fault_among call.max_bytes call.targets streams ≡ None → logs_of call.max_bytes call.targets streams ≡ Some logs → rendered_result call streams ≡ Some (text_of call logs)
+    rendered-text logs none is = rendered-known None none ∙ ap (option_map (text_of call)) is
 
 -- What holds of a fault holds if it is returned.
 pub if_rejected : (fault : RunFault) (P : RunFault → Type 0) → P fault → IfNoText (Err fault) P
@@ -66,12 +70,11 @@ if_rejected fault.OutOfMemory P p = tt
 if_rejected fault.Write P p = tt
 
 -- The result if an argument is unknown.
-pub rejected_argument : (request : Request) (reported : List KnownInput) (failure : RunFault) → (failure ≡ fault.OutOfMemory) ⊎ (option_map fault.Unknown (unknown_argument request.targets request.arguments) ≡ Some failure)
-    → IfNoText (Err failure) (λ f. SomeMatchingStreams reported (λ streams. result_of request streams ≡ Some (Err f)))
-rejected_argument request reported failure (inl is) = subst (λ f. IfNoText (Err f) (λ g. SomeMatchingStreams reported (λ streams. result_of request streams ≡ Some (Err g)))) (sym is) tt
-rejected_argument request reported failure (inr is) =
-    if_rejected failure (λ f. SomeMatchingStreams reported (λ streams. result_of request streams ≡ Some (Err f)))
-    (let streams = some_streams reported in (streams.0, streams.1, result_of-argument request streams.0 failure is))
+pub rejected_argument : (call : RenderCall) (failure : RunFault) → (failure ≡ fault.OutOfMemory) ⊎ (option_map fault.Unknown (unknown_argument call.targets call.arguments) ≡ Some failure)
+    → IfNoText (Err failure) (IsSomeRenderedFault call)
+rejected_argument call failure (inl is) = subst (λ f. IfNoText (Err f) (IsSomeRenderedFault call)) (sym is) tt
+rejected_argument call failure (inr is) =
+    if_rejected failure (IsSomeRenderedFault call) (let streams = some_streams call.inputs in (streams.0, streams.1, rendered-argument call streams.0 failure is))
 
 -- The targets that arguments name have logs.
 module _ (logs : List Log) where
@@ -107,34 +110,31 @@ all_known logs names requested arguments targets_are asked_are =
 abbrev pub LogsUnlessFault : Type 0
 LogsUnlessFault = (max_bytes : ℕ) (targets : List (List ℕ)) (streams : List (StreamInput Stream)) → IsSome (logs_of max_bytes targets streams) ↔ (fault_among max_bytes targets streams ≡ None)
 
--- What holds of the expansion of these logs holds of the run's text.
-pub some_result_text : (request : Request) (reported : List KnownInput) (P : List ℕ → Type 0) (max_bytes : ℕ) (names requested : List (List ℕ)) (logs : List Log)
-    → max_bytes ≡ request.max_bytes → names ≡ request.targets → unknown_argument request.targets request.arguments ≡ None → requested ≡ find_targets request.targets request.arguments → LogsUnlessFault
-    → SomeMatchingStreams reported (λ streams. logs_of max_bytes names streams ≡ Some logs) → P (expansion logs request.options requested) → SomeResultText (record { request = request; inputs = reported }) P
-some_result_text request reported P max_bytes names requested logs max_is names_are known asked_are law given shown =
-    let logs_are : logs_of request.max_bytes request.targets given.0 ≡ Some logs = (λ i. logs_of (sym max_is i) (sym names_are i) given.0) ∙ given.2 in
-    let none = (law request.max_bytes request.targets given.0).0 (ap is_some logs_are) in (
+-- What holds of the text of these logs holds of the run's text.
+pub some_result_text : (call : RenderCall) (P : List ℕ → Type 0) (requested : List (List ℕ)) (logs : List Log)
+    → unknown_argument call.targets call.arguments ≡ None → requested ≡ find_targets call.targets call.arguments → LogsUnlessFault
+    → SomeMatchingStreams call.inputs (λ streams. logs_of call.max_bytes call.targets streams ≡ Some logs) → P (call.text logs requested) → SomeRenderedText call P
+some_result_text call P requested logs known asked_are law given shown =
+    let none = (law call.max_bytes call.targets given.0).0 (ap is_some given.2) in (
       given.0,
       given.1,
       (
-        expansion logs request.options (find_targets request.targets request.arguments),
-        result_of-text request given.0 known logs none logs_are,
-        subst (λ names. P (expansion logs request.options names)) asked_are shown,
+        call.text logs (find_targets call.targets call.arguments),
+        rendered-text call given.0 known logs none given.2,
+        subst (λ names. P (call.text logs names)) asked_are shown,
       ),
     )
 
 -- The result if a stream has a fault.
-pub rejected_stream : (request : Request) (reported : List KnownInput) (max_bytes : ℕ) (names : List (List ℕ)) (failure : GatherFault)
-    → max_bytes ≡ request.max_bytes → names ≡ request.targets → unknown_argument request.targets request.arguments ≡ None
-    → gathering.IfStreamFault {A = Unit {0}} (Err failure) (λ number fault. SomeMatchingStreams reported (λ streams. fault_among max_bytes names streams ≡ Some (number, fault)))
-    → IfNoText (Err (run_fault_of_gather failure)) (λ f. SomeMatchingStreams reported (λ streams. result_of request streams ≡ Some (Err f)))
-rejected_stream request reported max_bytes names (gather.Stream number fault) max_is names_are known given =
-    (given.0, given.1, result_of-stream request given.0 known number fault ((λ i. fault_among (sym max_is i) (sym names_are i) given.0) ∙ given.2))
-rejected_stream request reported max_bytes names gather.OutOfMemory max_is names_are known given = tt
+pub rejected_stream : (call : RenderCall) (failure : GatherFault) → unknown_argument call.targets call.arguments ≡ None
+    → gathering.IfStreamFault {A = Unit {0}} (Err failure) (λ number fault. SomeMatchingStreams call.inputs (λ streams. fault_among call.max_bytes call.targets streams ≡ Some (number, fault)))
+    → IfNoText (Err (run_fault_of_gather failure)) (IsSomeRenderedFault call)
+rejected_stream call (gather.Stream number fault) known given = (given.0, given.1, rendered-stream call given.0 known number fault given.2)
+rejected_stream call gather.OutOfMemory known given = tt
 
 -- A run has a result.
-module _ (law : LogsUnlessFault) (request : Request) (streams : List (StreamInput Stream)) where
-  some_logs : (reported : Option (ℕ × StreamFault)) (logs : Option (List Log)) → (reported ≡ None → IsSome logs) → IsSome (fault_or (option_map fault_of_stream reported) (option_map (text_of request) logs))
+module _ (law : LogsUnlessFault) (call : RenderCall) (streams : List (StreamInput Stream)) where
+  some_logs : (reported : Option (ℕ × StreamFault)) (logs : Option (List Log)) → (reported ≡ None → IsSome logs) → IsSome (fault_or (option_map stream_fault reported) (option_map (text_of call) logs))
   some_logs (Some reported) logs some = refl
   some_logs None None some = absurd (let none : false ≡ true = some refl in cc)
   some_logs None (Some logs) some = refl
@@ -143,7 +143,23 @@ module _ (law : LogsUnlessFault) (request : Request) (streams : List (StreamInpu
   some_fault_or None after some = some
   some_fault_or (Some place) after some = refl
 
-  pub some_result : IsSome (result_of request streams)
+  pub some_result : IsSome (rendered_result call streams)
   some_result =
-      some_fault_or (unknown_argument request.targets request.arguments) (after_arguments request streams (fault_among request.max_bytes request.targets streams))
-      (some_logs (fault_among request.max_bytes request.targets streams) (logs_of request.max_bytes request.targets streams) (law request.max_bytes request.targets streams).1)
+      some_fault_or (unknown_argument call.targets call.arguments) (after_arguments call streams (fault_among call.max_bytes call.targets streams))
+      (some_logs (fault_among call.max_bytes call.targets streams) (logs_of call.max_bytes call.targets streams) (law call.max_bytes call.targets streams).1)
+
+-- Another text changes no fault.
+module _ (call : RenderCall) (text : List Log → List (List ℕ) → List ℕ) (streams : List (StreamInput Stream)) (failure : RunFault) where
+  abbrev other : RenderCall
+  other = record call { text = text }
+
+  fails_too : (place : Option ℕ) (reported : Option (ℕ × StreamFault)) (logs : Option (List Log))
+      → fault_or (option_map fault.Unknown place) (fault_or (option_map stream_fault reported) (option_map (text_of call) logs)) ≡ Some (Err failure)
+      → fault_or (option_map fault.Unknown place) (fault_or (option_map stream_fault reported) (option_map (text_of other) logs)) ≡ Some (Err failure)
+  fails_too (Some place) reported logs is = is
+  fails_too None (Some reported) logs is = is
+  fails_too None None None is = is
+  fails_too None None (Some logs) is = absurd (cc)
+
+  pub same_fault : rendered_result call streams ≡ Some (Err failure) → rendered_result other streams ≡ Some (Err failure)
+  same_fault = fails_too (unknown_argument call.targets call.arguments) (fault_among call.max_bytes call.targets streams) (logs_of call.max_bytes call.targets streams)

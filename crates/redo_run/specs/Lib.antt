@@ -1,4 +1,5 @@
 pub mod Outcome
 pub mod Private
+pub mod Rendered
 pub mod Run
 pub mod RunFault

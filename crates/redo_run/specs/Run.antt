@@ -2,7 +2,6 @@
 use Rattle.std.specs.Prelude.{ℕ, List, Option, None, Some, Result, Ok, Err, is_none, option_and_then, position, filter_map, if◌then◌else◌}
 use Rattle.std.specs.Option.{option_map}
 use Rattle.std.specs.Global.{Vec}
-use Rattle.redo_line.specs.declared.stream_fault.StreamFault.{StreamFault}
 use Rattle.redo_device.specs.Feed.{Stream}
 use Rattle.redo_line.specs.Source.{StreamInput}
 use Rattle.redo_name.specs.Names.{normal}
@@ -39,9 +38,6 @@ unknown_argument targets arguments = position (λ argument. is_none (find_target
 abbrev pub find_targets : List (List ℕ) → List (List ℕ) → List (List ℕ)
 find_targets targets arguments = filter_map (find_target targets) arguments
 
-abbrev pub fault_of_stream : ℕ × StreamFault → RunFault
-fault_of_stream found = fault.Stream found.0 found.1
-
 -- The fault, if there is one, as the result; otherwise the result `other`.
 abbrev pub fault_or : Option RunFault → Option (Result (List ℕ) RunFault) → Option (Result (List ℕ) RunFault)
 fault_or None other = other
@@ -53,6 +49,6 @@ fault_or (Some fault) other = Some (Err fault)
 abbrev pub result_of : Request → List (StreamInput Stream) → Option (Result (List ℕ) RunFault)
 result_of request streams =
     fault_or (option_map fault.Unknown (unknown_argument request.targets request.arguments))
-    (fault_or (option_map fault_of_stream (fault_among request.max_bytes request.targets streams))
+    (fault_or (option_map (λ found. fault.Stream found.0 found.1) (fault_among request.max_bytes request.targets streams))
     (option_map (λ (logs : List Log). Ok (expansion logs request.options (find_targets request.targets request.arguments)))
     (logs_of request.max_bytes request.targets streams)))

@@ -5,15 +5,15 @@ ghost use Rattle.redo_logs.specs.Logs.{has_ended};
 ghost use Rattle.redo_gather.specs.GatherFault as gathering;
 ghost use Rattle.redo_gather.specs.Gathered.{IsGathered};
 ghost use Rattle.redo_gather.specs.Streams.{known_inputs};
-ghost use Rattle.redo_view.specs.Expansion.{expansion};
 ghost use Rattle.redo_view.specs.View.{find_unknown};
-ghost use Rattle.redo_view.specs.Written.{WroteAll, WrotePrefix, WroteUntilFailed};
+ghost use Rattle.redo_view.specs.Written.{WroteAll, WroteNothing, WrotePrefix, WroteUntilFailed};
 ghost use Rattle.redo_index.specs.Index.{must_close_flags, listed_targets};
 ghost use Rattle.redo_run.specs.declared.run_fault.RunFault.TheVariants.{OutOfMemory, Write};
 ghost use Rattle.redo_run.specs.Private.LookUp.{IsArgumentFault};
 ghost use Rattle.redo_options.specs.Arguments.{argument_bytes};
 ghost use Rattle.redo_run.specs.Run.{find_target, find_targets, unknown_argument};
 ghost use Rattle.redo_run.specs.RunFault.{IfStreamFault, IfNoText, IfUnknown};
+ghost use Rattle.redo_run.specs.Rendered.{IsSomeRenderedFault, SomeRenderedText, render_call};
 ghost use Rattle.redo_run.specs.Outcome.{IsSomeResultFault, WritesSomePrefix, WritesSomeText, WritesSomeTextUntilFailure, call};
 
 use crate::run_fault::RunFault;
@@ -21,7 +21,7 @@ use redo_gather::{Gate, GatherFault, Plan, gather_with_keys, logs_unless_fault};
 use redo_index::Index;
 use redo_line::{Feed, NameFault, Sink, TargetName};
 use redo_logs::LogTable;
-use redo_view::{Options, ViewFault, view};
+use redo_view::{FormFault, Options, PlainText, Render};
 use std::alloc::{AllocError, Global};
 use std::sync::Wait;
 use std::thread::Threads;
@@ -77,10 +77,56 @@ pub fn run<T: Threads + Wait + Sync, R: Feed + Send, W: Sink, G: Gate>(
         WritesSomePrefix (call R.contents index.now readers.items plan.now.max_bytes options.now arguments.now)
         (W.written out.old) (W.written out.new) }
 {
+    let renderer = PlainText { options: *options };
+    run_as(
+        rt, alloc, index, readers, plan, &renderer, arguments, gate, out,
+    )
+}
+
+/// Writes any text of the logs of the requested targets, such as a page. [`run`] is the same with plain text.
+///
+/// The arguments are looked up before a byte is read, and nothing is written before all streams were read. `out` isn't
+/// flushed.
+pub fn run_as<T: Threads + Wait + Sync, R: Feed + Send, V: Render, W: Sink, G: Gate>(
+    rt: &T,
+    alloc: Global,
+    index: &Index,
+    readers: Vec<R>,
+    plan: &Plan,
+    renderer: &V,
+    arguments: &[Vec<u8>],
+    gate: &G,
+    out: &mut W,
+) -> Result<(), RunFault>
+    requires { length readers.items ≡ length index.now }
+
+    // The whole text was written, and no other byte.
+    ensures ok { IfOk result (λ _. SomeRenderedText
+        (render_call (V.text renderer.now) R.contents index.now readers.items plan.now.max_bytes arguments.now)
+        (WroteAll (W.written out.old) (W.written out.new))) }
+
+    // An argument is unknown, or a stream has a fault: the fault says which one, and nothing was written.
+    ensures fault { IfNoText result (IsSomeRenderedFault
+        (render_call (V.text renderer.now) R.contents index.now readers.items plan.now.max_bytes arguments.now)) }
+    ensures nothing_written { IfNoText result (λ _. WroteNothing (W.written out.old) (W.written out.new)) }
+    ensures argument_in_range { IfUnknown result (λ place. place < length arguments.now) }
+    ensures stream_in_range { IfStreamFault result (λ number _. number < length index.now) }
+    ensures never_out_of_memory { IfStreamFault result (λ _ fault. fault ≢ stream.OutOfMemory) }
+
+    // A prefix of the text was written, and then one write failed.
+    ensures write { result ≡ Err Write → SomeRenderedText
+        (render_call (V.text renderer.now) R.contents index.now readers.items plan.now.max_bytes arguments.now)
+        (WroteUntilFailed (W.written out.old) (W.written out.new)) }
+
+    // An allocation failed, and no write failed: nothing was written, or a prefix of the text.
+    ensures memory { result ≡ Err OutOfMemory → WroteNothing (W.written out.old) (W.written out.new) ⊎ SomeRenderedText
+        (render_call (V.text renderer.now) R.contents index.now readers.items plan.now.max_bytes arguments.now)
+        (WrotePrefix (W.written out.old) (W.written out.new)) }
+{
     let targets = find_targets(alloc, index, arguments)?;
     logs_unless_fault();
     let table = gather_listed(rt, alloc, index, readers, plan, gate)?;
-    show(alloc, &table, options, &targets, out)
+    show(alloc, &table, renderer, &targets, out)
 }
 
 // Returns the logs of all targets of the index.
@@ -103,27 +149,26 @@ fn gather_listed<T: Threads + Wait + Sync, R: Feed + Send, G: Gate>(
 }
 
 // Shows the logs of targets that each have one.
-fn show<W: Sink>(
+fn show<V: Render, W: Sink>(
     alloc: Global,
     table: &LogTable,
-    options: &Options,
+    renderer: &V,
     targets: &[TargetName],
     out: &mut W,
 ) -> Result<(), RunFault>
     requires ended { list_all has_ended table.now ≡ true }
     requires known { find_unknown table.now targets.now ≡ None }
-    ensures ok { OnOk result (WroteAll (W.written out.old) (W.written out.new) (expansion table.now options.now targets.now)) }
+    ensures ok { OnOk result (WroteAll (W.written out.old) (W.written out.new) (V.text renderer.now table.now targets.now)) }
     ensures write_or_memory { IfErr result (λ fault. (fault ≡ Write) ⊎ (fault ≡ OutOfMemory)) }
     ensures write { result ≡ Err Write →
-        WroteUntilFailed (W.written out.old) (W.written out.new) (expansion table.now options.now targets.now) }
+        WroteUntilFailed (W.written out.old) (W.written out.new) (V.text renderer.now table.now targets.now) }
     ensures memory { result ≡ Err OutOfMemory →
-        WrotePrefix (W.written out.old) (W.written out.new) (expansion table.now options.now targets.now) }
+        WrotePrefix (W.written out.old) (W.written out.new) (V.text renderer.now table.now targets.now) }
 {
-    match view(alloc, table, options, targets, out) {
+    match renderer.render(alloc, table, targets, out) {
         Ok(()) => Ok(()),
-        Err(ViewFault::Unknown { .. }) => unreachable!(),
-        Err(ViewFault::Write) => Err(RunFault::Write),
-        Err(ViewFault::OutOfMemory) => Err(RunFault::OutOfMemory),
+        Err(FormFault::Write) => Err(RunFault::Write),
+        Err(FormFault::OutOfMemory) => Err(RunFault::OutOfMemory),
     }
 }
 

@@ -4,6 +4,8 @@ mod ExpansionRows
 mod FirstMention
 mod Flags
 mod Growing
+mod LogLineLemmas
+mod LogLineRows
 mod Naming
 mod NestingLemmas
 mod OneEntry

@@ -50,15 +50,15 @@ one_event count next event is = ap (option_and_then (λ (n : ℕ). open_after_al
 
 module _ (logs : List Log) (options : Options) where
   -- Whether a target is opened if it is named, has a log, and logs are opened recursively.
-  abbrev IsSettled : ViewState → List ℕ → Type 0
+  abbrev pub IsSettled : ViewState → List ℕ → Type 0
   IsSettled state name = options.recursive ≡ true → is_among name (targets_of logs) ≡ true → is_among name state.named ≡ true → is_among name state.opened ≡ true
 
   -- Whether this holds for all targets.
-  abbrev Settled : ViewState → Type 0
+  abbrev pub Settled : ViewState → Type 0
   Settled state = (name : List ℕ) → IsSettled state name
 
   -- Whether this holds for all targets but one.
-  abbrev SettledBut : List ℕ → ViewState → Type 0
+  abbrev pub SettledBut : List ℕ → ViewState → Type 0
   SettledBut target state = (name : List ℕ) → (name ≡ target) ⊎ IsSettled state name
 
   inserted : (name target : List ℕ) (names : List (List ℕ)) → is_among name (insert_name target names) ≡ true → (is_among name names ≡ true) ⊎ (name ≡ target)
@@ -69,7 +69,7 @@ module _ (logs : List Log) (options : Options) where
       by false is = more-only name target names is
 
   -- A log that is begun is opened.
-  begin_settles : (target : List ℕ) (state : ViewState) → SettledBut target state → Settled (begin_log target state)
+  pub begin_settles : (target : List ℕ) (state : ViewState) → SettledBut target state → Settled (begin_log target state)
   begin_settles target state settled name recursive listed named = by (settled name)
     where
       itself : name ≡ target → is_among name (state.opened ++ target ∷ []) ≡ true
@@ -117,7 +117,7 @@ module _ (logs : List Log) (options : Options) where
     line = Mentioned depth pid how name opening
 
     -- If the mention opens the log, its target isn't named yet, so there is a line.
-    shows_line : opens_here opening ≡ true → (options.debug_locks || not (is_among name state.named)) ≡ true
+    pub shows_line : opens_here opening ≡ true → (options.debug_locks || not (is_among name state.named)) ≡ true
     shows_line opens = or_right options.debug_locks (not (is_among name state.named)) (by (is_among name state.named) refl)
       where
         by : (named : Bool) → is_among name state.named ≡ named → not named ≡ true
@@ -139,7 +139,7 @@ module _ (logs : List Log) (options : Options) where
         by false = refl
 
     -- Only the mentioned target may not be opened yet.
-    settled_but : SettledBut name mentioned
+    pub settled_but : SettledBut name mentioned
     settled_but other = by (is_among other (insert_name name state.named)) refl
       where
         by : (named : Bool) → is_among other (insert_name name state.named) ≡ named → (other ≡ name) ⊎ IsSettled mentioned other
@@ -150,7 +150,7 @@ module _ (logs : List Log) (options : Options) where
         ]
 
     -- If the mention doesn't open its log, there is none, or it is opened.
-    settled_line : opens_here opening ≡ false → Settled mentioned
+    pub settled_line : opens_here opening ≡ false → Settled mentioned
     settled_line opens other recursive listed named = elim (inserted other name state.named named) [
       | inl old ↦ settled other recursive listed old
       | inr same ↦ ap (λ n. is_among n state.opened) same ∙ itself (ap (λ n. is_among n (targets_of logs)) (sym same) ∙ listed)

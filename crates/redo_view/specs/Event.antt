@@ -18,9 +18,8 @@ pub data Event : Type 0 where
 
 -- Whether the log is opened by this event. Then everything up to its `LogEnds` is in it.
 abbrev pub opens_here : Opening → Bool
-opens_here NotOpened = false
-opens_here (OpenedBefore number) = false
 opens_here (OpensHere number) = true
+opens_here opening = false
 
 -- The opening of a target's log, from its number, if there is one. A log is opened unless it was opened before, if it may be.
 abbrev pub opening_of : Bool → Bool → Option ℕ → Opening

@@ -49,11 +49,8 @@ mention_events options depth pid how name opening named =
 
 -- Shows the mention's line and marks its target as named. Does not open the target's log.
 abbrev pub show_mention_line : Options → ℕ → ℕ → How → List ℕ → Opening → ViewState → ViewState
-show_mention_line options depth pid how name opening state = record {
-  named = insert_name name state.named;
-  opened = state.opened;
-  events = state.events ++ mention_events options depth pid how name opening state.named;
-}
+show_mention_line options depth pid how name opening state = let shown = mention_events options depth pid how name opening state.named in
+    record { named = insert_name name state.named; opened = state.opened; events = state.events ++ shown }
 
 -- ---- logs
 
@@ -87,8 +84,7 @@ module _ (logs : List Log) (options : Options) where
 
   -- Shows a mention: its line, then its target's log one level deeper, if the mention opens it.
   abbrev pub show_mention : ShowLog → ℕ → ℕ → How → List ℕ → ViewState → ViewState
-  show_mention show_nested depth pid how name state =
-      let opening = mention_opening name state in
+  show_mention show_nested depth pid how name state = let opening = mention_opening name state in
       let mentioned = show_mention_line options depth pid how name opening state in
       if opens_here opening then show_nested name (depth + 1) mentioned else mentioned
 
@@ -101,8 +97,7 @@ module _ (logs : List Log) (options : Options) where
   -- Shows entries in order.
   abbrev pub show_entries : ShowLog → ℕ → List Entry → ViewState → ViewState
   show_entries show_nested depth [] state = state
-  show_entries show_nested depth (entry ∷ entries) state =
-      show_entries show_nested depth entries (show_entry show_nested depth entry state)
+  show_entries show_nested depth (entry ∷ entries) state = show_entries show_nested depth entries (show_entry show_nested depth entry state)
 
   -- Shows the log of a target, nesting at most `levels` logs; below them nothing is shown. The bound makes the recursion
   -- terminate.

@@ -3,6 +3,7 @@ pub mod EventRef
 pub mod Expansion
 pub mod Form
 pub mod Laws
+pub mod LogLines
 pub mod Nesting
 pub mod Private
 pub mod Reachable

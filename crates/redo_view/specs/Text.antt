@@ -60,13 +60,10 @@ entry_text options depth (Done pid status name) = exit_text options depth pid st
 entry_text options depth (Note pid kind text) = note_text options depth pid kind text
 entry_text options depth entry = []
 
--- The redo line of a mention. With `debug_locks` it has a suffix.
-abbrev pub mention_text : Options → ℕ → ℕ → How → List ℕ → List ℕ
-mention_text options depth pid how name = redo_line options depth (Some pid) (if options.debug_locks then name ++ mention_suffix how else name)
-
--- The text of an event.
+-- The text of an event. A mention's redo line has a suffix with `debug_locks`.
 abbrev pub event_text : Options → Event → List ℕ
 event_text options (Requested name opening) = redo_line options 0 None name
-event_text options (Mentioned depth pid how name opening) = mention_text options depth pid how name
+event_text options (Mentioned depth pid how name opening) =
+    redo_line options depth (Some pid) (if options.debug_locks then name ++ mention_suffix how else name)
 event_text options (EntryShown depth entry) = entry_text options depth entry
 event_text options (LogEnds depth) = []

@@ -10,6 +10,7 @@ ghost use Rattle.redo_view.specs.Expansion.{ShowLog, is_among, entries_of_target
 ghost use Rattle.redo_view.specs.Laws.{SatisfiesEquation, IsUniqueSolution, LastEntryIsShownLast, PartsAreShownInOrder, IsAppendOnly, TextIsAppendOnly, HasNoDuplicates, OnlyReachable, AllReachable};
 ghost use Rattle.redo_view.specs.Laws.{MentionedFirst, MentionedAgain, MentionedUnopened, RequestedFirst, RequestedAgain};
 ghost use Rattle.redo_view.specs.Laws.{HaveTheirEntries, NamedFirst, NamedAgain, NamedByEntries, NamedByLog, NamedFinally};
+ghost use Rattle.redo_view.specs.LogLines.{LogsShowTheirLines};
 ghost use Rattle.redo_view.specs.Nesting.{AreNested};
 
 /// If no two logs have the same target, as in a table, a target's entries are the entries of its log. Without a log
@@ -73,4 +74,9 @@ pub fn named_once()
 /// ends.
 pub fn logs_nest()
     ensures { (logs : List Log) (options : Options) (requested : List (List ℕ)) → AreNested logs options requested }
+{}
+
+/// Each log that is opened shows its text lines, in order, each once, before it ends, and no others.
+pub fn logs_show_their_lines()
+    ensures { (logs : List Log) (options : Options) (requested : List (List ℕ)) → LogsShowTheirLines logs options requested }
 {}

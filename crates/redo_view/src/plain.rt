@@ -2,13 +2,18 @@
 ghost use Rattle.std.specs.Prelude.{◌≡◌};
 ghost use Rattle.redo_device.specs.Sink.{Writes};
 ghost use Rattle.redo_view.specs.EventRef.{IsWrittenAlone, event_value};
+ghost use Rattle.redo_view.specs.Expansion.{expansion};
 ghost use Rattle.redo_view.specs.Text.{event_text};
 
 use crate::event::EventRef;
 use crate::form::{Form, FormFault};
+use crate::render::Render;
 use crate::texts::{write_entry, write_lines, write_mention, write_target};
-use redo_line::{Broken, Sink};
+use crate::viewer::{ViewFault, view};
+use redo_line::{Broken, Sink, TargetName};
+use redo_logs::LogTable;
 use redo_options::Options;
+use std::alloc::Global;
 
 /// Plain text, with these options. It has no state.
 #[derive(Clone, Copy)]
@@ -34,6 +39,25 @@ impl Form for PlainText {
     ) -> Result<(), FormFault> {
         write_lines(&self.options, lines, out)?;
         Ok(())
+    }
+}
+
+impl Render for PlainText {
+    ghost text = { λ form logs requested. expansion logs form.options requested };
+
+    fn render<W: Sink>(
+        &self,
+        alloc: Global,
+        table: &LogTable,
+        requested: &[TargetName],
+        out: &mut W,
+    ) -> Result<(), FormFault> {
+        match view(alloc, table, &self.options, requested, out) {
+            Ok(()) => Ok(()),
+            Err(ViewFault::Unknown { .. }) => unreachable!(),
+            Err(ViewFault::Write) => Err(FormFault::Write),
+            Err(ViewFault::OutOfMemory) => Err(FormFault::OutOfMemory),
+        }
     }
 }
 
