@@ -5,12 +5,15 @@ use Rattle.std.specs.Borrow.{Bor}
 use Rattle.std.specs.Option.{option_map_or}
 use Rattle.std.specs.Str.Parse.{ParsesUnsigned}
 use Rattle.clap.specs.Matches.{ReadsOne, first_value, matched_of, one_text, raw_values}
-use Rattle.clap.specs.Walk.{Text, first_of, one_of, rows_of}
+use Rattle.clap.specs.Walk.{Text, all_of, first_of, one_of, rows_of}
 use Rattle.clap.specs.declared.parser.matches.Found.{Found}
 use Rattle.clap.proofs.CallerReads.{signed_reads}
 use Rattle.clap.proofs.WalkLemmas.{first_value-rows, one_text-rows, raw_values-rows}
 use Rattle.redo_args.specs.Job.{is_on, is_true, number_of, number_or, targets_of}
 use Rattle.redo_args.specs.Private.Matches.{IsFlag, IsFlagText, IsNumber, IsNumberTo}
+
+abbrev pub nows : List (Bor Text) → List Text
+nows = map (λ word. word.now)
 
 -- The value of a flag.
 pub flag_is : (found : Found) (id : Text) (answer : Bool) → IsFlag id (rows_of found)
@@ -50,15 +53,23 @@ text_is found id answer result default result_is is = ap (λ (text : Bor Text). 
     go None = refl
     go (Some text) = refl
 
-abbrev nows : List (Bor Text) → List Text
-nows = map (λ word. word.now)
+-- The text of an option, if it is given.
+pub given_text_is : (found : Found) (id : Text) (answer : Option (Bor Text)) → option_map (λ text. text.now) answer ≡ first_value found id → option_map (λ (text : Bor Text). text.now) answer ≡ first_of id (rows_of found)
+given_text_is found id answer is = is ∙ first_value-rows found id
 
--- The arguments that are not options.
+-- The arguments that are not options, or the default if there are none.
+pub words_are : (found : Found) (id : Text) (answer : Option (Bor (List (Bor Text)))) (result default : Bor (List (Bor Text))) → result ≡ unwrap_or answer default
+    → option_map (λ words. nows words.now) answer ≡ option_map raw_values (matched_of found id)
+    → nows result.now ≡ unwrap_or (all_of id (rows_of found)) (nows default.now)
+words_are found id answer result default result_is is = ap (λ (words : Bor (List (Bor Text))). nows words.now) result_is ∙ go answer ∙ ap (λ words. unwrap_or words (nows default.now)) (is ∙ raw_values-rows found id)
+  where
+    go : (answer : Option (Bor (List (Bor Text)))) → nows (unwrap_or answer default).now ≡ unwrap_or (option_map (λ words. nows words.now) answer) (nows default.now)
+    go None = refl
+    go (Some words) = refl
+
+-- The arguments that name targets; none by default.
 pub targets_are : (found : Found) (answer : Option (Bor (List (Bor Text)))) (result none : Bor (List (Bor Text))) → result ≡ unwrap_or answer none → none.now ≡ []
     → option_map (λ words. nows words.now) answer ≡ option_map raw_values (matched_of found (codes "target"))
     → nows result.now ≡ targets_of (rows_of found)
-targets_are found answer result none result_is empty is = ap (λ (words : Bor (List (Bor Text))). nows words.now) result_is ∙ go answer ∙ ap (λ words. unwrap_or words []) (is ∙ raw_values-rows found (codes "target"))
-  where
-    go : (answer : Option (Bor (List (Bor Text)))) → nows (unwrap_or answer none).now ≡ unwrap_or (option_map (λ words. nows words.now) answer) []
-    go None = ap nows empty
-    go (Some words) = refl
+targets_are found answer result none result_is empty is =
+    words_are found (codes "target") answer result none result_is is ∙ ap (λ words. unwrap_or (all_of (codes "target") (rows_of found)) (nows words)) empty

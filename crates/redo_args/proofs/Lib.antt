@@ -1,5 +1,7 @@
-mod ErrorLemmas
-mod Getters
-mod OneKind
+pub mod CommandLemmas
+pub mod ErrorLemmas
+pub mod Getters
+pub mod OneKind
+pub mod ParseLemmas
 mod Sound
 mod WordsRows

@@ -1,5 +1,5 @@
--- For every command line there is at most one kind of parse error.
-use Rattle.std.proofs.Common.{◌+◌, ◌≡◌, ◌≤◌, ◌==◌, ◌&&◌, ◌||◌, ℕ, zero, suc, Bool, true, false, not, List, [], ◌∷◌, length, drop, min, is_some, Option, Some, None, arith, refl, subst, sym, encode_utf8, slice_get}
+-- For every command without subcommands and every list of arguments there is at most one kind of parse error.
+use Rattle.std.proofs.Common.{◌+◌, ◌≡◌, ◌≤◌, ◌==◌, ◌&&◌, ◌||◌, ℕ, zero, suc, Bool, true, false, not, List, [], ◌∷◌, length, drop, min, is_some, Option, Some, None, arith, subst, sym, encode_utf8, slice_get}
 use Rattle.std.specs.Prelude.{if◌then◌else◌, nat_lt}
 use Rattle.std.specs.Option.{option_map_or}
 use Rattle.std.specs.Str.{bytes_eq, chars}
@@ -16,7 +16,6 @@ use Rattle.clap.specs.declared.builder.action.ArgAction.{ArgAction}
 use Rattle.clap.specs.declared.builder.action.ArgAction.TheVariants as action
 use Rattle.clap.specs.declared.builder.value_parser.ValueParser.{ValueParser}
 use Rattle.clap.specs.declared.error.kind.ErrorKind.TheVariants as kind
-use Rattle.redo_args.specs.CommandLine.{redo_log}
 
 record IsOne (kinds : Kinds) : Type 0 where
   one : length kinds ≤ 1
@@ -190,15 +189,8 @@ leaf_fault-one top words leaf =
     let stop = (walk top.rules [] nothing_held words).stopped in
     level_fault-one top words (is_some (entered app stop)) (entered_fault app stop) leaf (option-one _ stop [] (λ p. none-one) none-one)
 
-no_subcommands : built redo_log ≡ record { top = (built redo_log).top; subs = [] }
-unfolding redo_log
-no_subcommands = refl
-
-leaf : (built redo_log).top.is_leaf ≡ true
-unfolding redo_log
-leaf = refl
-
-pub one_kind : (words : List Text) → length (fault_of redo_log words) ≤ 1
-one_kind words =
-    let of_words = argument_words redo_log words in
-    (subst (λ (app : App). IsOne (built_fault app nothing_held of_words)) (sym no_subcommands) (leaf_fault-one (built redo_log).top of_words leaf)).one
+-- A command without subcommands.
+pub one_kind_of : (app : App) → built app ≡ record { top = (built app).top; subs = [] } → (built app).top.is_leaf ≡ true → (words : List Text) → length (fault_of app words) ≤ 1
+one_kind_of app no_subcommands leaf words =
+    let of_words = argument_words app words in
+    (subst (λ (one : App). IsOne (built_fault one nothing_held of_words)) (sym no_subcommands) (leaf_fault-one (built app).top of_words leaf)).one

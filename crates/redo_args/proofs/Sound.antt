@@ -1,223 +1,56 @@
 -- The rows of a parse are sound: each has values that its rule allows.
-use Rattle.std.proofs.Common.{◌≡◌, ◌⊎◌, ◌∙◌, ◌<◌, ◌≤◌, ◌&&◌, ℕ, zero, suc, Bool, true, false, not, List, [], ◌∷◌, length, map, is_some, Option, Some, None, Ok, Err, Result, refl, sym, subst, ap, inl, inr, arith, codes}
-use Rattle.std.specs.Prelude.{IfErr, IfOk, IfSome, MatchResult, IsErrAnd, option_map, pos, slice_get, unwrap_or}
-use Rattle.std.specs.Borrow.{Bor}
-use Rattle.std.specs.List.{All, AllByRecursion, slice_index_or}
-use Rattle.std.specs.Str.{bytes_eq}
-use Rattle.std.proofs.lemmas.Bool.{eqb-true}
+use Rattle.std.proofs.Common.{◌≡◌, ◌∙◌, ◌<◌, ◌≤◌, true, false, List, [], length, is_some, Option, refl, sym, subst, ap, arith, codes}
+use Rattle.std.specs.Prelude.{pos, unwrap_or}
+use Rattle.std.specs.List.{AllByRecursion, slice_index_or}
 use Rattle.std.proofs.lemmas.List.{length-map}
-use Rattle.std.proofs.lemmas.Slice.Eq.{bytes_eq-Decides}
-use Rattle.clap.specs.Built.{BuildsOrBreaks, BuildsTo, IsParsedFrom, IsPlain, IsPlainArg, is_broken}
-use Rattle.clap.specs.Facts.{Entry, EntryPasses, HasReading, IsParsed, PassesArg, ValuesPass, args_of, groups_of, parser_of_value, unwrap_or_range}
+use Rattle.clap.specs.Built.{IsParsedFrom}
+use Rattle.clap.specs.Facts.{args_of}
 use Rattle.clap.specs.Faults.{fault_of, is_simple_and_free}
-use Rattle.clap.specs.Kinds.{FailsBy, HasKind, IsAmong, Kinds}
-use Rattle.clap.specs.Matches.{found_of, has_subcommand, matched_of, one_text, raw_values}
-use Rattle.clap.specs.Simple.{App, app_of, built, is_buildable, is_simple}
-use Rattle.clap.specs.Values.{Accepts, kind_of, read_as, reading_of}
-use Rattle.clap.specs.Walk.{Rule, Text, is_empty, rows_of, rule_of}
-use Rattle.clap.specs.declared.builder.action.ArgAction.TheVariants.{Append, Count, Set}
-use Rattle.clap.specs.declared.builder.arg.Arg.{Arg}
+use Rattle.clap.specs.Matches.{found_of, matched_of}
+use Rattle.clap.specs.Simple.{App, built, is_buildable, is_simple}
+use Rattle.clap.specs.Walk.{Rule, Text, rows_of, rule_of}
 use Rattle.clap.specs.declared.builder.command.Command.{Command}
 use Rattle.clap.specs.declared.builder.command.Command.TheViews.{out-Command}
-use Rattle.clap.specs.declared.builder.value_parser.Reading.{Reading}
-use Rattle.clap.specs.declared.builder.value_parser.ValueParser.{ValueParser}
 use Rattle.clap.specs.declared.builder.value_parser.ValueParser.TheVariants as vp
-use Rattle.clap.specs.declared.error.Error.{Error}
-use Rattle.clap.specs.declared.error.kind.ErrorKind.TheVariants as kind
 use Rattle.clap.specs.declared.parser.matches.ArgMatches.{ArgMatches}
-use Rattle.clap.specs.declared.parser.matches.Found.{Found}
-use Rattle.clap.specs.declared.parser.matches.MatchedArg.{MatchedArg}
-use Rattle.clap.proofs.CallerLemmas.{entry_by_id, present_has_entry, required_present}
-use Rattle.clap.proofs.WalkLemmas.{one_text-rows, raw_values-rows}
+use Rattle.clap.proofs.CallerLemmas.{present_has_entry, required_present}
+use Rattle.clap.proofs.WalkLemmas.{raw_values-rows}
 use Rattle.redo_args.specs.CommandLine.{redo_log, words_rule}
-use Rattle.redo_args.specs.Private.Matches.{AreSound, IsFlag, IsFlagText, IsNumber, IsNumberTo}
-use Rattle.redo_args.specs.Words.{fault_of_words, fault_of_first, fault_of_kind}
-use Rattle.redo_args.specs.declared.words_fault.WordsFault.{WordsFault}
-use Rattle.redo_args.specs.declared.words_fault.WordsFault.TheVariants.{OutOfMemory}
-use Rattle.redo_args.proofs.OneKind.{one_kind}
-
--- ---- arguments by their rules
-
-both : (a b : Bool) → (a && b) ≡ true → (a ≡ true) × (b ≡ true)
-both true b is = (refl, is)
-both false b is = cc
-
-not_true : (a : Bool) → not a ≡ true → a ≡ false
-not_true true is = cc
-not_true false is = refl
-
-none_in : {X : Type 0} (xs : List X) → is_empty xs ≡ true → xs ≡ []
-none_in [] is = refl
-none_in (x ∷ xs) is =
-    let bad = eqb-true (length (x ∷ xs)) 0 is in
-    absurd (omega arith)
-
-is_none : {X : Type 0} (o : Option X) → is_some o ≡ false → o ≡ None
-is_none None is = refl
-is_none (Some x) is = cc
-
-all_args : (P : Rule → Type 0) (xs : List Arg) → AllByRecursion P (map rule_of xs) → All (λ a. P (rule_of a)) xs
-all_args P [] each k d lt = absurd (omega arith)
-all_args P (x ∷ xs) each zero d lt = each.0
-all_args P (x ∷ xs) each (suc k) d lt = all_args P xs each.1 k d (omega arith)
-
-arg_at : (P : Rule → Type 0) (xs : List Arg) → AllByRecursion P (map rule_of xs) → (k : ℕ) (a : Arg) → k < length xs → slice_index_or xs k a ≡ a → P (rule_of a)
-arg_at P xs each k a lt at = subst (λ (x : Arg). P (rule_of x)) at (all_args P xs each k a lt)
-
-rule_at : (xs : List Arg) (k : ℕ) (d : Arg) (r : Rule) → k < length xs → rule_of (slice_index_or xs k d) ≡ slice_index_or (map rule_of xs) k r
-rule_at [] k d r lt = absurd (omega arith)
-rule_at (x ∷ xs) zero d r lt = refl
-rule_at (x ∷ xs) (suc k) d r lt = rule_at xs k d r (omega arith)
-
-some_arg : (xs : List Arg) → 0 < length xs → Arg
-some_arg [] lt = absurd (omega arith)
-some_arg (x ∷ xs) lt = x
-
-abbrev IsPlainRule : Rule → Type 0
-IsPlainRule rule = (rule.is_simple ≡ true) × (rule.is_free ≡ true)
-
-plain_arg : (a : Arg) → IsPlainRule (rule_of a) → IsPlainArg a
-plain_arg a is =
-    let simple = both _ _ is.0 in
-    let more = both _ _ (both _ _ simple.1).1 in
-    let free = both _ _ is.1 in
-    (not_true a.exclusive free.0, none_in a.conflicts.items (both _ _ free.1).0, none_in a.overrides.items simple.0, none_in a.groups.items more.0)
-
-no_delimiter : (a : Arg) → (rule_of a).is_simple ≡ true → is_some a.val_delim ≡ false
-no_delimiter a is =
-    let first = both (is_empty a.overrides.items) _ is in
-    let second = both (is_empty a.default_vals_ifs.items) _ first.1 in
-    let third = both (is_empty a.groups.items) _ second.1 in
-    not_true (is_some a.val_delim) (both (not (is_some a.val_delim)) _ third.1).0
-
--- The command has no groups and no global arguments.
-plain_settings : (c : Command) → (app_of c).top.is_plain ≡ true → (groups_of c ≡ []) × ((out-Command c).has_globals ≡ false)
-plain_settings c is =
-    let first = both _ _ is in
-    let third = both _ _ (both _ _ first.1).1 in
-    (none_in (groups_of c) first.0, not_true (out-Command c).has_globals third.0)
-
--- ---- entries
-
--- Whether `rule` has this parser, if it has this id.
-abbrev IsParsedBy : Text → ValueParser → Rule → Type 0
-IsParsedBy id parser rule = bytes_eq rule.id id ≡ true → parser_of_value rule.parser ≡ parser
-
--- Whether `rule`, if it has this id, takes at least one value each time it is given, and doesn't count how often.
-abbrev TakesWords : Text → Rule → Type 0
-TakesWords id rule = bytes_eq rule.id id ≡ true → (unwrap_or rule.action Set ≡ Append) × ((unwrap_or_range rule.range).start_inclusive ≡ 1) × (rule.is_simple ≡ true)
-
--- Whether `text` was read from a text that `parser` accepts.
-abbrev IsAccepted : ValueParser → Text → Type 0
-IsAccepted parser text = (written : Text) × (text ≡ read_as (reading_of parser) written) × (ignore_case : Bool) × Accepts ignore_case parser written
-
-module _ (c : Command) (id : Text) (no_groups : groups_of c ≡ []) (named : id ≡ [] → ⊥) where
-  own : (e : Entry) → e.0.now ≡ id → EntryPasses c e → e.1.is_group ≡ true → ⊥
-  own e key pass group = elim (pass.3 group) [
-    | inl empty ↦ named (sym key ∙ empty)
-    | inr some ↦
-        let bad : 0 < 0 = rw no_groups at some in
-        omega arith
-  ]
-
-  first_accepted : (parser : ValueParser) → AllByRecursion (IsParsedBy id parser) (map rule_of (args_of c)) → (how : Reading) → how ≡ reading_of parser
-      → (vs : List (Bor Text)) → All (λ v. PassesArg c id v.now) vs → IfSome (option_map (λ v. read_as how v.now) (slice_get vs 0)) (IsAccepted parser)
-  first_accepted parser rules how is [] all = tt
-  first_accepted parser rules how is (v ∷ vs) all =
-      let arg = all 0 v (omega arith) in
-      let same : parser_of_value arg.1.value_parser ≡ parser = arg_at (IsParsedBy id parser) (args_of c) rules arg.0 arg.1 arg.2 arg.3 arg.4.0 in
-      (v.now, ap (λ (h : Reading). read_as h v.now) is, arg.1.ignore_case, subst (λ (p : ValueParser). Accepts arg.1.ignore_case p v.now) same arg.4.1)
-
-  entry_accepted : (parser : ValueParser) → AllByRecursion (IsParsedBy id parser) (map rule_of (args_of c)) → (e : Entry) → e.0.now ≡ id → EntryPasses c e
-      → IfSome (option_map (λ v. read_as e.1.reading v.now) (slice_get e.1.vals.items 0)) (IsAccepted parser)
-  entry_accepted parser rules e key pass =
-      let values : All (λ v. PassesArg c id v.now) e.1.vals.items = elim pass.0 [ inl group ↦ absurd (own e key pass group) | inr all ↦ subst (λ (w : Text). All (λ v. PassesArg c w v.now) e.1.vals.items) key all ] in
-      let arg : HasReading c e.0.now e.1.reading = elim pass.4 [ inl group ↦ absurd (own e key pass group) | inr any ↦ any ] in
-      let same : parser_of_value arg.1.value_parser ≡ parser = arg_at (IsParsedBy id parser) (args_of c) rules arg.0 arg.1 arg.2 arg.3 (rw key at arg.4.0) in
-      first_accepted parser rules e.1.reading (sym arg.4.1 ∙ ap reading_of same) e.1.vals.items values
-
-  -- The text found for the id was accepted by its parser.
-  text_accepted : (parser : ValueParser) → AllByRecursion (IsParsedBy id parser) (map rule_of (args_of c)) → (f : Found) → ValuesPass c f → IfSome (one_text f id) (IsAccepted parser)
-  text_accepted parser rules f values = go (matched_of f id) refl
-    where
-      go : (o : Option MatchedArg) → matched_of f id ≡ o → IfSome (one_text f id) (IsAccepted parser)
-      go None at = rw at tt
-      go (Some x) at =
-          let e = entry_by_id (EntryPasses c) f.entries.items id x values at in
-          let is = entry_accepted parser rules e.0 ((bytes_eq-Decides e.0.0.now id).0 e.2) e.3 in
-          rw (at, ← e.1) is
-
-  entry_filled : AllByRecursion (TakesWords id) (map rule_of (args_of c)) → (e : Entry) → e.0.now ≡ id → EntryPasses c e → 0 < length e.1.vals.items
-  entry_filled rules e key pass = elim pass.1 [
-    | inl group ↦ absurd (own e key pass group.0)
-    | inr (inl some) ↦ some
-    | inr (inr (inl counted)) ↦
-        let arg = counted.1 in
-        let rule = arg_at (TakesWords id) (args_of c) rules arg.0 arg.1 arg.2 arg.3 (rw key at arg.4.0) in
-        let bad : Append ≡ Count = sym rule.0 ∙ arg.4.1 in
-        cc
-    | inr (inr (inr arg)) ↦
-        let rule = arg_at (TakesWords id) (args_of c) rules arg.0 arg.1 arg.2 arg.3 (rw key at arg.4.0) in
-        elim arg.4.1 [
-          | inl none ↦
-              let bad = sym rule.1 ∙ none in
-              absurd (omega arith)
-          | inr delimiter ↦
-              let bad : false ≡ true = sym (no_delimiter arg.1 rule.2) ∙ delimiter in
-              cc
-        ]
-  ]
-
-  values_filled : AllByRecursion (TakesWords id) (map rule_of (args_of c)) → (f : Found) → ValuesPass c f → is_some (matched_of f id) ≡ true
-      → 0 < length (unwrap_or (option_map raw_values (matched_of f id)) [])
-  values_filled rules f values has = go (matched_of f id) refl
-    where
-      go : (o : Option MatchedArg) → matched_of f id ≡ o → 0 < length (unwrap_or (option_map raw_values (matched_of f id)) [])
-      go None at =
-          let bad : false ≡ true = rw at at has in
-          cc
-      go (Some x) at =
-          let e = entry_by_id (EntryPasses c) f.entries.items id x values at in
-          let some : 0 < length x.vals.items = rw e.1 at (entry_filled rules e.0 ((bytes_eq-Decides e.0.0.now id).0 e.2) e.3) in
-          rw (at, length-map x.vals.items (λ (v : Bor Text). v.now)) some
+use Rattle.redo_args.specs.Private.Matches.{AreSound}
+use Rattle.redo_args.proofs.OneKind.{one_kind_of}
+use Rattle.redo_args.proofs.ParseLemmas.{HoldsOfBoth, IsParse, IsParsedBy, IsPlainApp, IsPlainRule, TakesWords, old_rules, other, plain, plain_command, rule_at, some_arg, sound_flag, sound_number, sound_words}
 
 -- ---- the rules of the command, before and after it is built
 
-other : {P : Type 0} → false ≡ true → P
-other is = cc
-
-abbrev HoldsOfBoth : (Rule → Type 0) → Type 0
-HoldsOfBoth P = AllByRecursion P redo_log.top.rules × AllByRecursion P (built redo_log).top.rules
-
-recursive-parsed : HoldsOfBoth (IsParsedBy (codes "recursive") vp.Bool)
+recursive-parsed : HoldsOfBoth redo_log (IsParsedBy (codes "recursive") vp.Bool)
 unfolding redo_log
 recursive-parsed = ((λ _. refl, (other, (other, (other, (other, (other, (other, (other, (other, tt))))))))), (λ _. refl, (other, (other, (other, (other, (other, (other, (other, (other, (other, tt)))))))))))
 
-unchanged-parsed : HoldsOfBoth (IsParsedBy (codes "unchanged") vp.Bool)
+unchanged-parsed : HoldsOfBoth redo_log (IsParsedBy (codes "unchanged") vp.Bool)
 unfolding redo_log
 unchanged-parsed = ((other, (λ _. refl, (other, (other, (other, (other, (other, (other, (other, tt))))))))), (other, (λ _. refl, (other, (other, (other, (other, (other, (other, (other, (other, tt)))))))))))
 
-details-parsed : HoldsOfBoth (IsParsedBy (codes "details") vp.Bool)
+details-parsed : HoldsOfBoth redo_log (IsParsedBy (codes "details") vp.Bool)
 unfolding redo_log
 details-parsed = ((other, (other, (λ _. refl, (other, (other, (other, (other, (other, (other, tt))))))))), (other, (other, (λ _. refl, (other, (other, (other, (other, (other, (other, (other, tt)))))))))))
 
-debug_locks-parsed : HoldsOfBoth (IsParsedBy (codes "debug_locks") vp.Bool)
+debug_locks-parsed : HoldsOfBoth redo_log (IsParsedBy (codes "debug_locks") vp.Bool)
 unfolding redo_log
 debug_locks-parsed = ((other, (other, (other, (λ _. refl, (other, (other, (other, (other, (other, tt))))))))), (other, (other, (other, (λ _. refl, (other, (other, (other, (other, (other, (other, tt)))))))))))
 
-debug_pids-parsed : HoldsOfBoth (IsParsedBy (codes "debug_pids") vp.Bool)
+debug_pids-parsed : HoldsOfBoth redo_log (IsParsedBy (codes "debug_pids") vp.Bool)
 unfolding redo_log
 debug_pids-parsed = ((other, (other, (other, (other, (λ _. refl, (other, (other, (other, (other, tt))))))))), (other, (other, (other, (other, (λ _. refl, (other, (other, (other, (other, (other, tt)))))))))))
 
-senders-parsed : HoldsOfBoth (IsParsedBy (codes "senders") (vp.Signed (pos 1) (pos 64)))
+senders-parsed : HoldsOfBoth redo_log (IsParsedBy (codes "senders") (vp.Signed (pos 1) (pos 64)))
 unfolding redo_log
 senders-parsed = ((other, (other, (other, (other, (other, (other, (λ _. refl, (other, (other, tt))))))))), (other, (other, (other, (other, (other, (other, (λ _. refl, (other, (other, (other, tt)))))))))))
 
-capacity-parsed : HoldsOfBoth (IsParsedBy (codes "capacity") (vp.Signed (pos 1) (pos 65536)))
+capacity-parsed : HoldsOfBoth redo_log (IsParsedBy (codes "capacity") (vp.Signed (pos 1) (pos 65536)))
 unfolding redo_log
 capacity-parsed = ((other, (other, (other, (other, (other, (other, (other, (λ _. refl, (other, tt))))))))), (other, (other, (other, (other, (other, (other, (other, (λ _. refl, (other, (other, tt)))))))))))
 
-target-filled : HoldsOfBoth (TakesWords (codes "target"))
+target-filled : HoldsOfBoth redo_log (TakesWords (codes "target"))
 unfolding redo_log
 target-filled = ((other, (other, (other, (other, (other, (other, (other, (other, (λ _. (refl, refl, refl), tt))))))))), (other, (other, (other, (other, (other, (other, (other, (other, (λ _. (refl, refl, refl), (other, tt)))))))))))
 
@@ -230,6 +63,20 @@ settings : (redo_log.top.is_plain ≡ true) × (redo_log.top.subcommand_negates_
 unfolding redo_log
 settings = (refl, refl, refl, refl)
 
+plain_app : IsPlainApp redo_log
+plain_app = (settings.0, settings.2, all_plain)
+
+no_subcommands : built redo_log ≡ record { top = (built redo_log).top; subs = [] }
+unfolding redo_log
+no_subcommands = refl
+
+leaf : (built redo_log).top.is_leaf ≡ true
+unfolding redo_log
+leaf = refl
+
+pub one_kind : (words : List Text) → length (fault_of redo_log words) ≤ 1
+one_kind words = one_kind_of redo_log no_subcommands leaf words
+
 last_rule : (r : Rule) → slice_index_or redo_log.top.rules 8 r ≡ words_rule (codes "target")
 unfolding redo_log
 last_rule r = refl
@@ -238,112 +85,26 @@ pub is_exact : (is_simple redo_log ≡ true) × (is_simple_and_free redo_log ≡
 unfolding redo_log
 is_exact = (refl, refl)
 
--- ---- a parse
-
-weaker : {X : Type 0} (P Q : X → Type 0) (o : Option X) → ((x : X) → P x → Q x) → IfSome o P → IfSome o Q
-weaker P Q None more is = tt
-weaker P Q (Some x) more is = more x is
-
-flag_text : (text : Text) → IsAccepted vp.Bool text → IsFlagText text
-flag_text text (written, is, ignore_case, accepted) = go (bytes_eq written (codes "true")) refl
-  where
-    go : (b : Bool) → bytes_eq written (codes "true") ≡ b → IsFlagText text
-    go true at = inl (is ∙ (bytes_eq-Decides written (codes "true")).0 at)
-    go false at = inr (is ∙ (bytes_eq-Decides written (codes "false")).0 (rw at at accepted))
-
-number_text : (max : ℕ) (text : Text) → IsAccepted (vp.Signed (pos 1) (pos max)) text → IsNumberTo max text
-number_text max text (written, is, ignore_case, accepted) = (written, is, accepted)
-
 -- The rows of a parse by the complete command are sound.
-sound : (old new : Command) (m : ArgMatches) → app_of old ≡ redo_log → BuildsTo old new
-    → (app_of new ≡ app_of old) ⊎ (is_buildable (app_of old) ≡ true → app_of new ≡ built (app_of old))
-    → ((out-Command new).has_globals ≡ false → IsParsed new (found_of m) (has_subcommand m))
-    → AreSound (rows_of (found_of m))
-sound old new m is builds app parsed =
+pub sound : (old new : Command) (m : ArgMatches) → IsParse redo_log old new m → AreSound (rows_of (found_of m))
+sound old new m parse =
     let found = found_of m in
-    let old_rules : map rule_of (args_of old) ≡ redo_log.top.rules = ap (λ (a : App). a.top.rules) is in
-    let new_rules : (map rule_of (args_of new) ≡ redo_log.top.rules) ⊎ (map rule_of (args_of new) ≡ (built redo_log).top.rules) = elim app [
-      | inl same ↦ inl (ap (λ (a : App). a.top.rules) (same ∙ is))
-      | inr made ↦ inr (ap (λ (a : App). a.top.rules) (made (ap is_buildable is ∙ settings.2) ∙ ap built is))
-    ] in
-    let holds : (P : Rule → Type 0) → HoldsOfBoth P → AllByRecursion P (map rule_of (args_of new)) = λ P h. elim new_rules [
-      | inl e ↦ subst (AllByRecursion P) (sym e) h.0
-      | inr e ↦ subst (AllByRecursion P) (sym e) h.1
-    ] in
-    let whole = plain_settings old (ap (λ (a : App). a.top.is_plain) is ∙ settings.0) in
-    let negates : (out-Command old).subcommand_negates_reqs ≡ false = ap (λ (a : App). a.top.subcommand_negates_reqs) is ∙ settings.1 in
-    let plain : IsPlain old = (λ k d lt. plain_arg (slice_index_or (args_of old) k d) (all_args IsPlainRule (args_of old) (subst (AllByRecursion IsPlainRule) (sym old_rules) all_plain) k d lt), whole.0) in
-    let values = (parsed (builds.globals ∙ whole.1)).values in
-    let groups = (builds.plain plain).1 in
-    let flag : (id : Text) → (id ≡ [] → ⊥) → HoldsOfBoth (IsParsedBy id vp.Bool) → IsFlag id (rows_of found) = λ id named rules.
-    subst (λ (o : Option Text). IfSome o IsFlagText) (one_text-rows found id) (weaker _ _ _ flag_text (text_accepted new id groups named vp.Bool (holds _ rules) found values)) in
-    let number : (max : ℕ) (id : Text) → (id ≡ [] → ⊥) → HoldsOfBoth (IsParsedBy id (vp.Signed (pos 1) (pos max))) → IsNumber max id (rows_of found) = λ max id named rules.
-    subst (λ (o : Option Text). IfSome o (IsNumberTo max)) (one_text-rows found id) (weaker _ _ _ (number_text max) (text_accepted new id groups named _ (holds _ rules) found values)) in
-    let count : length (args_of old) ≡ 9 = sym (length-map (args_of old) rule_of) ∙ ap length old_rules ∙ settings.3 in
+    let negates : (out-Command old).subcommand_negates_reqs ≡ false = ap (λ (a : App). a.top.subcommand_negates_reqs) parse.begins ∙ settings.1 in
+    let count : length (args_of old) ≡ 9 = sym (length-map (args_of old) rule_of) ∙ ap length (old_rules redo_log plain_app old new m parse) ∙ settings.3 in
     let d = some_arg (args_of old) (omega arith) in
     let last : rule_of (slice_index_or (args_of old) 8 d) ≡ words_rule (codes "target") =
-    rule_at (args_of old) 8 d (rule_of d) (omega arith) ∙ ap (λ (rules : List Rule). slice_index_or rules 8 (rule_of d)) old_rules ∙ last_rule (rule_of d) in
-    let from_old : IsParsedFrom old m = record { built = new; from = builds; parsed = parsed } in
-    let present = required_present old m from_old plain whole.1 negates 8 d (omega arith) (ap (λ (r : Rule). r.required) last) in
+    rule_at (args_of old) 8 d (rule_of d) (omega arith) ∙ ap (λ (rules : List Rule). slice_index_or rules 8 (rule_of d)) (old_rules redo_log plain_app old new m parse) ∙ last_rule (rule_of d) in
+    let from_old : IsParsedFrom old m = record { built = new; from = parse.builds; parsed = parse.parsed } in
+    let present = required_present old m from_old (plain redo_log plain_app old new m parse) (plain_command redo_log plain_app old new m parse).1 negates 8 d (omega arith) (ap (λ (r : Rule). r.required) last) in
     let has : is_some (matched_of found (codes "target")) ≡ true = present_has_entry found (codes "target") (rw (ap (λ (r : Rule). r.id) last) at present) in
-    let filled = values_filled new (codes "target") groups (λ e. cc) (holds _ target-filled) found values has in
+    let filled = sound_words redo_log plain_app old new m parse (codes "target") (λ e. cc) target-filled has in
     record {
-      recursive_is = flag (codes "recursive") (λ e. cc) recursive-parsed;
-      unchanged_is = flag (codes "unchanged") (λ e. cc) unchanged-parsed;
-      details_are = flag (codes "details") (λ e. cc) details-parsed;
-      debug_locks_are = flag (codes "debug_locks") (λ e. cc) debug_locks-parsed;
-      debug_pids_are = flag (codes "debug_pids") (λ e. cc) debug_pids-parsed;
-      senders_are = number 64 (codes "senders") (λ e. cc) senders-parsed;
-      capacity_is = number 65536 (codes "capacity") (λ e. cc) capacity-parsed;
+      recursive_is = sound_flag redo_log plain_app old new m parse (codes "recursive") (λ e. cc) recursive-parsed;
+      unchanged_is = sound_flag redo_log plain_app old new m parse (codes "unchanged") (λ e. cc) unchanged-parsed;
+      details_are = sound_flag redo_log plain_app old new m parse (codes "details") (λ e. cc) details-parsed;
+      debug_locks_are = sound_flag redo_log plain_app old new m parse (codes "debug_locks") (λ e. cc) debug_locks-parsed;
+      debug_pids_are = sound_flag redo_log plain_app old new m parse (codes "debug_pids") (λ e. cc) debug_pids-parsed;
+      senders_are = sound_number redo_log plain_app old new m parse 64 (codes "senders") (λ e. cc) senders-parsed;
+      capacity_is = sound_number redo_log plain_app old new m parse 65536 (codes "capacity") (λ e. cc) capacity-parsed;
       some_target = subst (λ (o : Option (List Text)). 0 < length (unwrap_or o [])) (raw_values-rows found (codes "target")) filled;
     }
-
--- The command after a successful parse: unchanged or built.
-app_after : (old new : Command) → BuildsOrBreaks old new → (is_broken new ≡ true → ⊥)
-    → (app_of new ≡ app_of old) ⊎ (is_buildable (app_of old) ≡ true → app_of new ≡ built (app_of old))
-app_after old new (inl broken) whole = absurd (whole broken)
-app_after old new (inr builds) whole = builds.2
-
--- The fault as which an error of a parse is reported.
-fault_is : (words : List Text) (e : Error) → HasKind (fault_of redo_log words) e → (fault_of_kind (kind_of e) ≡ OutOfMemory) ⊎ (fault_of_words words ≡ Some (fault_of_kind (kind_of e)))
-fault_is words e (inl memory) = inl (ap fault_of_kind memory)
-fault_is words e (inr among) = inr (go (fault_of redo_log words) (one_kind words) among)
-  where
-    go : (kinds : Kinds) → length kinds ≤ 1 → IsAmong (kind_of e) kinds → fault_of_first kinds ≡ Some (fault_of_kind (kind_of e))
-    go [] one none = absurd none
-    go (k ∷ ks) one (inl is) = ap (λ x. Some (fault_of_kind x)) (sym is)
-    go (k ∷ []) one (inr none) = absurd none
-    go (k ∷ l ∷ ks) one (inr more) = absurd (omega arith)
-
--- A parse by the complete command returns sound rows, or an error that is reported as the fault of the arguments.
-module _ (words : List Text) (answer : Result ArgMatches Error) where
-  pub sound_if_ok : (old new : Command) (More : ArgMatches → Type 0) → app_of old ≡ redo_log → BuildsOrBreaks old new
-      → (is_broken new ≡ true → IsErrAnd answer (λ e. kind_of e ≡ kind.OutOfMemory))
-      → IfOk answer (λ m. BuildsTo old new × ((out-Command new).has_globals ≡ false → IsParsed new (found_of m) (has_subcommand m)) × More m)
-      → IfOk answer (λ m. AreSound (rows_of (found_of m)))
-  sound_if_ok old new More is after fails ok = go answer fails ok
-    where
-      go : (r : Result ArgMatches Error) → (is_broken new ≡ true → IsErrAnd r (λ e. kind_of e ≡ kind.OutOfMemory))
-          → IfOk r (λ m. BuildsTo old new × ((out-Command new).has_globals ≡ false → IsParsed new (found_of m) (has_subcommand m)) × More m)
-          → IfOk r (λ m. AreSound (rows_of (found_of m)))
-      go (Ok m) whole parsed = sound old new m is parsed.0 (app_after old new after whole) parsed.1
-      go (Err e) whole parsed = tt
-
-  pub no_fault_if_ok : FailsBy (fault_of redo_log words) answer → IfOk answer (λ _. fault_of_words words ≡ None)
-  no_fault_if_ok fails = go answer fails
-    where
-      go : (r : Result ArgMatches Error) → FailsBy (fault_of redo_log words) r → IfOk r (λ _. fault_of_words words ≡ None)
-      go (Ok m) none = ap fault_of_first none
-      go (Err e) kinds = tt
-
-  module _ (Maps : Error → WordsFault → Type 0) (result : Result ArgMatches WordsFault)
-      (mapped : MatchResult answer (λ m. result ≡ Ok m) (λ e. IsErrAnd result (Maps e))) where
-    pub fault_if_err : ((e : Error) (fault : WordsFault) → Maps e fault → fault ≡ fault_of_kind (kind_of e)) → FailsBy (fault_of redo_log words) answer
-        → IfErr result (λ fault. (fault ≡ OutOfMemory) ⊎ (fault_of_words words ≡ Some fault))
-    fault_if_err gives fails = go answer result mapped fails
-      where
-        go : (a : Result ArgMatches Error) (r : Result ArgMatches WordsFault) → MatchResult a (λ m. r ≡ Ok m) (λ e. IsErrAnd r (Maps e)) → FailsBy (fault_of redo_log words) a
-            → IfErr r (λ fault. (fault ≡ OutOfMemory) ⊎ (fault_of_words words ≡ Some fault))
-        go (Ok m) r is kinds = subst (λ x. IfErr x (λ fault. (fault ≡ OutOfMemory) ⊎ (fault_of_words words ≡ Some fault))) (sym is) tt
-        go (Err e) (Ok m) is kinds = absurd is
-        go (Err e) (Err f) is kinds = subst (λ fault. (fault ≡ OutOfMemory) ⊎ (fault_of_words words ≡ Some fault)) (sym (gives e f is)) (fault_is words e kinds)

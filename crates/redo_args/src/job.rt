@@ -1,4 +1,4 @@
-ghost use Rattle.std.specs.Prelude.{◌≡◌, ◌<◌, IfOk, length, map};
+ghost use Rattle.std.specs.Prelude.{◌≡◌, ◌<◌, IfOk, length};
 ghost use Rattle.clap.specs.Matches.{found_of};
 ghost use Rattle.clap.specs.Walk.{rows_of};
 ghost use Rattle.redo_options.specs.Limits.{IsSenderCount, IsCapacity};
@@ -6,6 +6,7 @@ ghost use Rattle.redo_options.specs.Arguments.{argument_bytes};
 ghost use Rattle.redo_args.specs.Job.{options_of, parts_of};
 ghost use Rattle.redo_args.specs.Private.Matches.{AreSound};
 
+use crate::arguments::bytes_of;
 use clap::ArgMatches;
 use redo_options::Options;
 use std::alloc::{AllocError, Global};
@@ -112,14 +113,4 @@ fn options_of(matches: &ArgMatches<'_>) -> Options
         debug_locks: matches.get_flag("debug_locks"),
         debug_pids: matches.get_flag("debug_pids"),
     }
-}
-
-fn bytes_of(alloc: Global, words: &[&str]) -> Result<Vec<Vec<u8>>, AllocError>
-    ensures { IfOk result (λ copies. argument_bytes copies.items ≡ map (λ word. word.now) words.now) }
-{
-    let mut copies = Vec::with_capacity(alloc, words.len())?;
-    for word in words {
-        copies.push(word.as_bytes().to_vec(alloc)?)?;
-    }
-    Ok(copies)
 }

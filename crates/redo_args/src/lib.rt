@@ -1,6 +1,8 @@
 //! The command line: the job that its arguments describe, or why they describe none; and the help text.
+//! [`arguments`] has what the command lines of other programs share.
 #![tactic(auto)]
 
+pub mod arguments;
 mod job;
 mod words;
 mod words_fault;

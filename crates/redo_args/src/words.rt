@@ -4,14 +4,15 @@ ghost use Rattle.clap.specs.Matches.{found_of};
 ghost use Rattle.clap.specs.Simple.{app_of, matches_of};
 ghost use Rattle.clap.specs.Walk.{rows_of, rule_of};
 ghost use Rattle.redo_args.specs.declared.words_fault.WordsFault.TheVariants.{OutOfMemory};
-ghost use Rattle.redo_args.specs.CommandLine.{flag_rule, flags, letter_rule, number_rule, redo_log, text_rule, values, words_rule};
+ghost use Rattle.redo_args.specs.CommandLine.{flags, redo_log, values, words_rule};
 ghost use Rattle.redo_args.specs.Private.Arguments.{AreArguments};
 ghost use Rattle.redo_args.specs.Private.Matches.{AreSound};
 ghost use Rattle.redo_args.specs.Words.{fault_of_words, parse_parts};
 
+use crate::arguments::{flag, letter_flag, number, text_option};
 use crate::job::{Job, job_from_matches};
 use crate::words_fault::WordsFault;
-use clap::{Arg, ArgAction, ArgMatches, Command, value_parser};
+use clap::{Arg, ArgAction, ArgMatches, Command};
 use std::alloc::{AllocError, Global};
 
 const ABOUT: &str =
@@ -132,46 +133,6 @@ fn arguments<'a>(alloc: Global) -> Result<Vec<Arg<'a>>, AllocError>
         targets(alloc),
     ]
     .map_err(AllocError::from)
-}
-
-// An option without a value, with a letter, that is true if it is given.
-fn letter_flag<'a>(alloc: Global, id: &'a str, letter: char, help: &'a str) -> Arg<'a>
-    ensures rule { rule_of result ≡ letter_rule id.entry.now letter }
-    ensures local { result.global ≡ false }
-{
-    flag(alloc, id, id, ArgAction::SetTrue, help).short(letter)
-}
-
-// An option without a value.
-fn flag<'a>(alloc: Global, id: &'a str, long: &'a str, action: ArgAction, help: &'a str) -> Arg<'a>
-    ensures rule { rule_of result ≡ flag_rule id.entry.now long.entry.now action }
-    ensures local { result.global ≡ false }
-{
-    Arg::new(alloc, id)
-        .long(long)
-        .action(action)
-        .value_parser(value_parser!(bool))
-        .help(help)
-}
-
-// An option with a value, which the help text calls `value_name`.
-fn text_option<'a>(alloc: Global, id: &'a str, value_name: &'a str, help: &'a str) -> Arg<'a>
-    ensures rule { rule_of result ≡ text_rule id.entry.now }
-    ensures local { result.global ≡ false }
-{
-    Arg::new(alloc, id)
-        .long(id)
-        .value_name(value_name)
-        .help(help)
-}
-
-// An option with a number from 1 to `greatest`.
-fn number<'a>(alloc: Global, id: &'a str, max: u32, help: &'a str) -> Arg<'a>
-    ensures rule { rule_of result ≡ number_rule id.entry.now max }
-    ensures local { result.global ≡ false }
-{
-    let parser = value_parser!(u32).range(1..=i64::from(max));
-    text_option(alloc, id, "N", help).value_parser(parser)
 }
 
 // The arguments that are not options.

@@ -8,7 +8,9 @@ use Rattle.clap.specs.Simple.{App, is_simple, matches_of}
 use Rattle.clap.specs.Walk.{rows_of}
 use Rattle.redo_args.specs.CommandLine.{redo_log}
 use Rattle.redo_args.proofs.ErrorLemmas.{map_err_if_ok}
-use Rattle.redo_args.proofs.Sound.{fault_if_err, is_exact, sound_if_ok, no_fault_if_ok}
+use Rattle.redo_args.specs.Private.Matches.{AreSound}
+use Rattle.redo_args.proofs.ParseLemmas.{fault_if_err, no_fault_if_ok, sound_if_ok}
+use Rattle.redo_args.proofs.Sound.{is_exact, one_kind, sound}
 use Rattle.redo_args.proofs.words.parse_arguments.Goals as goal
 
 -- Parsing by the complete command fails only with the faults of the arguments.
@@ -21,7 +23,7 @@ pub returns-clause-sound : goal.returns-clause-sound
 returns-clause-sound c =
     let parse = c.try_get_matches_from_mut-found in
     map_err_if_ok parse.result _ c.map_err.result c.map_err.ensures.cases _
-    (sound_if_ok (map string_bytes c.args.words.now) parse.result c.in_ok-command.command parse.new.self _ c.in_ok-command.ensures parse.ensures.after parse.ensures.fails parse.ensures.ok)
+    (sound_if_ok redo_log AreSound sound parse.result c.in_ok-command.command parse.new.self _ c.in_ok-command.ensures parse.ensures.after parse.ensures.fails parse.ensures.ok)
 
 pub returns-clause-entries : goal.returns-clause-entries
 returns-clause-entries c =
@@ -34,8 +36,8 @@ returns-clause-entries c =
 pub returns-clause-no_fault : goal.returns-clause-no_fault
 returns-clause-no_fault c =
     let words = map string_bytes c.args.words.now in
-    map_err_if_ok c.try_get_matches_from_mut-found.result _ c.map_err.result c.map_err.ensures.cases _ (no_fault_if_ok words c.try_get_matches_from_mut-found.result (fails c))
+    map_err_if_ok c.try_get_matches_from_mut-found.result _ c.map_err.result c.map_err.ensures.cases _ (no_fault_if_ok (fault_of redo_log words) c.try_get_matches_from_mut-found.result (fails c))
 
 pub returns-clause-fault : goal.returns-clause-fault
 returns-clause-fault c =
-    fault_if_err (map string_bytes c.args.words.now) c.try_get_matches_from_mut-found.result _ c.map_err.result c.map_err.ensures.cases (λ e fault is. is) (fails c)
+    fault_if_err (fault_of redo_log (map string_bytes c.args.words.now)) c.try_get_matches_from_mut-found.result (one_kind (map string_bytes c.args.words.now)) _ c.map_err.result c.map_err.ensures.cases (λ e fault is. is) (fails c)

@@ -1,6 +1,6 @@
 use Rattle.std.proofs.Common.{◌≡◌, ◌≤◌, map, take}
 use Rattle.redo_options.specs.Arguments.{argument_bytes}
-use Rattle.redo_args.proofs.job.bytes_of.Given as goal
+use Rattle.redo_args.proofs.arguments.bytes_of.Given as goal
 
 -- The first `word-index` arguments are copied.
 abbrev pub invariant-loop-word : goal.invariant-loop-word

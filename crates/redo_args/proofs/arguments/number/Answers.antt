@@ -5,7 +5,7 @@ use Rattle.clap.specs.Values.{signed_between}
 use Rattle.clap.specs.Walk.{Rule}
 use Rattle.clap.specs.declared.builder.value_parser.ValueParser.{ValueParser}
 use Rattle.clap.specs.declared.builder.value_parser.ValueParser.TheVariants.{Signed}
-use Rattle.redo_args.proofs.words.number.Goals as goal
+use Rattle.redo_args.proofs.arguments.number.Goals as goal
 
 -- The range of `u32`, narrowed to the range from 1 to `greatest`.
 narrowed : (parser : ValueParser) (max : ℕ) (end : ℤ) → max < 2 ^ 32 → end ≡ pos max → parser ≡ signed_between (int_max (pos 0) (pos 1)) (int_min (pos 4294967295) end)
