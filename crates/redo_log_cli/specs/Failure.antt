@@ -1,5 +1,5 @@
 -- The exit status and the error message of a failure.
-use Rattle.std.specs.Prelude.{◌≡◌, ℕ, true, nat_eq, List, [], ◌∷◌, ◌++◌, codes, get_or, decimal}
+use Rattle.std.specs.Prelude.{◌≡◌, ℕ, ◌<◌, true, nat_eq, List, [], ◌∷◌, ◌++◌, codes, get_or, decimal}
 use Rattle.std.specs.List.{list_any}
 use Rattle.redo_line.specs.declared.stream_fault.StreamFault.{StreamFault}
 use Rattle.redo_line.specs.declared.stream_fault.StreamFault.TheVariants as stream
@@ -36,9 +36,9 @@ status_of (Run run.OutOfMemory) = 7
 status_of (Run run.Write) = 6
 status_of Memory = 7
 
--- An error message with this text.
-abbrev pub message_line : List ℕ → List ℕ
-message_line text = codes "redo-log: " ++ with_line_feed text
+-- An error message of a program, with this text.
+abbrev pub message_line : List ℕ → List ℕ → List ℕ
+message_line program text = program ++ codes ": " ++ with_line_feed text
 
 -- The text of a fault in a line: `line`, its number, and what is wrong with it.
 abbrev pub with_line_number : ℕ → List ℕ → List ℕ
@@ -53,27 +53,31 @@ stream_fault_text name stream.Read = name ++ codes ": cannot be read"
 stream_fault_text name stream.OutOfMemory = codes "out of memory"
 stream_fault_text name stream.NotClosed = name ++ codes ": not closed"
 
--- The error message for a fault of the index.
-abbrev pub index_message : IndexFault → List ℕ
-index_message (index.BadLine line) = message_line (codes "names: " ++ with_line_number line (codes "bad line"))
-index_message (index.FidTwice line) = message_line (codes "names: " ++ with_line_number line (codes "number listed twice"))
-index_message (index.NameTwice line) = message_line (codes "names: " ++ with_line_number line (codes "name listed twice"))
-index_message index.TooMany = message_line (codes "names: too many names")
-index_message index.OutOfMemory = message_line (codes "out of memory")
+-- The error message of a program for a fault of the index.
+abbrev pub index_message : List ℕ → IndexFault → List ℕ
+index_message program (index.BadLine line) = message_line program (codes "names: " ++ with_line_number line (codes "bad line"))
+index_message program (index.FidTwice line) = message_line program (codes "names: " ++ with_line_number line (codes "number listed twice"))
+index_message program (index.NameTwice line) = message_line program (codes "names: " ++ with_line_number line (codes "name listed twice"))
+index_message program index.TooMany = message_line program (codes "names: too many names")
+index_message program index.OutOfMemory = message_line program (codes "out of memory")
 
--- The error message of a failure. `targets` are the targets of the index, and `arguments` are the arguments that request some of
+-- The error message of a program for a failure. `targets` are the targets of the index, and `arguments` are the arguments that request some of
 -- them. Help is not a fault and has no error message.
+abbrev pub failure_message_as : List ℕ → List (List ℕ) → List (List ℕ) → Failure → List ℕ
+failure_message_as program targets arguments (Words words.Help) = []
+failure_message_as program targets arguments (Words words.Refused) = message_line program (codes "bad command line")
+failure_message_as program targets arguments (Words words.OutOfMemory) = message_line program (codes "out of memory")
+failure_message_as program targets arguments NamesRead = message_line program (codes "names: cannot be read")
+failure_message_as program targets arguments (Index fault) = index_message program fault
+failure_message_as program targets arguments (Run (run.Unknown place)) = message_line program (get_or arguments place [] ++ codes ": not known")
+failure_message_as program targets arguments (Run (run.Stream number fault)) = message_line program (stream_fault_text (get_or targets number []) fault)
+failure_message_as program targets arguments (Run run.OutOfMemory) = message_line program (codes "out of memory")
+failure_message_as program targets arguments (Run run.Write) = message_line program (codes "cannot write")
+failure_message_as program targets arguments Memory = message_line program (codes "out of memory")
+
+-- The error message of `redo-log`.
 abbrev pub failure_message : List (List ℕ) → List (List ℕ) → Failure → List ℕ
-failure_message targets arguments (Words words.Help) = []
-failure_message targets arguments (Words words.Refused) = message_line (codes "bad command line")
-failure_message targets arguments (Words words.OutOfMemory) = message_line (codes "out of memory")
-failure_message targets arguments NamesRead = message_line (codes "names: cannot be read")
-failure_message targets arguments (Index fault) = index_message fault
-failure_message targets arguments (Run (run.Unknown place)) = message_line (get_or arguments place [] ++ codes ": not known")
-failure_message targets arguments (Run (run.Stream number fault)) = message_line (stream_fault_text (get_or targets number []) fault)
-failure_message targets arguments (Run run.OutOfMemory) = message_line (codes "out of memory")
-failure_message targets arguments (Run run.Write) = message_line (codes "cannot write")
-failure_message targets arguments Memory = message_line (codes "out of memory")
+failure_message targets arguments failure = failure_message_as (codes "redo-log") targets arguments failure
 
 -- `P` holds of the number of the stream, if the failure is the fault of a stream.
 abbrev pub IfStreamFailure : Failure → (ℕ → Type 0) → Type 0
@@ -84,6 +88,12 @@ IfStreamFailure other P = Unit {0}
 abbrev pub IfUnknownFailure : Failure → (ℕ → Type 0) → Type 0
 IfUnknownFailure (Run (run.Unknown place)) P = P place
 IfUnknownFailure other P = Unit {0}
+
+-- Whether the error message of a failure can be written, for an index with this number of targets and for this number of arguments: the
+-- stream and the argument that the failure names are among them.
+abbrev pub IsReportable : ℕ → ℕ → Failure → Type 0
+IsReportable targets arguments failure =
+    IfStreamFailure failure (λ number. number < targets) × IfUnknownFailure failure (λ place. place < arguments)
 
 -- Whether the failure is neither the fault of a stream nor an unknown argument, so that its message needs no index.
 abbrev pub IsBeforeRun : Failure → Type 0

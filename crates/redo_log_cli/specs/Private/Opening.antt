@@ -1,4 +1,4 @@
--- The files of a capture directory that are opened, and the result of opening one.
+-- The files of a capture directory that are opened, the output file, and the result of opening one.
 use Rattle.std.specs.Prelude.{◌≡◌, ℕ, List, ◌++◌, Result, Ok, Err, IsErrAnd, codes, decimal}
 use Rattle.std.specs.IoError.{error_kind}
 use Rattle.std.specs.declared.io.Error.{Error}
@@ -7,7 +7,8 @@ use Rattle.std.specs.declared.io.ErrorKind.TheVariants.{NotFound, OutOfMemory}
 use Rattle.redo_log_cli.specs.declared.log_file.LogFile.{LogFile}
 use Rattle.redo_log_cli.specs.declared.log_file.LogFile.TheVariants.{Open, Missing, Unreadable}
 use Rattle.redo_log_cli.specs.declared.failure.Failure.{Failure}
-use Rattle.redo_log_cli.specs.declared.failure.Failure.TheVariants.{NamesRead, Memory}
+use Rattle.redo_log_cli.specs.declared.failure.Failure.TheVariants.{NamesRead, Memory, Run}
+use Rattle.redo_run.specs.declared.run_fault.RunFault.TheVariants as run
 
 -- The path of the file `names`.
 abbrev pub names_path : List ℕ → List ℕ
@@ -36,3 +37,8 @@ IsLogFileOf (Err error) log_file = IsLogFileAfter (error_kind error) log_file
 abbrev pub failure_after : ErrorKind → Failure
 failure_after OutOfMemory = Memory
 failure_after _ = NamesRead
+
+-- The failure if the output file can't be created, from the kind of the error.
+abbrev pub write_failure_after : ErrorKind → Failure
+write_failure_after OutOfMemory = Memory
+write_failure_after _ = Run run.Write

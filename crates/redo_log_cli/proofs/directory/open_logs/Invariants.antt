@@ -1,5 +1,5 @@
 use Rattle.std.proofs.Common.{◌≡◌, ◌≤◌, length}
-use Rattle.redo_log_cli.proofs.program.open_logs.Given as goal
+use Rattle.redo_log_cli.proofs.directory.open_logs.Given as goal
 
 -- There is a log file for each position so far.
 abbrev pub invariant-loop-i : goal.invariant-loop-i

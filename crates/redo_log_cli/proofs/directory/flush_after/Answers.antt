@@ -1,5 +1,5 @@
 use Rattle.std.proofs.Common.{rules}
-use Rattle.redo_log_cli.proofs.program.flush_after.Goals as goal
+use Rattle.redo_log_cli.proofs.directory.flush_after.Goals as goal
 
 pub returns-in-Err : goal.returns-in-Err
 returns-in-Err g c = search rules

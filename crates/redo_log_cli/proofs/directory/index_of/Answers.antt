@@ -1,6 +1,6 @@
 use Rattle.std.proofs.Common.{rules}
 use Rattle.redo_log_cli.proofs.Results.{not_read}
-use Rattle.redo_log_cli.proofs.program.index_of.Goals as goal
+use Rattle.redo_log_cli.proofs.directory.index_of.Goals as goal
 
 pub returns-in_err-bytes-clause-read : goal.returns-in_err-bytes-clause-read
 returns-in_err-bytes-clause-read g c =
