@@ -1,4 +1,7 @@
 mod HtmlRows
+mod LineLemmas
+mod LineRows
+mod LineWriting
 mod MarkReading
 mod PageRows
 mod PassageLemmas
@@ -7,7 +10,10 @@ mod PictureLemmas
 mod Reading
 mod RepeatLemmas
 mod ShownRows
+mod StyleLemmas
 mod SymbolLemmas
 mod TextReading
+mod Utf8Lemmas
+mod VerbatimLemmas
 mod WritingLemmas
 mod WrongEscapes

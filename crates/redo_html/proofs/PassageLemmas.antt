@@ -1,24 +1,24 @@
 -- Lemmas about the HTML of a passage: one step for each kind of symbol, and the end.
-use Rattle.std.proofs.Common.{◌≡◌, ℕ, zero, suc, ◌<◌, ◌≤◌, Bool, true, false, List, [], ◌∷◌, ◌++◌, length, take, drop, refl, sym, ◌∙◌, ap, arith, le_refl}
+use Rattle.std.proofs.Common.{◌≡◌, ℕ, zero, suc, ◌<◌, Bool, true, false, List, [], ◌∷◌, ◌++◌, length, drop, refl, sym, ◌∙◌, ap, arith}
 use Rattle.std.specs.Prelude.{◌&&◌, not, codes, encode_utf8, if◌then◌else◌}
 use Rattle.std.specs.List.{flat_map, list_all}
 use Rattle.std.proofs.lemmas.Bool.{and_parts, cond-true, cond-false, eq-eqb}
-use Rattle.std.proofs.lemmas.List.{append_assoc, append-nil, take_all, drop_all}
+use Rattle.std.proofs.lemmas.List.{append_assoc, append-nil}
 use Rattle.std.proofs.lemmas.List.Concat.{flat_map-append}
 use Rattle.redo_html.specs.declared.form.Form.{Form}
 use Rattle.redo_html.specs.declared.look.Look.{Look}
 use Rattle.redo_html.specs.declared.style.Style.{Style}
-use Rattle.redo_html.specs.Passage.{Inline, escaped, escaped_byte, mark_text, mark_html, inline_html, has_element, style_start, style_end, hue_number, same_bool, is_same_style, mark_if, marks_between, after_letter, with_wanted, plain_look, inlines_from, html_from, passage_html}
+use Rattle.redo_html.specs.Passage.{Inline, escaped, mark_text, mark_html, inline_html, has_element, style_start, style_end, hue_number, same_bool, is_same_style, mark_if, marks_between, after_letter, with_wanted, inlines_from, html_from}
 use Rattle.redo_html.specs.Passage.Inline.{OddStart, OddEnd, StyleStart, StyleEnd, Text}
 use Rattle.redo_html.specs.Laws.{is_plain}
 use Rattle.redo_html.specs.Shown.{Run, is_odd, odd_text, letters_text, run_text, runs_of, shown_text}
 use Rattle.redo_html.specs.Shown.Run.{Letters}
-use Rattle.redo_html.specs.Style.{plain_style, restyled}
+use Rattle.redo_html.specs.Style.{restyled}
 use Rattle.redo_html.specs.Symbols.{Symbol, first_symbol, symbol_len, symbols}
 use Rattle.redo_html.specs.Symbols.Symbol.{Letter, Sequence}
 use Rattle.redo_html.specs.Private.Writing.{IsRepeated, optional_mark}
 use Rattle.redo_html.proofs.TextReading.{safe_escaped, odd_safe}
-use Rattle.redo_html.proofs.SymbolLemmas.{symbols-nil, symbols-step, plain_symbol, plain_visible, plain_escaped, plain_encoded, visible_run, odd_run}
+use Rattle.redo_html.proofs.SymbolLemmas.{symbols-nil, symbols-step, plain_symbol, plain_visible, plain_encoded, visible_run, odd_run}
 
 -- ---- marks
 
@@ -67,7 +67,7 @@ same_as_itself : (style : Style) → is_same_style style style ≡ true
 same_as_itself style = rw (same_bool_itself style.bold, eq-eqb (hue_number style.hue) (hue_number style.hue) refl) refl
 
 -- Between two visible letters without a sequence there are no marks.
-no_marks : (form : Form) (look : Look) → flat_map (inline_html form) (marks_between (after_letter look false) false) ≡ []
+pub no_marks : (form : Form) (look : Look) → flat_map (inline_html form) (marks_between (after_letter look false) false) ≡ []
 no_marks form look = rw (same_as_itself look.wanted) refl
 
 -- ---- the end
@@ -82,11 +82,14 @@ html-nil form look =
 
 -- ---- steps
 
-abbrev marks : Form → Look → Bool → List ℕ
+abbrev pub marks : Form → Look → Bool → List ℕ
 marks form look odd = flat_map (inline_html form) (marks_between look odd)
 
-letters_step : (form : Form) (look : Look) (letter count : ℕ) (runs : List Run) (odd : Bool) → is_odd letter ≡ odd
-    → flat_map (inline_html form) (inlines_from look (Letters letter count ∷ runs)) ≡ marks form look odd ++ (escaped (letters_text letter count) ++ flat_map (inline_html form) (inlines_from (after_letter look odd) runs))
+abbrev pub html_of : Form → Look → List Run → List ℕ
+html_of form look runs = flat_map (inline_html form) (inlines_from look runs)
+
+pub letters_step : (form : Form) (look : Look) (letter count : ℕ) (runs : List Run) (odd : Bool) → is_odd letter ≡ odd
+    → html_of form look (Letters letter count ∷ runs) ≡ marks form look odd ++ (escaped (letters_text letter count) ++ html_of form (after_letter look odd) runs)
 letters_step form look letter count runs odd is =
     flat_map-append (inline_html form) (marks_between look (is_odd letter)) (Text letter count ∷ inlines_from (after_letter look (is_odd letter)) runs)
     ∙ ap (λ (o : Bool). marks form look o ++ (escaped (letters_text letter count) ++ flat_map (inline_html form) (inlines_from (after_letter look o) runs))) is
@@ -120,45 +123,7 @@ unfolding html_from
 sequence_step form look bytes numbers some first =
     ap (λ (ss : List Symbol). flat_map (inline_html form) (inlines_from look (runs_of ss))) (sym (symbols-step form bytes some ∙ ap (λ (s : Symbol). s ∷ symbols form (drop (symbol_len form bytes) bytes)) first))
 
--- ---- plain bytes
-
-plain_one : (form : Form) (look : Look) (byte : ℕ) (bytes : List ℕ) → is_plain byte ≡ true → marks form look false ++ (byte ∷ html_from form (after_letter look false) bytes) ≡ html_from form look (byte ∷ bytes)
-plain_one form look byte bytes plain =
-    let symbol = plain_symbol form byte bytes plain in
-    ap (λ (t : List ℕ). marks form look false ++ (t ++ html_from form (after_letter look false) bytes)) (sym (ap escaped (plain_encoded byte plain) ∙ append-nil (escaped_byte byte) ∙ plain_escaped byte plain))
-    ∙ ap (λ (n : ℕ). marks form look false ++ (escaped (encode_utf8 byte) ++ html_from form (after_letter look false) (drop n (byte ∷ bytes)))) (sym symbol.1)
-    ∙ visible_step form look (byte ∷ bytes) byte (omega arith) symbol.0 (plain_visible byte plain)
-
--- Plain bytes after a visible letter.
-plain_more : (form : Form) (look : Look) (count : ℕ) (bytes : List ℕ) → list_all is_plain (take count bytes) ≡ true → take count bytes ++ html_from form (after_letter look false) (drop count bytes) ≡ html_from form (after_letter look false) bytes
-plain_more form look zero bytes plain = refl
-plain_more form look (suc count) [] plain = refl
-plain_more form look (suc count) (byte ∷ bytes) plain =
-    let parts = and_parts (is_plain byte) (list_all is_plain (take count bytes)) plain in
-    ap (λ (t : List ℕ). byte ∷ t) (plain_more form look count bytes parts.1)
-    ∙ ap (λ (m : List ℕ). m ++ (byte ∷ html_from form (after_letter look false) bytes)) (sym (no_marks form look))
-    ∙ plain_one form (after_letter look false) byte bytes parts.0
-
-pub plain_step : (form : Form) (look : Look) (count : ℕ) (bytes : List ℕ) → 0 < count → count ≤ length bytes → list_all is_plain (take count bytes) ≡ true
-    → marks form look false ++ (take count bytes ++ html_from form (after_letter look false) (drop count bytes)) ≡ html_from form look bytes
-plain_step form look zero bytes some within plain = absurd (omega arith)
-plain_step form look (suc count) [] some within plain = absurd (omega arith)
-plain_step form look (suc count) (byte ∷ bytes) some within plain =
-    let parts = and_parts (is_plain byte) (list_all is_plain (take count bytes)) plain in
-    ap (λ (t : List ℕ). marks form look false ++ (byte ∷ t)) (plain_more form look count bytes parts.1) ∙ plain_one form look byte bytes parts.0
-
 -- ---- plain text
-
-pub plain_written : (form : Form) (bytes : List ℕ) → list_all is_plain bytes ≡ true → passage_html form bytes ≡ bytes
-plain_written form bytes plain =
-    let n = length bytes in
-    sym (plain_more form plain_look n bytes (ap (list_all is_plain) (take_all n bytes (le_refl n)) ∙ plain))
-    ∙ ap (λ (t : List ℕ). t ++ html_from form plain_look (drop n bytes)) (take_all n bytes (le_refl n))
-    ∙ ap (λ (d : List ℕ). bytes ++ html_from form plain_look d) (drop_all n bytes (le_refl n))
-    ∙ ap (λ (t : List ℕ). bytes ++ t) (sym (html-nil form plain_look) ∙ nothing form) ∙ append-nil bytes
-  where
-    nothing : (form : Form) → optional_mark form false (bracketed (mark_text OddEnd)) ++ optional_mark form false (bracketed (mark_text (StyleEnd plain_style))) ≡ []
-    nothing form = refl
 
 pub plain_shown : (form : Form) (bytes : List ℕ) → list_all is_plain bytes ≡ true → shown_text form bytes ≡ bytes
 plain_shown form [] plain = ap (λ (ss : List Symbol). flat_map run_text (runs_of ss)) (symbols-nil form)

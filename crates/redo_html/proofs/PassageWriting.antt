@@ -1,12 +1,12 @@
 -- Letters of a passage that are written after the marks before them.
-use Rattle.std.proofs.Common.{◌≡◌, ℕ, ◌<◌, ◌≤◌, Bool, List, ◌++◌, Option, Result, Err, length, drop, refl, sym, subst}
+use Rattle.std.proofs.Common.{◌≡◌, ℕ, ◌<◌, ◌≤◌, Bool, List, ◌++◌, Option, Result, Err, length, drop, refl, sym, ◌∙◌, ap, subst}
 use Rattle.std.specs.Result.{IsErr}
 use Rattle.redo_device.specs.declared.feed.Broken.{Broken}
 use Rattle.redo_device.specs.Sink.{Output, append_output, Writes}
 use Rattle.redo_html.specs.declared.form.Form.{Form}
 use Rattle.redo_html.specs.declared.look.Look.{Look}
 use Rattle.redo_html.specs.Passage.{after_letter, html_from}
-use Rattle.redo_html.specs.Private.Writing.{WroteUpTo, WroteSome, WroteSomeOrFailed}
+use Rattle.redo_html.specs.Private.Writing.{WroteUpTo, WroteSome, WroteSomeOrFailed, style_in}
 use Rattle.redo_html.proofs.WritingLemmas.{begin_parts, wrote_more, failed_part, some_failed}
 
 module _ (before : Option Output) (form : Form) (look : Look) (bytes marks part : List ℕ) (odd : Bool) (len : ℕ) (step : marks ++ (part ++ html_from form (after_letter look odd) (drop len bytes)) ≡ html_from form look bytes) where
@@ -24,10 +24,11 @@ module _ (before : Option Output) (form : Form) (look : Look) (bytes marks part 
       some_failed before after form look bytes broken done failed
       (failed_part before middle after (html_from form look bytes) part rest broken (Err broken) refl (wrote_more before before middle (html_from form look bytes) marks (part ++ rest) start written) wrote)
 
-  pub both_written : (middle after : Option Output) (next : Look) → next ≡ after_letter look odd → 0 < len → len ≤ length bytes → middle ≡ append_output before marks 0 → after ≡ append_output middle part 0 → WroteSome before after form look bytes next len
-  both_written middle after next is some within written wrote = record {
+  pub both_written : (middle after : Option Output) (next : Look) → next ≡ after_letter look odd → style_in form look.wanted (drop len bytes) ≡ style_in form look.wanted bytes → 0 < len → len ≤ length bytes → middle ≡ append_output before marks 0 → after ≡ append_output middle part 0 → WroteSome before after form look bytes next len
+  both_written middle after next is style some within written wrote = record {
     some = some;
     within = within;
     wrote = subst (λ (l : Look). WroteUpTo before after (html_from form look bytes) (html_from form l (drop len bytes))) (sym is)
         (wrote_more before middle after (html_from form look bytes) part rest (wrote_more before before middle (html_from form look bytes) marks (part ++ rest) start written) wrote);
+    style = ap (λ (l : Look). style_in form l.wanted (drop len bytes)) is ∙ style;
   }

@@ -12,7 +12,7 @@ use Rattle.redo_html.specs.declared.look.Look.{Look}
 use Rattle.redo_html.specs.declared.style.Hue.{Hue}
 use Rattle.redo_html.specs.declared.style.Hue.TheVariants.{Plain, Red, Green, Yellow, Blue, Magenta, Cyan}
 use Rattle.redo_html.specs.declared.style.Style.{Style}
-use Rattle.redo_html.specs.Passage.{Inline, hue_class, style_name, mark_text, has_marks, mark_html, mark_tokens, inline_html, inline_tokens, is_plain_hue, has_element, style_start, style_end, hue_number, same_bool, is_same_style, mark_if, marks_between, after_letter, with_wanted, plain_look, inlines_from, html_from, passage_html, passage_tokens}
+use Rattle.redo_html.specs.Passage.{Inline, hue_class, style_name, mark_text, has_marks, mark_html, mark_tokens, inline_html, inline_tokens, is_plain_hue, has_element, style_start, style_end, hue_number, same_bool, is_same_style, mark_if, marks_between, after_letter, with_wanted, start_look, inlines_from, html_from, passage_html, passage_tokens}
 use Rattle.redo_html.specs.Passage.Inline.{OddStart, OddEnd, StyleStart, StyleEnd, Text}
 use Rattle.redo_html.specs.Html.{Token, DataState, Normal, Rcdata, read_from, characters_of, text_of, tag_of, tags_of, nests_in}
 use Rattle.redo_html.specs.Html.Token.{Character, Tag}
@@ -21,7 +21,7 @@ use Rattle.redo_html.specs.Parts.{Part, part_html, part_tokens, part_text}
 use Rattle.redo_html.specs.Parts.Part.{MarkupPart, LogPart, NamePart, NumberPart, TitlePart, StylePart}
 use Rattle.redo_html.specs.Shown.{Run, is_odd, letters_text, run_text, runs_of, shown_text, number_text}
 use Rattle.redo_html.specs.Shown.Run.{Letters, Restyle}
-use Rattle.redo_html.specs.Style.{restyled}
+use Rattle.redo_html.specs.Style.{plain_style, restyled}
 use Rattle.redo_html.specs.StyleSheet.{style_sheet}
 use Rattle.redo_html.specs.Symbols.{symbols}
 use Rattle.redo_html.proofs.MarkReading.{markup_reads}
@@ -68,13 +68,13 @@ title_inline_reads (StyleStart style) behind = refl
 title_inline_reads (StyleEnd style) behind = refl
 title_inline_reads (Text letter count) behind = escaped_reads Rcdata tt (letters_text letter count) (letters_clean letter count) behind
 
-pub passage_reads : (form : Form) (bytes : List ℕ) → ReadsAs (passage_html form bytes) (passage_tokens form bytes)
+pub passage_reads : (form : Form) (style : Style) (bytes : List ℕ) → ReadsAs (passage_html form style bytes) (passage_tokens form style bytes)
 unfolding html_from
-passage_reads form bytes = each_reads Normal (inline_html form) (inline_tokens form) (inline_reads form) (inlines_from plain_look (runs_of (symbols form bytes)))
+passage_reads form style bytes = each_reads Normal (inline_html form) (inline_tokens form) (inline_reads form) (inlines_from (start_look style) (runs_of (symbols form bytes)))
 
-title_passage_reads : (bytes : List ℕ) → ReadsIn Rcdata (passage_html Title bytes) (passage_tokens Title bytes)
+title_passage_reads : (style : Style) (bytes : List ℕ) → ReadsIn Rcdata (passage_html Title style bytes) (passage_tokens Title style bytes)
 unfolding html_from
-title_passage_reads bytes = each_reads Rcdata (inline_html Title) (inline_tokens Title) title_inline_reads (inlines_from plain_look (runs_of (symbols Title bytes)))
+title_passage_reads style bytes = each_reads Rcdata (inline_html Title) (inline_tokens Title) title_inline_reads (inlines_from (start_look style) (runs_of (symbols Title bytes)))
 
 -- ---- the text
 
@@ -137,8 +137,8 @@ runs_text form look (Letters letter count ∷ runs) =
     text_in-append form (marks_between look odd) (Text letter count ∷ rest) ∙ ap (λ (t : List ℕ). t ++ text_in form (Text letter count ∷ rest)) (silent_marks form look odd)
     ∙ flat_map-append characters_of (map Character text) (flat_map (inline_tokens form) rest) ∙ ap (λ (t : List ℕ). t ++ text_in form rest) (text_characters text) ∙ ap (λ (t : List ℕ). text ++ t) (runs_text form (after_letter look odd) runs)
 
-pub passage_text : (form : Form) (bytes : List ℕ) → text_of (passage_tokens form bytes) ≡ shown_text form bytes
-passage_text form bytes = runs_text form plain_look (runs_of (symbols form bytes))
+pub passage_text : (form : Form) (style : Style) (bytes : List ℕ) → text_of (passage_tokens form style bytes) ≡ shown_text form bytes
+passage_text form style bytes = runs_text form (start_look style) (runs_of (symbols form bytes))
 
 -- ---- the tags
 
@@ -155,8 +155,8 @@ no_tags (StyleStart style ∷ inlines) = no_tags inlines
 no_tags (StyleEnd style ∷ inlines) = no_tags inlines
 no_tags (Text letter count ∷ inlines) = text_tags Title letter count inlines ∙ no_tags inlines
 
-pub title_tags : (bytes : List ℕ) → tags_of (passage_tokens Title bytes) ≡ []
-title_tags bytes = no_tags (inlines_from plain_look (runs_of (symbols Title bytes)))
+pub title_tags : (style : Style) (bytes : List ℕ) → tags_of (passage_tokens Title style bytes) ≡ []
+title_tags style bytes = no_tags (inlines_from (start_look style) (runs_of (symbols Title bytes)))
 
 abbrev AreMarks : List (List ℕ) → Type 0
 AreMarks tags = list_all is_mark tags ≡ true
@@ -357,28 +357,28 @@ runs_nest form has look (Letters letter count ∷ runs) around tags =
     ∙ ap (nests_in (opened look.odd look.current around)) (append_assoc (tags_in form (marks_between look odd)) (tags_in form rest) tags)
     ∙ marks_nest form has look odd around (tags_in form rest ++ tags) ∙ runs_nest form has (after_letter look odd) runs around tags
 
-passage_nests : (form : Form) (bytes : List ℕ) (around tags : List (List ℕ)) → nests_in around (tags_of (passage_tokens form bytes) ++ tags) ≡ nests_in around tags
-passage_nests Log bytes around tags = runs_nest Log refl plain_look (runs_of (symbols Log bytes)) around tags
-passage_nests Name bytes around tags = runs_nest Name refl plain_look (runs_of (symbols Name bytes)) around tags
-passage_nests Title bytes around tags = ap (λ (t : List (List ℕ)). nests_in around (t ++ tags)) (title_tags bytes)
+passage_nests : (form : Form) (style : Style) (bytes : List ℕ) (around tags : List (List ℕ)) → nests_in around (tags_of (passage_tokens form style bytes) ++ tags) ≡ nests_in around tags
+passage_nests Log style bytes around tags = runs_nest Log refl (start_look style) (runs_of (symbols Log bytes)) around tags
+passage_nests Name style bytes around tags = runs_nest Name refl (start_look style) (runs_of (symbols Name bytes)) around tags
+passage_nests Title style bytes around tags = ap (λ (t : List (List ℕ)). nests_in around (t ++ tags)) (title_tags style bytes)
 
-pub passage_is_read : (form : Form) (bytes : List ℕ) → IsReadAsShown form bytes
-passage_is_read form bytes = record {
-  reads = passage_reads form bytes;
-  text = passage_text form bytes;
-  marks = runs_marks form plain_look (runs_of (symbols form bytes));
-  nests = passage_nests form bytes;
+pub passage_is_read : (form : Form) (style : Style) (bytes : List ℕ) → IsReadAsShown form style bytes
+passage_is_read form style bytes = record {
+  reads = passage_reads form style bytes;
+  text = passage_text form style bytes;
+  marks = runs_marks form (start_look style) (runs_of (symbols form bytes));
+  nests = passage_nests form style bytes;
 }
 
 -- ---- pages
 
 title_reads : (title : List ℕ) → ReadsAs (part_html (TitlePart title)) (part_tokens (TitlePart title))
 title_reads title behind =
-    let html = passage_html Title title in
-    let tokens = passage_tokens Title title in
+    let html = passage_html Title plain_style title in
+    let tokens = passage_tokens Title plain_style title in
     let end = codes "</title>" in
     ap (read_from (DataState Normal)) (append_assoc (codes "<title>" ++ html) end behind ∙ append_assoc (codes "<title>") html (end ++ behind))
-    ∙ ap (λ (ts : List Token). Tag (codes "title") ∷ ts) (title_passage_reads title (end ++ behind) ∙ sym (append_assoc tokens (Tag (codes "/title") ∷ []) (read_from (DataState Normal) behind)))
+    ∙ ap (λ (ts : List Token). Tag (codes "title") ∷ ts) (title_passage_reads plain_style title (end ++ behind) ∙ sym (append_assoc tokens (Tag (codes "/title") ∷ []) (read_from (DataState Normal) behind)))
 
 style_is_raw : list_all is_raw style_sheet ≡ true
 unfolding style_sheet
@@ -397,8 +397,8 @@ number_reads number =
 
 part_reads : (part : Part) → ReadsAs (part_html part) (part_tokens part)
 part_reads (MarkupPart markup) = markup_reads markup
-part_reads (LogPart text) = passage_reads Log text
-part_reads (NamePart name) = passage_reads Name name
+part_reads (LogPart style text) = passage_reads Log style text
+part_reads (NamePart name) = passage_reads Name plain_style name
 part_reads (NumberPart number) = number_reads number
 part_reads (TitlePart title) = title_reads title
 part_reads StylePart = style_sheet_reads
@@ -408,10 +408,10 @@ parts_read parts = each_reads Normal part_html part_tokens part_reads parts
 
 part_shows : (part : Part) → text_of (part_tokens part) ≡ part_text part
 part_shows (MarkupPart markup) = refl
-part_shows (LogPart text) = passage_text Log text
-part_shows (NamePart name) = passage_text Name name
+part_shows (LogPart style text) = passage_text Log style text
+part_shows (NamePart name) = passage_text Name plain_style name
 part_shows (NumberPart number) = text_characters (number_text number)
-part_shows (TitlePart title) = flat_map-append characters_of (passage_tokens Title title) (Tag (codes "/title") ∷ []) ∙ append-nil (text_of (passage_tokens Title title)) ∙ passage_text Title title
+part_shows (TitlePart title) = flat_map-append characters_of (passage_tokens Title plain_style title) (Tag (codes "/title") ∷ []) ∙ append-nil (text_of (passage_tokens Title plain_style title)) ∙ passage_text Title plain_style title
 part_shows StylePart = flat_map-append characters_of (map Character style_sheet) (Tag (codes "/style") ∷ []) ∙ append-nil (text_of (map Character style_sheet)) ∙ text_characters style_sheet
 
 pub parts_show : (parts : List Part) → text_of (flat_map part_tokens parts) ≡ flat_map part_text parts

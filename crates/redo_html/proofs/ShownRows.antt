@@ -8,6 +8,7 @@ use Rattle.redo_html.specs.declared.form.Form.{Form}
 use Rattle.redo_html.specs.declared.form.Form.TheVariants.{Log, Name, Title}
 use Rattle.redo_html.specs.Passage.{html_from, passage_html}
 use Rattle.redo_html.specs.Shown.{is_odd, picture, number_text, odd_text, shown_text}
+use Rattle.redo_html.specs.Style.{plain_style}
 use Rattle.redo_html.specs.Symbols.{first_letter, letter_len, sequence_len, sequence_numbers, is_sequence, first_symbol, symbol_len, symbols_after}
 
 record Row : Type 0 where
@@ -72,6 +73,6 @@ shown_are : AllByRecursion (λ r. shown_text r.form r.bytes ≡ r.value) shown_r
 unfolding symbols_after first_symbol symbol_len is_sequence sequence_len sequence_numbers first_letter letter_len is_odd picture odd_text number_text encode_utf8 digits
 shown_are = (refl, (refl, (refl, (refl, (refl, (refl, (refl, (refl, (refl, (refl, (refl, (refl, (refl, (refl, (refl, (refl, (refl, (refl, (refl, (refl, (refl, tt)))))))))))))))))))))
 
-written_are : AllByRecursion (λ r. passage_html r.form r.bytes ≡ r.value) written_rows
+written_are : AllByRecursion (λ r. passage_html r.form plain_style r.bytes ≡ r.value) written_rows
 unfolding symbols_after first_symbol symbol_len is_sequence sequence_len sequence_numbers first_letter letter_len is_odd picture odd_text number_text encode_utf8 digits html_from
 written_are = (refl, (refl, (refl, (refl, (refl, (refl, (refl, (refl, (refl, (refl, (refl, (refl, (refl, (refl, (refl, (refl, (refl, (refl, (refl, (refl, (refl, tt)))))))))))))))))))))

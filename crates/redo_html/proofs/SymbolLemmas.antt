@@ -1,11 +1,12 @@
 -- Lemmas about the symbols of a text.
-use Rattle.std.proofs.Common.{◌≡◌, ℕ, zero, suc, ◌+◌, ◌-◌, ◌<◌, ◌≤◌, Bool, true, false, List, [], ◌∷◌, ◌++◌, Option, None, Some, length, take, drop, slice_index, replicate, refl, sym, ◌∙◌, ap, subst, arith, ⊎_elim, inl, inr, ◌⊎◌}
+use Rattle.std.proofs.Common.{◌≡◌, ℕ, zero, suc, ◌+◌, ◌-◌, ◌<◌, ◌≤◌, Bool, true, false, List, [], ◌∷◌, ◌++◌, Option, None, Some, length, take, drop, slice_index, get_or, replicate, refl, sym, ◌∙◌, ap, subst, arith, ⊎_elim, inl, inr, ◌⊎◌}
 use Rattle.std.specs.Char.{encode_utf8}
-use Rattle.std.specs.Prelude.{◌==◌, ◌||◌, ◌&&◌, not, nat_lt}
-use Rattle.std.specs.List.{list_any}
-use Rattle.std.proofs.lemmas.Bool.{agree_below_at, cases_lt, and_parts, and_left, and_right, and_from, cond-true, cond-false, eqb-true, eq-eqb, ne_eqb, ltb-true, lt-ltb, le-ltb, or_left, or_cases, not-true}
+use Rattle.std.specs.Prelude.{◌==◌, ◌||◌, ◌&&◌, not, nat_lt, nat_le}
+use Rattle.std.specs.List.{list_all, list_any}
+use Rattle.std.proofs.lemmas.Bool.{agree_below_at, cases_lt, and_parts, and_left, and_right, and_from, cond-true, cond-false, eqb-true, eq-eqb, ne_eqb, ltb-true, lt-ltb, le-ltb, le-leb, lt-leb, or_left, or_from, or_cases, not-true}
 use Rattle.std.proofs.lemmas.Bool.Decides.{nat_tests}
-use Rattle.std.proofs.lemmas.List.{get_or_past, take_at, take_rest}
+use Rattle.std.proofs.lemmas.List.{get_or_past, take_at, take_rest, take-append-drop, drop_more}
+use Rattle.std.proofs.lemmas.List.Folds.{list_any-append, list_any_more}
 use Rattle.bstr.specs.Utf8.{decoded, good}
 use Rattle.bstr.proofs.lemmas.PieceLemmas.{value-1, piece-bounds}
 use Rattle.bstr.proofs.lemmas.SoundLemmas.{SpellsChar-decoded}
@@ -94,14 +95,14 @@ unfolding is_odd
 plain_facts byte plain = ⊎_elim (λ not_plain. absurd (let e : true ≡ false = sym plain ∙ not-true (is_plain byte) not_plain in cc)) (λ facts. facts)
     (or_cases (not (is_plain byte)) (not (byte == 27) && not (is_odd byte)) (agree_below_at (λ b. not (is_plain b) || (not (b == 27) && not (is_odd b))) (λ b. true) 128 byte refl (let below = plain_below byte plain in omega arith)))
 
-plain_others : (byte : ℕ) → is_plain byte ≡ true → (not (byte == 38) && (not (byte == 60) && not (byte == 62))) ≡ true
+pub plain_others : (byte : ℕ) → is_plain byte ≡ true → (not (byte == 38) && (not (byte == 60) && not (byte == 62))) ≡ true
 plain_others byte plain = ⊎_elim (λ not_plain. absurd (let e : true ≡ false = sym plain ∙ not-true (is_plain byte) not_plain in cc)) (λ facts. facts)
     (or_cases (not (is_plain byte)) (not (byte == 38) && (not (byte == 60) && not (byte == 62))) (agree_below_at (λ b. not (is_plain b) || (not (b == 38) && (not (b == 60) && not (b == 62)))) (λ b. true) 128 byte refl (let below = plain_below byte plain in omega arith)))
 
 pub plain_visible : (byte : ℕ) → is_plain byte ≡ true → is_odd byte ≡ false
 plain_visible byte plain = not-true (is_odd byte) (and_parts (not (byte == 27)) (not (is_odd byte)) (plain_facts byte plain)).1
 
-no_sequence : (form : Form) (byte : ℕ) (bytes : List ℕ) → (byte == 27) ≡ false → is_sequence form (byte ∷ bytes) ≡ false
+pub no_sequence : (form : Form) (byte : ℕ) (bytes : List ℕ) → (byte == 27) ≡ false → is_sequence form (byte ∷ bytes) ≡ false
 unfolding is_sequence sequence_len
 no_sequence form byte bytes other = and_right (has_colours form) (nat_lt 0 (sequence_len (byte ∷ bytes))) (rw other refl)
 
@@ -128,7 +129,7 @@ plain_escaped byte plain =
 
 -- ---- visible letters
 
-odd_byte : (byte : ℕ) → byte < 256 → is_odd (0xDC00 + byte) ≡ true
+pub odd_byte : (byte : ℕ) → byte < 256 → is_odd (0xDC00 + byte) ≡ true
 unfolding is_odd
 odd_byte byte below = agree_below_at (λ b. is_odd (0xDC00 + b)) (λ b. true) 256 byte refl below
 
@@ -260,6 +261,37 @@ control_odd letter is = or_left (is_control letter) (list_any (is_between letter
 pub unseen_odd : (letter : ℕ) → is_control letter ≡ false → is_odd letter ≡ list_any (is_between letter) unseen_ranges
 unfolding is_odd
 unseen_odd letter is = ap (λ (control : Bool). control || list_any (is_between letter) unseen_ranges) is
+
+-- The ranges are in order: each begins after the end of those before it.
+in_order : (i : ℕ) → i < length unseen_ranges → list_all (λ range. nat_lt (get_or unseen_ranges i (0, 0)).1 range.0) (drop (i + 1) unseen_ranges) ≡ true
+in_order i below = agree_below_at (λ k. list_all (λ range. nat_lt (get_or unseen_ranges k (0, 0)).1 range.0) (drop (k + 1) unseen_ranges)) (λ k. true) 18 i refl below
+
+none_after : (letter last : ℕ) (ranges : List (ℕ × ℕ)) → letter ≤ last → list_all (λ range. nat_lt last range.0) ranges ≡ true → list_any (is_between letter) ranges ≡ false
+none_after letter last [] within later = refl
+none_after letter last (range ∷ ranges) within later =
+    let parts = and_parts (nat_lt last range.0) (list_all (λ r. nat_lt last r.0) ranges) later in
+    let first = ltb-true last range.0 parts.0 in
+    or_from (is_between letter range) (list_any (is_between letter) ranges) (and_left (nat_le range.0 letter) (nat_le letter range.1) (lt-leb range.0 letter (omega (arith, first, within)))) (none_after letter last ranges within parts.1)
+
+-- The first range that doesn't end before a letter decides.
+pub range_decides : (letter i : ℕ) → i < length unseen_ranges → letter ≤ (get_or unseen_ranges i (0, 0)).1 → list_any (is_between letter) (take i unseen_ranges) ≡ false
+    → nat_le (get_or unseen_ranges i (0, 0)).0 letter ≡ list_any (is_between letter) unseen_ranges
+range_decides letter i below within none =
+    let range = get_or unseen_ranges i (0, 0) in
+    let test = is_between letter in
+    let later = drop (i + 1) unseen_ranges in
+    sym (ap (list_any test) (sym (take-append-drop i unseen_ranges) ∙ ap (λ (rs : List (ℕ × ℕ)). take i unseen_ranges ++ rs) (drop_more unseen_ranges i (0, 0) below)) ∙ list_any-append test (take i unseen_ranges) (range ∷ later)
+    ∙ ap (λ (b : Bool). b || (test range || list_any test later)) none ∙ ap (λ (b : Bool). test range || b) (none_after letter range.1 later within (in_order i below))
+    ∙ ap (λ (b : Bool). (nat_le range.0 letter && b) || false) (le-leb letter range.1 within) ∙ same (nat_le range.0 letter))
+  where
+    same : (b : Bool) → ((b && true) || false) ≡ b
+    same true = refl
+    same false = refl
+
+pub range_before : (letter i : ℕ) → i < length unseen_ranges → (get_or unseen_ranges i (0, 0)).1 < letter → list_any (is_between letter) (take i unseen_ranges) ≡ false → list_any (is_between letter) (take (i + 1) unseen_ranges) ≡ false
+range_before letter i below past none =
+    let range = get_or unseen_ranges i (0, 0) in
+    list_any_more (is_between letter) unseen_ranges i (0, 0) below ∙ or_from _ _ none (and_right (nat_le range.0 letter) (nat_le letter range.1) (lt-leb letter range.1 past))
 
 -- A first symbol that is no letter is a sequence.
 pub sequence_found : (form : Form) (bytes : List ℕ) → None ≡ symbol_letter (first_symbol form bytes) → (first_symbol form bytes ≡ Sequence (sequence_numbers bytes)) × IsSequence bytes (symbol_len form bytes)

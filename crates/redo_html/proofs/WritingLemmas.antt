@@ -8,8 +8,9 @@ use Rattle.redo_device.specs.Sink.{Output, append_output, Writes}
 use Rattle.redo_device.proofs.WritesLemmas.{then, stops}
 use Rattle.redo_html.specs.declared.form.Form.{Form}
 use Rattle.redo_html.specs.declared.look.Look.{Look}
-use Rattle.redo_html.specs.Passage.{html_from}
-use Rattle.redo_html.specs.Private.Writing.{WroteUpTo, WroteSomeOrFailed}
+use Rattle.redo_html.specs.declared.style.Style.{Style}
+use Rattle.redo_html.specs.Passage.{html_from, passage_html}
+use Rattle.redo_html.specs.Private.Writing.{WroteUpTo, WroteSomeOrFailed, WrotePassage}
 
 module _ (before : Option Output) (text : List ℕ) where
   -- The first part of a text failed.
@@ -42,6 +43,10 @@ wrote_on before middle after text rest left so_far more =
 -- The rest was written, or writing it failed.
 pub wrote_rest : (before middle after : Option Output) (text rest : List ℕ) (done : Result (Unit {0}) Broken) → WroteUpTo before middle text rest → Writes middle after rest done → Writes before after text done
 wrote_rest before middle after text rest done so_far wrote = at_last before text middle after so_far.prefix rest done so_far.wrote wrote so_far.splits
+
+-- Nothing is left.
+pub wrote_all : (before after : Option Output) (text : List ℕ) → WroteUpTo before after text [] → after ≡ append_output before text 0
+wrote_all before after text so_far = so_far.wrote ∙ ap (λ (t : List ℕ). append_output before t 0) (sym (append-nil so_far.prefix) ∙ so_far.splits)
 
 -- Whichever error is returned, the failed write returned it.
 pub same_error : (before after : Option Output) (text : List ℕ) (broken : Broken) (done : Result (Unit {0}) Broken) → IsErr done → Writes before after text (Err broken) → Writes before after text done
@@ -78,6 +83,11 @@ failed_part before middle after text part rest broken done failed so_far wrote =
 pub some_failed : (before after : Option Output) (form : Form) (look : Look) (bytes : List ℕ) (broken : Broken) (done : Result (Look × ℕ) Broken) → IsErr done → Writes before after (html_from form look bytes) (Err broken) → WroteSomeOrFailed before after form look bytes done
 some_failed before after form look bytes broken (Ok step) failed wrote = absurd (cc)
 some_failed before after form look bytes broken (Err other) failed wrote = wrote
+
+-- A write of a passage failed.
+pub passage_failed : (before after : Option Output) (form : Form) (style : Style) (bytes : List ℕ) (broken : Broken) (done : Result Style Broken) → IsErr done → Writes before after (passage_html form style bytes) (Err broken) → WrotePassage before after form style bytes done
+passage_failed before after form style bytes broken (Ok last) failed wrote = absurd (cc)
+passage_failed before after form style bytes broken (Err other) failed wrote = wrote
 
 -- The same writes, of an equal text.
 pub writes_as : (before after : Option Output) (text other : List ℕ) (done : Result (Unit {0}) Broken) → text ≡ other → Writes before after text done → Writes before after other done

@@ -2,7 +2,10 @@
 use Rattle.std.specs.Prelude.{◌≡◌, ℕ, Bool, true, ◌==◌, ◌||◌, ◌&&◌, not, nat_lt, nat_le, List, [], ◌∷◌, ◌++◌, codes}
 use Rattle.std.specs.List.{list_all}
 use Rattle.redo_html.specs.declared.form.Form.{Form}
+use Rattle.redo_html.specs.declared.style.Style.{Style}
 use Rattle.redo_html.specs.Passage.{passage_html, passage_tokens}
+use Rattle.redo_html.specs.Parts.{Part}
+use Rattle.redo_html.specs.Parts.Part.{MarkupPart, LogPart, NamePart, NumberPart, TitlePart, StylePart}
 use Rattle.redo_html.specs.Html.{Token, DataState, Normal, read_from, text_of, tags_of, nests_in, is_one_of}
 use Rattle.redo_html.specs.Shown.{shown_text}
 
@@ -17,12 +20,25 @@ is_mark tag =
     ∷ codes "span class=\"r\"" ∷ codes "span class=\"g\"" ∷ codes "span class=\"y\"" ∷ codes "span class=\"b\"" ∷ codes "span class=\"m\"" ∷ codes "span class=\"c\"" ∷ codes "/span" ∷ [])
 
 -- A passage is read as its tokens, of which the characters are the text that is shown, and the tags are marks that nest.
-pub record IsReadAsShown (form : Form) (bytes : List ℕ) : Type 0 where
-  pub reads : ReadsAs (passage_html form bytes) (passage_tokens form bytes)
-  pub text : text_of (passage_tokens form bytes) ≡ shown_text form bytes
-  pub marks : list_all is_mark (tags_of (passage_tokens form bytes)) ≡ true
-  pub nests : (around tags : List (List ℕ)) → nests_in around (tags_of (passage_tokens form bytes) ++ tags) ≡ nests_in around tags
+pub record IsReadAsShown (form : Form) (style : Style) (bytes : List ℕ) : Type 0 where
+  pub reads : ReadsAs (passage_html form style bytes) (passage_tokens form style bytes)
+  pub text : text_of (passage_tokens form style bytes) ≡ shown_text form bytes
+  pub marks : list_all is_mark (tags_of (passage_tokens form style bytes)) ≡ true
+  pub nests : (around tags : List (List ℕ)) → nests_in around (tags_of (passage_tokens form style bytes) ++ tags) ≡ nests_in around tags
 
 -- Printable ASCII other than `&`, `<` and `>`; tabs; line feeds.
 abbrev pub is_plain : ℕ → Bool
 is_plain byte = (nat_le 32 byte && nat_lt byte 127 && not (byte == 38 || byte == 60 || byte == 62)) || byte == 9 || byte == 10
+
+-- Whether a number is a byte.
+abbrev pub is_byte : ℕ → Bool
+is_byte number = nat_lt number 256
+
+-- Whether the text of a part consists of bytes.
+abbrev pub has_bytes : Part → Bool
+has_bytes (MarkupPart markup) = true
+has_bytes (LogPart style text) = list_all is_byte text
+has_bytes (NamePart name) = list_all is_byte name
+has_bytes (NumberPart number) = true
+has_bytes (TitlePart title) = list_all is_byte title
+has_bytes StylePart = true

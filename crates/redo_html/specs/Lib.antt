@@ -1,5 +1,6 @@
 pub mod Html
 pub mod Laws
+pub mod Lines
 pub mod Parts
 pub mod Passage
 pub mod Private

@@ -4,17 +4,19 @@ use Rattle.redo_html.specs.declared.form.Form.TheVariants as form
 use Rattle.redo_html.specs.declared.markup.Markup.{Markup}
 use Rattle.redo_html.specs.declared.piece.Piece.{Piece}
 use Rattle.redo_html.specs.declared.piece.Piece.TheVariants as piece
+use Rattle.redo_html.specs.declared.style.Style.{Style}
 use Rattle.redo_html.specs.Passage.{passage_html, passage_tokens}
 use Rattle.redo_html.specs.Html.{Token}
 use Rattle.redo_html.specs.Html.Token.{Character, Tag}
 use Rattle.redo_html.specs.Shown.{number_text, shown_text}
+use Rattle.redo_html.specs.Style.{plain_style}
 use Rattle.redo_html.specs.StyleSheet.{style_sheet}
 use Rattle.redo_html.specs.Tags.{markup_text, markup_html}
 
--- A tag; the text of a log; a name, or words of the program; a number; the title of the page; its style sheet.
+-- A tag; text of a log that begins with this style; a name, or words of the program; a number; the title of the page; its style sheet.
 pub data Part : Type 0 where
   MarkupPart : Markup → Part
-  LogPart : List ℕ → Part
+  LogPart : Style → List ℕ → Part
   NamePart : List ℕ → Part
   NumberPart : ℕ → Part
   TitlePart : List ℕ → Part
@@ -22,7 +24,7 @@ pub data Part : Type 0 where
 
 abbrev pub part_of : Piece → Part
 part_of (piece.Markup markup) = MarkupPart markup
-part_of (piece.Log text) = LogPart text.now
+part_of (piece.Log style text) = LogPart style text.now
 part_of (piece.Name name) = NamePart name.now
 part_of (piece.Number number) = NumberPart number
 part_of (piece.Title title) = TitlePart title.now
@@ -30,24 +32,24 @@ part_of piece.StyleSheet = StylePart
 
 abbrev pub part_html : Part → List ℕ
 part_html (MarkupPart markup) = markup_html markup
-part_html (LogPart text) = passage_html form.Log text
-part_html (NamePart name) = passage_html form.Name name
+part_html (LogPart style text) = passage_html form.Log style text
+part_html (NamePart name) = passage_html form.Name plain_style name
 part_html (NumberPart number) = number_text number
-part_html (TitlePart title) = codes "<title>" ++ passage_html form.Title title ++ codes "</title>"
+part_html (TitlePart title) = codes "<title>" ++ passage_html form.Title plain_style title ++ codes "</title>"
 part_html StylePart = codes "<style>" ++ style_sheet ++ codes "</style>"
 
 abbrev pub part_tokens : Part → List Token
 part_tokens (MarkupPart markup) = Tag (markup_text markup) ∷ []
-part_tokens (LogPart text) = passage_tokens form.Log text
-part_tokens (NamePart name) = passage_tokens form.Name name
+part_tokens (LogPart style text) = passage_tokens form.Log style text
+part_tokens (NamePart name) = passage_tokens form.Name plain_style name
 part_tokens (NumberPart number) = map Character (number_text number)
-part_tokens (TitlePart title) = Tag (codes "title") ∷ (passage_tokens form.Title title ++ Tag (codes "/title") ∷ [])
+part_tokens (TitlePart title) = Tag (codes "title") ∷ (passage_tokens form.Title plain_style title ++ Tag (codes "/title") ∷ [])
 part_tokens StylePart = Tag (codes "style") ∷ (map Character style_sheet ++ Tag (codes "/style") ∷ [])
 
 -- The text of a part, as a reader sees it. A browser doesn't show the text of a style sheet.
 abbrev pub part_text : Part → List ℕ
 part_text (MarkupPart markup) = []
-part_text (LogPart text) = shown_text form.Log text
+part_text (LogPart style text) = shown_text form.Log text
 part_text (NamePart name) = shown_text form.Name name
 part_text (NumberPart number) = number_text number
 part_text (TitlePart title) = shown_text form.Title title

@@ -129,8 +129,9 @@ after_letter look odd = record { wanted = look.wanted; current = look.wanted; od
 abbrev pub with_wanted : Look → Style → Look
 with_wanted look style = record { wanted = style; current = look.current; odd = look.odd }
 
-abbrev pub plain_look : Look
-plain_look = record { wanted = plain_style; current = plain_style; odd = false }
+-- The look at the start of a passage that begins with this style: no mark is open.
+abbrev pub start_look : Style → Look
+start_look style = record { wanted = style; current = plain_style; odd = false }
 
 -- The parts of the rest of a passage. At its end, all marks end.
 abbrev pub inlines_from : Look → List Run → List Inline
@@ -142,9 +143,9 @@ inlines_from look (Restyle numbers ∷ runs) = inlines_from (with_wanted look (r
 unfoldable pub html_from : Form → Look → List ℕ → List ℕ
 html_from form look bytes = flat_map (inline_html form) (inlines_from look (runs_of (symbols form bytes)))
 
--- A passage, as it is written and as it is read.
-abbrev pub passage_html : Form → List ℕ → List ℕ
-passage_html form bytes = html_from form plain_look bytes
+-- A passage that begins with this style, as it is written and as it is read.
+abbrev pub passage_html : Form → Style → List ℕ → List ℕ
+passage_html form style bytes = html_from form (start_look style) bytes
 
-abbrev pub passage_tokens : Form → List ℕ → List Token
-passage_tokens form bytes = flat_map (inline_tokens form) (inlines_from plain_look (runs_of (symbols form bytes)))
+abbrev pub passage_tokens : Form → Style → List ℕ → List Token
+passage_tokens form style bytes = flat_map (inline_tokens form) (inlines_from (start_look style) (runs_of (symbols form bytes)))

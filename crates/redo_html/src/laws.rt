@@ -1,33 +1,59 @@
 //! Laws, which are theorems about the definitions alone: each contract is a theorem, and the bodies are empty.
-ghost use Rattle.std.specs.Prelude.{◌≡◌, ℕ, true, [], List};
+ghost use Rattle.std.specs.Prelude.{◌≡◌, ℕ, true, [], List, IsUtf8};
 ghost use Rattle.std.specs.List.{flat_map, list_all};
+ghost use Rattle.redo_line.specs.Lines.{with_line_feed};
 ghost use Rattle.redo_html.specs.declared.form.Form.{Form};
-ghost use Rattle.redo_html.specs.declared.form.Form.TheVariants.{Title};
+ghost use Rattle.redo_html.specs.declared.form.Form.TheVariants.{Log, Title};
+ghost use Rattle.redo_html.specs.declared.style.Style.{Style};
+ghost use Rattle.redo_html.specs.Style.{plain_style};
 ghost use Rattle.redo_html.specs.Passage.{passage_html, passage_tokens};
 ghost use Rattle.redo_html.specs.Html.{text_of, tags_of};
-ghost use Rattle.redo_html.specs.Laws.{ReadsAs, IsReadAsShown, is_plain};
+ghost use Rattle.redo_html.specs.Laws.{ReadsAs, IsReadAsShown, has_bytes, is_byte, is_plain};
+ghost use Rattle.redo_html.specs.Lines.{is_no_escape, line_parts, lines_html, style_after, style_after_lines};
 ghost use Rattle.redo_html.specs.Parts.{Part, part_html, part_tokens, part_text};
 ghost use Rattle.redo_html.specs.Shown.{shown_text};
 
-/// Whatever the bytes are, they are read as the text that is shown, and as no other tags than marks, which nest.
+/// Whatever the bytes and the style at their start are, they are read as the text that is shown, and as no other tags than marks, which nest.
 pub fn passages_are_read_as_shown()
-    ensures { (form : Form) (bytes : List ℕ) → IsReadAsShown form bytes }
+    ensures { (form : Form) (style : Style) (bytes : List ℕ) → IsReadAsShown form style bytes }
 {}
 
 /// A title has no tags.
 pub fn titles_have_no_tags()
-    ensures { (bytes : List ℕ) → tags_of (passage_tokens Title bytes) ≡ [] }
+    ensures { (style : Style) (bytes : List ℕ) → tags_of (passage_tokens Title style bytes) ≡ [] }
 {}
 
 /// Printable ASCII is shown as it is, and, without `&`, `<` and `>`, written as it is.
 pub fn plain_text_is_unchanged()
     ensures shown { (form : Form) (bytes : List ℕ) → list_all is_plain bytes ≡ true → shown_text form bytes ≡ bytes }
-    ensures written { (form : Form) (bytes : List ℕ) → list_all is_plain bytes ≡ true → passage_html form bytes ≡ bytes }
+    ensures written { (form : Form) (bytes : List ℕ) → list_all is_plain bytes ≡ true → passage_html form plain_style bytes ≡ bytes }
 {}
 
 /// The parts of a page are read as what they are: each tag as itself, and text as characters.
 pub fn parts_are_read()
     ensures { (parts : List Part) → ReadsAs (flat_map part_html parts) (flat_map part_tokens parts) }
+{}
+
+/// Lines show what all their bytes show, and the style at their end is the style after all their bytes.
+pub fn lines_show_their_text()
+    ensures text { (style : Style) (lines : List (List ℕ)) →
+        flat_map part_text (line_parts style lines) ≡ shown_text Log (flat_map with_line_feed lines) }
+    ensures style { (style : Style) (lines : List (List ℕ)) →
+        style_after_lines style lines ≡ style_after style (flat_map with_line_feed lines) }
+{}
+
+/// Without escape characters, lines that begin with the plain style are written as one text.
+pub fn plain_lines_are_one_text()
+    ensures { (lines : List (List ℕ)) → list_all is_no_escape (flat_map with_line_feed lines) ≡ true →
+        lines_html plain_style lines ≡ passage_html Log plain_style (flat_map with_line_feed lines) }
+{}
+
+/// Whatever the bytes are, what is shown of them is valid UTF-8, and so is the HTML of a page.
+pub fn html_is_utf8()
+    ensures shown { (form : Form) (bytes : List ℕ) → list_all is_byte bytes ≡ true → IsUtf8 (shown_text form bytes) }
+    ensures passages { (form : Form) (style : Style) (bytes : List ℕ) → list_all is_byte bytes ≡ true →
+        IsUtf8 (passage_html form style bytes) }
+    ensures parts { (parts : List Part) → list_all has_bytes parts ≡ true → IsUtf8 (flat_map part_html parts) }
 {}
 
 /// The characters of a page are the text that its parts show, in order.

@@ -10,7 +10,8 @@
 //! - *Sequence*: `ESC [`, digits and semicolons, and `m` (SGR, which sets colours) or `K` (which erases a line).
 //! - *Odd letter*: a letter that a browser would hide, change or act on: a control character, an invalid byte, an
 //!   invisible or bidirectional character. Its *picture* is shown instead: `^M`, `\xff`, `[U+202E]`.
-//! - *Passage*: a text of which all marks end at its end. A *mark* is an element around odd letters or for a style.
+//! - *Passage*: a text that begins with a style, and of which all marks end at its end. A *mark* is an element around odd
+//!   letters or for a style.
 //! - *Markup*: a tag of a page.
 //!
 //! # Design
@@ -23,21 +24,27 @@
 //! before the second letter, so a sequence that changes nothing writes nothing. What is bold, and in which hue, is part of
 //! the definition of a passage. Background colours and concealed text are ignored, because they can hide what a log says.
 //!
+//! **Lines** (`Lines`). Each line of a log is a passage, and begins with the style after the line before it. So a style lasts
+//! until the log sets another one, and the lines may be cut into blocks anywhere. [`write_log_lines`] writes lines without
+//! escape characters as one passage, which has the same HTML: no symbol, run of letters or mark goes past a line feed.
+//!
 //! **Reading** (`Html`). The tokenizer of the HTML standard, in the states that a page needs. The laws compose: each part
 //! of a page is read from the data state to the data state (`ReadsAs`), whatever follows it. A reading that leaves the
 //! modelled states is lost, and no law allows that. The model reads tokens, not the tree that a browser builds. It knows
 //! two rules of the tree: the text of `title` and `style` is read by other states, and a line feed directly after `<pre>`
-//! is dropped. Only elements of a list are read, because others switch the tokenizer to other states.
+//! is dropped. Only elements of a list are read, because others switch the tokenizer to other states. The model reads bytes,
+//! and a browser decodes them first: whatever the bytes of a log are, the page is valid UTF-8 (`html_is_utf8`).
 //!
 //! **Tags** (`Tags`). A tag is a value of an enum that has no bytes, only numbers. So it is a matter of types that no byte
 //! of a log is in a tag.
 //!
-//! **Speed.** Single bytes decide how long a stretch of plain text is (`plain_len`), which is one write. Every other
-//! letter is a write of its own.
+//! **Speed.** A stretch of letters that are written as they are (`verbatim_len`) is one write. In ASCII, single bytes decide
+//! how long it is. Every other letter is a write of its own.
 #![tactic(auto)]
 
 mod form;
 mod laws;
+mod lines;
 mod look;
 mod markup;
 mod passage;
@@ -48,9 +55,12 @@ mod style_sheet;
 mod symbol;
 
 pub use laws::{
-    parts_are_read, parts_show_their_text, passages_are_read_as_shown, plain_text_is_unchanged,
+    html_is_utf8, lines_show_their_text, parts_are_read, parts_show_their_text,
+    passages_are_read_as_shown, plain_lines_are_one_text, plain_text_is_unchanged,
     titles_have_no_tags,
 };
+pub use lines::write_log_lines;
 pub use markup::{Markup, write_markup, write_number};
 pub use passage::{write_log_text, write_name, write_title_text};
 pub use piece::{Piece, write_pieces};
+pub use style::{Hue, Style};

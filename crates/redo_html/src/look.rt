@@ -1,8 +1,8 @@
 //! Which marks are open in a passage.
 ghost use Rattle.std.specs.Prelude.{◌≡◌};
-ghost use Rattle.redo_html.specs.Passage.{plain_look, after_letter, with_wanted};
+ghost use Rattle.redo_html.specs.Passage.{start_look, after_letter, with_wanted};
 
-use crate::style::{Style, plain};
+use crate::style::Style;
 
 /// The style of the next letter, and what is open in the passage: the mark of a style, and within it, if `odd` is set, the mark for odd
 /// letters.
@@ -13,13 +13,13 @@ pub struct Look {
     pub odd: bool,
 }
 
-/// Returns the look at the start of a passage: no mark is open.
-pub fn at_start() -> Look
-    ensures { result ≡ plain_look }
+/// Returns the look at the start of a passage that begins with this style: no mark is open.
+pub fn at_start(style: Style) -> Look
+    ensures { result ≡ start_look style }
 {
     Look {
-        wanted: plain(),
-        current: plain(),
+        wanted: style,
+        current: Style::PLAIN,
         odd: false,
     }
 }

@@ -6,50 +6,67 @@ ghost use Rattle.redo_html.specs.declared.form.Form.TheVariants as form;
 ghost use Rattle.redo_html.specs.Passage.{escaped, has_element, is_same_style, mark_text, has_marks, inline_html, marks_between, passage_html, html_from};
 ghost use Rattle.redo_html.specs.Passage.Inline.{StyleStart, StyleEnd};
 ghost use Rattle.redo_html.specs.Laws.{is_plain};
+ghost use Rattle.redo_html.specs.Style.{plain_style};
 ghost use Rattle.redo_html.specs.Shown.{is_odd};
 ghost use Rattle.redo_html.specs.Symbols.{first_symbol, symbol_len};
 ghost use Rattle.redo_html.specs.Symbols.Symbol.{Letter};
-ghost use Rattle.redo_html.specs.Private.Writing.{WroteSomeOrFailed, IsRepeated, optional_mark};
+ghost use Rattle.redo_html.specs.Private.Writing.{WrotePassage, WroteSomeOrFailed, IsRepeated, IsVerbatim, optional_mark};
 
 use crate::form::Form;
 use crate::look::{Look, at_start, with_letter, with_style};
 use crate::picture::write_odd;
 use crate::style::{Hue, Style, after_sequence, has_own_element, is_same};
-use crate::symbol::{is_odd_letter, plain_len, symbol_at};
+use crate::symbol::{is_odd_letter, symbol_at, verbatim_len};
 use redo_device::{Broken, Sink, push_all};
 
-/// Writes the text of a log. Its colours are shown, and end with the passage.
-pub fn write_log_text<W: Sink>(bytes: &[u8], out: &mut W) -> Result<(), Broken>
-    ensures { Writes (W.written out.old) (W.written out.new) (passage_html form.Log bytes.now) result }
+/// Writes text of a log that begins with this style. Its colours are shown, and end with the text.
+pub fn write_log_text<W: Sink>(style: Style, bytes: &[u8], out: &mut W) -> Result<(), Broken>
+    ensures { Writes (W.written out.old) (W.written out.new) (passage_html form.Log style bytes.now) result }
 {
-    write_passage(Form::Log, bytes, out)
+    match write_passage(Form::Log, style, bytes, out) {
+        Ok(_) => Ok(()),
+        Err(broken) => Err(broken),
+    }
 }
 
 /// Writes a name, or words of the program.
 pub fn write_name<W: Sink>(bytes: &[u8], out: &mut W) -> Result<(), Broken>
-    ensures { Writes (W.written out.old) (W.written out.new) (passage_html form.Name bytes.now) result }
+    ensures { Writes (W.written out.old) (W.written out.new) (passage_html form.Name plain_style bytes.now) result }
 {
-    write_passage(Form::Name, bytes, out)
+    match write_passage(Form::Name, Style::PLAIN, bytes, out) {
+        Ok(_) => Ok(()),
+        Err(broken) => Err(broken),
+    }
 }
 
 /// Writes the text of a title, which has no elements.
 pub fn write_title_text<W: Sink>(bytes: &[u8], out: &mut W) -> Result<(), Broken>
-    ensures { Writes (W.written out.old) (W.written out.new) (passage_html form.Title bytes.now) result }
+    ensures { Writes (W.written out.old) (W.written out.new) (passage_html form.Title plain_style bytes.now) result }
 {
-    write_passage(Form::Title, bytes, out)
+    match write_passage(Form::Title, Style::PLAIN, bytes, out) {
+        Ok(_) => Ok(()),
+        Err(broken) => Err(broken),
+    }
 }
 
-fn write_passage<W: Sink>(form: Form, bytes: &[u8], out: &mut W) -> Result<(), Broken>
-    ensures { Writes (W.written out.old) (W.written out.new) (passage_html form bytes.now) result }
+/// Writes a passage that begins with this style. Returns the style at its end.
+pub fn write_passage<W: Sink>(
+    form: Form,
+    style: Style,
+    bytes: &[u8],
+    out: &mut W,
+) -> Result<Style, Broken>
+    ensures { WrotePassage (W.written out.old) (W.written out.new) form style bytes.now result }
 {
-    let mut look = at_start();
+    let mut look = at_start(style);
     let mut done = 0;
     while done < bytes.len() {
         let (next, len) = write_some(form, look, &bytes[done..], out)?;
         look = next;
         done += len;
     }
-    write_end(form, look, out)
+    write_end(form, look, out)?;
+    Ok(look.wanted)
 }
 
 // Writes the start of the rest of a passage, which isn't empty. Returns the look after it, and the number of its bytes.
@@ -62,9 +79,9 @@ fn write_some<W: Sink>(
     requires { 0 < length bytes.now }
     ensures { WroteSomeOrFailed (W.written out.old) (W.written out.new) form look bytes.now result }
 {
-    let plain = plain_len(bytes);
-    if plain > 0 {
-        return write_plain(form, look, bytes, plain, out);
+    let verbatim = verbatim_len(bytes);
+    if verbatim > 0 {
+        return write_verbatim(form, look, bytes, verbatim, out);
     }
     let (symbol, len) = symbol_at(form, bytes);
     match symbol {
@@ -82,8 +99,8 @@ fn write_some<W: Sink>(
     }
 }
 
-// Writes bytes that are shown as they are.
-fn write_plain<W: Sink>(
+// Writes letters that are written as they are.
+fn write_verbatim<W: Sink>(
     form: Form,
     look: Look,
     bytes: &[u8],
@@ -91,8 +108,7 @@ fn write_plain<W: Sink>(
     out: &mut W,
 ) -> Result<(Look, usize), Broken>
     requires some { 0 < len }
-    requires within { len ≤ length bytes.now }
-    requires plain { list_all is_plain (take len bytes.now) ≡ true }
+    requires verbatim { IsVerbatim bytes.now len }
     ensures { WroteSomeOrFailed (W.written out.old) (W.written out.new) form look bytes.now result }
 {
     write_marks(form, look, false, out)?;

@@ -7,6 +7,7 @@ ghost use Rattle.redo_html.specs.Parts.Part.{TitlePart};
 
 use crate::markup::{Markup, write_markup, write_number};
 use crate::passage::{write_log_text, write_name, write_title_text};
+use crate::style::Style;
 use crate::style_sheet::style_element;
 use redo_device::{Broken, Sink, push_all};
 
@@ -15,8 +16,8 @@ use redo_device::{Broken, Sink, push_all};
 pub enum Piece<'a> {
     /// A tag.
     Markup(Markup),
-    /// The text of a log, with its colours.
-    Log(&'a [u8]),
+    /// Text of a log that begins with this style. Its colours are shown, and end with it.
+    Log(Style, &'a [u8]),
     /// A name, or words of the program: any bytes, without colours.
     Name(&'a [u8]),
     /// A number in decimal.
@@ -42,7 +43,7 @@ fn write_piece<W: Sink>(piece: Piece<'_>, out: &mut W) -> Result<(), Broken>
 {
     match piece {
         Piece::Markup(markup) => write_markup(markup, out),
-        Piece::Log(text) => write_log_text(text, out),
+        Piece::Log(style, text) => write_log_text(style, text, out),
         Piece::Name(name) => write_name(name, out),
         Piece::Number(number) => write_number(number, out),
         Piece::Title(title) => write_title(title, out),

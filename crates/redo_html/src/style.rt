@@ -1,12 +1,12 @@
 //! The styles that compilers set.
 ghost use Rattle.std.specs.Prelude.{◌≡◌, ◌≤◌};
 ghost use Rattle.redo_html.specs.Passage.{hue_number, is_same_style, has_element};
-ghost use Rattle.redo_html.specs.Style.{plain_style, digit_hue, attribute_added, setting_after, restyled};
+ghost use Rattle.redo_html.specs.Style.{digit_hue, attribute_added, setting_after, restyled};
 ghost use Rattle.redo_html.specs.Symbols.{sequence_numbers, numbers_from};
 ghost use Rattle.redo_html.specs.Private.Writing.{IsSequence, ReadsParameter};
 
 /// A hue. `Plain` is the colour of the page's text.
-#[derive(Clone, Copy)]
+#[derive(Clone, Copy, Debug, PartialEq, Eq)]
 pub enum Hue {
     Plain,
     Red,
@@ -18,10 +18,18 @@ pub enum Hue {
 }
 
 /// How letters look.
-#[derive(Clone, Copy)]
+#[derive(Clone, Copy, Debug, PartialEq, Eq)]
 pub struct Style {
     pub bold: bool,
     pub hue: Hue,
+}
+
+impl Style {
+    /// The style of a page's text.
+    pub const PLAIN: Style = Style {
+        bold: false,
+        hue: Hue::Plain,
+    };
 }
 
 /// A style while the numbers of a sequence are read, and how many of them are still to be ignored.
@@ -29,16 +37,6 @@ pub struct Style {
 pub struct Setting {
     pub style: Style,
     pub ahead: u8,
-}
-
-/// Returns the style of a page's text.
-pub fn plain() -> Style
-    ensures { result ≡ plain_style }
-{
-    Style {
-        bold: false,
-        hue: Hue::Plain,
-    }
 }
 
 /// Returns whether two styles are the same.
@@ -137,7 +135,7 @@ fn with_attribute(style: Style, number: u32) -> Style
     ensures { result ≡ attribute_added style number }
 {
     if number == 0 {
-        plain()
+        Style::PLAIN
     } else if number == 1 {
         Style {
             bold: true,

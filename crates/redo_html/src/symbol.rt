@@ -4,12 +4,13 @@ ghost use Rattle.std.specs.List.{list_all, list_any, prefix_len};
 ghost use Rattle.redo_html.specs.Laws.{is_plain};
 ghost use Rattle.redo_html.specs.Shown.{is_odd, is_control, is_between, unseen_ranges};
 ghost use Rattle.redo_html.specs.Symbols.{first_letter, letter_len, is_parameter, sequence_len, has_colours, first_symbol, symbol_len};
-ghost use Rattle.redo_html.specs.Private.Writing.{symbol_letter};
+ghost use Rattle.redo_html.specs.Private.Writing.{IsVerbatim, symbol_letter};
 
 use crate::form::Form;
 use bstr::decode_utf8;
 
-// Characters that can't be seen, by their first and last numbers, and bytes that are no part of a character.
+// Characters that can't be seen, by their first and last numbers, and bytes that are no part of a character. The ranges are in
+// order.
 const UNSEEN: [(u32, u32); 18] = [
     (0x80, 0x9F),
     (0xAD, 0xAD),
@@ -31,8 +32,44 @@ const UNSEEN: [(u32, u32); 18] = [
     (0xE0000, 0xE0FFF),
 ];
 
-/// Returns the number of bytes at the start that are shown as they are, as far as this is known from single bytes.
-pub fn plain_len(bytes: &[u8]) -> usize
+/// Returns the number of bytes at the start that are letters which are written as they are.
+pub fn verbatim_len(bytes: &[u8]) -> usize
+    ensures { IsVerbatim bytes.now result }
+{
+    let mut len = plain_len(bytes);
+    while len < bytes.len() {
+        let more = visible_len(&bytes[len..]);
+        if more == 0 {
+            return len;
+        }
+        len += more;
+        len += plain_len(&bytes[len..]);
+    }
+    len
+}
+
+// Returns the number of bytes of the first letter if it is visible and not in ASCII, or 0 otherwise.
+fn visible_len(bytes: &[u8]) -> usize
+    requires { 0 < length bytes.now }
+    ensures { IsVerbatim bytes.now result }
+{
+    if bytes[0] < 128 {
+        return 0;
+    }
+    match decode_utf8(bytes) {
+        (Some(character), len) => {
+            if is_odd_letter(u32::from(character)) {
+                0
+            } else {
+                len
+            }
+        }
+        (None, _) => 0,
+    }
+}
+
+// Returns the number of bytes at the start that are plain.
+fn plain_len(bytes: &[u8]) -> usize
     ensures within { result ≤ length bytes.now }
     ensures plain { list_all is_plain (take result bytes.now) ≡ true }
 {
@@ -158,15 +195,9 @@ fn is_unseen(letter: u32) -> bool
     ensures { result ≡ list_any (is_between letter) unseen_ranges }
 {
     for range in &UNSEEN {
-        if is_in(letter, *range) {
-            return true;
+        if letter <= range.1 {
+            return range.0 <= letter;
         }
     }
     false
-}
-
-fn is_in(letter: u32, range: (u32, u32)) -> bool
-    ensures { result ≡ is_between letter range }
-{
-    range.0 <= letter && letter <= range.1
 }

@@ -1,4 +1,60 @@
 //! Texts, and their HTML. An independent program in Python computed the values.
+use redo_html::{Hue, Style};
+
+const BLUE: Style = Style {
+    bold: false,
+    hue: Hue::Blue,
+};
+
+const CYAN: Style = Style {
+    bold: false,
+    hue: Hue::Cyan,
+};
+
+const GREEN: Style = Style {
+    bold: false,
+    hue: Hue::Green,
+};
+
+const MAGENTA: Style = Style {
+    bold: false,
+    hue: Hue::Magenta,
+};
+
+const RED: Style = Style {
+    bold: false,
+    hue: Hue::Red,
+};
+
+const YELLOW: Style = Style {
+    bold: false,
+    hue: Hue::Yellow,
+};
+
+const BOLD_BLUE: Style = Style {
+    bold: true,
+    hue: Hue::Blue,
+};
+
+const BOLD_CYAN: Style = Style {
+    bold: true,
+    hue: Hue::Cyan,
+};
+
+const BOLD_GREEN: Style = Style {
+    bold: true,
+    hue: Hue::Green,
+};
+
+const BOLD: Style = Style {
+    bold: true,
+    hue: Hue::Plain,
+};
+
+const BOLD_YELLOW: Style = Style {
+    bold: true,
+    hue: Hue::Yellow,
+};
 
 /// The text of a log, and its HTML.
 pub static LOGS: [(&[u8], &[u8]); 28] = [
@@ -114,4 +170,102 @@ pub static TITLES: [(&[u8], &[u8]); 4] = [
         b"^@^A^B^C^D^E^F^G^H\t\n^K^L^M^N^O^P^Q^R^S^T^U^V^W^X^Y^Z^[^\\^]^^^_ !\"#$%&amp;'()*+,-./0123456789:;&lt;=&gt;?@ABCDEFGHIJKLMNOPQRSTUVWXYZ[\\]^_`abcdefghijklmnopqrstuvwxyz{|}~^?\\x80\\x81\\x82\\x83\\x84\\x85\\x86\\x87\\x88\\x89\\x8a\\x8b\\x8c\\x8d\\x8e\\x8f\\x90\\x91\\x92\\x93\\x94\\x95\\x96\\x97\\x98\\x99\\x9a\\x9b\\x9c\\x9d\\x9e\\x9f\\xa0\\xa1\\xa2\\xa3\\xa4\\xa5\\xa6\\xa7\\xa8\\xa9\\xaa\\xab\\xac\\xad\\xae\\xaf\\xb0\\xb1\\xb2\\xb3\\xb4\\xb5\\xb6\\xb7\\xb8\\xb9\\xba\\xbb\\xbc\\xbd\\xbe\\xbf\\xc0\\xc1\\xc2\\xc3\\xc4\\xc5\\xc6\\xc7\\xc8\\xc9\\xca\\xcb\\xcc\\xcd\\xce\\xcf\\xd0\\xd1\\xd2\\xd3\\xd4\\xd5\\xd6\\xd7\\xd8\\xd9\\xda\\xdb\\xdc\\xdd\\xde\\xdf\\xe0\\xe1\\xe2\\xe3\\xe4\\xe5\\xe6\\xe7\\xe8\\xe9\\xea\\xeb\\xec\\xed\\xee\\xef\\xf0\\xf1\\xf2\\xf3\\xf4\\xf5\\xf6\\xf7\\xf8\\xf9\\xfa\\xfb\\xfc\\xfd\\xfe\\xff",
     ),
     (b"</title><script>", b"&lt;/title&gt;&lt;script&gt;"),
+];
+
+/// The style at the start of lines, the lines, their HTML, and the style at their end.
+pub static LINES: [(Style, &[u8], &[u8], Style); 15] = [
+    (Style::PLAIN, b"", b"", Style::PLAIN),
+    (BOLD_CYAN, b"", b"", BOLD_CYAN),
+    (Style::PLAIN, b"\n", b"\n", Style::PLAIN),
+    (
+        RED,
+        b"\n\n",
+        b"<span class=\"r\">\n</span><span class=\"r\">\n</span>",
+        RED,
+    ),
+    (
+        Style::PLAIN,
+        b"cc -c a.c\n\nb <c> & \"d\"\n\te\n",
+        b"cc -c a.c\n\nb &lt;c&gt; &amp; \"d\"\n\te\n",
+        Style::PLAIN,
+    ),
+    (
+        Style::PLAIN,
+        b"\x1b[31mred\nstill red\n\x1b[mplain\nplain\n",
+        b"<span class=\"r\">red\n</span><span class=\"r\">still red\n</span>plain\nplain\n",
+        Style::PLAIN,
+    ),
+    (
+        BOLD_GREEN,
+        b"x\n\x1b[39my\n\n\x1b[22mz\n",
+        b"<b class=\"g\">x\n</b><b>y\n</b><b>\n</b>z\n",
+        Style::PLAIN,
+    ),
+    (
+        Style::PLAIN,
+        b"a\x00\n\x00b\n\x01\x01\x01\n\x01\x01\x01\n",
+        b"a<i>^@</i>\n<i>^@</i>b\n<i>^A^A^A</i>\n<i>^A^A^A</i>\n",
+        Style::PLAIN,
+    ),
+    (
+        Style::PLAIN,
+        b"\x1b[31\nm\x1b\n[1mx\n",
+        b"<i>^[</i>[31\nm<i>^[</i>\n[1mx\n",
+        Style::PLAIN,
+    ),
+    (
+        Style::PLAIN,
+        b"\xe2\x82\n\xac\xc3\n\xa9 \xe2\x82\xac\n",
+        b"<i>\\xe2\\x82</i>\n<i>\\xac\\xc3</i>\n<i>\\xa9</i> \xe2\x82\xac\n",
+        Style::PLAIN,
+    ),
+    (
+        Style::PLAIN,
+        b"one\ntwo\n\x1b[1;35mnote\x1b[m: three\nfour\nfive\n\x1b[Ksix\nseven\n",
+        b"one\ntwo\n<b class=\"m\">note</b>: three\nfour\nfive\nsix\nseven\n",
+        Style::PLAIN,
+    ),
+    (
+        Style::PLAIN,
+        b"a\x1b[33m\nb\n\x1b[m\nc\n",
+        b"a<span class=\"y\">\n</span><span class=\"y\">b\n</span>\nc\n",
+        Style::PLAIN,
+    ),
+    (
+        Style::PLAIN,
+        b"\x1b[1;31ma\n\x1b[1;31mb\x1b[m\n\x1b[34;1m\nc\n",
+        b"<b class=\"r\">a\n</b><b class=\"r\">b</b>\n<b class=\"b\">\n</b><b class=\"b\">c\n</b>",
+        BOLD_BLUE,
+    ),
+    (
+        MAGENTA,
+        b"\x1b[1m\xff\xff\xff\xff\xff\n\xff\x1b[mx\n",
+        b"<b class=\"m\"><i>\\xff\xc3\x975 </i>\n</b><b class=\"m\"><i>\\xff</i></b>x\n",
+        Style::PLAIN,
+    ),
+    (
+        YELLOW,
+        b"a\x1b[38;5;196mb\x1b[48;2;1;31;1mc\n\x1b[22;94md\n",
+        b"<span class=\"y\">abc\n</span><span class=\"b\">d\n</span>",
+        BLUE,
+    ),
+];
+
+/// The style at the start of a text of a log, the text, and its HTML.
+pub static STYLED: [(Style, &[u8], &[u8]); 7] = [
+    (RED, b"", b""),
+    (RED, b"a\x1b[mb", b"<span class=\"r\">a</span>b"),
+    (BOLD, b"\x00x", b"<b><i>^@</i>x</b>"),
+    (BOLD_BLUE, b"\x1b[31m", b""),
+    (GREEN, b"\x1b[m x", b" x"),
+    (
+        CYAN,
+        b"one\ntwo\x1b[22m <three>",
+        b"<span class=\"c\">one\ntwo &lt;three&gt;</span>",
+    ),
+    (
+        BOLD_YELLOW,
+        b"\x1b[22m\x1b[1m&",
+        b"<b class=\"y\">&amp;</b>",
+    ),
 ];

@@ -1,8 +1,13 @@
 //! The HTML of a page.
 use redo_device::{Broken, Taker};
-use redo_html::{Markup, Piece, write_pieces};
+use redo_html::{Hue, Markup, Piece, Style, write_pieces};
 use std::process::Abort;
 use std::test::Fail;
+
+const GREEN: Style = Style {
+    bold: false,
+    hue: Hue::Green,
+};
 
 static PIECES: [Piece<'static>; 30] = [
     Piece::Markup(Markup::Doctype),
@@ -24,10 +29,10 @@ static PIECES: [Piece<'static>; 30] = [
     Piece::Markup(Markup::EndBdi),
     Piece::Markup(Markup::EndSummary),
     Piece::Markup(Markup::Pre),
-    Piece::Log(b"\n\x1b[31ma&b"),
+    Piece::Log(Style::PLAIN, b"\n\x1b[31ma&b"),
     Piece::Markup(Markup::EndPre),
-    Piece::Log(b"\x1b[1"),
-    Piece::Log(b"c"),
+    Piece::Log(GREEN, b"\x1b[1"),
+    Piece::Log(Style::PLAIN, b"c"),
     Piece::Markup(Markup::EndDetails),
     Piece::Markup(Markup::TargetLink(12)),
     Piece::Markup(Markup::EndLink),
@@ -38,7 +43,7 @@ static PIECES: [Piece<'static>; 30] = [
 ];
 
 static PAGE: &[u8] =
-    b"<!doctype html><html lang=\"en\"><head><title>a &lt; b\\xff&lt;/title&gt;</title></head><body class=\"bad\"><h1>2 of 18446744073709551615 failed</h1><details open id=\"t0\"><summary><bdi>&lt;a.o&gt;</bdi></summary><pre>\n\n<span class=\"r\">a&amp;b</span></pre><i>^[</i>[1c</details><a href=\"#t12\"></a><article id=\"f7\"></article></body></html>";
+    b"<!doctype html><html lang=\"en\"><head><title>a &lt; b\\xff&lt;/title&gt;</title></head><body class=\"bad\"><h1>2 of 18446744073709551615 failed</h1><details open id=\"t0\"><summary><bdi>&lt;a.o&gt;</bdi></summary><pre>\n\n<span class=\"r\">a&amp;b</span></pre><span class=\"g\"><i>^[</i>[1</span>c</details><a href=\"#t12\"></a><article id=\"f7\"></article></body></html>";
 
 #[test]
 fn pieces_are_written_in_order(rt: HostRuntime) -> Result<(), Fail> {

@@ -1,7 +1,7 @@
 //! The HTML of texts.
-use crate::cases::{LOGS, NAMES, TITLES};
+use crate::cases::{LOGS, NAMES, STYLED, TITLES};
 use redo_device::{Broken, Taker};
-use redo_html::{write_log_text, write_name, write_title_text};
+use redo_html::{Style, write_log_text, write_name, write_title_text};
 use std::process::Abort;
 use std::test::Fail;
 
@@ -9,7 +9,17 @@ use std::test::Fail;
 fn log_text_is_written(rt: HostRuntime) -> Result<(), Fail> {
     for (text, want) in &LOGS {
         let mut out = Taker::new(rt.alloc(), 4096, 4096)?;
-        let written = write_log_text(text, &mut out);
+        let written = write_log_text(Style::PLAIN, text, &mut out);
+        expect_written(&rt, written, out.bytes(), want);
+    }
+    Ok(())
+}
+
+#[test]
+fn text_begins_with_style(rt: HostRuntime) -> Result<(), Fail> {
+    for (style, text, want) in &STYLED {
+        let mut out = Taker::new(rt.alloc(), 4096, 7)?;
+        let written = write_log_text(*style, text, &mut out);
         expect_written(&rt, written, out.bytes(), want);
     }
     Ok(())
@@ -46,7 +56,7 @@ fn failed_write_leaves_prefix(rt: HostRuntime) -> Result<(), Fail> {
     for (text, want) in &LOGS {
         for room in 0..want.len().min(100) {
             let mut out = Taker::new(rt.alloc(), room, 5)?;
-            assert_eq!(&rt; write_log_text(text, &mut out), Err(Broken));
+            assert_eq!(&rt; write_log_text(Style::PLAIN, text, &mut out), Err(Broken));
             assert_eq!(&rt; out.bytes(), &want[..room]);
         }
     }

@@ -1,11 +1,17 @@
 -- What writers in parts ensure.
-use Rattle.std.specs.Prelude.{◌≡◌, ⊤, ℕ, ◌+◌, fold, ◌<◌, ◌≤◌, Bool, false, ◌==◌, ◌&&◌, List, [], ◌∷◌, ◌++◌, Option, None, Some, length, drop, replicate, Result, Ok, Err, if◌then◌else◌}
+use Rattle.std.specs.Prelude.{◌≡◌, ⊤, ℕ, ◌+◌, fold, ◌<◌, ◌≤◌, Bool, true, false, ◌==◌, ◌&&◌, not, encode_utf8, List, [], ◌∷◌, ◌++◌, map, Option, None, Some, length, take, drop, replicate, Result, Ok, Err, if◌then◌else◌}
+use Rattle.std.specs.List.{flat_map, list_all}
 use Rattle.redo_device.specs.declared.feed.Broken.{Broken}
 use Rattle.redo_device.specs.Sink.{Output, append_output, Writes}
 use Rattle.redo_html.specs.declared.form.Form.{Form}
 use Rattle.redo_html.specs.declared.look.Look.{Look}
-use Rattle.redo_html.specs.Passage.{has_marks, html_from}
+use Rattle.redo_html.specs.declared.form.Form.TheVariants.{Log}
+use Rattle.redo_html.specs.declared.style.Style.{Style}
+use Rattle.redo_html.specs.Lines.{style_after_symbol, style_after, style_after_lines, lines_html}
+use Rattle.redo_html.specs.Passage.{has_marks, html_from, passage_html}
+use Rattle.redo_line.specs.Lines.{ended, rest}
 use Rattle.redo_html.specs.declared.style.Setting.{Setting}
+use Rattle.redo_html.specs.Shown.{is_odd}
 use Rattle.redo_html.specs.Style.{setting_after}
 use Rattle.redo_html.specs.Symbols.{Symbol, symbols, parameter_count, numbers_from}
 use Rattle.redo_html.specs.Symbols.Symbol.{Letter, Sequence}
@@ -16,16 +22,46 @@ pub record WroteUpTo (before after : Option Output) (text rest : List ℕ) : Typ
   pub wrote : after ≡ append_output before prefix 0
   pub splits : prefix ++ rest ≡ text
 
+-- The style at the end of a text in any form.
+abbrev pub style_in : Form → Style → List ℕ → Style
+style_in form style bytes = fold style_after_symbol style (symbols form bytes)
+
 -- The first `count` bytes, at least one, were written as a part of a passage, and then the look is `next`.
 pub record WroteSome (before after : Option Output) (form : Form) (look : Look) (bytes : List ℕ) (next : Look) (count : ℕ) : Type 0 where
   pub some : 0 < count
   pub within : count ≤ length bytes
   pub wrote : WroteUpTo before after (html_from form look bytes) (html_from form next (drop count bytes))
+  pub style : style_in form next.wanted (drop count bytes) ≡ style_in form look.wanted bytes
 
 -- Some of a passage was written, or a write failed.
 abbrev pub WroteSomeOrFailed : Option Output → Option Output → Form → Look → List ℕ → Result (Look × ℕ) Broken → Type 0
 WroteSomeOrFailed before after form look bytes (Ok step) = WroteSome before after form look bytes step.0 step.1
 WroteSomeOrFailed before after form look bytes (Err broken) = Writes before after (html_from form look bytes) (Err broken)
+
+-- A passage was written, and at its end the style is `last`, or a write failed.
+abbrev pub WrotePassage : Option Output → Option Output → Form → Style → List ℕ → Result Style Broken → Type 0
+WrotePassage before after form style bytes (Ok last) = (after ≡ append_output before (passage_html form style bytes) 0) × (last ≡ style_in form style bytes)
+WrotePassage before after form style bytes (Err broken) = Writes before after (passage_html form style bytes) (Err broken)
+
+-- The first `len` bytes are one line or more, and are written as one passage.
+pub record BeginsPassage (style : Style) (bytes : List ℕ) (len : ℕ) : Type 0 where
+  pub some : 0 < len
+  pub within : len ≤ length bytes
+  pub complete : rest (drop len bytes) ≡ []
+  pub html : passage_html Log style (take len bytes) ++ lines_html (style_after style (take len bytes)) (ended (drop len bytes)) ≡ lines_html style (ended bytes)
+  pub style_after_them : style_after_lines (style_after style (take len bytes)) (ended (drop len bytes)) ≡ style_after_lines style (ended bytes)
+
+-- Whether a letter is written as it is.
+abbrev pub is_verbatim : ℕ → Bool
+is_verbatim letter = not (is_odd letter) && (not (letter == 38) && (not (letter == 60) && not (letter == 62)))
+
+-- The first `len` bytes are letters that are written as they are.
+pub record IsVerbatim (bytes : List ℕ) (len : ℕ) : Type 0 where
+  pub within : len ≤ length bytes
+  pub letters : List ℕ
+  pub verbatim : list_all is_verbatim letters ≡ true
+  pub bytes_are : take len bytes ≡ flat_map encode_utf8 letters
+  pub symbols_are : (form : Form) → symbols form bytes ≡ map Letter letters ++ symbols form (drop len bytes)
 
 -- The letter that a symbol is, if it is one.
 abbrev pub symbol_letter : Symbol → Option ℕ

@@ -4,6 +4,7 @@ use Rattle.redo_html.specs.Passage.{inline_html, marks_between}
 use Rattle.redo_html.specs.Shown.{odd_text}
 use Rattle.redo_html.proofs.PassageLemmas.{odd_written}
 use Rattle.redo_html.proofs.PassageWriting.{marks_failed, part_failed, both_written}
+use Rattle.redo_html.proofs.StyleLemmas.{repeated_style}
 use Rattle.redo_html.proofs.passage.write_odd_run.Goals as goal
 
 pub returns-in_err-write_marks : goal.returns-in_err-write_marks
@@ -30,4 +31,4 @@ returns g c =
     let look = c.args.look in
     let found = c.repeats-count.result in
     both_written _ form look bytes (flat_map (inline_html form) (marks_between look true)) (odd_text c.args.letter found.0) true found.1 (odd_written form look bytes c.args.letter found.0 found.1 c.requires.odd c.repeats-count.ensures)
-    _ _ _ c.with_letter.ensures c.repeats-count.ensures.bytes_taken c.repeats-count.ensures.within c.in_ok-write_marks.ensures c.in_ok-write_odd.ensures
+    _ _ _ c.with_letter.ensures (repeated_style form look.wanted bytes c.args.letter found.0 found.1 c.repeats-count.ensures) c.repeats-count.ensures.bytes_taken c.repeats-count.ensures.within c.in_ok-write_marks.ensures c.in_ok-write_odd.ensures

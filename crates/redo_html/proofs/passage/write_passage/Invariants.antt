@@ -1,13 +1,14 @@
-use Rattle.std.proofs.Common.{◌-◌, ◌≤◌, length, drop}
+use Rattle.std.proofs.Common.{◌≡◌, ◌-◌, ◌≤◌, length, drop}
 use Rattle.redo_html.specs.Passage.{passage_html, html_from}
-use Rattle.redo_html.specs.Private.Writing.{WroteUpTo}
+use Rattle.redo_html.specs.Private.Writing.{WroteUpTo, style_in}
 use Rattle.redo_html.proofs.passage.write_passage.Given as goal
 
 -- Everything except the rest of the passage was written.
 abbrev pub invariant-loop-done : goal.invariant-loop-done
 invariant-loop-done g l = record {
   within : l.done ≤ length l.bytes;
-  wrote : WroteUpTo (g.W.Sink.written l.initial.out) (g.W.Sink.written l.out) (passage_html l.form l.bytes) (html_from l.form l.look (drop l.done l.bytes));
+  wrote : WroteUpTo (g.W.Sink.written l.initial.out) (g.W.Sink.written l.out) (passage_html l.form l.fn.style l.bytes) (html_from l.form l.look (drop l.done l.bytes));
+  style_left : style_in l.form l.look.wanted (drop l.done l.bytes) ≡ style_in l.form l.fn.style l.bytes;
 }
 
 abbrev pub decreases-loop-done : goal.decreases-loop-done

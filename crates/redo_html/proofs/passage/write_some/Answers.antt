@@ -4,8 +4,9 @@ use Rattle.redo_html.specs.declared.style.Style.{Style}
 use Rattle.redo_html.specs.Passage.{with_wanted, html_from}
 use Rattle.redo_html.specs.Style.{restyled}
 use Rattle.redo_html.specs.Symbols.{sequence_numbers}
-use Rattle.redo_html.specs.Private.Writing.{IsSequence}
+use Rattle.redo_html.specs.Private.Writing.{IsSequence, style_in}
 use Rattle.redo_html.proofs.PassageLemmas.{sequence_step}
+use Rattle.redo_html.proofs.StyleLemmas.{sequence_style}
 use Rattle.redo_html.proofs.SymbolLemmas.{sequence_found, symbol_bounds}
 use Rattle.redo_html.proofs.WritingLemmas.{begin_parts}
 use Rattle.redo_html.proofs.passage.write_some.Goals as goal
@@ -29,4 +30,7 @@ returns-in-None g c =
           (ap (λ (l : Look). html_from form l (drop c.symbol_at-symbol.result.1 bytes)) (c.with_style.ensures ∙ ap (λ (s : Style). with_wanted look s) c.after_sequence.ensures)
           ∙ ap (λ (n : ℕ). html_from form (with_wanted look (restyled look.wanted (sequence_numbers bytes))) (drop n bytes)) c.symbol_at-symbol.ensures.len
           ∙ sequence_step form look bytes (sequence_numbers bytes) c.requires found.0);
+      style = ap (λ (l : Look). style_in form l.wanted (drop c.symbol_at-symbol.result.1 bytes)) (c.with_style.ensures ∙ ap (λ (s : Style). with_wanted look s) c.after_sequence.ensures)
+          ∙ ap (λ (n : ℕ). style_in form (restyled look.wanted (sequence_numbers bytes)) (drop n bytes)) c.symbol_at-symbol.ensures.len
+          ∙ sequence_style form look.wanted bytes c.requires (sequence_numbers bytes) found.0;
     }

@@ -4,8 +4,10 @@ use Rattle.std.specs.List.{flat_map}
 use Rattle.std.proofs.lemmas.List.{length-take-le}
 use Rattle.redo_html.specs.Passage.{inline_html, marks_between, escaped, after_letter, html_from}
 use Rattle.redo_html.specs.Symbols.{symbol_len}
+use Rattle.redo_html.specs.Private.Writing.{style_in}
 use Rattle.redo_html.proofs.PassageLemmas.{visible_step}
 use Rattle.redo_html.proofs.PassageWriting.{marks_failed, part_failed, both_written}
+use Rattle.redo_html.proofs.StyleLemmas.{letter_style}
 use Rattle.redo_html.proofs.SymbolLemmas.{symbol_bounds, visible_bytes}
 use Rattle.redo_html.proofs.passage.write_visible.Goals as goal
 
@@ -40,7 +42,7 @@ returns g c =
     let within = subst (λ (n : ℕ). n ≤ length bytes) len_is bounds.1 in
     both_written _ form look bytes (flat_map (inline_html form) (marks_between look false)) (escaped (encode_utf8 c.args.letter)) false c.args.len
     (ap (λ (n : ℕ). flat_map (inline_html form) (marks_between look false) ++ (escaped (encode_utf8 c.args.letter) ++ html_from form (after_letter look false) (drop n bytes))) c.requires.len ∙ visible_step form look bytes c.args.letter c.requires.some c.requires.letter c.requires.visible)
-    _ _ _ c.with_letter.ensures some within c.in_ok-write_marks.ensures c.in_ok-write_letter.ensures
+    _ _ _ c.with_letter.ensures (ap (λ (n : ℕ). style_in form look.wanted (drop n bytes)) c.requires.len ∙ letter_style form look.wanted bytes c.requires.some c.args.letter c.requires.letter) some within c.in_ok-write_marks.ensures c.in_ok-write_letter.ensures
 
 pub slice_bounds-write_letter-end : goal.slice_bounds-write_letter-end
 slice_bounds-write_letter-end g c =

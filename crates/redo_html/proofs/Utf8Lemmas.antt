@@ -1,0 +1,348 @@
+-- What is shown of a text is UTF-8, and so is its HTML.
+use Rattle.std.proofs.Common.{◌≡◌, ℕ, zero, suc, ◌+◌, ◌-◌, ◌/◌, ◌%◌, ◌<◌, ◌≤◌, Bool, true, false, List, [], ◌∷◌, ◌++◌, Option, None, Some, slice_index, refl, sym, ◌∙◌, ap, subst, arith}
+use Rattle.std.specs.Char.{encode_utf8, IsScalar}
+use Rattle.std.specs.Prelude.{⊤, IsUtf8, ◌==◌, ◌&&◌, not, nat_lt, nat_le, codes, if◌then◌else◌}
+use Rattle.std.specs.Fmt.{digit_glyph}
+use Rattle.std.specs.List.{AllByRecursion, flat_map, list_all, repeat}
+use Rattle.std.proofs.lemmas.Bool.{agree_below_at, and_parts, and_from, cond_both, eqb-true, lt-ltb, ltb-true, leb-true}
+use Rattle.std.proofs.lemmas.Bool.Decides.{nat_tests}
+use Rattle.std.proofs.lemmas.Str.{IsUtf8-nil, IsUtf8-from_ascii, IsUtf8-append, IsUtf8-encode}
+use Rattle.bstr.specs.Utf8.{decoded}
+use Rattle.bstr.proofs.lemmas.SoundLemmas.{SpellsChar-decoded}
+use Rattle.redo_html.specs.declared.form.Form.{Form}
+use Rattle.redo_html.specs.declared.form.Form.TheVariants.{Log, Name, Title}
+use Rattle.redo_html.specs.declared.look.Look.{Look}
+use Rattle.redo_html.specs.declared.markup.Markup.{Markup}
+use Rattle.redo_html.specs.declared.markup.Markup.TheVariants.{Doctype, Html, EndHtml, Head, EndHead, Charset, Viewport, ColorScheme, Referrer, Policy, BodyGood, BodyBad, BodyOpen, EndBody, Header, EndHeader, Title1, EndTitle1, Sign, EndSign, Nav, EndNav, Main, EndMain, FailedSection, SummarySection, TreeSection, EndSection, FailedHeading, SummaryHeading, TreeHeading, EndHeading, FailedLink, SummaryLink, TreeLink, TargetLink, OutputLink, EndLink, Article, EndArticle, Title3, EndTitle3, Paragraph, MetaParagraph, QuietParagraph, CutParagraph, ProblemParagraph, EndParagraph, Unordered, Tree, EndUnordered, Ordered, OrderedFrom, EndOrdered, Item, NoteItem, TargetItem, EndItem, Details, OpenDetails, QuietDetails, MoreDetails, EndDetails, Summary, EndSummary, Pre, EndPre, Bdi, EndBdi, Code, EndCode, ExitBadge, OpenBadge, EndBadge, Warnings, EndWarnings, Small, EndSmall, Footer, EndFooter}
+use Rattle.redo_html.specs.declared.style.Hue.{Hue}
+use Rattle.redo_html.specs.declared.style.Hue.TheVariants.{Plain, Red, Green, Yellow, Blue, Magenta, Cyan}
+use Rattle.redo_html.specs.declared.style.Style.{Style}
+use Rattle.redo_html.specs.Html.{is_digit}
+use Rattle.redo_html.specs.Laws.{is_byte, has_bytes}
+use Rattle.redo_html.specs.Parts.{Part, part_html}
+use Rattle.redo_html.specs.Parts.Part.{MarkupPart, LogPart, NamePart, NumberPart, TitlePart, StylePart}
+use Rattle.redo_html.specs.Passage.{Inline, escaped, hue_class, style_name, has_marks, mark_html, inline_html, has_element, style_start, style_end, is_same_style, mark_if, marks_between, after_letter, with_wanted, start_look, inlines_from, html_from, passage_html}
+use Rattle.redo_html.specs.Passage.Inline.{OddStart, OddEnd, StyleStart, StyleEnd, Text}
+use Rattle.redo_html.specs.Shown.{is_between, is_odd, lower_hex, upper_hex, picture, number_text, odd_text, Run, with_letter, runs_of, letters_text, run_text, shown_text}
+use Rattle.redo_html.specs.Shown.Run.{Letters, Restyle}
+use Rattle.redo_html.specs.Style.{plain_style, restyled}
+use Rattle.redo_html.specs.StyleSheet.{style_sheet}
+use Rattle.redo_html.specs.Symbols.{Symbol, letter_of, first_letter, is_sequence, first_symbol, symbol_len, symbols_after, symbols}
+use Rattle.redo_html.specs.Symbols.Symbol.{Letter, Sequence}
+use Rattle.redo_html.specs.Tags.{markup_html}
+use Rattle.redo_html.proofs.SymbolLemmas.{odd_byte}
+use Rattle.redo_html.proofs.TextReading.{all_append, all_weaker, number_digits, odd_safe, safe_escaped, encoded_escaped}
+
+-- ---- ASCII
+
+abbrev is_low : ℕ → Bool
+is_low byte = nat_lt byte 128
+
+low_at : (bytes : List ℕ) → list_all is_low bytes ≡ true → (i : ℕ) → slice_index bytes i < 128
+low_at [] low i = omega arith
+low_at (byte ∷ bytes) low zero = ltb-true byte 128 (and_parts (is_low byte) (list_all is_low bytes) low).0
+low_at (byte ∷ bytes) low (suc i) = low_at bytes (and_parts (is_low byte) (list_all is_low bytes) low).1 i
+
+ascii : (bytes : List ℕ) → list_all is_low bytes ≡ true → IsUtf8 bytes
+ascii bytes low = IsUtf8-from_ascii bytes (low_at bytes low)
+
+digit_low : (byte : ℕ) → is_digit byte ≡ true → is_low byte ≡ true
+digit_low byte is = let high : byte ≤ 57 = leb-true byte 57 (and_parts (nat_le 48 byte) (nat_le byte 57) is).1 in lt-ltb byte 128 (omega (arith, high))
+
+number_low : (number : ℕ) → list_all is_low (number_text number) ≡ true
+number_low number = all_weaker is_digit is_low digit_low (number_text number) (number_digits number)
+
+lower_low : (n : ℕ) → is_low (lower_hex n) ≡ true
+lower_low n = agree_below_at (λ d. is_low (digit_glyph false d)) (λ d. true) 16 (n % 16) refl (omega arith)
+
+upper_low : (n : ℕ) → is_low (upper_hex n) ≡ true
+upper_low n = agree_below_at (λ d. is_low (digit_glyph true d)) (λ d. true) 16 (n % 16) refl (omega arith)
+
+picture_low : (letter : ℕ) → list_all is_low (picture letter) ≡ true
+unfolding picture
+picture_low letter =
+    let Low : List ℕ → Type 0 = λ bytes. list_all is_low bytes ≡ true in
+    cond_both (nat_lt letter 32) _ _ Low (λ is. let small = ltb-true letter 32 is in and_from (is_low (letter + 64)) true (lt-ltb (letter + 64) 128 (omega (arith, small))) refl)
+    (λ not_low. cond_both (letter == 127) _ _ Low (λ is. refl)
+    (λ not_delete. cond_both (is_between letter (0xDC00, 0xDCFF)) _ _ Low
+    (λ is. and_from _ _ (lower_low ((letter - 0xDC00) / 16)) (and_from _ _ (lower_low (letter - 0xDC00)) refl))
+    (λ not_byte. cond_both (nat_lt letter 0x10000) _ _ Low
+    (λ is. and_from _ _ (upper_low (letter / 4096)) (and_from _ _ (upper_low (letter / 256)) (and_from _ _ (upper_low (letter / 16)) (and_from _ _ (upper_low letter) refl))))
+    (λ large. and_from _ _ (upper_low (letter / 65536)) (and_from _ _ (upper_low (letter / 4096)) (and_from _ _ (upper_low (letter / 256)) (and_from _ _ (upper_low (letter / 16)) (and_from _ _ (upper_low letter) refl))))))))
+
+repeat_low : (count : ℕ) (bytes : List ℕ) → list_all is_low bytes ≡ true → list_all is_low (repeat count bytes) ≡ true
+repeat_low zero bytes low = refl
+repeat_low (suc count) bytes low = all_append is_low bytes (repeat count bytes) low (repeat_low count bytes low)
+
+-- ---- letters
+
+-- The character `×`.
+times_utf8 : IsUtf8 (0xC3 ∷ 0x97 ∷ [])
+unfolding encode_utf8
+times_utf8 = IsUtf8-encode 0xD7 (grind (arith, nat_tests))
+
+odd_utf8 : (letter count : ℕ) → IsUtf8 (odd_text letter count)
+unfolding odd_text
+odd_utf8 letter count =
+    cond_both (nat_lt count 5) _ _ IsUtf8 (λ few. ascii (repeat count (picture letter)) (repeat_low count (picture letter) (picture_low letter)))
+    (λ many. IsUtf8-append ((picture letter ++ (0xC3 ∷ 0x97 ∷ [])) ++ number_text count) (codes " ")
+    (IsUtf8-append (picture letter ++ (0xC3 ∷ 0x97 ∷ [])) (number_text count) (IsUtf8-append (picture letter) (0xC3 ∷ 0x97 ∷ []) (ascii (picture letter) (picture_low letter)) times_utf8) (ascii (number_text count) (number_low count)))
+    (ascii (codes " ") refl))
+
+-- A letter that is odd or a character.
+abbrev IsShowable : ℕ → Type 0
+IsShowable letter = is_odd letter ≡ false → IsScalar letter
+
+letters_utf8 : (letter count : ℕ) → IsShowable letter → IsUtf8 (letters_text letter count)
+letters_utf8 letter count showable = cond_both (is_odd letter) (odd_text letter count) (encode_utf8 letter) IsUtf8 (λ odd. odd_utf8 letter count) (λ visible. IsUtf8-encode letter (showable visible))
+
+escaped_encoded : (letter : ℕ) → IsScalar letter → IsUtf8 (escaped (encode_utf8 letter))
+unfolding encode_utf8
+escaped_encoded letter scalar = amp (letter == 38) refl
+  where
+    gt : (letter == 38) ≡ false → (letter == 60) ≡ false → (is : Bool) → (letter == 62) ≡ is → IsUtf8 (escaped (encode_utf8 letter))
+    gt a l true is = subst (λ n. IsUtf8 (escaped (encode_utf8 n))) (sym (eqb-true letter 62 is)) (ascii (codes "&gt;") refl)
+    gt a l false is = subst IsUtf8 (sym (encoded_escaped letter a l is)) (IsUtf8-encode letter scalar)
+
+    lt : (letter == 38) ≡ false → (is : Bool) → (letter == 60) ≡ is → IsUtf8 (escaped (encode_utf8 letter))
+    lt a true is = subst (λ n. IsUtf8 (escaped (encode_utf8 n))) (sym (eqb-true letter 60 is)) (ascii (codes "&lt;") refl)
+    lt a false is = gt a is (letter == 62) refl
+
+    amp : (is : Bool) → (letter == 38) ≡ is → IsUtf8 (escaped (encode_utf8 letter))
+    amp true is = subst (λ n. IsUtf8 (escaped (encode_utf8 n))) (sym (eqb-true letter 38 is)) (ascii (codes "&amp;") refl)
+    amp false is = lt is (letter == 60) refl
+
+escaped_utf8 : (letter count : ℕ) → IsShowable letter → IsUtf8 (escaped (letters_text letter count))
+escaped_utf8 letter count showable =
+    cond_both (is_odd letter) (odd_text letter count) (encode_utf8 letter) (λ text. IsUtf8 (escaped text)) (λ odd. subst IsUtf8 (sym (safe_escaped (odd_text letter count) (odd_safe letter count))) (odd_utf8 letter count))
+    (λ visible. escaped_encoded letter (showable visible))
+
+-- ---- symbols and runs
+
+abbrev IsShowableSymbol : Symbol → Type 0
+IsShowableSymbol (Letter letter) = IsShowable letter
+IsShowableSymbol (Sequence numbers) = ⊤
+
+first_showable : (form : Form) (bytes : List ℕ) → slice_index bytes 0 < 256 → IsShowableSymbol (first_symbol form bytes)
+unfolding first_symbol first_letter
+first_showable form bytes below = cond_both (is_sequence form bytes) _ _ IsShowableSymbol (λ is. tt) (λ is. by (decoded bytes).char refl)
+  where
+    by : (char : Option ℕ) → (decoded bytes).char ≡ char → IsShowable (letter_of (decoded bytes).char (slice_index bytes 0))
+    by None is visible = absurd (let e : true ≡ false = sym (odd_byte (slice_index bytes 0) below) ∙ ap (λ (o : Option ℕ). is_odd (letter_of o (slice_index bytes 0))) (sym is) ∙ visible in cc)
+    by (Some c) is visible = subst (λ (o : Option ℕ). IsScalar (letter_of o (slice_index bytes 0))) (sym is) (SpellsChar-decoded bytes c is).scalar
+
+symbols_showable : (form : Form) (skipped : ℕ) (bytes : List ℕ) → list_all is_byte bytes ≡ true → AllByRecursion IsShowableSymbol (symbols_after form skipped bytes)
+unfolding symbols_after
+symbols_showable form skipped [] are = tt
+symbols_showable form zero (byte ∷ bytes) are =
+    let parts = and_parts (is_byte byte) (list_all is_byte bytes) are in (first_showable form (byte ∷ bytes) (ltb-true byte 256 parts.0), symbols_showable form (symbol_len form (byte ∷ bytes) - 1) bytes parts.1)
+symbols_showable form (suc skipped) (byte ∷ bytes) are = symbols_showable form skipped bytes (and_parts (is_byte byte) (list_all is_byte bytes) are).1
+
+abbrev IsShowableRun : Run → Type 0
+IsShowableRun (Letters letter count) = IsShowable letter
+IsShowableRun (Restyle numbers) = ⊤
+
+letter_showable : (letter : ℕ) (runs : List Run) → IsShowable letter → AllByRecursion IsShowableRun runs → AllByRecursion IsShowableRun (with_letter letter runs)
+letter_showable letter [] one all = (one, tt)
+letter_showable letter (Restyle numbers ∷ runs) one all = (one, all)
+letter_showable letter (Letters next count ∷ runs) one all = cond_both (is_odd letter && letter == next) _ _ (AllByRecursion IsShowableRun) (λ same. (all.0, all.1)) (λ other. (one, all))
+
+runs_showable : (symbols : List Symbol) → AllByRecursion IsShowableSymbol symbols → AllByRecursion IsShowableRun (runs_of symbols)
+runs_showable [] all = tt
+runs_showable (Letter letter ∷ symbols) all = letter_showable letter (runs_of symbols) all.0 (runs_showable symbols all.1)
+runs_showable (Sequence numbers ∷ symbols) all = (tt, runs_showable symbols all.1)
+
+each_utf8 : {X : Type 0} (f : X → List ℕ) (P : X → Type 0) → ((x : X) → P x → IsUtf8 (f x)) → (xs : List X) → AllByRecursion P xs → IsUtf8 (flat_map f xs)
+each_utf8 f P one [] all = IsUtf8-nil
+each_utf8 f P one (x ∷ xs) all = IsUtf8-append (f x) (flat_map f xs) (one x all.0) (each_utf8 f P one xs all.1)
+
+run_utf8 : (run : Run) → IsShowableRun run → IsUtf8 (run_text run)
+run_utf8 (Letters letter count) showable = letters_utf8 letter count showable
+run_utf8 (Restyle numbers) showable = IsUtf8-nil
+
+-- The runs of bytes are showable.
+text_showable : (form : Form) (bytes : List ℕ) → list_all is_byte bytes ≡ true → AllByRecursion IsShowableRun (runs_of (symbols form bytes))
+text_showable form bytes are = runs_showable (symbols form bytes) (symbols_showable form 0 bytes are)
+
+pub shown_utf8 : (form : Form) (bytes : List ℕ) → list_all is_byte bytes ≡ true → IsUtf8 (shown_text form bytes)
+shown_utf8 form bytes are = each_utf8 run_text IsShowableRun run_utf8 (runs_of (symbols form bytes)) (text_showable form bytes are)
+
+-- ---- HTML
+
+abbrev IsShowableInline : Inline → Type 0
+IsShowableInline OddStart = ⊤
+IsShowableInline OddEnd = ⊤
+IsShowableInline (StyleStart style) = ⊤
+IsShowableInline (StyleEnd style) = ⊤
+IsShowableInline (Text letter count) = IsShowable letter
+
+mark_utf8 : (form : Form) (tag : List ℕ) → list_all is_low tag ≡ true → IsUtf8 (mark_html form tag)
+mark_utf8 form tag low = cond_both (has_marks form) _ _ IsUtf8 (λ has. ascii (60 ∷ (tag ++ 62 ∷ [])) (and_from true _ refl (all_append is_low tag (62 ∷ []) low refl))) (λ none. IsUtf8-nil)
+
+style_low : (bold : Bool) (hue : Hue) → list_all is_low (style_name bold ++ hue_class hue) ≡ true
+style_low true Plain = refl
+style_low true Red = refl
+style_low true Green = refl
+style_low true Yellow = refl
+style_low true Blue = refl
+style_low true Magenta = refl
+style_low true Cyan = refl
+style_low false Plain = refl
+style_low false Red = refl
+style_low false Green = refl
+style_low false Yellow = refl
+style_low false Blue = refl
+style_low false Magenta = refl
+style_low false Cyan = refl
+
+style_end_low : (bold : Bool) → list_all is_low (47 ∷ style_name bold) ≡ true
+style_end_low true = refl
+style_end_low false = refl
+
+inline_utf8 : (form : Form) (inline : Inline) → IsShowableInline inline → IsUtf8 (inline_html form inline)
+inline_utf8 form OddStart showable = mark_utf8 form (codes "i") refl
+inline_utf8 form OddEnd showable = mark_utf8 form (codes "/i") refl
+inline_utf8 form (StyleStart style) showable = mark_utf8 form (style_name style.bold ++ hue_class style.hue) (style_low style.bold style.hue)
+inline_utf8 form (StyleEnd style) showable = mark_utf8 form (47 ∷ style_name style.bold) (style_end_low style.bold)
+inline_utf8 form (Text letter count) showable = escaped_utf8 letter count showable
+
+both_showable : (a b : List Inline) → AllByRecursion IsShowableInline a → AllByRecursion IsShowableInline b → AllByRecursion IsShowableInline (a ++ b)
+both_showable [] b first second = second
+both_showable (inline ∷ a) b first second = (first.0, both_showable a b first.1 second)
+
+mark_showable : (wanted : Bool) (mark : Inline) → IsShowableInline mark → AllByRecursion IsShowableInline (mark_if wanted mark)
+mark_showable true mark showable = (showable, tt)
+mark_showable false mark showable = tt
+
+between_showable : (look : Look) (odd : Bool) → AllByRecursion IsShowableInline (marks_between look odd)
+between_showable look odd =
+    let same = is_same_style look.wanted look.current in
+    let styles = if same then [] else style_end look.current ++ style_start look.wanted in
+    let first = mark_if (look.odd && not (same && odd)) OddEnd in
+    let last = mark_if (odd && not (same && look.odd)) OddStart in
+    both_showable (first ++ styles) last
+    (both_showable first styles (mark_showable (look.odd && not (same && odd)) OddEnd tt)
+    (cond_both same [] (style_end look.current ++ style_start look.wanted) (AllByRecursion IsShowableInline) (λ is. tt) (λ other. both_showable (style_end look.current) (style_start look.wanted) (mark_showable (has_element look.current) (StyleEnd look.current) tt) (mark_showable (has_element look.wanted) (StyleStart look.wanted) tt))))
+    (mark_showable (odd && not (same && look.odd)) OddStart tt)
+
+inlines_showable : (look : Look) (runs : List Run) → AllByRecursion IsShowableRun runs → AllByRecursion IsShowableInline (inlines_from look runs)
+inlines_showable look [] all = both_showable (mark_if look.odd OddEnd) (style_end look.current) (mark_showable look.odd OddEnd tt) (mark_showable (has_element look.current) (StyleEnd look.current) tt)
+inlines_showable look (Restyle numbers ∷ runs) all = inlines_showable (with_wanted look (restyled look.wanted numbers)) runs all.1
+inlines_showable look (Letters letter count ∷ runs) all =
+    both_showable (marks_between look (is_odd letter)) (Text letter count ∷ inlines_from (after_letter look (is_odd letter)) runs) (between_showable look (is_odd letter))
+    (all.0, inlines_showable (after_letter look (is_odd letter)) runs all.1)
+
+pub passage_utf8 : (form : Form) (style : Style) (bytes : List ℕ) → list_all is_byte bytes ≡ true → IsUtf8 (passage_html form style bytes)
+unfolding html_from
+passage_utf8 form style bytes are =
+    each_utf8 (inline_html form) IsShowableInline (inline_utf8 form) (inlines_from (start_look style) (runs_of (symbols form bytes))) (inlines_showable (start_look style) (runs_of (symbols form bytes)) (text_showable form bytes are))
+
+-- ---- tags
+
+numbered_low : (begin : List ℕ) (number : ℕ) → list_all is_low begin ≡ true → list_all is_low (codes "<" ++ (begin ++ number_text number ++ codes "\"") ++ codes ">" ++ []) ≡ true
+numbered_low begin number low =
+    let tag = (begin ++ number_text number) ++ codes "\"" in
+    all_append is_low ((codes "<" ++ tag) ++ codes ">") [] (all_append is_low (codes "<" ++ tag) (codes ">") (and_from true _ refl (all_append is_low (begin ++ number_text number) (codes "\"") (all_append is_low begin (number_text number) low (number_low number)) refl)) refl) refl
+
+markup_low : (markup : Markup) → list_all is_low (markup_html markup) ≡ true
+markup_low Doctype = refl
+markup_low Html = refl
+markup_low EndHtml = refl
+markup_low Head = refl
+markup_low EndHead = refl
+markup_low Charset = refl
+markup_low Viewport = refl
+markup_low ColorScheme = refl
+markup_low Referrer = refl
+markup_low Policy = refl
+markup_low BodyGood = refl
+markup_low BodyBad = refl
+markup_low BodyOpen = refl
+markup_low EndBody = refl
+markup_low Header = refl
+markup_low EndHeader = refl
+markup_low Title1 = refl
+markup_low EndTitle1 = refl
+markup_low Sign = refl
+markup_low EndSign = refl
+markup_low Nav = refl
+markup_low EndNav = refl
+markup_low Main = refl
+markup_low EndMain = refl
+markup_low FailedSection = refl
+markup_low SummarySection = refl
+markup_low TreeSection = refl
+markup_low EndSection = refl
+markup_low FailedHeading = refl
+markup_low SummaryHeading = refl
+markup_low TreeHeading = refl
+markup_low EndHeading = refl
+markup_low FailedLink = refl
+markup_low SummaryLink = refl
+markup_low TreeLink = refl
+markup_low (TargetLink number) = numbered_low (codes "a href=\"#t") number refl
+markup_low (OutputLink number) = numbered_low (codes "a href=\"#f") number refl
+markup_low EndLink = refl
+markup_low (Article number) = numbered_low (codes "article id=\"f") number refl
+markup_low EndArticle = refl
+markup_low Title3 = refl
+markup_low EndTitle3 = refl
+markup_low Paragraph = refl
+markup_low MetaParagraph = refl
+markup_low QuietParagraph = refl
+markup_low CutParagraph = refl
+markup_low ProblemParagraph = refl
+markup_low EndParagraph = refl
+markup_low Unordered = refl
+markup_low Tree = refl
+markup_low EndUnordered = refl
+markup_low Ordered = refl
+markup_low (OrderedFrom number) = numbered_low (codes "ol class=\"list\" start=\"") number refl
+markup_low EndOrdered = refl
+markup_low Item = refl
+markup_low NoteItem = refl
+markup_low (TargetItem number) = numbered_low (codes "li id=\"t") number refl
+markup_low EndItem = refl
+markup_low (Details number) = numbered_low (codes "details id=\"t") number refl
+markup_low (OpenDetails number) = numbered_low (codes "details open id=\"t") number refl
+markup_low QuietDetails = refl
+markup_low MoreDetails = refl
+markup_low EndDetails = refl
+markup_low Summary = refl
+markup_low EndSummary = refl
+markup_low Pre = refl
+markup_low EndPre = refl
+markup_low Bdi = refl
+markup_low EndBdi = refl
+markup_low Code = refl
+markup_low EndCode = refl
+markup_low ExitBadge = refl
+markup_low OpenBadge = refl
+markup_low EndBadge = refl
+markup_low Warnings = refl
+markup_low EndWarnings = refl
+markup_low Small = refl
+markup_low EndSmall = refl
+markup_low Footer = refl
+markup_low EndFooter = refl
+
+-- ---- pages
+
+sheet_low : list_all is_low style_sheet ≡ true
+unfolding style_sheet
+sheet_low = refl
+
+part_utf8 : (part : Part) → has_bytes part ≡ true → IsUtf8 (part_html part)
+part_utf8 (MarkupPart markup) are = ascii (markup_html markup) (markup_low markup)
+part_utf8 (LogPart style text) are = passage_utf8 Log style text are
+part_utf8 (NamePart name) are = passage_utf8 Name plain_style name are
+part_utf8 (NumberPart number) are = ascii (number_text number) (number_low number)
+part_utf8 (TitlePart title) are =
+    IsUtf8-append (codes "<title>" ++ passage_html Title plain_style title) (codes "</title>") (IsUtf8-append (codes "<title>") (passage_html Title plain_style title) (ascii (codes "<title>") refl) (passage_utf8 Title plain_style title are)) (ascii (codes "</title>") refl)
+part_utf8 StylePart are = ascii (codes "<style>" ++ style_sheet ++ codes "</style>") (all_append is_low (codes "<style>" ++ style_sheet) (codes "</style>") (all_append is_low (codes "<style>") style_sheet refl sheet_low) refl)
+
+pub parts_utf8 : (parts : List Part) → list_all has_bytes parts ≡ true → IsUtf8 (flat_map part_html parts)
+parts_utf8 [] are = IsUtf8-nil
+parts_utf8 (part ∷ parts) are =
+    let both = and_parts (has_bytes part) (list_all has_bytes parts) are in
+    IsUtf8-append (part_html part) (flat_map part_html parts) (part_utf8 part both.0) (parts_utf8 parts both.1)
