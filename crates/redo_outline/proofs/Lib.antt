@@ -1,0 +1,11 @@
+mod CollectingLemmas
+mod ContentsLemmas
+mod FactsLemmas
+mod OutlineLemmas
+mod OutlineRows
+mod PlacesLemmas
+mod StatusLemmas
+mod SummaryLemmas
+mod SweepLemmas
+mod TreeLemmas
+mod WarningLemmas

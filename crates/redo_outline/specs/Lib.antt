@@ -1,0 +1,5 @@
+pub mod Contents
+pub mod Facts
+pub mod Laws
+pub mod Outline
+pub mod Private

@@ -1,0 +1,83 @@
+//! Facts of a single log.
+ghost use Rattle.std.specs.Prelude.{◌≡◌, [], count_by};
+ghost use Rattle.redo_line.specs.Lines.{ended, rest};
+ghost use Rattle.redo_logs.specs.EntryRef.{entry_value};
+ghost use Rattle.redo_outline.specs.Facts.{closing_status, entries_at, is_warning};
+ghost use Rattle.redo_outline.specs.Private.LogFacts.{after_line, facts_of};
+
+use memchr::memchr;
+use memchr::memmem::Finder;
+use redo_logs::{EntryRef, LogTable};
+
+/// What is known of a log by itself. A count that exceeds 2^64 - 1 is 2^64 - 1.
+#[derive(Clone, Copy)]
+pub struct LogFacts {
+    pub lines: u64,
+    pub bytes: u64,
+    pub warnings: u64,
+    /// The status in its closing record.
+    pub status: Option<i32>,
+}
+
+/// Returns the facts of log `number`. A log that doesn't exist has no entries.
+pub fn log_facts(table: &LogTable, number: u32) -> LogFacts
+    ensures { result ≡ facts_of (entries_at number table.now) }
+{
+    let logs = table.numbered();
+    let mut facts = LogFacts {
+        lines: 0,
+        bytes: 0,
+        warnings: 0,
+        status: None,
+    };
+    let mut next_entry = 0;
+    'entries: loop {
+        let (lines, count) = logs.lines(number, next_entry);
+        if count > 0 {
+            facts.lines = facts.lines.saturating_add(count as u64);
+            facts.bytes = facts.bytes.saturating_add(lines.len() as u64);
+            facts.warnings = facts.warnings.saturating_add(count_warnings(lines));
+            next_entry += count;
+        } else if let Some(entry) = table.entry(number, next_entry) {
+            facts.status = facts.status.or(closing_status(entry));
+            next_entry += 1;
+        } else {
+            return facts;
+        }
+    }
+}
+
+// Returns the status in a closing record.
+fn closing_status(entry: EntryRef<'_>) -> Option<i32>
+    ensures { result ≡ closing_status (entry_value entry.entry) }
+{
+    match entry {
+        EntryRef::Closing { status, .. } => Some(status),
+        _ => None,
+    }
+}
+
+// Returns the number of lines that are warnings. The lines are passed with their line feeds.
+fn count_warnings(lines: &[u8]) -> u64
+    requires { rest lines.now ≡ [] }
+    ensures { result ≡ count_by is_warning (ended lines.now) }
+{
+    let finder = Finder::new(b"warning:");
+    let mut count = 0;
+    let mut left = lines;
+    'warnings: while let Some(at) = finder.find(left) {
+        left = after_line(&left[at..]);
+        count += 1;
+    }
+    count
+}
+
+// Returns the bytes after the first line feed; none if there is no line feed.
+fn after_line(bytes: &[u8]) -> &[u8]
+    ensures { result.now ≡ after_line bytes.now }
+{
+    match memchr(b'\n', bytes) {
+        Some(end) => &bytes[end + 1..],
+        None => &[],
+    }
+}

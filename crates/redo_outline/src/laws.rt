@@ -1,0 +1,14 @@
+//! Laws about the definitions alone: their contracts are theorems, and their bodies are empty.
+ghost use Rattle.std.specs.Prelude.{ℕ, List};
+ghost use Rattle.redo_logs.specs.Logs.{Log};
+ghost use Rattle.redo_options.specs.declared.options.Options.{Options};
+ghost use Rattle.redo_outline.specs.Laws.{AreInContents};
+
+use redo_view::logs_nest;
+
+/// The tree has exactly the events that are shown, in order, if each requested target has a log.
+pub fn events_are_in_contents()
+    ensures { (logs : List Log) (options : Options) (requested : List (List ℕ)) → AreInContents logs options requested }
+{
+    logs_nest();
+}

@@ -1,0 +1,23 @@
+//! The outline of what is shown: which logs are opened, in which order, how they are nested, and facts of each one.
+//!
+//! A page shows at its top, and beside each target, what is known only at the end: how many logs are below, how many
+//! warnings they have, which targets failed. So what is shown is read once before it is written, for its [`Outline`].
+//!
+//! # Terms
+//!
+//! - *Contents*: what is shown, as a tree. `specs/Contents.antt` makes this tree of events; a law says that it has each event, in order.
+//! - *Node*: what is known of a log that is opened. Its *place* is the number of nodes before it.
+//! - *Silent*: a target that printed nothing and didn't fail, and so each target below it.
+#![tactic(auto)]
+
+mod collector;
+mod facts;
+mod laws;
+mod node;
+mod outline;
+mod places;
+mod sweep;
+
+pub use laws::events_are_in_contents;
+pub use node::Node;
+pub use outline::Outline;

@@ -1,0 +1,30 @@
+//! What is known of a log that is opened.
+
+/// What is known of a log that is opened, and of the logs in it. A count that exceeds 2^64 - 1 is 2^64 - 1.
+#[derive(Clone, Copy, Debug, PartialEq, Eq)]
+pub struct Node {
+    /// The number of the log.
+    pub number: u32,
+    /// The place of the log that contains it. The log of a requested target is in none.
+    pub parent: Option<usize>,
+    /// The status of the target, as its log says, or else as another log says that is shown.
+    pub status: Option<i32>,
+    /// The number of text lines.
+    pub lines: u64,
+    /// The number of bytes of the text lines, with their line feeds.
+    pub bytes: u64,
+    /// The number of text lines that contain `warning:`.
+    pub warnings: u64,
+    /// The number of logs that are opened in it, at any depth.
+    pub below: usize,
+    /// The number of logs that are opened directly in it.
+    pub children: usize,
+    /// Whether anything else than logs is to be seen directly in it.
+    pub others: bool,
+    /// The number of warnings of all logs that are opened in it.
+    pub warnings_below: u64,
+    /// Whether the target of a log that is opened in it failed.
+    pub fails_below: bool,
+    /// The number of silent logs in a row, of which this one is the first. It is 0 if this one isn't silent.
+    pub silent: usize,
+}

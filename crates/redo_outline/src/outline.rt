@@ -1,0 +1,94 @@
+//! The outline of what is shown.
+ghost use Rattle.std.specs.Prelude.{◌≡◌, ◌==◌, true, None, IfOk, position};
+ghost use Rattle.std.specs.List.{list_all};
+ghost use Rattle.redo_logs.specs.Logs.{has_ended};
+ghost use Rattle.redo_view.specs.Expansion.{shown_events};
+ghost use Rattle.redo_view.specs.View.{find_unknown};
+ghost use Rattle.redo_outline.specs.Outline.{outline_of};
+
+use crate::collector::Collector;
+use crate::laws::events_are_in_contents;
+use crate::node::Node;
+use crate::places::node_places;
+use redo_line::{Broken, Sink, TargetName};
+use redo_logs::LogTable;
+use redo_view::{Options, ViewFault, view_as};
+use std::alloc::{AllocError, Global};
+use std::marker::Model;
+
+/// The nodes of all logs that are opened, in the order in which they are opened.
+#[derive(Drop)]
+pub struct Outline {
+    nodes: Vec<Node>,
+    // The place of each log, by its number. A log past the end isn't opened.
+    places: Vec<Option<usize>>,
+}
+
+impl Model for Outline {
+    ghost use Rattle.std.specs.Prelude.{List};
+    ghost use Rattle.redo_outline.specs.declared.node.Node as spec;
+
+    ghost Value = { List spec.Node };
+
+    ghost use Rattle.redo_outline.specs.Private.Places.{AreNodePlaces};
+
+    ghost view = { λ outline. outline.nodes.items };
+
+    ghost invariant = { λ outline. AreNodePlaces outline.nodes.items outline.places.items };
+}
+
+impl Outline {
+    /// Makes the outline of what is shown of the requested targets, each of which must have a log. All logs must have ended.
+    pub fn new(
+        alloc: Global,
+        table: &LogTable,
+        options: &Options,
+        requested: &[TargetName],
+    ) -> Result<Outline, AllocError>
+        requires ended { list_all has_ended table.now ≡ true }
+        requires known { find_unknown table.now requested.now ≡ None }
+        ensures { IfOk result (λ outline. outline ≡ outline_of table.now (shown_events table.now options.now requested.now)) }
+    {
+        let mut collector = Collector::new(alloc, table)?;
+        let mut out = Nowhere;
+        match view_as(alloc, table, options, &mut collector, requested, &mut out) {
+            Ok(()) => {}
+            Err(ViewFault::OutOfMemory) => return Err(AllocError),
+            Err(ViewFault::Unknown { .. }) => unreachable!(),
+            Err(ViewFault::Write) => unreachable!(),
+        }
+        events_are_in_contents();
+        let nodes = collector.into_nodes(alloc)?;
+        let places = node_places(alloc, &nodes)?;
+        Ok(Outline { nodes, places })
+    }
+
+    /// Returns the nodes.
+    pub fn nodes(&self) -> &[Node]
+        ensures { result.now ≡ self.now }
+    {
+        self.nodes.as_slice()
+    }
+
+    /// Returns the place of the log with this number, if it is opened.
+    pub fn place_of(&self, number: u32) -> Option<usize>
+        ensures { result ≡ position (λ node. node.number == number) self.now }
+    {
+        match self.places.get(number as usize) {
+            Some(place) => *place,
+            None => None,
+        }
+    }
+}
+
+// A writer to which nothing is written.
+#[derive(Drop)]
+struct Nowhere;
+
+impl Sink for Nowhere {
+    ghost written = { λ _. None };
+
+    fn push(&mut self, bytes: &[u8]) -> Result<usize, Broken> {
+        Ok(bytes.len())
+    }
+}
