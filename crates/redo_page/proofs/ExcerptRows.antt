@@ -1,0 +1,197 @@
+-- Rows of long lines that are cut, and of excerpts.
+use Rattle.std.proofs.Common.{◌≡◌, ℕ, Bool, true, false, List, [], ◌∷◌, ◌++◌, length, map, replicate, refl}
+use Rattle.std.specs.Char.{encode_utf8}
+use Rattle.std.specs.Fmt.{digits}
+use Rattle.std.specs.Prelude.{◌==◌, ◌||◌, bytes_eq, codes}
+use Rattle.std.specs.List.{AllByRecursion, filter, flat_map, range_with_len}
+use Rattle.redo_html.specs.declared.markup.Markup.{Markup}
+use Rattle.redo_html.specs.declared.markup.Markup.TheVariants as markup
+use Rattle.redo_html.specs.Passage.{html_from}
+use Rattle.redo_html.specs.Parts.{Part, part_html}
+use Rattle.redo_html.specs.Parts.Part.{MarkupPart, LogPart, NamePart, NumberPart}
+use Rattle.redo_html.specs.Shown.{is_odd, number_text, odd_text, picture}
+use Rattle.redo_html.specs.Style.{plain_style}
+use Rattle.redo_html.specs.Symbols.{first_letter, first_symbol, is_sequence, letter_len, sequence_len, sequence_numbers, symbol_len, symbols_after}
+use Rattle.redo_page.specs.Errors.{begins_with}
+use Rattle.redo_page.specs.Excerpt.{Stretch, cut_to, error_position, excerpt_line_end, excerpt_line_parts, excerpt_parts, in_tree_parts, is_continuation, is_kept, last_where, left_out_parts, may_cut, stretch_parts, stretches_from}
+
+-- ---- cutting
+
+record Cut : Type 0 where
+  limit : ℕ
+  bytes : List ℕ
+  result : List ℕ
+
+abbrev cut : ℕ → List ℕ → List ℕ → Cut
+cut limit bytes result = record { limit = limit; bytes = bytes; result = result }
+
+-- `é` is C3 A9, U+1F600 is F0 9F 98 80, and `ESC [ 1 m` has four bytes. Bytes that end within a sequence are not cut if they fit.
+abbrev cuts : List Cut
+cuts =
+    cut 4 (codes "abcdef") (codes "abcd")
+    ∷ cut 6 (codes "abcdef") (codes "abcdef")
+    ∷ cut 9 (codes "abcdef") (codes "abcdef")
+    ∷ cut 0 (codes "abcdef") []
+    ∷ cut 4 (codes "abc" ++ 0xC3 ∷ 0xA9 ∷ 100 ∷ []) (codes "abc")
+    ∷ cut 5 (codes "abc" ++ 0xC3 ∷ 0xA9 ∷ 100 ∷ []) (codes "abc" ++ 0xC3 ∷ 0xA9 ∷ [])
+    ∷ cut 4 (97 ∷ 0xF0 ∷ 0x9F ∷ 0x98 ∷ 0x80 ∷ []) (97 ∷ [])
+    ∷ cut 2 (97 ∷ 0xBF ∷ 0xC0 ∷ 98 ∷ []) (97 ∷ 0xBF ∷ [])
+    ∷ cut 3 (codes "ab" ++ 27 ∷ codes "[1mcd") (codes "ab")
+    ∷ cut 5 (codes "ab" ++ 27 ∷ codes "[1mcd") (codes "ab")
+    ∷ cut 6 (codes "ab" ++ 27 ∷ codes "[1mcd") (codes "ab" ++ 27 ∷ codes "[1m")
+    ∷ cut 2 (0x80 ∷ 0x80 ∷ 0x80 ∷ []) []
+    ∷ cut 5 (codes "ab" ++ 27 ∷ codes "[") (codes "ab" ++ 27 ∷ codes "[")
+    ∷ cut 4 (codes "ab" ++ 27 ∷ codes "[") (codes "ab" ++ 27 ∷ codes "[")
+    ∷ []
+
+cuts_are : AllByRecursion (λ row. cut_to row.limit row.bytes ≡ row.result) cuts
+unfolding cut_to
+cuts_are = (refl, (refl, (refl, (refl, (refl, (refl, (refl, (refl, (refl, (refl, (refl, (refl, (refl, (refl, tt))))))))))))))
+
+-- The bytes that parts show.
+abbrev bytes_of : Part → List ℕ
+bytes_of (LogPart style bytes) = bytes
+bytes_of (NamePart bytes) = bytes
+bytes_of part = []
+
+abbrev bytes : List Part → List ℕ
+bytes parts = flat_map bytes_of parts
+
+whole_line :
+    bytes_eq (bytes (excerpt_line_parts (replicate 1000 97)))
+    (replicate 1000 97 ++ codes "\n")
+    ≡ true
+unfolding excerpt_line_parts excerpt_line_end cut_to
+whole_line = refl
+
+long_line :
+    bytes_eq (bytes (excerpt_line_parts (replicate 1001 97)))
+    (replicate 1000 97 ++ codes " ...\n")
+    ≡ true
+unfolding excerpt_line_parts excerpt_line_end cut_to
+long_line = refl
+
+-- ---- which lines an excerpt shows
+
+record Shape : Type 0 where
+  shown : Bool
+  count : ℕ
+
+abbrev shape : Stretch → Shape
+shape (Stretch.Shown lines) = record { shown = true; count = length lines }
+shape (Stretch.LeftOut count) = record { shown = false; count = count }
+
+abbrev shown : ℕ → Shape
+shown count = record { shown = true; count = count }
+
+abbrev left_out : ℕ → Shape
+left_out count = record { shown = false; count = count }
+
+record Row : Type 0 where
+  count : ℕ
+  error : ℕ
+  shapes : List Shape
+
+abbrev excerpt : ℕ → ℕ → List Shape → Row
+excerpt count error shapes = record { count = count; error = error; shapes = shapes }
+
+abbrev rows : List Row
+rows =
+    excerpt 301 100 (shown 10 ∷ left_out 85 ∷ shown 30 ∷ left_out 116 ∷ shown 60 ∷ [])
+    ∷ excerpt 301 3 (shown 28 ∷ left_out 213 ∷ shown 60 ∷ [])
+    ∷ excerpt 301 301 (shown 10 ∷ left_out 231 ∷ shown 60 ∷ [])
+    ∷ excerpt 301 230 (shown 10 ∷ left_out 215 ∷ shown 76 ∷ [])
+    ∷ excerpt 301 15 (shown 40 ∷ left_out 201 ∷ shown 60 ∷ [])
+    ∷ excerpt 301 16 (shown 10 ∷ left_out 1 ∷ shown 30 ∷ left_out 200 ∷ shown 60 ∷ [])
+    ∷ excerpt 50 50 (shown 50 ∷ [])
+    ∷ excerpt 0 0 []
+    ∷ []
+
+shapes_are : AllByRecursion (λ row. map shape (stretches_from (is_kept row.count row.error) 0 (replicate row.count (codes "a"))) ≡ row.shapes) rows
+shapes_are = (refl, (refl, (refl, (refl, (refl, (refl, (refl, (refl, tt))))))))
+
+-- ---- the parts of an excerpt
+
+abbrev tag : Markup → Part
+tag markup = MarkupPart markup
+
+abbrev words : List ℕ → Part
+words text = NamePart text
+
+-- A letter of two bytes, and a sequence of four.
+may_cut_are :
+    (map is_continuation (0x7F ∷ 0x80 ∷ 0xBF ∷ 0xC0 ∷ []) ≡ false ∷ true ∷ true ∷ false ∷ [])
+    × (map (may_cut (97 ∷ 0xC3 ∷ 0xA9 ∷ 97 ∷ [])) (1 ∷ 2 ∷ 3 ∷ []) ≡ true ∷ false ∷ true ∷ [])
+    × (map (may_cut (97 ∷ 27 ∷ codes "[1ma")) (1 ∷ 2 ∷ 3 ∷ 4 ∷ 5 ∷ []) ≡ true ∷ false ∷ false ∷ false ∷ true ∷ [])
+may_cut_are = (refl, refl, refl)
+
+last_are : (last_where (λ at. at == 2) 5 ≡ 2) × (last_where (λ at. true) 5 ≡ 5) × (last_where (λ at. at == 9) 5 ≡ 0)
+last_are = (refl, refl, refl)
+
+line_is : excerpt_line_parts (codes "x") ≡ LogPart plain_style (codes "x") ∷ words (codes "\n") ∷ []
+unfolding excerpt_line_parts excerpt_line_end cut_to
+line_is = refl
+
+-- The positions at which lines are kept, up to 35, if line 20 of 106 reports an error, and from 40 on.
+kept_are :
+    (filter (is_kept 106 20) (range_with_len 0 36) ≡ range_with_len 0 10 ++ range_with_len 15 21) × (filter (is_kept 106 20) (range_with_len 36 20) ≡ range_with_len 36 9 ++ range_with_len 46 10)
+kept_are = (refl, refl)
+
+stretches_are :
+    (stretches_from (λ at. at == 3 || at == 4) 2 (codes "a" ∷ codes "b" ∷ codes "c" ∷ codes "d" ∷ codes "e" ∷ codes "f" ∷ [])
+    ≡ Stretch.LeftOut 1 ∷ Stretch.Shown (codes "b" ∷ codes "c" ∷ []) ∷ Stretch.LeftOut 3 ∷ [])
+    × (stretches_from (λ at. true) 0 [] ≡ []) × (stretches_from (λ at. true) 0 (codes "a" ∷ []) ≡ Stretch.Shown (codes "a" ∷ []) ∷ [])
+    × (stretches_from (λ at. at == 1) 1 (codes "a" ∷ codes "b" ∷ []) ≡ Stretch.Shown (codes "a" ∷ []) ∷ Stretch.LeftOut 1 ∷ [])
+stretches_are = (refl, refl, refl, refl)
+
+in_tree_is : in_tree_parts 7 (codes "x") ≡ tag (markup.TargetLink 7) ∷ words (codes "x") ∷ tag markup.EndLink ∷ []
+unfolding in_tree_parts
+in_tree_is = refl
+
+left_out_are :
+    (left_out_parts 7 1 ≡ tag markup.CutParagraph ∷ NumberPart 1 ∷ words (codes " more line: ") ∷ tag (markup.TargetLink 7) ∷ words (codes "in the tree") ∷ tag markup.EndLink ∷ tag markup.EndParagraph ∷ [])
+    × (left_out_parts 7 2 ≡ tag markup.CutParagraph ∷ NumberPart 2 ∷ words (codes " more lines: ") ∷ tag (markup.TargetLink 7) ∷ words (codes "in the tree") ∷ tag markup.EndLink ∷ tag markup.EndParagraph ∷ [])
+unfolding left_out_parts in_tree_parts
+left_out_are = (refl, refl)
+
+shown_stretch_is :
+    stretch_parts 7 (Stretch.Shown (codes "x" ∷ codes "y" ∷ []))
+    ≡ tag markup.Pre ∷ LogPart plain_style (codes "x") ∷ words (codes "\n") ∷ LogPart plain_style (codes "y") ∷ words (codes "\n") ∷ tag markup.EndPre ∷ []
+unfolding excerpt_line_parts excerpt_line_end cut_to
+shown_stretch_is = refl
+
+left_out_stretch_is : stretch_parts 7 (Stretch.LeftOut 1) ≡ left_out_parts 7 1
+left_out_stretch_is = refl
+
+short_excerpt_is : excerpt_parts 7 (codes "x" ∷ []) ≡ tag markup.Pre ∷ LogPart plain_style (codes "x") ∷ words (codes "\n") ∷ tag markup.EndPre ∷ []
+unfolding excerpt_parts excerpt_line_parts excerpt_line_end cut_to begins_with
+short_excerpt_is = refl
+
+-- ---- an excerpt
+
+abbrev a_lines : ℕ → List (List ℕ)
+a_lines count = replicate count (codes "a")
+
+abbrev a_text : ℕ → List ℕ
+a_text count = flat_map (λ line. codes "a\n") (a_lines count)
+
+-- The error is at position 20 of 106 lines, so five lines are left out before the lines around it, and one line after them.
+excerpt_is :
+    bytes_eq (flat_map part_html (excerpt_parts 7 (a_lines 20 ++ (codes "error" ∷ a_lines 85))))
+    (codes "<pre>\n"
+    ++ (a_text 10
+    ++ (codes "</pre><p class=\"cut\">5 more lines: <a href=\"#t7\">in the tree</a></p><pre>\n"
+    ++ (a_text 5
+    ++ (codes "error\n"
+    ++ (a_text 24 ++ (codes "</pre><p class=\"cut\">1 more line: <a href=\"#t7\">in the tree</a></p><pre>\n" ++ (a_text 60 ++ codes "</pre>"))))))))
+    ≡ true
+unfolding excerpt_parts excerpt_line_parts excerpt_line_end cut_to left_out_parts in_tree_parts begins_with symbols_after first_symbol symbol_len is_sequence sequence_len sequence_numbers first_letter letter_len is_odd picture odd_text number_text encode_utf8 digits html_from
+excerpt_is = refl
+
+no_error : error_position (a_lines 3) ≡ 3
+unfolding begins_with
+no_error = refl
+
+first_error : error_position (codes "a" ∷ codes "error" ∷ codes "error" ∷ []) ≡ 1
+unfolding begins_with
+first_error = refl

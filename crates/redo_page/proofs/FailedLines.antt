@@ -1,0 +1,54 @@
+-- The text lines in articles.
+use Rattle.std.proofs.Common.{◌≡◌, ℕ, Bool, true, false, List, [], ◌∷◌, ◌++◌, refl, ◌∙◌, ap}
+use Rattle.std.specs.Prelude.{◌==◌, ◌&&◌, not, nat_le, codes, if◌then◌else◌}
+use Rattle.std.specs.List.{flat_map}
+use Rattle.std.proofs.lemmas.Bool.{and_parts, not-true}
+use Rattle.std.proofs.lemmas.Grind.{flat_map-append}
+use Rattle.std.proofs.lemmas.List.{append-nil}
+use Rattle.redo_line.specs.Lines.{with_line_feed}
+use Rattle.redo_logs.specs.Logs.{Log}
+use Rattle.redo_html.specs.declared.markup.Markup.TheVariants as markup
+use Rattle.redo_html.specs.declared.style.Style.{Style}
+use Rattle.redo_html.specs.Lines.{line_parts, style_after}
+use Rattle.redo_html.specs.Parts.Part.{MarkupPart}
+use Rattle.redo_html.specs.Style.{plain_style}
+use Rattle.redo_outline.specs.declared.node.Node.{Node}
+use Rattle.redo_page.specs.Excerpt.{excerpt_parts, in_tree_parts}
+use Rattle.redo_page.specs.Failed.{article_of, article_parts, max_path, nothing_parts, output_parts, printed_by, whole_parts}
+use Rattle.redo_page.specs.Laws.{log_bytes, log_text}
+use Rattle.redo_page.specs.Tree.{is_short, node_at}
+use Rattle.redo_page.proofs.Ids.{badge_bare}
+use Rattle.redo_page.proofs.FailedIds.{path_bare}
+use Rattle.redo_page.proofs.TreeLines.{same_text}
+
+lines_text : (style : Style) (lines : List (List ℕ)) → log_bytes (line_parts style lines) ≡ flat_map with_line_feed lines
+lines_text style [] = refl
+lines_text style (line ∷ lines) = ap (λ t. with_line_feed line ++ t) (lines_text (style_after style (with_line_feed line)) lines)
+
+whole_text : (lines : List (List ℕ)) → log_bytes (whole_parts lines) ≡ flat_map with_line_feed lines
+unfolding whole_parts
+whole_text lines =
+    flat_map-append log_text (line_parts plain_style lines) (MarkupPart markup.EndPre ∷ []) ∙ append-nil (log_bytes (line_parts plain_style lines)) ∙ lines_text plain_style lines
+
+output_text : (logs : List Log) (place : ℕ) (node : Node) → is_short node ≡ true → log_bytes (output_parts logs place node) ≡ flat_map with_line_feed (printed_by logs node)
+unfolding output_parts
+output_text logs place node short =
+    let parts = and_parts (not (node.lines == 0)) (nat_le node.lines 300 && nat_le node.bytes 40000) short in by (node.lines == 0) (is_short node) (not-true (node.lines == 0) parts.0) short
+  where
+    by : (none is : Bool) → none ≡ false → is ≡ true
+        → log_bytes (if none then nothing_parts node else if is then whole_parts (printed_by logs node) else excerpt_parts place (printed_by logs node)) ≡ flat_map with_line_feed (printed_by logs node)
+    by none is some short_is = rw (some, short_is) (whole_text (printed_by logs node))
+
+in_tree_text : (place : ℕ) (text : List ℕ) → log_bytes (in_tree_parts place text) ≡ []
+unfolding in_tree_parts
+in_tree_text place text = refl
+
+-- An article with a short output shows it as it is.
+pub article_text : (logs : List Log) (nodes : List Node) (place : ℕ) → is_short (node_at nodes place) ≡ true → log_bytes (article_parts logs nodes place) ≡ flat_map with_line_feed (printed_by logs (node_at nodes place))
+unfolding article_parts article_of
+article_text logs nodes place short =
+    let node = node_at nodes place in
+    let link = in_tree_parts place (codes "its place in the tree") in
+    same_text (article_parts logs nodes place) (MarkupPart (markup.Article place) ∷ (link ++ output_parts logs place node))
+    (simp (flat_map-append, append-nil, badge_bare node.status, path_bare logs nodes (max_path logs nodes) node.parent))
+    ∙ flat_map-append log_text link (output_parts logs place node) ∙ ap (λ t. t ++ log_bytes (output_parts logs place node)) (in_tree_text place (codes "its place in the tree")) ∙ output_text logs place node short

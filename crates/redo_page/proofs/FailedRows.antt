@@ -1,0 +1,273 @@
+-- Rows of the section of targets that failed, as HTML.
+use Rattle.std.proofs.Common.{◌≡◌, ℕ, Bool, true, false, List, [], ◌∷◌, ◌++◌, Option, None, Some, ℤ, pos, length, replicate, refl}
+use Rattle.std.specs.Char.{encode_utf8}
+use Rattle.std.specs.Prelude.{bytes_eq, codes, take}
+use Rattle.std.specs.Fmt.{digits}
+use Rattle.std.specs.List.{flat_map, range_with_len}
+use Rattle.redo_line.specs.declared.entry.Entry.{Entry}
+use Rattle.redo_line.specs.declared.entry.Entry.TheVariants.{Text, Mention, Closing}
+use Rattle.redo_line.specs.declared.entry.How.TheVariants.{Made}
+use Rattle.redo_logs.specs.declared.log_state.LogState.TheVariants.{Ended}
+use Rattle.redo_logs.specs.Logs.{Log}
+use Rattle.redo_html.specs.declared.markup.Markup.TheVariants as markup
+use Rattle.redo_html.specs.Passage.{html_from}
+use Rattle.redo_html.specs.Parts.{Part, part_html}
+use Rattle.redo_html.specs.Parts.Part.{MarkupPart}
+use Rattle.redo_html.specs.Shown.{is_odd, number_text, odd_text, picture}
+use Rattle.redo_html.specs.Symbols.{first_letter, first_symbol, is_sequence, letter_len, sequence_len, sequence_numbers, symbol_len, symbols_after}
+use Rattle.redo_outline.specs.declared.node.Node.{Node}
+use Rattle.redo_page.specs.Errors.{begins_with}
+use Rattle.redo_page.specs.Excerpt.{cut_to, excerpt_line_end, excerpt_line_parts, excerpt_parts, in_tree_parts}
+use Rattle.redo_page.specs.declared.failed.Failures.{Failures}
+use Rattle.redo_page.specs.Failed.{AreFailures, article_of, article_parts, article_row, cause_of_node, cause_parts, failed_above, failed_parts, is_unclosed, list_parts, more_above, more_parts, nothing_parts, output_parts, path_parts, path_separator, places_where, row_parts, section_parts, target_row, unlisted_parts, whole_parts}
+
+abbrev log : List ℕ → List Entry → Log
+log target entries = record { target = target; entries = entries; state = Ended }
+
+abbrev printed : List ℕ → Entry
+printed text = Text text
+
+-- `b` fails with an error, `c` prints nothing, and `d` prints one line in red and one line that goes on in red.
+abbrev logs : List Log
+logs =
+    log (codes "all") []
+    ∷ log (codes "b") (Text (codes "cc b.c") ∷ Mention 9 Made (codes "c") ∷ Text (codes "b.c:1: error: x") ∷ Closing 9 (pos 1) ∷ [])
+    ∷ log (codes "c") (Closing 9 (pos 2) ∷ [])
+    ∷ log (codes "d") (Text (27 ∷ codes "[31mone") ∷ Text (codes "two") ∷ [])
+    ∷ []
+
+-- What is known of log `number`. It is in the log at `parent`.
+abbrev node : ℕ → Option ℕ → Option ℤ → ℕ → ℕ → Bool → Node
+node number parent status lines below fails = record {
+  number = number;
+  parent = parent;
+  status = status;
+  lines = lines;
+  bytes = lines;
+  warnings = 0;
+  below = below;
+  children = below;
+  others = false;
+  warnings_below = 0;
+  fails_below = fails;
+  silent = 0;
+}
+
+abbrev b : Node
+b = node 1 (Some 0) (Some (pos 1)) 2 0 false
+
+abbrev c : Node
+c = node 2 (Some 0) (Some (pos 2)) 0 0 false
+
+abbrev html : List Part → List ℕ
+html parts = flat_map part_html parts
+
+-- ` › ` in UTF-8.
+abbrev then : List ℕ → List ℕ
+then text = 0x20 ∷ 0xE2 ∷ 0x80 ∷ 0xBA ∷ 0x20 ∷ text
+
+-- ---- no failure, and one
+
+no_failure : failed_parts logs (node 0 None (Some (pos 0)) 0 1 false ∷ node 1 (Some 0) None 2 0 false ∷ []) ≡ []
+unfolding failed_parts
+no_failure = refl
+
+-- A target that isn't closed makes no section.
+no_section : take 1 (failed_parts logs (node 0 None (Some (pos 0)) 0 1 false ∷ node 1 (Some 0) None 2 0 false ∷ [])) ≡ []
+unfolding failed_parts section_parts
+no_section = refl
+
+one_failure :
+    bytes_eq (html (failed_parts logs (node 0 None (Some (pos 3)) 0 1 true ∷ b ∷ [])))
+    (codes "<section id=\"failed\" aria-labelledby=\"h-failed\"><h2 id=\"h-failed\">What failed</h2><article id=\"f1\"><h3><bdi>b</bdi> <strong class=\"x\">exit 1</strong></h3><p class=\"meta\"><bdi>all</bdi>"
+    ++ then (codes "<a href=\"#t1\">its place in the tree</a></p><pre>\ncc b.c\nb.c:1: error: x\n</pre></article><details class=\"more\"><summary>1 above these, which failed with them</summary><ol class=\"list\"><li><a href=\"#t0\"><bdi>all</bdi></a> <strong class=\"x\">exit 3</strong></li></ol></details></section>"))
+    ≡ true
+unfolding failed_parts section_parts list_parts more_parts target_row row_parts unlisted_parts cause_of_node cause_parts cut_to begins_with article_parts article_of path_parts output_parts whole_parts in_tree_parts symbols_after first_symbol symbol_len is_sequence sequence_len sequence_numbers first_letter letter_len is_odd picture odd_text number_text encode_utf8 digits html_from
+one_failure = refl
+
+-- ---- lists
+
+two_failures :
+    bytes_eq (html (list_parts logs (node 0 None None 0 2 true ∷ b ∷ c ∷ []) (1 ∷ 2 ∷ [])))
+    (codes "<ol class=\"list\"><li><a href=\"#f1\"><bdi>b</bdi></a> <strong class=\"x\">exit 1</strong> <code>b.c:1: error: x</code></li><li><a href=\"#f2\"><bdi>c</bdi></a> <strong class=\"x\">exit 2</strong></li></ol>")
+    ≡ true
+unfolding list_parts article_row row_parts cause_of_node cause_parts cut_to begins_with symbols_after first_symbol symbol_len is_sequence sequence_len sequence_numbers first_letter letter_len is_odd picture odd_text number_text encode_utf8 digits html_from
+two_failures = refl
+
+one_is_no_list : html (list_parts logs (b ∷ []) (0 ∷ [])) ≡ []
+unfolding list_parts article_row row_parts cause_of_node cause_parts cut_to begins_with symbols_after first_symbol symbol_len is_sequence sequence_len sequence_numbers first_letter letter_len is_odd picture odd_text number_text encode_utf8 digits html_from
+one_is_no_list = refl
+
+more_with_causes :
+    bytes_eq (html (more_parts logs (b ∷ []) (markup.OrderedFrom 11) true (codes " more") (0 ∷ [])))
+    (codes "<details class=\"more\"><summary>1 more</summary><ol class=\"list\" start=\"11\"><li><a href=\"#t0\"><bdi>b</bdi></a> <strong class=\"x\">exit 1</strong> <code>b.c:1: error: x</code></li></ol></details>")
+    ≡ true
+unfolding more_parts target_row row_parts unlisted_parts cause_of_node cause_parts cut_to begins_with symbols_after first_symbol symbol_len is_sequence sequence_len sequence_numbers first_letter letter_len is_odd picture odd_text number_text encode_utf8 digits html_from
+more_with_causes = refl
+
+more_without_causes :
+    bytes_eq (html (more_parts logs (b ∷ []) markup.Ordered false (codes " more") (0 ∷ [])))
+    (codes "<details class=\"more\"><summary>1 more</summary><ol class=\"list\"><li><a href=\"#t0\"><bdi>b</bdi></a> <strong class=\"x\">exit 1</strong></li></ol></details>")
+    ≡ true
+unfolding more_parts target_row row_parts unlisted_parts cause_of_node cause_parts cut_to begins_with symbols_after first_symbol symbol_len is_sequence sequence_len sequence_numbers first_letter letter_len is_odd picture odd_text number_text encode_utf8 digits html_from
+more_without_causes = refl
+
+-- The starts of articles and of lists, and the links to articles.
+abbrev marks_of : Part → List Part
+marks_of (MarkupPart (markup.Article place)) = MarkupPart (markup.Article place) ∷ []
+marks_of (MarkupPart markup.Ordered) = MarkupPart markup.Ordered ∷ []
+marks_of (MarkupPart (markup.OrderedFrom first)) = MarkupPart (markup.OrderedFrom first) ∷ []
+marks_of (MarkupPart (markup.OutputLink place)) = MarkupPart (markup.OutputLink place) ∷ []
+marks_of (MarkupPart markup.MoreDetails) = MarkupPart markup.MoreDetails ∷ []
+marks_of part = []
+
+abbrev marks : List Part → List ℕ
+marks parts = html (flat_map marks_of parts)
+
+abbrev outputs : List ℕ → List ℕ
+outputs places = flat_map (λ place. codes "<a href=\"#f" ++ (number_text place ++ codes "\">")) places
+
+abbrev articles : List ℕ → List ℕ
+articles places = flat_map (λ place. codes "<article id=\"f" ++ (number_text place ++ codes "\">")) places
+
+abbrev cs : ℕ → List Node
+cs count = replicate count c
+
+eleven_failures :
+    bytes_eq (marks (failed_parts logs (cs 11)))
+    (codes "<ol class=\"list\">" ++ (outputs (range_with_len 0 10) ++ (articles (range_with_len 0 10) ++ codes "<details class=\"more\"><ol class=\"list\" start=\"11\">")))
+    ≡ true
+unfolding failed_parts section_parts list_parts more_parts article_row target_row row_parts unlisted_parts article_parts article_of path_parts output_parts nothing_parts in_tree_parts cause_of_node cause_parts number_text digits
+eleven_failures = refl
+
+ten_failures :
+    bytes_eq (marks (failed_parts logs (cs 10)))
+    (codes "<ol class=\"list\">" ++ (outputs (range_with_len 0 10) ++ articles (range_with_len 0 10)))
+    ≡ true
+unfolding failed_parts section_parts list_parts more_parts article_row target_row row_parts unlisted_parts article_parts article_of path_parts output_parts nothing_parts in_tree_parts cause_of_node cause_parts number_text digits
+ten_failures = refl
+
+abbrev items_of : Part → List Part
+items_of (MarkupPart markup.Item) = MarkupPart markup.Item ∷ []
+items_of part = []
+
+at_most_200 : length (flat_map items_of (more_parts logs [] markup.Ordered false [] (range_with_len 0 201))) ≡ 200
+unfolding more_parts target_row row_parts unlisted_parts
+at_most_200 = refl
+
+all_listed : html (unlisted_parts 200) ≡ []
+unfolding unlisted_parts symbols_after first_symbol symbol_len is_sequence sequence_len sequence_numbers first_letter letter_len is_odd picture odd_text number_text encode_utf8 digits html_from
+all_listed = refl
+
+one_unlisted :
+    bytes_eq (html (unlisted_parts 201))
+    (codes "<p class=\"quiet\">and 1 more, in the tree</p>")
+    ≡ true
+unfolding unlisted_parts symbols_after first_symbol symbol_len is_sequence sequence_len sequence_numbers first_letter letter_len is_odd picture odd_text number_text encode_utf8 digits html_from
+one_unlisted = refl
+
+-- ---- which targets are named
+
+-- The first one failed and so did the second one, which is in it. The third one isn't closed; the fourth one is made.
+abbrev nodes : List Node
+nodes = node 0 None (Some (pos 2)) 0 3 true ∷ b ∷ node 2 (Some 0) None 0 0 false ∷ node 3 (Some 0) (Some (pos 0)) 0 0 false ∷ []
+
+above_are : places_where failed_above 0 nodes ≡ 0 ∷ []
+above_are = refl
+
+-- A target that is made, though one below it failed.
+none_above : places_where failed_above 0 (node 0 None (Some (pos 0)) 0 1 true ∷ b ∷ []) ≡ []
+none_above = refl
+
+unclosed_are : places_where is_unclosed 0 nodes ≡ 2 ∷ []
+unclosed_are = refl
+
+failures_are : (failures : Failures) → failures.first.items ≡ 1 ∷ [] → failures.above.items ≡ 0 ∷ [] → failures.unclosed.items ≡ 2 ∷ [] → AreFailures nodes failures
+failures_are failures first above unclosed = record { first = first; above = above; unclosed = unclosed }
+
+-- A requested target, and one with others below it, are not at the end of a path.
+none_unclosed : places_where is_unclosed 0 (node 0 None None 0 0 false ∷ node 1 (Some 0) None 0 1 false ∷ []) ≡ []
+none_unclosed = refl
+
+-- ---- outputs
+
+-- The second line goes on in the colour of the first one.
+whole_output :
+    bytes_eq (html (output_parts logs 5 (node 3 None (Some (pos 1)) 2 0 false)))
+    (codes "<pre>\n<span class=\"r\">one\n</span><span class=\"r\">two\n</span></pre>")
+    ≡ true
+unfolding output_parts whole_parts symbols_after first_symbol symbol_len is_sequence sequence_len sequence_numbers first_letter letter_len is_odd picture odd_text number_text encode_utf8 digits html_from
+whole_output = refl
+
+-- An output of more than 300 lines is shown in part: each line begins without a colour.
+long_output :
+    bytes_eq (html (output_parts logs 5 (node 3 None (Some (pos 1)) 301 0 false)))
+    (codes "<pre>\n<span class=\"r\">one</span>\ntwo\n</pre>")
+    ≡ true
+unfolding output_parts whole_parts excerpt_parts excerpt_line_parts excerpt_line_end cut_to begins_with symbols_after first_symbol symbol_len is_sequence sequence_len sequence_numbers first_letter letter_len is_odd picture odd_text number_text encode_utf8 digits html_from
+long_output = refl
+
+no_output :
+    bytes_eq (html (output_parts logs 5 c))
+    (codes "<p class=\"quiet\">It printed nothing that was captured.</p>")
+    ≡ true
+unfolding output_parts nothing_parts symbols_after first_symbol symbol_len is_sequence sequence_len sequence_numbers first_letter letter_len is_odd picture odd_text number_text encode_utf8 digits html_from
+no_output = refl
+
+no_failure_below_it :
+    bytes_eq (html (output_parts logs 5 (node 0 None (Some (pos 2)) 0 3 false)))
+    (codes "<p class=\"quiet\">It printed nothing that was captured. No target below it failed: make or redo reported the cause on the terminal.</p>")
+    ≡ true
+unfolding output_parts nothing_parts symbols_after first_symbol symbol_len is_sequence sequence_len sequence_numbers first_letter letter_len is_odd picture odd_text number_text encode_utf8 digits html_from
+no_failure_below_it = refl
+
+-- ---- paths
+
+-- Each log is in the one before it.
+abbrev chain : List Node
+chain =
+    node 0 None None 0 5 false ∷ node 1 (Some 0) None 0 4 false ∷ node 2 (Some 1) None 0 3 false ∷ node 3 (Some 2) None 0 2 false ∷ node 0 (Some 3) None 0 1 false
+    ∷ node 1 (Some 4) None 0 0 false ∷ []
+
+short_path :
+    bytes_eq (html (path_parts logs chain 4 (Some 3)))
+    (codes "<bdi>all</bdi>" ++ then (codes "<bdi>b</bdi>" ++ then (codes "<bdi>c</bdi>" ++ then (codes "<bdi>d</bdi>" ++ then []))))
+    ≡ true
+unfolding path_parts symbols_after first_symbol symbol_len is_sequence sequence_len sequence_numbers first_letter letter_len is_odd picture odd_text number_text encode_utf8 digits html_from
+short_path = refl
+
+-- The path to the article of a target at the end of a long path begins with `…`.
+long_path :
+    bytes_eq (html (article_parts logs chain 5))
+    (codes "<article id=\"f5\"><h3><bdi>b</bdi> <strong class=\"o\">not closed</strong></h3><p class=\"meta\">"
+    ++ (0xE2 ∷ 0x80 ∷ 0xA6
+    ∷ then (codes "<bdi>b</bdi>" ++ then (codes "<bdi>c</bdi>" ++ then (codes "<bdi>d</bdi>" ++ then (codes "<bdi>all</bdi>"
+    ++ then (codes "<a href=\"#t5\">its place in the tree</a></p><p class=\"quiet\">It printed nothing that was captured.</p></article>")))))))
+    ≡ true
+unfolding article_parts article_of path_parts output_parts nothing_parts in_tree_parts symbols_after first_symbol symbol_len is_sequence sequence_len sequence_numbers first_letter letter_len is_odd picture odd_text number_text encode_utf8 digits html_from
+long_path = refl
+
+no_path : path_parts logs chain 4 None ≡ []
+unfolding path_parts
+no_path = refl
+
+separator_is : path_separator ≡ 32 ∷ (encode_utf8 0x203A ++ 32 ∷ [])
+unfolding encode_utf8
+separator_is = refl
+
+more_is : more_above ≡ encode_utf8 0x2026 ++ path_separator
+unfolding encode_utf8
+more_is = refl
+
+-- ---- causes
+
+no_cause : html (cause_parts None) ≡ []
+unfolding cause_parts symbols_after first_symbol symbol_len is_sequence sequence_len sequence_numbers first_letter letter_len is_odd picture odd_text number_text encode_utf8 digits html_from
+no_cause = refl
+
+long_cause :
+    bytes_eq (html (cause_parts (Some (replicate 161 97))))
+    (codes " <code>" ++ (replicate 160 97 ++ codes "</code>"))
+    ≡ true
+unfolding cause_parts cut_to symbols_after first_symbol symbol_len is_sequence sequence_len sequence_numbers first_letter letter_len is_odd picture odd_text number_text encode_utf8 digits html_from
+long_cause = refl

@@ -1,0 +1,170 @@
+-- Rows of the frame of a page: its head, its heading, and its end with the command that writes the same as one text.
+use Rattle.std.proofs.Common.{◌≡◌, ℕ, Bool, true, false, List, [], ◌∷◌, ◌++◌, Option, None, Some, ℤ, pos, refl}
+use Rattle.std.specs.Char.{encode_utf8}
+use Rattle.std.specs.Fmt.{digits}
+use Rattle.std.specs.List.{AllByRecursion, filter, range_with_len}
+use Rattle.std.specs.Prelude.{codes}
+use Rattle.redo_html.specs.Shown.{number_text}
+use Rattle.redo_html.specs.declared.markup.Markup.{Markup}
+use Rattle.redo_html.specs.declared.markup.Markup.TheVariants as markup
+use Rattle.redo_html.specs.Parts.{Part}
+use Rattle.redo_html.specs.Parts.Part.{MarkupPart, NamePart, NumberPart, TitlePart, StylePart}
+use Rattle.redo_logs.specs.declared.log_state.LogState.TheVariants.{Ended}
+use Rattle.redo_logs.specs.Logs.{Log}
+use Rattle.redo_options.specs.declared.options.Options.{Options}
+use Rattle.redo_outline.specs.declared.node.Node.{Node}
+use Rattle.redo_page.specs.declared.frame.Verdict.TheVariants.{Failed, Unfinished, Made}
+use Rattle.redo_page.specs.Frame.{argument, body_markup, command, failed_nav, footer_parts, head_parts, header_parts, is_safe, log_count_parts, quoted, root_parts, sign_text, title_parts, title_text, titled, top_heading_parts, verdict_of, verdict_text}
+
+abbrev tag : Markup → Part
+tag markup = MarkupPart markup
+
+abbrev words : List ℕ → Part
+words text = NamePart text
+
+abbrev number : ℕ → Part
+number value = NumberPart value
+
+-- ---- the verdict
+
+-- What is known of a target that is in the log at `parent`.
+abbrev node : Option ℕ → Option ℤ → Bool → Node
+node parent status fails = record { number = 0; parent = parent; status = status; lines = 0; bytes = 0; warnings = 0; below = 0; children = 0; others = false; warnings_below = 0; fails_below = fails; silent = 0 }
+
+abbrev begun : Node
+begun = node None None false
+
+abbrev made : Node
+made = node None (Some (pos 0)) false
+
+abbrev failed : Node
+failed = node (Some 0) (Some (pos 2)) false
+
+-- A target that isn't requested doesn't make a build unfinished. A target that failed does, if no record says how the requested one ended.
+verdicts_are :
+    (verdict_of [] ≡ Made) × (verdict_of (made ∷ begun ∷ []) ≡ Unfinished) × (verdict_of (made ∷ node (Some 0) None false ∷ []) ≡ Made)
+    × (verdict_of (begun ∷ failed ∷ []) ≡ Failed) × (verdict_of (node None None true ∷ failed ∷ []) ≡ Failed)
+verdicts_are = (refl, refl, refl, refl, refl)
+
+failed_texts_are :
+    (verdict_text Failed (failed ∷ []) ≡ codes "1 of 1 target failed")
+    × (verdict_text Failed (made ∷ failed ∷ []) ≡ codes "1 of 2 targets failed")
+    × (verdict_text Failed (node None (Some (pos 1)) true ∷ failed ∷ failed ∷ []) ≡ codes "2 of 3 targets failed")
+unfolding number_text digits
+failed_texts_are = (refl, refl, refl)
+
+unfinished_texts_are :
+    (verdict_text Unfinished (begun ∷ []) ≡ codes "1 target begun, not ended") × (verdict_text Unfinished (begun ∷ made ∷ []) ≡ codes "2 targets begun, not ended")
+unfolding number_text digits
+unfinished_texts_are = (refl, refl)
+
+made_texts_are :
+    (verdict_text Made [] ≡ codes "0 targets made, none failed") × (verdict_text Made (made ∷ []) ≡ codes "1 target made, none failed")
+unfolding number_text digits
+made_texts_are = (refl, refl)
+
+signs_are : (sign_text Failed ≡ encode_utf8 0x2717) × (sign_text Unfinished ≡ encode_utf8 0x2026) × (sign_text Made ≡ encode_utf8 0x2713)
+unfolding encode_utf8
+signs_are = (refl, refl, refl)
+
+bodies_are : (body_markup Failed ≡ markup.BodyBad) × (body_markup Unfinished ≡ markup.BodyOpen) × (body_markup Made ≡ markup.BodyGood)
+bodies_are = (refl, refl, refl)
+
+-- ---- the head
+
+titles_are :
+    (titled [] (codes "h") ≡ codes "h") × (titled (codes "t") (codes "h") ≡ codes "t" ++ 32 ∷ (encode_utf8 0xB7 ++ 32 ∷ codes "h"))
+    × (title_text [] Made (codes "h") ≡ encode_utf8 0x2713 ++ codes " h")
+    × (title_text (codes "t") Failed (codes "h") ≡ encode_utf8 0x2717 ++ (codes " t " ++ (encode_utf8 0xB7 ++ codes " h")))
+unfolding encode_utf8
+titles_are = (refl, refl, refl, refl)
+
+head_is :
+    head_parts (codes "t") Unfinished
+    ≡ tag markup.Doctype ∷ tag markup.Html ∷ tag markup.Head ∷ tag markup.Charset ∷ tag markup.Viewport ∷ tag markup.ColorScheme ∷ tag markup.Referrer ∷ tag markup.Policy
+    ∷ TitlePart (codes "t") ∷ StylePart ∷ tag markup.EndHead ∷ tag markup.BodyOpen ∷ []
+head_is = refl
+
+-- ---- the header
+
+title_is : (title_parts [] ≡ []) × (title_parts (codes "t") ≡ tag markup.Paragraph ∷ words (codes "t") ∷ tag markup.EndParagraph ∷ [])
+title_is = (refl, refl)
+
+heading_is :
+    top_heading_parts Made (codes "h")
+    ≡ tag markup.Header ∷ tag markup.Title1 ∷ tag markup.Sign ∷ words (0xE2 ∷ 0x9C ∷ 0x93 ∷ []) ∷ tag markup.EndSign ∷ words (codes " ") ∷ words (codes "h") ∷ tag markup.EndTitle1 ∷ []
+heading_is = refl
+
+abbrev logs : List Log
+logs = record { target = codes "a"; entries = []; state = Ended } ∷ []
+
+roots_are :
+    (root_parts logs made ≡ tag markup.Paragraph ∷ tag markup.Bdi ∷ words (codes "a") ∷ tag markup.EndBdi ∷ tag markup.EndParagraph ∷ [])
+    × (root_parts logs begun ≡ tag markup.Paragraph ∷ tag markup.Bdi ∷ words (codes "a") ∷ tag markup.EndBdi
+    ∷ words (codes " ") ∷ tag markup.OpenBadge ∷ words (codes "not closed") ∷ tag markup.EndBadge ∷ tag markup.EndParagraph ∷ [])
+    × (root_parts logs failed ≡ [])
+roots_are = (refl, refl, refl)
+
+navs_are :
+    (failed_nav Failed ≡ tag markup.Item ∷ tag markup.FailedLink ∷ words (codes "What failed") ∷ tag markup.EndLink ∷ tag markup.EndItem ∷ [])
+    × (failed_nav Unfinished ≡ []) × (failed_nav Made ≡ [])
+navs_are = (refl, refl, refl)
+
+header_is :
+    header_parts (codes "t") logs Failed (codes "h") (made ∷ [])
+    ≡ tag markup.Header ∷ tag markup.Title1 ∷ tag markup.Sign ∷ words (0xE2 ∷ 0x9C ∷ 0x97 ∷ []) ∷ tag markup.EndSign ∷ words (codes " ") ∷ words (codes "h") ∷ tag markup.EndTitle1
+    ∷ tag markup.Paragraph ∷ words (codes "t") ∷ tag markup.EndParagraph
+    ∷ tag markup.Paragraph ∷ tag markup.Bdi ∷ words (codes "a") ∷ tag markup.EndBdi ∷ tag markup.EndParagraph
+    ∷ tag markup.EndHeader ∷ tag markup.Nav ∷ tag markup.Unordered
+    ∷ tag markup.Item ∷ tag markup.FailedLink ∷ words (codes "What failed") ∷ tag markup.EndLink ∷ tag markup.EndItem
+    ∷ tag markup.Item ∷ tag markup.TreeLink ∷ words (codes "All logs") ∷ tag markup.EndLink ∷ tag markup.EndItem
+    ∷ tag markup.EndUnordered ∷ tag markup.EndNav ∷ tag markup.Main ∷ []
+header_is = refl
+
+-- ---- the end
+
+-- A shell changes no other byte: these are the ones that Python's `shlex.quote` leaves alone.
+safe_are : filter is_safe (range_with_len 0 256) ≡ codes "%+,-./0123456789:=@ABCDEFGHIJKLMNOPQRSTUVWXYZ_abcdefghijklmnopqrstuvwxyz"
+unfolding is_safe
+safe_are = refl
+
+-- A word, and how a shell is given it.
+record Word : Type 0 where
+  word : List ℕ
+  quoted : List ℕ
+
+abbrev word : List ℕ → List ℕ → Word
+word text result = record { word = text; quoted = result }
+
+abbrev quotes : List Word
+quotes = word (codes "out/a-1.o") (codes "out/a-1.o") ∷ word [] (codes "''") ∷ word (codes "a b") (codes "'a b'") ∷ word (codes "a'b") (codes "'a'\\''b'") ∷ word (codes "$a") (codes "'$a'") ∷ []
+
+words_are : AllByRecursion (λ row. quoted row.word ≡ row.quoted) quotes
+unfolding is_safe
+words_are = (refl, (refl, (refl, (refl, (refl, tt)))))
+
+arguments_are : (argument (codes "a") ≡ codes " a") × (argument (codes "-r") ≡ codes " ./-r") × (argument (codes "- ") ≡ codes " ./'- '") × (argument (codes "a-") ≡ codes " a-")
+unfolding is_safe
+arguments_are = (refl, refl, refl, refl)
+
+abbrev options : Bool → Bool → Options
+options unchanged locks = record { recursive = true; unchanged = unchanged; details = true; debug_locks = locks; debug_pids = false }
+
+commands_are :
+    (command (codes "d") (options false false) (codes "a" ∷ codes "b" ∷ []) ≡ codes "redo-log -r --dir=d a b")
+    × (command (codes "d e") (options true false) (codes "a" ∷ []) ≡ codes "redo-log -r -u --dir='d e' a")
+    × (command (codes "d") (options false true) [] ≡ codes "redo-log -r --debug-locks --dir=d")
+    × (command (codes "d") (options true true) [] ≡ codes "redo-log -r -u --debug-locks --dir=d")
+unfolding is_safe
+commands_are = (refl, refl, refl, refl)
+
+counts_are : (log_count_parts 1 ≡ number 1 ∷ words (codes " log in ") ∷ []) × (log_count_parts 2 ≡ number 2 ∷ words (codes " logs in ") ∷ [])
+counts_are = (refl, refl)
+
+footer_is :
+    footer_parts (codes "d") (codes "c") 3
+    ≡ tag markup.EndMain ∷ tag markup.Footer ∷ tag markup.Paragraph ∷ words (codes "Made by ") ∷ tag markup.Code ∷ words (codes "redo-log-html") ∷ tag markup.EndCode ∷ words (codes " of ")
+    ∷ number 3 ∷ words (codes " logs in ") ∷ tag markup.Code ∷ words (codes "d") ∷ tag markup.EndCode ∷ words (codes ". As one text: ") ∷ tag markup.Code ∷ words (codes "c") ∷ tag markup.EndCode
+    ∷ tag markup.EndParagraph ∷ tag markup.EndFooter ∷ tag markup.EndBody ∷ tag markup.EndHtml ∷ words (codes "\n") ∷ []
+unfolding footer_parts
+footer_is = refl

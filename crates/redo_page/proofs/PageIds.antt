@@ -1,0 +1,122 @@
+-- The ids and the links of a page.
+use Rattle.std.proofs.Common.{◌≡◌, ℕ, zero, suc, ◌+◌, ◌<◌, ◌≤◌, Bool, true, false, List, [], ◌∷◌, ◌++◌, refl, sym, ◌∙◌, ap, arith}
+use Rattle.std.specs.Prelude.{◌==◌, ◌||◌, nat_lt, length, if◌then◌else◌}
+use Rattle.std.specs.List.{flat_map, list_all, list_any}
+use Rattle.std.proofs.lemmas.Bool.{and_from, and_parts, eqb-false, ltb-true}
+use Rattle.std.proofs.lemmas.List.{append-nil}
+use Rattle.redo_logs.specs.Logs.{Log}
+use Rattle.redo_html.specs.declared.markup.Markup.{Markup}
+use Rattle.redo_html.specs.declared.markup.Markup.TheVariants.{FailedSection, TreeLink, TreeSection}
+use Rattle.redo_html.specs.Parts.{Part}
+use Rattle.redo_html.specs.Parts.Part.{MarkupPart}
+use Rattle.redo_page.specs.Targets.{parts_if}
+use Rattle.std.proofs.lemmas.Grind.{flat_map-append}
+use Rattle.redo_outline.specs.declared.node.Node.{Node}
+use Rattle.redo_outline.specs.Contents.{contents_of}
+use Rattle.redo_outline.specs.Facts.{target_status}
+use Rattle.redo_outline.specs.Outline.{log_count}
+use Rattle.std.specs.Prelude.{None}
+use Rattle.redo_page.specs.declared.frame.Verdict.TheVariants.{Failed, Unfinished, Made}
+use Rattle.redo_page.specs.Frame.{command, footer_parts, head_parts, is_unfinished, title_text, verdict_of}
+use Rattle.redo_page.specs.Laws.{article_ids, article_links, is_among, numbers_from, section_id, section_ids, section_link, section_links, target_ids, target_links}
+use Rattle.redo_page.specs.declared.frame.Verdict.{Verdict}
+use Rattle.redo_page.specs.Page.{Request, heading_of, options_of, page_events, page_outline, page_parts, top_parts_of}
+use Rattle.redo_page.specs.Tree.{articles, first_failures}
+use Rattle.redo_page.proofs.Ids.{Refers, bare_refers, section, then_refer}
+use Rattle.redo_page.proofs.FrameIds.{failed_link, footer_bare, head_bare, header_refers}
+use Rattle.redo_page.proofs.FailedIds.{failed_refers, failed_section}
+use Rattle.redo_page.proofs.TreeIds.{nodes_counted, tree_refers}
+
+pub all_weaker : (passes others : ℕ → Bool) → ((number : ℕ) → passes number ≡ true → others number ≡ true) → (numbers : List ℕ) → list_all passes numbers ≡ true → list_all others numbers ≡ true
+all_weaker passes others weaker [] all = refl
+all_weaker passes others weaker (number ∷ numbers) all =
+    let parts = and_parts (passes number) (list_all passes numbers) all in
+    and_from (others number) (list_all others numbers) (weaker number parts.0) (all_weaker passes others weaker numbers parts.1)
+
+among_numbers : (first count number : ℕ) → first ≤ number → number < first + count → is_among (numbers_from first count) number ≡ true
+among_numbers first zero number from below = absurd (omega arith)
+among_numbers first (suc count) number from below = by (number == first) refl (λ after. among_numbers (suc first) count number after (omega arith))
+  where
+    by : (here : Bool) → (number == first) ≡ here → (suc first ≤ number → is_among (numbers_from (suc first) count) number ≡ true) → (here || is_among (numbers_from (suc first) count) number) ≡ true
+    by true is later = refl
+    by false is later = let other : number ≡ first → ⊥ = eqb-false number first is in later (omega arith)
+
+-- What is found in tags of sections is found in all parts.
+in_sections : {X : Type 0} (f : Part → List X) → ((part : Part) → flat_map f (section part) ≡ f part) → (parts : List Part) → flat_map f parts ≡ flat_map f (flat_map section parts)
+in_sections f each [] = refl
+in_sections f each (part ∷ parts) =
+    ap (λ t. t ++ flat_map f parts) (sym (each part)) ∙ ap (λ t. flat_map f (section part) ++ t) (in_sections f each parts) ∙ sym (flat_map-append f (section part) (flat_map section parts))
+
+section_id_part : (part : Part) → flat_map section_id (section part) ≡ section_id part
+section_id_part (MarkupPart markup) = by markup
+  where
+    by : (markup : Markup) → flat_map section_id (section (MarkupPart markup)) ≡ section_id (MarkupPart markup)
+    by FailedSection = refl
+    by markup = refl
+section_id_part part = refl
+
+section_link_part : (part : Part) → flat_map section_link (section part) ≡ section_link part
+section_link_part (MarkupPart markup) = by markup
+  where
+    by : (markup : Markup) → flat_map section_link (section (MarkupPart markup)) ≡ section_link (MarkupPart markup)
+    by FailedSection = refl
+    by markup = refl
+section_link_part part = refl
+
+-- The tags of sections before the tree.
+abbrev top_sections : Verdict → List ℕ → List Part
+top_sections verdict first = (failed_link verdict ++ MarkupPart TreeLink ∷ []) ++ failed_section first
+
+top_refers : (title : List ℕ) (logs : List Log) (verdict : Verdict) (title_is heading : List ℕ) (nodes : List Node)
+    → Refers (length nodes) (articles nodes) (top_parts_of title logs verdict title_is heading nodes) [] (articles nodes ++ []) (top_sections verdict (first_failures nodes))
+unfolding top_parts_of
+top_refers title logs verdict title_is heading nodes =
+    then_refer (bare_refers (head_parts title_is verdict) (head_bare title_is verdict))
+    (then_refer (header_refers title logs verdict heading nodes) (failed_refers logs nodes))
+
+-- There is a link to each section.
+sections_linked : (nodes : List Node) → section_links (top_sections (verdict_of nodes) (first_failures nodes) ++ MarkupPart TreeSection ∷ []) ≡ section_ids (top_sections (verdict_of nodes) (first_failures nodes) ++ MarkupPart TreeSection ∷ [])
+sections_linked nodes = by (nat_lt 0 (length (first_failures nodes))) (list_any is_unfinished nodes)
+  where
+    by : (some unfinished : Bool)
+        → section_links (((failed_link (if some then Failed else if unfinished then Unfinished else Made) ++ MarkupPart TreeLink ∷ []) ++ parts_if some (MarkupPart FailedSection ∷ [])) ++ MarkupPart TreeSection ∷ [])
+        ≡ section_ids (((failed_link (if some then Failed else if unfinished then Unfinished else Made) ++ MarkupPart TreeLink ∷ []) ++ parts_if some (MarkupPart FailedSection ∷ [])) ++ MarkupPart TreeSection ∷ [])
+    by true unfinished = refl
+    by false true = refl
+    by false false = refl
+
+module _ (request : Request) (logs : List Log) (requested : List (List ℕ)) where
+  abbrev parts : List Part
+  parts = page_parts request logs requested
+
+  abbrev nodes : List Node
+  nodes = page_outline request logs requested
+
+  page_refers : Refers (length nodes) (articles nodes) parts (numbers_from 0 (log_count (contents_of (page_events request logs requested))) ++ []) ((articles nodes ++ []) ++ [])
+      (top_sections (verdict_of nodes) (first_failures nodes) ++ MarkupPart TreeSection ∷ [])
+  unfolding page_parts
+  page_refers =
+      then_refer (top_refers request.title logs (verdict_of nodes) (title_text request.title (verdict_of nodes) (heading_of nodes)) (heading_of nodes) nodes)
+      (then_refer (tree_refers logs (options_of request) nodes (contents_of (page_events request logs requested)))
+      (bare_refers (footer_parts request.dir (command request.dir (options_of request) requested) (length nodes)) (footer_bare request.dir (command request.dir (options_of request) requested) (length nodes))))
+
+  pub page_target_ids : target_ids parts ≡ numbers_from 0 (length nodes)
+  page_target_ids =
+      page_refers.target_ids_are ∙ append-nil (numbers_from 0 (log_count (contents_of (page_events request logs requested))))
+      ∙ ap (numbers_from 0) (sym (nodes_counted logs (target_status logs (page_events request logs requested)) None 0 (contents_of (page_events request logs requested))))
+
+  pub page_article_ids : article_ids parts ≡ articles nodes
+  page_article_ids = page_refers.article_ids_are ∙ append-nil (articles nodes ++ []) ∙ append-nil (articles nodes)
+
+  pub page_target_links : list_all (is_among (target_ids parts)) (target_links parts) ≡ true
+  page_target_links =
+      ap (λ ids. list_all (is_among ids) (target_links parts)) page_target_ids
+      ∙ all_weaker (λ number. nat_lt number (length nodes)) (is_among (numbers_from 0 (length nodes))) (λ number less. let below : number < length nodes = ltb-true number (length nodes) less in among_numbers 0 (length nodes) number (omega arith) (omega arith)) (target_links parts) page_refers.target_links_lead
+
+  pub page_article_links : list_all (is_among (article_ids parts)) (article_links parts) ≡ true
+  page_article_links = ap (λ ids. list_all (is_among ids) (article_links parts)) page_article_ids ∙ page_refers.article_links_lead
+
+  pub page_section_links : section_links parts ≡ section_ids parts
+  page_section_links =
+      let sections = top_sections (verdict_of nodes) (first_failures nodes) ++ MarkupPart TreeSection ∷ [] in
+      in_sections section_link section_link_part parts ∙ ap section_links page_refers.sections_are ∙ sections_linked nodes ∙ sym (ap section_ids page_refers.sections_are) ∙ sym (in_sections section_id section_id_part parts)

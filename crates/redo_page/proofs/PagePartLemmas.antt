@@ -1,0 +1,86 @@
+-- The tree and the articles are parts of a page.
+use Rattle.std.proofs.Common.{◌≡◌, ℕ, suc, Bool, true, false, List, [], ◌∷◌, ◌++◌, refl, sym, ◌∙◌, ap, inl, inr, ◌⊎◌, arith}
+use Rattle.std.specs.Prelude.{◌==◌, nat_lt, codes, drop, length, take}
+use Rattle.std.specs.List.{flat_map}
+use Rattle.std.proofs.lemmas.Bool.{eqb-true, lt-ltb, or_cases}
+use Rattle.std.proofs.lemmas.List.{append_assoc}
+use Rattle.redo_logs.specs.Logs.{Log}
+use Rattle.redo_html.specs.declared.markup.Markup.TheVariants as markup
+use Rattle.redo_html.specs.Parts.{Part}
+use Rattle.redo_html.specs.Parts.Part.{MarkupPart, NamePart}
+use Rattle.redo_outline.specs.declared.node.Node.{Node}
+use Rattle.redo_page.specs.declared.frame.Verdict.{Verdict}
+use Rattle.redo_page.specs.Failed.{article_parts, failed_above, failed_parts, is_unclosed, list_parts, more_parts, places_where, section_parts}
+use Rattle.redo_page.specs.Frame.{command, footer_parts, head_parts, header_parts, title_text, verdict_of}
+use Rattle.redo_page.specs.Laws.{IsPartOf, is_among, page_article, page_tree}
+use Rattle.redo_page.specs.Page.{Request, heading_of, options_of, page_outline, page_parts, top_parts, top_parts_of}
+use Rattle.redo_page.specs.Targets.{parts_if}
+use Rattle.redo_page.specs.Tree.{articles, first_failures, max_articles}
+
+part_of_itself : (parts : List Part) (after : List Part) → IsPartOf parts (parts ++ after)
+part_of_itself parts after = record { before = []; after = after; splits = refl }
+
+part_later : {inner whole : List Part} (front : List Part) → IsPartOf inner whole → IsPartOf inner (front ++ whole)
+part_later {inner} front part = record {
+  before = front ++ part.before;
+  after = part.after;
+  splits = append_assoc front part.before (inner ++ part.after) ∙ ap (λ t. front ++ t) part.splits;
+}
+
+part_earlier : {inner whole : List Part} (back : List Part) → IsPartOf inner whole → IsPartOf inner (whole ++ back)
+part_earlier {inner} back part = record {
+  before = part.before;
+  after = part.after ++ back;
+  splits = ap (λ t. part.before ++ t) (sym (append_assoc inner part.after back)) ∙ sym (append_assoc part.before (inner ++ part.after) back) ∙ ap (λ t. t ++ back) part.splits;
+}
+
+part_among : (f : ℕ → List Part) (numbers : List ℕ) (number : ℕ) → is_among numbers number ≡ true → IsPartOf (f number) (flat_map f numbers)
+part_among f [] number among = absurd (cc)
+part_among f (other ∷ numbers) number among = by (part_among f numbers number) (or_cases (number == other) (is_among numbers number) among)
+  where
+    by : (is_among numbers number ≡ true → IsPartOf (f number) (flat_map f numbers)) → ((number == other) ≡ true) ⊎ (is_among numbers number ≡ true) → IsPartOf (f number) (f other ++ flat_map f numbers)
+    by later (inl same) = record { before = []; after = flat_map f numbers; splits = ap (λ n. f n ++ flat_map f numbers) (eqb-true number other same) }
+    by later (inr found) = part_later (f other) (later found)
+
+section_has_article : (logs : List Log) (nodes : List Node) (shown others above unclosed : List ℕ) (place : ℕ) → is_among shown place ≡ true → IsPartOf (article_parts logs nodes place) (section_parts logs nodes shown others above unclosed)
+unfolding section_parts
+section_has_article logs nodes shown others above unclosed place among =
+    part_later (MarkupPart markup.FailedSection ∷ MarkupPart markup.FailedHeading ∷ NamePart (codes "What failed") ∷ MarkupPart markup.EndHeading ∷ [])
+    (part_later (list_parts logs nodes shown)
+    (part_earlier (more_parts logs nodes (markup.OrderedFrom (suc max_articles)) true (codes " more that failed") others
+    ++ (more_parts logs nodes markup.Ordered false (codes " above these, which failed with them") above
+    ++ (more_parts logs nodes markup.Ordered false (codes " not closed") unclosed ++ MarkupPart markup.EndSection ∷ [])))
+    (part_among (article_parts logs nodes) shown place among)))
+
+failed_has_article : (logs : List Log) (nodes : List Node) (place : ℕ) → is_among (articles nodes) place ≡ true → IsPartOf (article_parts logs nodes place) (failed_parts logs nodes)
+unfolding failed_parts
+failed_has_article logs nodes place among = by (first_failures nodes) among
+  where
+    some : (condition : Bool) → condition ≡ true → {inner parts : List Part} → IsPartOf inner parts → IsPartOf inner (parts_if condition parts)
+    some condition is part = rw is part
+
+    by : (first : List ℕ) → is_among (take max_articles first) place ≡ true
+        → IsPartOf (article_parts logs nodes place) (parts_if (nat_lt 0 (length first)) (section_parts logs nodes (take max_articles first) (drop max_articles first) (places_where failed_above 0 nodes) (places_where is_unclosed 0 nodes)))
+    by [] is = absurd (cc)
+    by (other ∷ places) is =
+        some (nat_lt 0 (length (other ∷ places))) (lt-ltb 0 (length (other ∷ places)) (omega arith))
+        (section_has_article logs nodes (take max_articles (other ∷ places)) (drop max_articles (other ∷ places)) (places_where failed_above 0 nodes) (places_where is_unclosed 0 nodes) place is)
+
+top_has_article : (title : List ℕ) (logs : List Log) (verdict : Verdict) (title_is heading : List ℕ) (nodes : List Node) (place : ℕ) → is_among (articles nodes) place ≡ true → IsPartOf (article_parts logs nodes place) (top_parts_of title logs verdict title_is heading nodes)
+unfolding top_parts_of
+top_has_article title logs verdict title_is heading nodes place among =
+    part_later (head_parts title_is verdict) (part_later (header_parts title logs verdict heading nodes) (failed_has_article logs nodes place among))
+
+module _ (request : Request) (logs : List Log) (requested : List (List ℕ)) where
+  abbrev footer : List Part
+  footer = footer_parts request.dir (command request.dir (options_of request) requested) (length (page_outline request logs requested))
+
+  pub page_has_tree : IsPartOf (page_tree request logs requested) (page_parts request logs requested)
+  unfolding page_parts
+  page_has_tree = part_later (top_parts request.title logs (page_outline request logs requested)) (part_of_itself (page_tree request logs requested) footer)
+
+  pub page_has_article : (place : ℕ) → is_among (articles (page_outline request logs requested)) place ≡ true → IsPartOf (page_article request logs requested place) (page_parts request logs requested)
+  unfolding page_parts
+  page_has_article place among =
+      let nodes = page_outline request logs requested in
+      part_earlier (page_tree request logs requested ++ footer) (top_has_article request.title logs (verdict_of nodes) (title_text request.title (verdict_of nodes) (heading_of nodes)) (heading_of nodes) nodes place among)

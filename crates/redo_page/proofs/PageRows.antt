@@ -1,0 +1,199 @@
+-- Rows of whole pages, as the parts that are written. The model in tests/page gives the same tags and texts.
+use Rattle.std.proofs.Common.{Bor, ◌≡◌, ℕ, Bool, true, false, List, [], ◌∷◌, ◌++◌, None, Some, pos, refl}
+use Rattle.std.specs.Fmt.{digits}
+use Rattle.std.specs.List.{filter, flat_map, starts_with}
+use Rattle.std.specs.Prelude.{bytes_eq, codes, nat_eq, take}
+use Rattle.redo_line.specs.declared.entry.Entry.{Entry}
+use Rattle.redo_line.specs.declared.entry.Entry.TheVariants.{Text, Mention, Closing}
+use Rattle.redo_line.specs.declared.entry.How.TheVariants.{Made}
+use Rattle.redo_logs.specs.declared.log_state.LogState.TheVariants.{Ended}
+use Rattle.redo_logs.specs.Logs.{Log}
+use Rattle.redo_view.specs.declared.event.Opening.TheVariants.{OpensHere}
+use Rattle.redo_view.specs.Event.Event.{Requested, Mentioned, EntryShown, LogEnds}
+use Rattle.redo_view.specs.Expansion.{show_log, show_log_within}
+use Rattle.redo_html.specs.Passage.{html_from}
+use Rattle.redo_html.specs.Shown.{is_odd, number_text, odd_text, picture}
+use Rattle.redo_html.specs.Style.{plain_style}
+use Rattle.redo_html.specs.StyleSheet.{style_sheet}
+use Rattle.redo_html.specs.Symbols.{first_letter, first_symbol, is_sequence, letter_len, sequence_len, sequence_numbers, symbol_len, symbols_after}
+use Rattle.redo_html.specs.declared.markup.Markup.{Markup}
+use Rattle.redo_html.specs.declared.markup.Markup.TheVariants as markup
+use Rattle.redo_html.specs.Parts.{Part}
+use Rattle.redo_html.specs.Parts.Part.{MarkupPart, LogPart, NamePart, NumberPart, TitlePart, StylePart}
+use Rattle.redo_page.specs.Excerpt.{in_tree_parts}
+use Rattle.redo_page.specs.Failed.{article_of, article_parts, failed_parts, list_parts, more_parts, output_parts, path_parts, section_parts, whole_parts}
+use Rattle.redo_page.specs.Frame.{footer_parts, is_safe}
+use Rattle.redo_page.specs.Page.{Request, options_of, page_events, page_html, page_outline, page_parts, request_of, top_parts_of}
+
+abbrev tag : Markup → Part
+tag markup = MarkupPart markup
+
+abbrev words : List ℕ → Part
+words text = NamePart text
+
+abbrev name : List ℕ → List Part → List Part
+name text rest = tag markup.Bdi ∷ words text ∷ tag markup.EndBdi ∷ rest
+
+abbrev log : List ℕ → List Entry → Log
+log target entries = record { target = target; entries = entries; state = Ended }
+
+-- ---- what is asked
+
+abbrev request : List ℕ → Bool → Bool → Request
+request title unchanged locks = record { title = title; dir = codes "d"; unchanged = unchanged; debug_locks = locks }
+
+abbrev at : List ℕ → Bor (List ℕ)
+at bytes = record { ref_ptr = (0, 0); now = bytes }
+
+requests_are :
+    (request_of (record { title = at (codes "t"); dir = at (codes "d"); unchanged = true; debug_locks = false }) ≡ request (codes "t") true false)
+    × (request_of (record { title = at []; dir = at (codes "d"); unchanged = false; debug_locks = true }) ≡ request [] false true)
+requests_are = (refl, refl)
+
+options_are :
+    (options_of (request [] true false) ≡ record { recursive = true; unchanged = true; details = true; debug_locks = false; debug_pids = false })
+    × (options_of (request [] false true) ≡ record { recursive = true; unchanged = false; details = true; debug_locks = true; debug_pids = false })
+options_are = (refl, refl)
+
+-- ---- what is shown
+
+abbrev made : List Log
+made = log (codes "a") (Text (codes "x") ∷ Mention 9 Made (codes "b") ∷ Closing 9 (pos 0) ∷ []) ∷ log (codes "b") (Closing 9 (pos 0) ∷ []) ∷ log (codes "c") [] ∷ []
+
+-- The logs of mentioned targets, and all text lines.
+events_are :
+    page_events (request [] false false) made (codes "a" ∷ [])
+    ≡ Requested (codes "a") (OpensHere 0) ∷ EntryShown 1 (Text (codes "x")) ∷ Mentioned 1 9 Made (codes "b") (OpensHere 1) ∷ EntryShown 2 (Closing 9 (pos 0)) ∷ LogEnds 2
+    ∷ EntryShown 1 (Closing 9 (pos 0)) ∷ LogEnds 1 ∷ []
+unfolding show_log show_log_within
+events_are = refl
+
+outline_is :
+    page_outline (request [] false false) made (codes "a" ∷ [])
+    ≡ record { number = 0; parent = None; status = Some (pos 0); lines = 1; bytes = 2; warnings = 0; below = 1; children = 1; others = true; warnings_below = 0; fails_below = false; silent = 0 }
+    ∷ record { number = 1; parent = Some 0; status = Some (pos 0); lines = 0; bytes = 0; warnings = 0; below = 0; children = 0; others = false; warnings_below = 0; fails_below = false; silent = 1 }
+    ∷ []
+unfolding show_log show_log_within
+outline_is = refl
+
+-- ---- pages
+
+abbrev head : List ℕ → Markup → List Part → List Part
+head title body rest =
+    tag markup.Doctype ∷ tag markup.Html ∷ tag markup.Head ∷ tag markup.Charset ∷ tag markup.Viewport ∷ tag markup.ColorScheme ∷ tag markup.Referrer ∷ tag markup.Policy ∷ TitlePart title ∷ StylePart
+    ∷ tag markup.EndHead ∷ tag body ∷ rest
+
+abbrev item : Markup → List ℕ → List Part → List Part
+item link text rest = tag markup.Item ∷ tag link ∷ words text ∷ tag markup.EndLink ∷ tag markup.EndItem ∷ rest
+
+abbrev tree : List Part → List Part
+tree rest =
+    tag markup.TreeSection ∷ tag markup.TreeHeading ∷ words (codes "All logs") ∷ tag markup.EndHeading ∷ tag markup.QuietParagraph
+    ∷ words (codes "Each log is shown where its target is first mentioned. Logs of targets that failed are open.") ∷ tag markup.EndParagraph ∷ tag markup.Tree ∷ rest
+
+abbrev end : List ℕ → List Part
+end command =
+    tag markup.Code ∷ words (codes "d") ∷ tag markup.EndCode ∷ words (codes ". As one text: ") ∷ tag markup.Code ∷ words command ∷ tag markup.EndCode ∷ tag markup.EndParagraph
+    ∷ tag markup.EndFooter ∷ tag markup.EndBody ∷ tag markup.EndHtml ∷ words (codes "\n") ∷ []
+
+abbrev footer : List Part → List Part
+footer rest =
+    tag markup.EndUnordered ∷ tag markup.EndSection ∷ tag markup.EndMain ∷ tag markup.Footer ∷ tag markup.Paragraph ∷ words (codes "Made by ") ∷ tag markup.Code ∷ words (codes "redo-log-html") ∷ tag markup.EndCode ∷ words (codes " of ") ∷ rest
+
+-- A build of two targets, with a title. `C2 B7` is a middle dot.
+made_page :
+    page_parts (request (codes "t") false false) made (codes "a" ∷ [])
+    ≡ head (0xE2 ∷ 0x9C ∷ 0x93 ∷ (codes " t " ++ 0xC2 ∷ 0xB7 ∷ codes " 2 targets made, none failed")) markup.BodyGood
+    (tag markup.Header ∷ tag markup.Title1 ∷ tag markup.Sign ∷ words (0xE2 ∷ 0x9C ∷ 0x93 ∷ []) ∷ tag markup.EndSign ∷ words (codes " ") ∷ words (codes "2 targets made, none failed") ∷ tag markup.EndTitle1
+    ∷ tag markup.Paragraph ∷ words (codes "t") ∷ tag markup.EndParagraph ∷ tag markup.Paragraph ∷ name (codes "a") (tag markup.EndParagraph
+    ∷ tag markup.EndHeader ∷ tag markup.Nav ∷ tag markup.Unordered ∷ item markup.TreeLink (codes "All logs") (tag markup.EndUnordered ∷ tag markup.EndNav ∷ tag markup.Main
+    ∷ tree (tag markup.Item ∷ tag (markup.OpenDetails 0) ∷ tag markup.Summary ∷ name (codes "a")
+    (words (codes " ") ∷ tag markup.Small ∷ NumberPart 1 ∷ words (codes " line") ∷ tag markup.EndSmall ∷ words (codes " ") ∷ tag markup.Small ∷ NumberPart 1 ∷ words (codes " below") ∷ tag markup.EndSmall
+    ∷ tag markup.EndSummary ∷ tag markup.Unordered ∷ tag markup.Item ∷ tag markup.Pre ∷ LogPart plain_style (codes "x\n") ∷ tag markup.EndPre ∷ tag markup.EndItem
+    ∷ tag (markup.TargetItem 1) ∷ name (codes "b") (tag markup.EndItem ∷ tag markup.EndUnordered ∷ tag markup.EndDetails ∷ tag markup.EndItem
+    ∷ footer (NumberPart 2 ∷ words (codes " logs in ") ∷ end (codes "redo-log -r --dir=d a"))))))))
+unfolding page_parts top_parts_of footer_parts failed_parts is_safe number_text digits show_log show_log_within
+made_page = refl
+
+abbrev badge : List Part → List Part
+badge rest = words (codes " ") ∷ tag markup.ExitBadge ∷ words (codes "exit ") ∷ words [] ∷ NumberPart 2 ∷ tag markup.EndBadge ∷ rest
+
+abbrev failed : List Log
+failed = log (codes "a") (Text (codes "x") ∷ Closing 9 (pos 2) ∷ []) ∷ []
+
+-- A target that failed, without a title, with what was done about locks, and with unchanged targets.
+failed_page :
+    page_parts (request [] true true) failed (codes "a" ∷ [])
+    ≡ head (0xE2 ∷ 0x9C ∷ 0x97 ∷ codes " 1 of 1 target failed") markup.BodyBad
+    (tag markup.Header ∷ tag markup.Title1 ∷ tag markup.Sign ∷ words (0xE2 ∷ 0x9C ∷ 0x97 ∷ []) ∷ tag markup.EndSign ∷ words (codes " ") ∷ words (codes "1 of 1 target failed") ∷ tag markup.EndTitle1
+    ∷ tag markup.Paragraph ∷ name (codes "a") (badge (tag markup.EndParagraph
+    ∷ tag markup.EndHeader ∷ tag markup.Nav ∷ tag markup.Unordered ∷ item markup.FailedLink (codes "What failed") (item markup.TreeLink (codes "All logs") (tag markup.EndUnordered ∷ tag markup.EndNav ∷ tag markup.Main
+    ∷ tag markup.FailedSection ∷ tag markup.FailedHeading ∷ words (codes "What failed") ∷ tag markup.EndHeading
+    ∷ tag (markup.Article 0) ∷ tag markup.Title3 ∷ name (codes "a") (badge (tag markup.EndTitle3 ∷ tag markup.MetaParagraph ∷ tag (markup.TargetLink 0) ∷ words (codes "its place in the tree") ∷ tag markup.EndLink ∷ tag markup.EndParagraph
+    ∷ tag markup.Pre ∷ LogPart plain_style (codes "x\n") ∷ tag markup.EndPre ∷ tag markup.EndArticle ∷ tag markup.EndSection
+    ∷ tree (tag markup.Item ∷ tag (markup.OpenDetails 0) ∷ tag markup.Summary ∷ name (codes "a") (badge
+    (words (codes " ") ∷ tag markup.Small ∷ NumberPart 1 ∷ words (codes " line") ∷ tag markup.EndSmall ∷ tag markup.EndSummary ∷ tag markup.Unordered
+    ∷ tag markup.NoteItem ∷ tag (markup.OutputLink 0) ∷ words (codes "What it printed is shown above") ∷ tag markup.EndLink ∷ tag markup.EndItem ∷ tag markup.EndUnordered ∷ tag markup.EndDetails ∷ tag markup.EndItem
+    ∷ footer (NumberPart 1 ∷ words (codes " log in ") ∷ end (codes "redo-log -r -u --debug-locks --dir=d a"))))))))))))
+unfolding page_parts top_parts_of footer_parts failed_parts section_parts list_parts more_parts article_parts article_of path_parts in_tree_parts output_parts whole_parts is_safe number_text digits show_log show_log_within
+failed_page = refl
+
+-- The parts of these pages in short: where what begins, the title, the first words, and the command.
+abbrev milestone : Part → List Markup
+milestone (MarkupPart markup.Head) = markup.Head ∷ []
+milestone (MarkupPart markup.Header) = markup.Header ∷ []
+milestone (MarkupPart markup.Nav) = markup.Nav ∷ []
+milestone (MarkupPart markup.Main) = markup.Main ∷ []
+milestone (MarkupPart markup.FailedSection) = markup.FailedSection ∷ []
+milestone (MarkupPart markup.TreeSection) = markup.TreeSection ∷ []
+milestone (MarkupPart markup.Footer) = markup.Footer ∷ []
+milestone (MarkupPart markup.EndHtml) = markup.EndHtml ∷ []
+milestone part = []
+
+made_milestones :
+    flat_map milestone (page_parts (request (codes "t") false false) made (codes "a" ∷ []))
+    ≡ markup.Head ∷ markup.Header ∷ markup.Nav ∷ markup.Main ∷ markup.TreeSection ∷ markup.Footer ∷ markup.EndHtml ∷ []
+unfolding page_parts top_parts_of footer_parts failed_parts is_safe number_text digits show_log show_log_within
+made_milestones = refl
+
+failed_milestones :
+    flat_map milestone (page_parts (request [] true true) failed (codes "a" ∷ []))
+    ≡ markup.Head ∷ markup.Header ∷ markup.Nav ∷ markup.Main ∷ markup.FailedSection ∷ markup.TreeSection ∷ markup.Footer ∷ markup.EndHtml ∷ []
+unfolding page_parts top_parts_of footer_parts failed_parts section_parts list_parts more_parts article_parts article_of path_parts in_tree_parts output_parts whole_parts is_safe number_text digits show_log show_log_within
+failed_milestones = refl
+
+abbrev title_of : Part → List (List ℕ)
+title_of (TitlePart title) = title ∷ []
+title_of part = []
+
+abbrev words_of : Part → List (List ℕ)
+words_of (NamePart text) = text ∷ []
+words_of part = []
+
+title_is : flat_map title_of (page_parts (request (codes "t") false false) made (codes "a" ∷ [])) ≡ (0xE2 ∷ 0x9C ∷ 0x93 ∷ (codes " t " ++ 0xC2 ∷ 0xB7 ∷ codes " 2 targets made, none failed")) ∷ []
+unfolding page_parts top_parts_of footer_parts failed_parts is_safe number_text digits show_log show_log_within
+title_is = refl
+
+made_words :
+    take 6 (flat_map words_of (page_parts (request (codes "t") false false) made (codes "a" ∷ [])))
+    ≡ (0xE2 ∷ 0x9C ∷ 0x93 ∷ []) ∷ codes " " ∷ codes "2 targets made, none failed" ∷ codes "t" ∷ codes "a" ∷ codes "All logs" ∷ []
+unfolding page_parts top_parts_of footer_parts failed_parts is_safe number_text digits show_log show_log_within
+made_words = refl
+
+failed_words :
+    take 3 (flat_map words_of (page_parts (request [] true true) failed (codes "a" ∷ []))) ≡ (0xE2 ∷ 0x9C ∷ 0x97 ∷ []) ∷ codes " " ∷ codes "1 of 1 target failed" ∷ []
+unfolding page_parts top_parts_of footer_parts failed_parts section_parts list_parts more_parts article_parts article_of path_parts in_tree_parts output_parts whole_parts is_safe number_text digits show_log show_log_within
+failed_words = refl
+
+command_is :
+    filter (λ text. starts_with nat_eq text (codes "redo-log -r")) (flat_map words_of (page_parts (request [] true true) failed (codes "a" ∷ []))) ≡ codes "redo-log -r -u --debug-locks --dir=d a" ∷ []
+unfolding page_parts top_parts_of footer_parts failed_parts section_parts list_parts more_parts article_parts article_of path_parts in_tree_parts output_parts whole_parts is_safe number_text digits show_log show_log_within
+command_is = refl
+
+-- A page has the bytes of its parts.
+page_begins :
+    bytes_eq (take 42 (page_html (request [] false false) [] []))
+    (codes "<!doctype html><html lang=\"en\"><head><meta")
+    ≡ true
+unfolding page_parts top_parts_of footer_parts failed_parts is_safe style_sheet symbols_after first_symbol symbol_len is_sequence sequence_len sequence_numbers first_letter letter_len is_odd picture odd_text number_text digits html_from show_log show_log_within
+page_begins = refl

@@ -1,0 +1,42 @@
+-- The elements of names, statuses and counts nest.
+use Rattle.std.proofs.Common.{ℕ, Bool, List, ℤ, Option, None, Some, refl}
+use Rattle.std.specs.Prelude.{◌==◌, not}
+use Rattle.redo_line.specs.declared.entry.How.{How}
+use Rattle.redo_outline.specs.declared.node.Node.{Node}
+use Rattle.redo_outline.specs.Facts.{is_failure}
+use Rattle.redo_page.specs.Targets.{name_parts, exit_parts, badge_parts, lines_parts, warnings_parts, below_parts, warnings_below_parts, facts_parts, how_parts, linked_parts}
+use Rattle.redo_page.proofs.Nesting.{Nest, nest_if, joined}
+
+pub name_nests : (name : List ℕ) → Nest (name_parts name)
+name_nests name = record { leads = λ around tags. refl }
+
+pub exit_nests : (status : ℤ) → Nest (exit_parts status)
+exit_nests status = record { leads = λ around tags. refl }
+
+pub badge_nests : (status : Option ℤ) → Nest (badge_parts status)
+badge_nests None = record { leads = λ around tags. refl }
+badge_nests (Some status) = nest_if (is_failure (Some status)) (exit_nests status)
+
+lines_nest : (lines : ℕ) → Nest (lines_parts lines)
+lines_nest lines = nest_if (not (lines == 0)) (record { leads = λ around tags. refl })
+
+warnings_nest : (warnings : ℕ) → Nest (warnings_parts warnings)
+warnings_nest warnings = nest_if (not (warnings == 0)) (record { leads = λ around tags. refl })
+
+below_nests : (below : ℕ) → Nest (below_parts below)
+below_nests below = nest_if (not (below == 0)) (record { leads = λ around tags. refl })
+
+warnings_below_nest : (warnings : ℕ) → Nest (warnings_below_parts warnings)
+warnings_below_nest warnings = nest_if (not (warnings == 0)) (record { leads = λ around tags. refl })
+
+pub facts_nest : (node : Node) → Nest (facts_parts node)
+facts_nest node = record {
+  leads = λ around tags. simp (joined, (badge_nests node.status).leads, (lines_nest node.lines).leads, (warnings_nest node.warnings).leads, (below_nests node.below).leads, (warnings_below_nest node.warnings_below).leads);
+}
+
+pub how_nests : (shown : Bool) (how : How) → Nest (how_parts shown how)
+how_nests shown how = nest_if shown (record { leads = λ around tags. refl })
+
+pub linked_nests : (place : Option ℕ) (name : List ℕ) → Nest (linked_parts place name)
+linked_nests None name = name_nests name
+linked_nests (Some place) name = record { leads = λ around tags. refl }

@@ -1,0 +1,105 @@
+-- Rows of names, statuses and counts, as the parts that are written.
+use Rattle.std.proofs.Common.{◌≡◌, ℕ, true, false, List, [], ◌∷◌, None, Some, pos, negsuc, refl}
+use Rattle.std.specs.Prelude.{codes}
+use Rattle.redo_line.specs.declared.entry.How.TheVariants.{Made, Waiting, Locked, Unlocked, Unchanged}
+use Rattle.redo_logs.specs.declared.log_state.LogState.TheVariants.{Ended}
+use Rattle.redo_logs.specs.Logs.{Log}
+use Rattle.redo_html.specs.declared.markup.Markup.{Markup}
+use Rattle.redo_html.specs.declared.markup.Markup.TheVariants as markup
+use Rattle.redo_html.specs.Parts.{Part}
+use Rattle.redo_html.specs.Parts.Part.{MarkupPart, NamePart, NumberPart}
+use Rattle.redo_outline.specs.declared.node.Node.{Node}
+use Rattle.redo_page.specs.Targets.{badge_parts, below_parts, exit_parts, facts_parts, how_parts, lines_parts, linked_parts, name_or_empty, name_parts, parts_if, target_at, warnings_below_parts, warnings_parts}
+
+abbrev tag : Markup → Part
+tag markup = MarkupPart markup
+
+abbrev words : List ℕ → Part
+words text = NamePart text
+
+abbrev number : ℕ → Part
+number value = NumberPart value
+
+parts_are : (parts_if true (number 1 ∷ []) ≡ number 1 ∷ []) × (parts_if false (number 1 ∷ []) ≡ [])
+parts_are = (refl, refl)
+
+-- ---- names
+
+name_is : name_parts (codes "a") ≡ tag markup.Bdi ∷ words (codes "a") ∷ tag markup.EndBdi ∷ []
+name_is = refl
+
+links_are :
+    (linked_parts None (codes "a") ≡ tag markup.Bdi ∷ words (codes "a") ∷ tag markup.EndBdi ∷ [])
+    × (linked_parts (Some 3) (codes "a") ≡ tag (markup.TargetLink 3) ∷ tag markup.Bdi ∷ words (codes "a") ∷ tag markup.EndBdi ∷ tag markup.EndLink ∷ [])
+links_are = (refl, refl)
+
+abbrev log : List ℕ → Log
+log target = record { target = target; entries = []; state = Ended }
+
+abbrev two : List Log
+two = log (codes "a") ∷ log (codes "b") ∷ []
+
+targets_are : (target_at two 0 ≡ codes "a") × (target_at two 1 ≡ codes "b") × (target_at two 2 ≡ []) × (name_or_empty None ≡ []) × (name_or_empty (Some (codes "c")) ≡ codes "c")
+targets_are = (refl, refl, refl, refl, refl)
+
+-- ---- statuses
+
+exits_are :
+    (exit_parts (pos 2) ≡ words (codes " ") ∷ tag markup.ExitBadge ∷ words (codes "exit ") ∷ words [] ∷ number 2 ∷ tag markup.EndBadge ∷ [])
+    × (exit_parts (negsuc 0) ≡ words (codes " ") ∷ tag markup.ExitBadge ∷ words (codes "exit ") ∷ words (codes "-") ∷ number 1 ∷ tag markup.EndBadge ∷ [])
+exits_are = (refl, refl)
+
+badges_are :
+    (badge_parts None ≡ words (codes " ") ∷ tag markup.OpenBadge ∷ words (codes "not closed") ∷ tag markup.EndBadge ∷ [])
+    × (badge_parts (Some (pos 0)) ≡ [])
+    × (badge_parts (Some (pos 1)) ≡ words (codes " ") ∷ tag markup.ExitBadge ∷ words (codes "exit ") ∷ words [] ∷ number 1 ∷ tag markup.EndBadge ∷ [])
+    × (badge_parts (Some (negsuc 1)) ≡ words (codes " ") ∷ tag markup.ExitBadge ∷ words (codes "exit ") ∷ words (codes "-") ∷ number 2 ∷ tag markup.EndBadge ∷ [])
+badges_are = (refl, refl, refl, refl)
+
+-- ---- counts
+
+lines_are :
+    (lines_parts 0 ≡ [])
+    × (lines_parts 1 ≡ words (codes " ") ∷ tag markup.Small ∷ number 1 ∷ words (codes " line") ∷ tag markup.EndSmall ∷ [])
+    × (lines_parts 2 ≡ words (codes " ") ∷ tag markup.Small ∷ number 2 ∷ words (codes " lines") ∷ tag markup.EndSmall ∷ [])
+lines_are = (refl, refl, refl)
+
+warnings_are :
+    (warnings_parts 0 ≡ [])
+    × (warnings_parts 1 ≡ words (codes " ") ∷ tag markup.Small ∷ tag markup.Warnings ∷ number 1 ∷ words (codes " warning") ∷ tag markup.EndWarnings ∷ tag markup.EndSmall ∷ [])
+    × (warnings_parts 2 ≡ words (codes " ") ∷ tag markup.Small ∷ tag markup.Warnings ∷ number 2 ∷ words (codes " warnings") ∷ tag markup.EndWarnings ∷ tag markup.EndSmall ∷ [])
+warnings_are = (refl, refl, refl)
+
+below_are :
+    (below_parts 0 ≡ []) × (below_parts 1 ≡ words (codes " ") ∷ tag markup.Small ∷ number 1 ∷ words (codes " below") ∷ tag markup.EndSmall ∷ [])
+below_are = (refl, refl)
+
+warnings_below_are :
+    (warnings_below_parts 0 ≡ [])
+    × (warnings_below_parts 1 ≡ words (codes " ") ∷ tag markup.Small ∷ words (codes "with ") ∷ tag markup.Warnings ∷ number 1 ∷ words (codes " warning") ∷ tag markup.EndWarnings ∷ tag markup.EndSmall ∷ [])
+    × (warnings_below_parts 2 ≡ words (codes " ") ∷ tag markup.Small ∷ words (codes "with ") ∷ tag markup.Warnings ∷ number 2 ∷ words (codes " warnings") ∷ tag markup.EndWarnings ∷ tag markup.EndSmall ∷ [])
+warnings_below_are = (refl, refl, refl)
+
+-- It printed three lines, two of which are warnings, and four targets are below it, with one warning.
+abbrev node : Node
+node = record { number = 0; parent = None; status = Some (pos 5); lines = 3; bytes = 9; warnings = 2; below = 4; children = 1; others = true; warnings_below = 1; fails_below = false; silent = 0 }
+
+facts_are :
+    facts_parts node
+    ≡ words (codes " ") ∷ tag markup.ExitBadge ∷ words (codes "exit ") ∷ words [] ∷ number 5 ∷ tag markup.EndBadge
+    ∷ words (codes " ") ∷ tag markup.Small ∷ number 3 ∷ words (codes " lines") ∷ tag markup.EndSmall
+    ∷ words (codes " ") ∷ tag markup.Small ∷ tag markup.Warnings ∷ number 2 ∷ words (codes " warnings") ∷ tag markup.EndWarnings ∷ tag markup.EndSmall
+    ∷ words (codes " ") ∷ tag markup.Small ∷ number 4 ∷ words (codes " below") ∷ tag markup.EndSmall
+    ∷ words (codes " ") ∷ tag markup.Small ∷ words (codes "with ") ∷ tag markup.Warnings ∷ number 1 ∷ words (codes " warning") ∷ tag markup.EndWarnings ∷ tag markup.EndSmall
+    ∷ []
+facts_are = refl
+
+-- ---- locks
+
+abbrev done : List ℕ → List Part
+done word = words (codes " ") ∷ tag markup.Small ∷ words word ∷ tag markup.EndSmall ∷ []
+
+hows_are :
+    (how_parts false Made ≡ []) × (how_parts true Made ≡ done (codes "made")) × (how_parts true Waiting ≡ done (codes "waiting"))
+    × (how_parts true Locked ≡ done (codes "locked")) × (how_parts true Unlocked ≡ done (codes "unlocked")) × (how_parts true Unchanged ≡ done (codes "unchanged"))
+hows_are = (refl, refl, refl, refl, refl, refl)

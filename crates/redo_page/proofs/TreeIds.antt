@@ -1,0 +1,204 @@
+-- The ids and the links of the tree.
+use Rattle.std.proofs.Common.{◌≡◌, ℕ, zero, suc, ◌+◌, Bool, true, false, ℤ, List, [], ◌∷◌, ◌++◌, Option, None, Some, refl, sym, ◌∙◌, ap, subst, arith}
+use Rattle.std.specs.Prelude.{◌==◌, ◌&&◌, not, nat_le, bytes_eq, codes, length, option_and_then, if◌then◌else◌}
+use Rattle.std.proofs.lemmas.Bool.{lt-ltb}
+use Rattle.std.proofs.lemmas.Grind.{flat_map-append}
+use Rattle.std.proofs.lemmas.List.{append-nil, length-append}
+use Rattle.std.proofs.lemmas.List.Quantifiers.{position-Some}
+use Rattle.redo_line.specs.declared.entry.Entry.TheVariants.{Text, Mention, Done, Closing, Note}
+use Rattle.redo_line.specs.declared.entry.How.{How}
+use Rattle.redo_logs.specs.Logs.{Log, log_number}
+use Rattle.redo_options.specs.declared.options.Options.{Options}
+use Rattle.redo_view.specs.declared.event.Opening.{Opening}
+use Rattle.redo_view.specs.declared.event.Opening.TheVariants.{NotOpened, OpenedBefore, OpensHere}
+use Rattle.redo_view.specs.Event.{Event}
+use Rattle.redo_view.specs.Event.Event.{Requested, Mentioned, EntryShown, LogEnds}
+use Rattle.redo_html.specs.declared.markup.Markup.TheVariants as markup
+use Rattle.redo_html.specs.Parts.{Part}
+use Rattle.redo_html.specs.Parts.Part.{MarkupPart, NamePart}
+use Rattle.redo_outline.specs.declared.node.Node.{Node}
+use Rattle.redo_outline.specs.Contents.{Contents}
+use Rattle.redo_outline.specs.Contents.Contents.{Nothing, Shown, Opened}
+use Rattle.redo_outline.specs.Outline.{log_count, nodes_of}
+use Rattle.redo_page.specs.declared.block.Pending.{Pending}
+use Rattle.redo_page.specs.declared.block.Pending.TheVariants as pending
+use Rattle.redo_page.specs.declared.level.Level.{Level}
+use Rattle.redo_page.specs.Blocks.{end_parts, fits, line_parts, line_size, line_start, nested_end}
+use Rattle.redo_page.specs.Laws.{numbers_from}
+use Rattle.redo_page.specs.Targets.{facts_parts, how_parts, linked_parts, parts_if}
+use Rattle.redo_page.specs.Tree.{Build, after_log, after_shown, articles, closing_parts, contents_parts, done_parts, empty_start, flat_end, flat_start, group_end, group_left, group_parts, group_size, group_start, has_article, heading_parts, is_empty, is_expanded, is_moved_if, is_seen, is_short, no_node, item_parts, level_of, log_end, log_start, max_depth, mention_parts, moved_parts, nested_start, node_at, note_parts, opening_parts, opening_place, place_of, place_of_name, request_parts, shown_parts, top_level, tree_parts}
+use Rattle.redo_page.proofs.Ids.{Bare, IsBelow, Refer, Refers, article_link_refers, bare_if, bare_refers, bare_then, facts_bare, how_bare, linked_refers, references, same_refer, then_refer}
+
+-- ---- numbers
+
+numbers_from-append : (first count more : ℕ) → numbers_from first (count + more) ≡ numbers_from first count ++ numbers_from (first + count) more
+numbers_from-append first zero more = ap (numbers_from first) (omega arith) ∙ ap (λ n. numbers_from n more) (omega arith)
+numbers_from-append first (suc count) more =
+    let sum : suc count + more ≡ suc (count + more) = omega arith in
+    let next : suc first + count ≡ first + suc count = omega arith in
+    ap (numbers_from first) sum ∙ ap (λ t. first ∷ t) (numbers_from-append (suc first) count more) ∙ ap (λ n. first ∷ (numbers_from (suc first) count ++ numbers_from n more)) next
+
+pub nodes_counted : (logs : List Log) (status : ℕ → Option ℤ) (parent : Option ℕ) (place : ℕ) (contents : Contents) → length (nodes_of logs status parent place contents) ≡ log_count contents
+nodes_counted logs status parent place Nothing = refl
+nodes_counted logs status parent place (Shown event rest) = nodes_counted logs status parent place rest
+nodes_counted logs status parent place (Opened event number inside rest) =
+    ap suc (length-append (nodes_of logs status (Some place) (suc place) inside) (nodes_of logs status parent (suc place + log_count inside) rest)
+    ∙ ap (λ n. n + length (nodes_of logs status parent (suc place + log_count inside) rest)) (nodes_counted logs status (Some place) (suc place) inside)
+    ∙ ap (λ n. log_count inside + n) (nodes_counted logs status parent (suc place + log_count inside) rest))
+
+-- ---- what has no ids and no links
+
+pub end_bare : (before : Pending) → Bare (end_parts before)
+end_bare pending.Nothing = refl
+end_bare (pending.Group left) = refl
+end_bare (pending.Text block) = refl
+
+pub line_start_bare : (before : Pending) (size : ℕ) → Bare (line_start before size)
+line_start_bare pending.Nothing size = refl
+line_start_bare (pending.Group left) size = refl
+line_start_bare (pending.Text block) size = by (fits block size)
+  where
+    by : (fit : Bool) → Bare (if fit then [] else MarkupPart markup.EndPre ∷ MarkupPart markup.Pre ∷ [])
+    by true = refl
+    by false = refl
+
+group_bare : (size : ℕ) → Bare (group_parts size)
+group_bare size = bare_if (not (size == 0)) _ refl
+
+group_end_bare : (left : ℕ) → Bare (group_end left)
+group_end_bare left = bare_if (left == 1) nested_end refl
+
+pub note_bare : (kind text : List ℕ) → Bare (note_parts kind text)
+note_bare kind text = by (bytes_eq kind (codes "check"))
+  where
+    by : (check : Bool) → Bare (if check then note_parts (codes "check") text else note_parts [] text)
+    by true = refl
+    by false = refl
+
+place_below : (nodes : List Node) (number : ℕ) → IsBelow (length nodes) (place_of nodes number)
+place_below nodes number = by (place_of nodes number) refl
+  where
+    by : (place : Option ℕ) → place_of nodes number ≡ place → IsBelow (length nodes) place
+    by None is = tt
+    by (Some place) is = lt-ltb place (length nodes) (position-Some (λ (node : Node). node.number == number) nodes place no_node is).0
+
+module _ (build : Build) where
+  -- ---- events
+
+  named_below : (name : List ℕ) → IsBelow (length build.nodes) (place_of_name build name)
+  named_below name = by (log_number name build.logs)
+    where
+      by : (number : Option ℕ) → IsBelow (length build.nodes) (option_and_then (place_of build.nodes) number)
+      by None = tt
+      by (Some number) = place_below build.nodes number
+
+  opening_below : (opening : Opening) → IsBelow (length build.nodes) (opening_place build opening)
+  opening_below NotOpened = tt
+  opening_below (OpenedBefore number) = place_below build.nodes number
+  opening_below (OpensHere number) = place_below build.nodes number
+
+  abbrev InTree : List Part → List ℕ → Type 0
+  InTree parts targets = Refer (length build.nodes) build.articles parts targets []
+
+  item_refers : (before : Pending) (seen : Bool) {parts : List Part} → InTree parts [] → InTree (item_parts before seen parts) []
+  item_refers before true refer = then_refer (bare_refers (end_parts before) (end_bare before)) refer
+  item_refers before false refer = bare_refers [] refl
+
+  done_refers : (status : ℤ) (name : List ℕ) → InTree (done_parts build status name) []
+  done_refers status name = same_refer {others = linked_parts (place_of_name build name) name} (simp (flat_map-append, append-nil)) (linked_refers (place_of_name build name) name (named_below name))
+
+  mention_refers : (how : How) (name : List ℕ) (opening : Opening) → InTree (mention_parts build how name opening) []
+  mention_refers how name opening =
+      same_refer {others = linked_parts (opening_place build opening) name} (simp (flat_map-append, append-nil, how_bare build.options.debug_locks how)) (linked_refers (opening_place build opening) name (opening_below opening))
+
+  line_refers : (before : Pending) (line : List ℕ) → InTree (line_parts before line) []
+  line_refers before line = then_refer (bare_refers (line_start before (line_size line)) (line_start_bare before (line_size line))) (record { target_ids_are = refl; article_ids_are = refl; target_links_lead = refl; article_links_lead = refl; sections_are = refl })
+
+  shown_refers : (level : Level) (before : Pending) (event : Event) → InTree (shown_parts build level before event) []
+  shown_refers level before (Requested name opening) = item_refers before true (bare_refers (request_parts name) refl)
+  shown_refers level before (Mentioned depth pid how name opening) = item_refers before true (mention_refers how name opening)
+  shown_refers level before (EntryShown depth (Text line)) = by (is_moved_if build level.place)
+    where
+      by : (moved : Bool) → InTree (if moved then [] else line_parts before line) []
+      by true = bare_refers [] refl
+      by false = line_refers before line
+  shown_refers level before (EntryShown depth (Mention pid how name)) = bare_refers [] refl
+  shown_refers level before (EntryShown depth (Done pid status name)) = item_refers before (is_seen build level (EntryShown depth (Done pid status name))) (done_refers status name)
+  shown_refers level before (EntryShown depth (Closing pid status)) = bare_refers [] refl
+  shown_refers level before (EntryShown depth (Note pid kind text)) = item_refers before true (bare_refers (note_parts kind text) (note_bare kind text))
+  shown_refers level before (LogEnds depth) = bare_refers [] refl
+
+  -- ---- logs
+
+  pub heading_bare : (event : Event) (place : ℕ) → Bare (heading_parts build event place)
+  heading_bare (Requested name opening) place = facts_bare (node_at build.nodes place)
+  heading_bare (Mentioned depth pid how name opening) place = bare_then (how_parts build.options.debug_locks how) (facts_parts (node_at build.nodes place)) (how_bare build.options.debug_locks how) (facts_bare (node_at build.nodes place))
+  heading_bare (EntryShown depth entry) place = refl
+  heading_bare (LogEnds depth) place = refl
+
+  moved_refers : (place : ℕ) → InTree (moved_parts build place) []
+  moved_refers place = by (has_article build place) (is_short (node_at build.nodes place)) refl
+    where
+      by : (has short : Bool) → has_article build place ≡ has → InTree (parts_if (has && short) (MarkupPart markup.NoteItem ∷ MarkupPart (markup.OutputLink place) ∷ NamePart (codes "What it printed is shown above") ∷ MarkupPart markup.EndLink ∷ MarkupPart markup.EndItem ∷ [])) []
+      by true true is = same_refer {others = MarkupPart (markup.OutputLink place) ∷ []} refl (article_link_refers place is)
+      by true false is = bare_refers [] refl
+      by false short is = bare_refers [] refl
+
+  id_refers : (place : ℕ) → InTree (MarkupPart (markup.TargetItem place) ∷ []) (place ∷ [])
+  id_refers place = record { target_ids_are = refl; article_ids_are = refl; target_links_lead = refl; article_links_lead = refl; sections_are = refl }
+
+  details_refer : (expanded : Bool) (place : ℕ) → InTree (MarkupPart (if expanded then markup.OpenDetails place else markup.Details place) ∷ []) (place ∷ [])
+  details_refer true place = record { target_ids_are = refl; article_ids_are = refl; target_links_lead = refl; article_links_lead = refl; sections_are = refl }
+  details_refer false place = record { target_ids_are = refl; article_ids_are = refl; target_links_lead = refl; article_links_lead = refl; sections_are = refl }
+
+  pub nested_same : (expanded : Bool) (place : ℕ) (heading : List Part) → Bare heading → references (nested_start build expanded place heading) ≡ references (MarkupPart (if expanded then markup.OpenDetails place else markup.Details place) ∷ moved_parts build place)
+  nested_same true place heading bare = simp (flat_map-append, bare)
+  nested_same false place heading bare = simp (flat_map-append, bare)
+
+  opening_refers : (level : Level) (place : ℕ) (heading : List Part) → Bare heading → InTree (opening_parts build level place heading) (place ∷ [])
+  opening_refers level place heading bare = by (is_empty (node_at build.nodes place)) (nat_le max_depth level.depth)
+    where
+      by : (empty deep : Bool) → InTree (if empty then empty_start place heading else if deep then flat_start build place level.depth heading else nested_start build (is_expanded build level (node_at build.nodes place)) place heading) (place ∷ [])
+      by true deep = then_refer (id_refers place) (bare_refers heading bare)
+      by false true = same_refer {others = MarkupPart (markup.TargetItem place) ∷ moved_parts build place} (simp (flat_map-append, bare)) (then_refer (id_refers place) (moved_refers place))
+      by false false =
+          same_refer {others = MarkupPart (if is_expanded build level (node_at build.nodes place) then markup.OpenDetails place else markup.Details place) ∷ moved_parts build place} (nested_same (is_expanded build level (node_at build.nodes place)) place heading bare)
+          (then_refer (details_refer (is_expanded build level (node_at build.nodes place)) place) (moved_refers place))
+
+  pub closing_bare : (level : Level) (place : ℕ) → Bare (closing_parts build level place)
+  closing_bare level place = by (is_empty (node_at build.nodes place)) (nat_le max_depth level.depth)
+    where
+      by : (empty deep : Bool) → Bare (if empty then MarkupPart markup.EndItem ∷ [] else if deep then flat_end build place else nested_end)
+      by true deep = refl
+      by false true = refl
+      by false false = refl
+
+  pub group_start_bare : (level : Level) (place : ℕ) (before : Pending) → Bare (group_start build level place before)
+  group_start_bare level place pending.Nothing = group_bare (group_size build level place)
+  group_start_bare level place (pending.Group left) = refl
+  group_start_bare level place (pending.Text block) = group_bare (group_size build level place)
+
+  log_start_refers : (level : Level) (place : ℕ) (before : Pending) (event : Event) → InTree (log_start build level place before event) (place ∷ [])
+  log_start_refers level place before event = then_refer (bare_refers (group_start build level place before) (group_start_bare level place before)) (opening_refers level place (heading_parts build event place) (heading_bare event place))
+
+  pub log_end_bare : (level : Level) (place left : ℕ) → Bare (log_end build level place left)
+  log_end_bare level place left = bare_then (closing_parts build level place) (group_end left) (closing_bare level place) (group_end_bare left)
+
+  -- ---- contents
+
+  contents_refer : (level : Level) (place : ℕ) (before : Pending) (contents : Contents) → InTree (contents_parts build level place before contents) (numbers_from place (log_count contents))
+  contents_refer level place before Nothing = bare_refers (end_parts before) (end_bare before)
+  contents_refer level place before (Shown event rest) = then_refer (shown_refers level before event) (contents_refer level place (after_shown build level before event) rest)
+  contents_refer level place before (Opened event number inside rest) =
+      let left = group_left build level place before in
+      subst (InTree (contents_parts build level place before (Opened event number inside rest))) (ap (λ t. place ∷ t) (sym (numbers_from-append (suc place) (log_count inside) (log_count rest))))
+      (then_refer (log_start_refers level place before event)
+      (then_refer (contents_refer (level_of build level place) (suc place) pending.Nothing inside)
+      (then_refer (bare_refers (log_end build level place left) (log_end_bare level place left))
+      (contents_refer level (suc place + log_count inside) (after_log left) rest))))
+
+pub tree_refers : (logs : List Log) (options : Options) (nodes : List Node) (contents : Contents) → Refers (length nodes) (articles nodes) (tree_parts logs options nodes contents) (numbers_from 0 (log_count contents)) [] (MarkupPart markup.TreeSection ∷ [])
+tree_refers logs options nodes contents =
+    let build : Build = record { logs = logs; options = options; nodes = nodes; articles = articles nodes } in
+    same_refer {others = MarkupPart markup.TreeSection ∷ contents_parts build top_level 0 pending.Nothing contents} (simp (flat_map-append, append-nil))
+    (then_refer {parts = MarkupPart markup.TreeSection ∷ []} (record { target_ids_are = refl; article_ids_are = refl; target_links_lead = refl; article_links_lead = refl; sections_are = refl }) (contents_refer build top_level 0 pending.Nothing contents))

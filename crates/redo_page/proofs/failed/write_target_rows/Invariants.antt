@@ -1,0 +1,8 @@
+use Rattle.std.proofs.Common.{take}
+use Rattle.std.specs.List.{flat_map}
+use Rattle.redo_page.specs.Failed.{target_row}
+use Rattle.redo_page.specs.Private.Writing.{WroteParts}
+use Rattle.redo_page.proofs.failed.write_target_rows.Given as goal
+
+abbrev pub invariant-loop-place : goal.invariant-loop-place
+invariant-loop-place g l = WroteParts g.W.Sink.written l.initial.page l.page (flat_map (target_row l.table l.nodes l.causes) (take l.place-index l.places))

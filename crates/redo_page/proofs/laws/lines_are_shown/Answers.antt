@@ -1,0 +1,46 @@
+use Rattle.std.proofs.Common.{◌≡◌, ℕ, true, List, [], None, Some, length, ◌∙◌, ap}
+use Rattle.std.specs.List.{flat_map}
+use Rattle.std.proofs.lemmas.Bool.{and_parts}
+use Rattle.redo_line.specs.Lines.{with_line_feed}
+use Rattle.redo_logs.specs.Logs.{Log}
+use Rattle.redo_outline.specs.Contents.{contents_of}
+use Rattle.redo_outline.specs.Facts.{target_status}
+use Rattle.redo_view.specs.LogLines.{lines_left_after}
+use Rattle.redo_page.specs.Laws.{event_lines, lines_at, log_bytes, page_article, page_build, page_lines, placed_bytes}
+use Rattle.redo_page.specs.Page.{Request, options_of, page_events, page_outline}
+use Rattle.redo_page.specs.Tree.{articles, has_article, is_moved, is_short, node_at}
+use Rattle.redo_page.proofs.FailedIds.{articles_below}
+use Rattle.redo_page.proofs.TreeLines.{tree_text}
+use Rattle.redo_page.proofs.FailedLines.{article_text}
+use Rattle.redo_page.proofs.PagePartLemmas.{page_has_tree, page_has_article}
+use Rattle.redo_page.proofs.PageLines.{all_lines, among_below, contents_have_lines, lines_of_place}
+use Rattle.redo_page.proofs.laws.lines_are_shown.Goals as goal
+
+pub returns-clause-complete : goal.returns-clause-complete
+returns-clause-complete c = λ request logs requested known.
+    let events = page_events request logs requested in
+    let have = contents_have_lines logs events (c.logs_show_their_lines.ensures logs (options_of request) requested known) in
+    all_lines logs 0 None 0 (contents_of events) have ∙ ap (flat_map event_lines) (c.events_are_in_contents.ensures logs (options_of request) requested known)
+
+pub returns-clause-tree : goal.returns-clause-tree
+returns-clause-tree c = λ request logs requested. tree_text logs (options_of request) (page_outline request logs requested) (contents_of (page_events request logs requested))
+
+-- An article shows the lines of its log, if these are moved to it.
+moved_text : (request : Request) (logs : List Log) (requested : List (List ℕ)) → lines_left_after logs [] (page_events request logs requested) ≡ Some []
+    → (place : ℕ) → is_moved (page_build request logs requested) place ≡ true → log_bytes (page_article request logs requested place) ≡ placed_bytes (lines_at place (page_lines request logs requested))
+moved_text request logs requested shown place moved =
+    let events = page_events request logs requested in
+    let nodes = page_outline request logs requested in
+    let parts = and_parts (has_article (page_build request logs requested) place) (is_short (node_at nodes place)) moved in
+    article_text logs nodes place parts.1
+    ∙ ap (flat_map with_line_feed) (lines_of_place logs (target_status logs events) (contents_of events) place (contents_have_lines logs events shown) (among_below (length nodes) (articles nodes) place (articles_below nodes) parts.0))
+
+pub returns-clause-articles : goal.returns-clause-articles
+returns-clause-articles c = λ request logs requested known place moved. moved_text request logs requested (c.logs_show_their_lines.ensures logs (options_of request) requested known) place moved
+
+pub returns-clause-has_tree : goal.returns-clause-has_tree
+returns-clause-has_tree c = page_has_tree
+
+pub returns-clause-has_articles : goal.returns-clause-has_articles
+returns-clause-has_articles c = λ request logs requested place moved.
+    page_has_article request logs requested place (and_parts (has_article (page_build request logs requested) place) (is_short (node_at (page_outline request logs requested) place)) moved).0

@@ -1,0 +1,95 @@
+-- Excerpts of long outputs, and how a long line is cut.
+use Rattle.std.specs.Prelude.{ℕ, zero, suc, ◌-◌, ◌||◌, ◌&&◌, not, nat_le, nat_lt, Bool, List, [], ◌∷◌, ◌++◌, length, take, fold, codes, slice_index, if◌then◌else◌}
+use Rattle.std.specs.List.{flat_map, position_or_len}
+use Rattle.redo_html.specs.declared.markup.Markup.TheVariants as markup
+use Rattle.redo_html.specs.Parts.{Part}
+use Rattle.redo_html.specs.Parts.Part.{MarkupPart, LogPart, NamePart, NumberPart}
+use Rattle.redo_html.specs.Style.{plain_style}
+use Rattle.redo_page.specs.declared.cause.WordState.{WordState}
+use Rattle.redo_page.specs.declared.cause.WordState.TheVariants.{Outside}
+use Rattle.redo_page.specs.Errors.{is_error, is_in_sequence, state_after}
+use Rattle.redo_page.specs.Targets.{plural}
+
+-- ---- cutting
+
+abbrev pub is_continuation : ℕ → Bool
+is_continuation byte = nat_le 128 byte && nat_lt byte 192
+
+abbrev pub state_at : List ℕ → ℕ → WordState
+state_at bytes at = fold state_after Outside (take at bytes)
+
+-- Whether a text may be cut at an index: in no letter of UTF-8, and in no sequence that sets colours.
+abbrev pub may_cut : List ℕ → ℕ → Bool
+may_cut bytes at = not (is_in_sequence (state_at bytes at)) && not (is_continuation (slice_index bytes at))
+
+-- The last number up to `limit` that passes a test, or 0.
+abbrev pub last_where : (ℕ → Bool) → ℕ → ℕ
+last_where passes zero = 0
+last_where passes (suc limit) = if passes (suc limit) then suc limit else last_where passes limit
+
+-- The beginning of bytes, at most `limit` of them.
+unfoldable pub cut_to : ℕ → List ℕ → List ℕ
+cut_to limit bytes = if nat_le (length bytes) limit then bytes else take (last_where (may_cut bytes) limit) bytes
+
+-- ---- lines
+
+abbrev pub max_excerpt_line : ℕ
+max_excerpt_line = 1000
+
+-- The end of a line of an excerpt. What is cut is in the tree.
+unfoldable pub excerpt_line_end : List ℕ → List ℕ
+excerpt_line_end line = if nat_le (length line) max_excerpt_line then codes "\n" else codes " ...\n"
+
+unfoldable pub excerpt_line_parts : List ℕ → List Part
+excerpt_line_parts line = LogPart plain_style (cut_to max_excerpt_line line) ∷ NamePart (excerpt_line_end line) ∷ []
+
+-- ---- stretches
+
+-- The lines of an excerpt, by their positions among `count` lines: ten at the start, the first one that reports an error, with five before it and
+-- some after it, and sixty at the end.
+abbrev pub is_kept : ℕ → ℕ → ℕ → Bool
+is_kept count error at = nat_lt at 10 || ((nat_le (error - 5) at && nat_lt (at - error) 25) || nat_le (count - 60) at)
+
+-- Consecutive lines: they are shown, or left out.
+pub data Stretch : Type 0 where
+  Shown : List (List ℕ) → Stretch
+  LeftOut : ℕ → Stretch
+
+abbrev pub with_shown : List ℕ → List Stretch → List Stretch
+with_shown line [] = Shown (line ∷ []) ∷ []
+with_shown line (Shown lines ∷ stretches) = Shown (line ∷ lines) ∷ stretches
+with_shown line (LeftOut count ∷ stretches) = Shown (line ∷ []) ∷ LeftOut count ∷ stretches
+
+abbrev pub with_left_out : List Stretch → List Stretch
+with_left_out [] = LeftOut 1 ∷ []
+with_left_out (Shown lines ∷ stretches) = LeftOut 1 ∷ Shown lines ∷ stretches
+with_left_out (LeftOut count ∷ stretches) = LeftOut (suc count) ∷ stretches
+
+-- The stretches of lines, of which the first one is at position `at`.
+abbrev pub stretches_from : (ℕ → Bool) → ℕ → List (List ℕ) → List Stretch
+stretches_from kept at [] = []
+stretches_from kept at (line ∷ lines) =
+    if kept at then with_shown line (stretches_from kept (suc at) lines) else with_left_out (stretches_from kept (suc at) lines)
+
+-- ---- parts
+
+unfoldable pub in_tree_parts : ℕ → List ℕ → List Part
+in_tree_parts place text = MarkupPart (markup.TargetLink place) ∷ NamePart text ∷ MarkupPart markup.EndLink ∷ []
+
+-- How many lines are left out.
+unfoldable pub left_out_parts : ℕ → ℕ → List Part
+left_out_parts place count =
+    MarkupPart markup.CutParagraph ∷ NumberPart count ∷ NamePart (plural count (codes " more line: ") (codes " more lines: "))
+    ∷ (in_tree_parts place (codes "in the tree") ++ MarkupPart markup.EndParagraph ∷ [])
+
+abbrev pub stretch_parts : ℕ → Stretch → List Part
+stretch_parts place (Shown lines) = MarkupPart markup.Pre ∷ (flat_map excerpt_line_parts lines ++ MarkupPart markup.EndPre ∷ [])
+stretch_parts place (LeftOut count) = left_out_parts place count
+
+-- The position of the first line that reports an error; the number of lines if there is none.
+abbrev pub error_position : List (List ℕ) → ℕ
+error_position lines = position_or_len is_error lines
+
+-- The excerpt of the output of the target at a place.
+unfoldable pub excerpt_parts : ℕ → List (List ℕ) → List Part
+excerpt_parts place lines = flat_map (stretch_parts place) (stretches_from (is_kept (length lines) (error_position lines)) 0 lines)

@@ -1,0 +1,171 @@
+-- What failed: the section at the top of a page.
+use Rattle.std.specs.Prelude.{◌≡◌, ℕ, zero, suc, ◌-◌, ◌==◌, ◌&&◌, nat_lt, Bool, true, false, List, [], ◌∷◌, ◌++◌, Option, None, Some, is_none, is_some, length, take, drop, codes, if◌then◌else◌}
+use Rattle.std.specs.List.{flat_map}
+use Rattle.redo_logs.specs.Logs.{Log}
+use Rattle.redo_html.specs.declared.markup.Markup.{Markup}
+use Rattle.redo_html.specs.declared.markup.Markup.TheVariants as markup
+use Rattle.redo_html.specs.Lines.{line_parts}
+use Rattle.redo_html.specs.Parts.{Part}
+use Rattle.redo_html.specs.Parts.Part.{MarkupPart, LogPart, NamePart, NumberPart}
+use Rattle.redo_html.specs.Style.{plain_style}
+use Rattle.redo_outline.specs.declared.node.Node.{Node}
+use Rattle.redo_outline.specs.Facts.{entries_at, texts_of}
+use Rattle.redo_page.specs.declared.failed.Failures.{Failures}
+use Rattle.redo_page.specs.Errors.{cause_of}
+use Rattle.redo_page.specs.Excerpt.{cut_to, excerpt_parts, in_tree_parts}
+use Rattle.redo_page.specs.Targets.{parts_if, name_parts, badge_parts, target_at}
+use Rattle.redo_page.specs.Tree.{first_failures, has_failed, is_short, max_articles, node_at}
+
+-- ---- which targets failed
+
+-- The places of the nodes for which this holds. The first node has the place `place`.
+abbrev pub places_where : (Node → Bool) → ℕ → List Node → List ℕ
+places_where holds place [] = []
+places_where holds place (node ∷ nodes) = if holds node then place ∷ places_where holds (suc place) nodes else places_where holds (suc place) nodes
+
+-- Whether a target failed, and one below it.
+abbrev pub failed_above : Node → Bool
+failed_above node = has_failed node && node.fails_below
+
+-- Whether no record says how a target ended, though it is at the end of a path.
+abbrev pub is_unclosed : Node → Bool
+is_unclosed node = is_none node.status && (node.below == 0 && is_some node.parent)
+
+-- Whether these are the places of the targets that the section names.
+pub record AreFailures (nodes : List Node) (failures : Failures) : Type 0 where
+  pub first : failures.first.items ≡ first_failures nodes
+  pub above : failures.above.items ≡ places_where failed_above 0 nodes
+  pub unclosed : failures.unclosed.items ≡ places_where is_unclosed 0 nodes
+
+-- ---- outputs
+
+-- The whole output of a target, in one block. The style at the end of a line goes on in the next one.
+unfoldable pub whole_parts : List (List ℕ) → List Part
+whole_parts lines = MarkupPart markup.Pre ∷ (line_parts plain_style lines ++ MarkupPart markup.EndPre ∷ [])
+
+abbrev pub no_failure_below : ℕ → List ℕ
+no_failure_below below = if below == 0 then [] else codes " No target below it failed: make or redo reported the cause on the terminal."
+
+-- Instead of the output of a target that printed nothing.
+unfoldable pub nothing_parts : Node → List Part
+nothing_parts node =
+    MarkupPart markup.QuietParagraph ∷ NamePart (codes "It printed nothing that was captured.") ∷ NamePart (no_failure_below node.below) ∷ MarkupPart markup.EndParagraph ∷ []
+
+-- ---- causes
+
+abbrev pub max_cause : ℕ
+max_cause = 160
+
+-- Why a target failed, in one line.
+unfoldable pub cause_parts : Option (List ℕ) → List Part
+cause_parts None = []
+cause_parts (Some line) = NamePart (codes " ") ∷ MarkupPart markup.Code ∷ LogPart plain_style (cut_to max_cause line) ∷ MarkupPart markup.EndCode ∷ []
+
+-- ---- paths
+
+-- In UTF-8, with a space on each side.
+abbrev pub path_separator : List ℕ
+path_separator = 0x20 ∷ 0xE2 ∷ 0x80 ∷ 0xBA ∷ 0x20 ∷ []
+
+abbrev pub more_above : List ℕ
+more_above = 0xE2 ∷ 0x80 ∷ 0xA6 ∷ path_separator
+
+-- ---- lists
+
+-- The maximum number of targets that a list names.
+abbrev pub max_rows : ℕ
+max_rows = 200
+
+unfoldable pub unlisted_parts : ℕ → List Part
+unlisted_parts count =
+    parts_if (nat_lt max_rows count)
+    (MarkupPart markup.QuietParagraph ∷ NamePart (codes "and ") ∷ NumberPart (count - max_rows) ∷ NamePart (codes " more, in the tree") ∷ MarkupPart markup.EndParagraph ∷ [])
+
+module _ (logs : List Log) where
+  -- What a target printed.
+  abbrev pub printed_by : Node → List (List ℕ)
+  printed_by node = texts_of (entries_at node.number logs)
+
+  abbrev pub name_of : Node → List ℕ
+  name_of node = target_at logs node.number
+
+  unfoldable pub output_parts : ℕ → Node → List Part
+  output_parts place node =
+      if node.lines == 0 then nothing_parts node
+      else if is_short node then whole_parts (printed_by node)
+      else excerpt_parts place (printed_by node)
+
+  unfoldable pub cause_of_node : Node → List Part
+  cause_of_node node = cause_parts (cause_of (printed_by node))
+
+  abbrev pub cause_if : Bool → Node → List Part
+  cause_if causes node = if causes then cause_of_node node else []
+
+  -- A target in a list: its name, which is a link, its status, and why it failed, if that is wanted.
+  unfoldable pub row_parts : Markup → Bool → Node → List Part
+  row_parts link causes node =
+      MarkupPart markup.Item ∷ MarkupPart link
+      ∷ (name_parts (name_of node) ++ (MarkupPart markup.EndLink ∷ (badge_parts node.status ++ (cause_if causes node ++ MarkupPart markup.EndItem ∷ []))))
+
+module _ (logs : List Log) (nodes : List Node) where
+  -- ---- articles
+
+  -- The logs around a target, at most `levels` of them, the outermost first, with `›` (U+203A) after each; `…` (U+2026) if there are more.
+  unfoldable pub path_parts : ℕ → Option ℕ → List Part
+  path_parts levels None = []
+  path_parts zero (Some place) = NamePart more_above ∷ []
+  path_parts (suc levels) (Some place) =
+      path_parts levels (node_at nodes place).parent ++ (name_parts (name_of logs (node_at nodes place)) ++ NamePart path_separator ∷ [])
+
+  abbrev pub max_path : ℕ
+  max_path = 4
+
+  unfoldable pub article_of : ℕ → Node → List Part
+  article_of place node =
+      MarkupPart (markup.Article place) ∷ MarkupPart markup.Title3
+      ∷ (name_parts (name_of logs node)
+      ++ (badge_parts node.status
+      ++ (MarkupPart markup.EndTitle3 ∷ MarkupPart markup.MetaParagraph
+      ∷ (path_parts max_path node.parent
+      ++ (in_tree_parts place (codes "its place in the tree")
+      ++ (MarkupPart markup.EndParagraph ∷ (output_parts logs place node ++ MarkupPart markup.EndArticle ∷ [])))))))
+
+  -- Where a target that failed is, and what it printed.
+  unfoldable pub article_parts : ℕ → List Part
+  article_parts place = article_of place (node_at nodes place)
+
+  -- ---- lists
+
+  -- The articles in short, if there is more than one.
+  unfoldable pub article_row : ℕ → List Part
+  article_row place = row_parts logs (markup.OutputLink place) true (node_at nodes place)
+
+  unfoldable pub list_parts : List ℕ → List Part
+  list_parts places = parts_if (nat_lt 1 (length places)) (MarkupPart markup.Ordered ∷ (flat_map article_row places ++ MarkupPart markup.EndOrdered ∷ []))
+
+  unfoldable pub target_row : Bool → ℕ → List Part
+  target_row causes place = row_parts logs (markup.TargetLink place) causes (node_at nodes place)
+
+  -- More targets, closed.
+  unfoldable pub more_parts : Markup → Bool → List ℕ → List ℕ → List Part
+  more_parts list causes heading places =
+      parts_if (nat_lt 0 (length places))
+      (MarkupPart markup.MoreDetails ∷ MarkupPart markup.Summary ∷ NumberPart (length places) ∷ NamePart heading ∷ MarkupPart markup.EndSummary ∷ MarkupPart list
+      ∷ (flat_map (target_row causes) (take max_rows places) ++ (MarkupPart markup.EndOrdered ∷ (unlisted_parts (length places) ++ MarkupPart markup.EndDetails ∷ []))))
+
+  -- ---- the section
+
+  unfoldable pub section_parts : List ℕ → List ℕ → List ℕ → List ℕ → List Part
+  section_parts articles others above unclosed =
+      MarkupPart markup.FailedSection ∷ MarkupPart markup.FailedHeading ∷ NamePart (codes "What failed") ∷ MarkupPart markup.EndHeading
+      ∷ (list_parts articles
+      ++ (flat_map article_parts articles
+      ++ (more_parts (markup.OrderedFrom (suc max_articles)) true (codes " more that failed") others
+      ++ (more_parts markup.Ordered false (codes " above these, which failed with them") above
+      ++ (more_parts markup.Ordered false (codes " not closed") unclosed ++ MarkupPart markup.EndSection ∷ [])))))
+
+  -- If no target failed, there is no such section.
+  unfoldable pub failed_parts : List Part
+  failed_parts =
+      parts_if (nat_lt 0 (length (first_failures nodes)))
+      (section_parts (take max_articles (first_failures nodes)) (drop max_articles (first_failures nodes)) (places_where failed_above 0 nodes) (places_where is_unclosed 0 nodes))

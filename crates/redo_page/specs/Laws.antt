@@ -1,0 +1,198 @@
+-- What the laws state.
+use Rattle.std.specs.Prelude.{◌≡◌, ◌⊎◌, ℕ, zero, suc, ◌+◌, ◌==◌, ◌&&◌, ◌||◌, Bool, true, not, nat_lt, List, [], ◌∷◌, ◌++◌, map, Option, None, Some, codes}
+use Rattle.std.specs.List.{filter, flat_map, list_all, list_any}
+use Rattle.redo_line.specs.declared.entry.Entry.TheVariants.{Text, Done, Note}
+use Rattle.redo_line.specs.Lines.{with_line_feed}
+use Rattle.redo_logs.specs.Logs.{Log, log_number}
+use Rattle.redo_view.specs.Event.{Event}
+use Rattle.redo_view.specs.Event.Event.{Requested, Mentioned, EntryShown}
+use Rattle.redo_html.specs.declared.markup.Markup.{Markup}
+use Rattle.redo_html.specs.declared.markup.Markup.TheVariants.{FailedSection, SummarySection, TreeSection, FailedLink, SummaryLink, TreeLink, TargetLink, OutputLink, Article, TargetItem, Details, OpenDetails}
+use Rattle.redo_html.specs.Html.{is_one_of}
+use Rattle.redo_html.specs.Laws.{is_mark}
+use Rattle.redo_html.specs.Parts.{Part}
+use Rattle.redo_html.specs.Parts.Part.{MarkupPart, LogPart}
+use Rattle.redo_html.specs.Tags.{markup_text}
+use Rattle.redo_outline.specs.Contents.{Contents, contents_of}
+use Rattle.redo_outline.specs.Contents.Contents.{Nothing, Shown, Opened}
+use Rattle.redo_outline.specs.Outline.{log_count}
+use Rattle.redo_page.specs.Failed.{article_parts}
+use Rattle.redo_page.specs.Page.{Request, options_of, page_events, page_outline}
+use Rattle.redo_page.specs.Tree.{Build, articles, is_moved_if, is_same_place, tree_parts}
+
+-- ---- ids and links
+
+-- The ids of targets, by their numbers.
+abbrev pub target_id : Part → List ℕ
+target_id (MarkupPart (TargetItem number)) = number ∷ []
+target_id (MarkupPart (Details number)) = number ∷ []
+target_id (MarkupPart (OpenDetails number)) = number ∷ []
+target_id part = []
+
+abbrev pub target_ids : List Part → List ℕ
+target_ids parts = flat_map target_id parts
+
+-- The links to targets.
+abbrev pub target_link : Part → List ℕ
+target_link (MarkupPart (TargetLink number)) = number ∷ []
+target_link part = []
+
+abbrev pub target_links : List Part → List ℕ
+target_links parts = flat_map target_link parts
+
+-- The ids of articles, by their numbers.
+abbrev pub article_id : Part → List ℕ
+article_id (MarkupPart (Article number)) = number ∷ []
+article_id part = []
+
+abbrev pub article_ids : List Part → List ℕ
+article_ids parts = flat_map article_id parts
+
+-- The links to articles.
+abbrev pub article_link : Part → List ℕ
+article_link (MarkupPart (OutputLink number)) = number ∷ []
+article_link part = []
+
+abbrev pub article_links : List Part → List ℕ
+article_links parts = flat_map article_link parts
+
+-- The ids of the sections of a page, and the links to them.
+abbrev pub section_id : Part → List (List ℕ)
+section_id (MarkupPart FailedSection) = codes "failed" ∷ []
+section_id (MarkupPart SummarySection) = codes "summary" ∷ []
+section_id (MarkupPart TreeSection) = codes "tree" ∷ []
+section_id part = []
+
+abbrev pub section_ids : List Part → List (List ℕ)
+section_ids parts = flat_map section_id parts
+
+abbrev pub section_link : Part → List (List ℕ)
+section_link (MarkupPart FailedLink) = codes "failed" ∷ []
+section_link (MarkupPart SummaryLink) = codes "summary" ∷ []
+section_link (MarkupPart TreeLink) = codes "tree" ∷ []
+section_link part = []
+
+abbrev pub section_links : List Part → List (List ℕ)
+section_links parts = flat_map section_link parts
+
+-- `count` numbers, from `first` on.
+abbrev pub numbers_from : ℕ → ℕ → List ℕ
+numbers_from first zero = []
+numbers_from first (suc count) = first ∷ numbers_from (suc first) count
+
+-- Whether each number is less than all those after it: so there is none twice.
+abbrev pub is_increasing : List ℕ → Bool
+is_increasing [] = true
+is_increasing (number ∷ numbers) = list_all (nat_lt number) numbers && is_increasing numbers
+
+abbrev pub is_among : List ℕ → ℕ → Bool
+is_among numbers number = list_any (λ other. number == other) numbers
+
+-- ---- text lines
+
+-- The text of logs in parts, in order.
+abbrev pub log_text : Part → List ℕ
+log_text (LogPart style text) = text
+log_text part = []
+
+abbrev pub log_bytes : List Part → List ℕ
+log_bytes parts = flat_map log_text parts
+
+-- The text line that an event shows, if it shows one.
+abbrev pub event_lines : Event → List (List ℕ)
+event_lines (EntryShown depth (Text line)) = line ∷ []
+event_lines event = []
+
+-- A text line, and the place of the log that contains it.
+pub record PlacedLine : Type 0 where
+  pub place : Option ℕ
+  pub line : List ℕ
+
+abbrev pub placed_at : Option ℕ → Event → List PlacedLine
+placed_at place event = map (λ (line : List ℕ). record { place = place; line = line }) (event_lines event)
+
+-- The text lines of some contents, in order. `around` is the place of the log that contains them, and `place` is the place of the next log.
+abbrev pub placed_lines : Option ℕ → ℕ → Contents → List PlacedLine
+placed_lines around place Nothing = []
+placed_lines around place (Shown event rest) = placed_at around event ++ placed_lines around place rest
+placed_lines around place (Opened event number inside rest) =
+    placed_lines (Some place) (suc place) inside ++ placed_lines around (suc place + log_count inside) rest
+
+abbrev pub texts_of : List PlacedLine → List (List ℕ)
+texts_of lines = map (λ (placed : PlacedLine). placed.line) lines
+
+-- Lines with their line feeds.
+abbrev pub placed_bytes : List PlacedLine → List ℕ
+placed_bytes lines = flat_map with_line_feed (texts_of lines)
+
+-- The lines of the log at a place.
+abbrev pub lines_at : ℕ → List PlacedLine → List PlacedLine
+lines_at place lines = filter (λ (placed : PlacedLine). is_same_place placed.place (Some place)) lines
+
+-- The lines of the logs whose output isn't in an article.
+abbrev pub unmoved_lines : Build → List PlacedLine → List PlacedLine
+unmoved_lines build lines = filter (λ (placed : PlacedLine). not (is_moved_if build placed.place)) lines
+
+module _ (request : Request) (logs : List Log) (requested : List (List ℕ)) where
+  -- What the tree of a page shows.
+  abbrev pub page_build : Build
+  page_build = record {
+    logs = logs;
+    options = options_of request;
+    nodes = page_outline request logs requested;
+    articles = articles (page_outline request logs requested);
+  }
+
+  abbrev pub page_lines : List PlacedLine
+  page_lines = placed_lines None 0 (contents_of (page_events request logs requested))
+
+  abbrev pub page_tree : List Part
+  page_tree = tree_parts logs (options_of request) (page_outline request logs requested) (contents_of (page_events request logs requested))
+
+  abbrev pub page_article : ℕ → List Part
+  page_article place = article_parts logs (page_outline request logs requested) place
+
+-- Whether these parts are in others, next to each other.
+pub record IsPartOf (inner whole : List Part) : Type 0 where
+  pub before : List Part
+  pub after : List Part
+  pub splits : before ++ (inner ++ after) ≡ whole
+
+-- ---- tags
+
+-- Whether a tag is a page's own: the text of a `Markup`, a mark in a text, or a tag of the title or of the style sheet.
+abbrev pub IsOwnTag : List ℕ → Type 0
+IsOwnTag tag =
+    ((markup : Markup) × (tag ≡ markup_text markup))
+    ⊎ ((is_mark tag || is_one_of tag (codes "title" ∷ codes "/title" ∷ codes "style" ∷ codes "/style" ∷ [])) ≡ true)
+
+abbrev pub markup_of : Part → List Markup
+markup_of (MarkupPart markup) = markup ∷ []
+markup_of part = []
+
+-- The tags of parts, without marks.
+abbrev pub markups : List Part → List Markup
+markups parts = flat_map markup_of parts
+
+-- A text line, with each byte blanked.
+abbrev pub blank_line : List ℕ → List ℕ
+blank_line line = map (λ byte. 32) line
+
+module _ (rename : List ℕ → List ℕ) where
+  -- An event, with targets renamed, and with notes and text lines blanked.
+  abbrev pub blank_event : Event → Event
+  blank_event (Requested name opening) = Requested (rename name) opening
+  blank_event (Mentioned depth pid how name opening) = Mentioned depth pid how (rename name) opening
+  blank_event (EntryShown depth (Text line)) = EntryShown depth (Text (blank_line line))
+  blank_event (EntryShown depth (Done pid status name)) = EntryShown depth (Done pid status (rename name))
+  blank_event (EntryShown depth (Note pid kind text)) = EntryShown depth (Note pid [] [])
+  blank_event event = event
+
+  abbrev pub blanked : Contents → Contents
+  blanked Nothing = Nothing
+  blanked (Shown event rest) = Shown (blank_event event) (blanked rest)
+  blanked (Opened event number inside rest) = Opened (blank_event event) number (blanked inside) (blanked rest)
+
+-- Whether renamed targets have the same logs among others.
+abbrev pub HaveSameLogs : (List ℕ → List ℕ) → List Log → List Log → Type 0
+HaveSameLogs rename logs others = (name : List ℕ) → log_number (rename name) others ≡ log_number name logs

@@ -1,0 +1,10 @@
+pub mod Blocks
+pub mod Errors
+pub mod Excerpt
+pub mod Failed
+pub mod Frame
+pub mod Laws
+pub mod Page
+pub mod Private
+pub mod Targets
+pub mod Tree

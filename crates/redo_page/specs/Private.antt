@@ -1,0 +1,8 @@
+-- Definitions that only clauses of private functions cite. They help in proofs and need not be trusted.
+pub mod Excerpting
+pub mod PageTexts
+pub mod Printed
+pub mod Referring
+pub mod Texts
+pub mod Walking
+pub mod Writing

@@ -1,0 +1,84 @@
+-- How targets are shown: names, statuses and counts.
+use Rattle.std.specs.Prelude.{ℕ, suc, ◌==◌, Bool, not, ℤ, pos, negsuc, List, [], ◌∷◌, ◌++◌, Option, None, Some, codes, slice_get, if◌then◌else◌}
+use Rattle.redo_line.specs.declared.entry.How.{How}
+use Rattle.redo_line.specs.declared.entry.How.TheVariants.{Made, Waiting, Locked, Unlocked, Unchanged}
+use Rattle.redo_logs.specs.Logs.{Log, targets_of}
+use Rattle.redo_html.specs.declared.markup.Markup.TheVariants.{Bdi, EndBdi, ExitBadge, OpenBadge, EndBadge, Small, EndSmall, Warnings, EndWarnings, TargetLink, EndLink}
+use Rattle.redo_html.specs.Parts.{Part}
+use Rattle.redo_html.specs.Parts.Part.{MarkupPart, NamePart, NumberPart}
+use Rattle.redo_outline.specs.declared.node.Node.{Node}
+use Rattle.redo_outline.specs.Facts.{is_failure}
+
+abbrev pub parts_if : Bool → List Part → List Part
+parts_if condition parts = if condition then parts else []
+
+abbrev pub name_parts : List ℕ → List Part
+name_parts name = MarkupPart Bdi ∷ NamePart name ∷ MarkupPart EndBdi ∷ []
+
+-- A status in decimal is its sign, if it is negative, and its magnitude.
+abbrev pub sign : ℤ → List ℕ
+sign (pos value) = []
+sign (negsuc value) = codes "-"
+
+abbrev pub magnitude : ℤ → ℕ
+magnitude (pos value) = value
+magnitude (negsuc value) = suc value
+
+-- The badge of a target that failed, or of which no record says how it ended.
+abbrev pub exit_parts : ℤ → List Part
+exit_parts status = NamePart (codes " ") ∷ MarkupPart ExitBadge ∷ NamePart (codes "exit ") ∷ NamePart (sign status) ∷ NumberPart (magnitude status) ∷ MarkupPart EndBadge ∷ []
+
+abbrev pub badge_parts : Option ℤ → List Part
+badge_parts None = NamePart (codes " ") ∷ MarkupPart OpenBadge ∷ NamePart (codes "not closed") ∷ MarkupPart EndBadge ∷ []
+badge_parts (Some status) = parts_if (is_failure (Some status)) (exit_parts status)
+
+-- A word that depends on a number.
+abbrev pub plural : ℕ → List ℕ → List ℕ → List ℕ
+plural number one many = if number == 1 then one else many
+
+-- The counts beside a name, each with a space before it.
+abbrev pub lines_parts : ℕ → List Part
+lines_parts lines =
+    parts_if (not (lines == 0))
+    (NamePart (codes " ") ∷ MarkupPart Small ∷ NumberPart lines ∷ NamePart (plural lines (codes " line") (codes " lines")) ∷ MarkupPart EndSmall ∷ [])
+
+abbrev pub warnings_parts : ℕ → List Part
+warnings_parts warnings =
+    parts_if (not (warnings == 0))
+    (NamePart (codes " ") ∷ MarkupPart Small ∷ MarkupPart Warnings ∷ NumberPart warnings ∷ NamePart (plural warnings (codes " warning") (codes " warnings")) ∷ MarkupPart EndWarnings ∷ MarkupPart EndSmall ∷ [])
+
+abbrev pub below_parts : ℕ → List Part
+below_parts below = parts_if (not (below == 0)) (NamePart (codes " ") ∷ MarkupPart Small ∷ NumberPart below ∷ NamePart (codes " below") ∷ MarkupPart EndSmall ∷ [])
+
+abbrev pub warnings_below_parts : ℕ → List Part
+warnings_below_parts warnings =
+    parts_if (not (warnings == 0))
+    (NamePart (codes " ") ∷ MarkupPart Small ∷ NamePart (codes "with ") ∷ MarkupPart Warnings ∷ NumberPart warnings ∷ NamePart (plural warnings (codes " warning") (codes " warnings")) ∷ MarkupPart EndWarnings ∷ MarkupPart EndSmall ∷ [])
+
+-- The facts that follow the name of a target.
+abbrev pub facts_parts : Node → List Part
+facts_parts node = badge_parts node.status ++ (lines_parts node.lines ++ (warnings_parts node.warnings ++ (below_parts node.below ++ warnings_below_parts node.warnings_below)))
+
+-- What was done about a target's lock, as a word.
+abbrev pub how_word : How → List ℕ
+how_word Made = codes "made"
+how_word Waiting = codes "waiting"
+how_word Locked = codes "locked"
+how_word Unlocked = codes "unlocked"
+how_word Unchanged = codes "unchanged"
+
+abbrev pub how_parts : Bool → How → List Part
+how_parts shown how = parts_if shown (NamePart (codes " ") ∷ MarkupPart Small ∷ NamePart (how_word how) ∷ MarkupPart EndSmall ∷ [])
+
+-- The target of the log with this number; the empty name if there is no such log.
+abbrev pub name_or_empty : Option (List ℕ) → List ℕ
+name_or_empty None = []
+name_or_empty (Some name) = name
+
+abbrev pub target_at : List Log → ℕ → List ℕ
+target_at logs number = name_or_empty (slice_get (targets_of logs) number)
+
+-- A name that leads to the place of a target in the tree, if it is there.
+abbrev pub linked_parts : Option ℕ → List ℕ → List Part
+linked_parts None name = name_parts name
+linked_parts (Some place) name = MarkupPart (TargetLink place) ∷ (name_parts name ++ MarkupPart EndLink ∷ [])

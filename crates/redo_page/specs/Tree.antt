@@ -1,0 +1,333 @@
+-- The tree of a page: each log where its target is mentioned first, with what it contains.
+use Rattle.std.specs.Prelude.{ℕ, suc, ◌+◌, ◌-◌, ◌==◌, ◌||◌, ◌&&◌, not, nat_le, nat_lt, Bool, true, false, ℤ, List, [], ◌∷◌, ◌++◌, Option, None, Some, codes, bytes_eq, position, option_and_then, slice_index_or, take, if◌then◌else◌}
+use Rattle.std.specs.List.{list_any}
+use Rattle.redo_line.specs.declared.entry.Entry.{Entry}
+use Rattle.redo_line.specs.declared.entry.Entry.TheVariants.{Text, Done, Note}
+use Rattle.redo_line.specs.declared.entry.How.{How}
+use Rattle.redo_logs.specs.Logs.{Log, log_number}
+use Rattle.redo_options.specs.declared.options.Options.{Options}
+use Rattle.redo_view.specs.declared.event.Opening.{Opening}
+use Rattle.redo_view.specs.declared.event.Opening.TheVariants.{NotOpened, OpenedBefore, OpensHere}
+use Rattle.redo_view.specs.Event.{Event}
+use Rattle.redo_view.specs.Event.Event.{Requested, Mentioned, EntryShown, LogEnds}
+use Rattle.redo_html.specs.declared.markup.Markup.{Markup}
+use Rattle.redo_html.specs.declared.markup.Markup.TheVariants as markup
+use Rattle.redo_html.specs.Parts.{Part}
+use Rattle.redo_html.specs.Parts.Part.{MarkupPart, NamePart, NumberPart}
+use Rattle.redo_outline.specs.declared.node.Node.{Node}
+use Rattle.redo_outline.specs.Contents.{Contents}
+use Rattle.redo_outline.specs.Contents.Contents.{Nothing, Shown, Opened}
+use Rattle.redo_outline.specs.Facts.{is_failure}
+use Rattle.redo_outline.specs.Outline.{log_count}
+use Rattle.redo_page.specs.declared.block.Pending.{Pending}
+use Rattle.redo_page.specs.declared.block.Pending.TheVariants as pending
+use Rattle.redo_page.specs.declared.level.Level.{Level}
+use Rattle.redo_page.specs.Blocks.{after_line, end_parts, line_parts, nested_end}
+use Rattle.redo_page.specs.Targets.{parts_if, name_parts, linked_parts, exit_parts, facts_parts, how_parts, target_at}
+
+abbrev pub no_node : Node
+no_node = record { number = 0; parent = None; status = None; lines = 0; bytes = 0; warnings = 0; below = 0; children = 0; others = false; warnings_below = 0; fails_below = false; silent = 0 }
+
+abbrev pub node_at : List Node → ℕ → Node
+node_at nodes place = slice_index_or nodes place no_node
+
+-- The place of the log with this number, if it is opened.
+abbrev pub place_of : List Node → ℕ → Option ℕ
+place_of nodes number = position (λ (node : Node). node.number == number) nodes
+
+-- ---- what a target is
+
+abbrev pub has_failed : Node → Bool
+has_failed node = is_failure node.status
+
+-- Whether a target failed, and none below it.
+abbrev pub failed_first : Node → Bool
+failed_first node = has_failed node && not node.fails_below
+
+-- The places of the targets that failed first.
+abbrev pub first_failures_from : ℕ → List Node → List ℕ
+first_failures_from place [] = []
+first_failures_from place (node ∷ nodes) = (if failed_first node then place ∷ [] else []) ++ first_failures_from (suc place) nodes
+
+abbrev pub first_failures : List Node → List ℕ
+first_failures nodes = first_failures_from 0 nodes
+
+-- The targets that have an article at the top of the page.
+abbrev pub max_articles : ℕ
+max_articles = 10
+
+abbrev pub articles : List Node → List ℕ
+articles nodes = take max_articles (first_failures nodes)
+
+-- A build, as the tree of its page shows it: its logs, the options, the outline, and the places of the targets that have an article.
+pub record Build : Type 0 where
+  pub logs : List Log
+  pub options : Options
+  pub nodes : List Node
+  pub articles : List ℕ
+
+-- Whether an article can show the whole output of a target. Then the article has the output, and the tree has a link to it.
+abbrev pub is_short : Node → Bool
+is_short node = not (node.lines == 0) && (nat_le node.lines 300 && nat_le node.bytes 40000)
+
+abbrev pub is_empty : Node → Bool
+is_empty node = node.children == 0 && not node.others
+
+-- ---- levels
+
+-- Logs are nested up to this depth, because browsers limit how deep elements are nested. Deeper ones follow each other.
+abbrev pub max_depth : ℕ
+max_depth = 60
+
+-- Five or more silent logs in a row are one closed group.
+abbrev pub min_group : ℕ
+min_group = 5
+
+-- The level of the requested targets: no log is around them.
+abbrev pub top_level : Level
+top_level = record { place = None; expanded = true; depth = 0 }
+
+-- What the log at a place is, if there is one.
+abbrev pub node_if : List Node → Option ℕ → Option Node
+node_if nodes None = None
+node_if nodes (Some place) = Some (node_at nodes place)
+
+-- Whether there is only one log, and nothing else, directly in the log around.
+abbrev pub has_one_child : Option Node → Bool
+has_one_child None = true
+has_one_child (Some node) = node.children == 1 && not node.others
+
+abbrev pub is_silent : Option Node → Bool
+is_silent None = false
+is_silent (Some node) = not (node.silent == 0)
+
+abbrev pub is_same_place : Option ℕ → Option ℕ → Bool
+is_same_place None None = true
+is_same_place None (Some other) = false
+is_same_place (Some one) None = false
+is_same_place (Some one) (Some other) = one == other
+
+-- ---- groups of silent logs
+
+abbrev pub group_parts : ℕ → List Part
+group_parts size =
+    parts_if (not (size == 0))
+    (MarkupPart markup.Item ∷ MarkupPart markup.QuietDetails ∷ MarkupPart markup.Summary ∷ NumberPart size ∷ NamePart (codes " targets that printed nothing") ∷ MarkupPart markup.EndSummary ∷ MarkupPart markup.Unordered ∷ [])
+
+-- The end of a group after a log, with which `left` logs were left of the group; 0 if the log is in no group.
+abbrev pub group_end : ℕ → List Part
+group_end left = parts_if (left == 1) nested_end
+
+-- What isn't ended after such a log.
+abbrev pub after_log : ℕ → Pending
+after_log left = if nat_lt 1 left then pending.Group (left - 1) else pending.Nothing
+
+-- ---- the start of a log
+
+-- A log that contains nothing.
+abbrev pub empty_start : ℕ → List Part → List Part
+empty_start place heading = (MarkupPart (markup.TargetItem place) ∷ []) ++ heading
+
+-- How deep a log is that is not nested.
+abbrev pub depth_parts : ℕ → List Part
+depth_parts depth = NamePart (codes " ") ∷ MarkupPart markup.Small ∷ NamePart (codes "level ") ∷ NumberPart depth ∷ MarkupPart markup.EndSmall ∷ MarkupPart markup.EndItem ∷ []
+
+abbrev pub details_markup : Bool → ℕ → Markup
+details_markup expanded place = if expanded then markup.OpenDetails place else markup.Details place
+
+-- ---- what is seen of an event
+
+-- What is seen of an event is an item of its own. An event of which nothing is seen ends nothing.
+abbrev pub item_parts : Pending → Bool → List Part → List Part
+item_parts before seen parts = if seen then end_parts before ++ parts else []
+
+abbrev pub after_item : Pending → Bool → Pending
+after_item before seen = if seen then pending.Nothing else before
+
+-- A requested target whose log isn't opened.
+abbrev pub request_parts : List ℕ → List Part
+request_parts name = (MarkupPart markup.Item ∷ []) ++ (name_parts name ++ (MarkupPart markup.EndItem ∷ []))
+
+-- A record of a check, or another note.
+abbrev pub note_parts : List ℕ → List ℕ → List Part
+note_parts kind text =
+    if bytes_eq kind (codes "check") then MarkupPart markup.NoteItem ∷ NamePart (codes "(") ∷ NamePart text ∷ NamePart (codes ")") ∷ MarkupPart markup.EndItem ∷ []
+    else MarkupPart markup.NoteItem ∷ NamePart (codes "redo: ") ∷ NamePart text ∷ MarkupPart markup.EndItem ∷ []
+
+module _ (build : Build) where
+  abbrev pub has_article : ℕ → Bool
+  has_article place = list_any (λ other. place == other) build.articles
+
+  -- Whether the output of a target is in its article.
+  abbrev pub is_moved : ℕ → Bool
+  is_moved place = has_article place && is_short (node_at build.nodes place)
+
+  abbrev pub is_moved_if : Option ℕ → Bool
+  is_moved_if None = false
+  is_moved_if (Some place) = is_moved place
+
+  -- Whether a log is expanded when the page is opened: requested targets, those that failed, those around them, and the only log in an
+  -- expanded one.
+  abbrev pub is_expanded : Level → Node → Bool
+  is_expanded level node = has_failed node || (node.fails_below || (level.expanded && has_one_child (node_if build.nodes level.place)))
+
+  -- The level in a log.
+  abbrev pub level_of : Level → ℕ → Level
+  level_of level place = record { place = Some place; expanded = is_expanded level (node_at build.nodes place); depth = suc level.depth }
+
+  -- ---- the start and the end of a log
+
+  -- The name of a target whose log is opened, with what is known of it.
+  abbrev pub heading_parts : Event → ℕ → List Part
+  heading_parts (Requested name opening) place = name_parts name ++ facts_parts (node_at build.nodes place)
+  heading_parts (Mentioned depth pid how name opening) place = name_parts name ++ (how_parts build.options.debug_locks how ++ facts_parts (node_at build.nodes place))
+  heading_parts (EntryShown depth entry) place = []
+  heading_parts (LogEnds depth) place = []
+
+  abbrev pub moved_parts : ℕ → List Part
+  moved_parts place =
+      parts_if (is_moved place)
+      (MarkupPart markup.NoteItem ∷ MarkupPart (markup.OutputLink place) ∷ NamePart (codes "What it printed is shown above") ∷ MarkupPart markup.EndLink ∷ MarkupPart markup.EndItem ∷ [])
+
+  -- A log that is not nested. What it contains follows it in the same list.
+  abbrev pub flat_start : ℕ → ℕ → List Part → List Part
+  flat_start place depth heading = (MarkupPart (markup.TargetItem place) ∷ []) ++ (heading ++ (depth_parts depth ++ moved_parts place))
+
+  abbrev pub flat_end : ℕ → List Part
+  flat_end place =
+      (MarkupPart markup.NoteItem ∷ NamePart (codes "end of ") ∷ []) ++ (name_parts (target_at build.logs (node_at build.nodes place).number) ++ (MarkupPart markup.EndItem ∷ []))
+
+  -- A log that is nested.
+  abbrev pub nested_start : Bool → ℕ → List Part → List Part
+  nested_start expanded place heading =
+      (MarkupPart markup.Item ∷ MarkupPart (details_markup expanded place) ∷ MarkupPart markup.Summary ∷ [])
+      ++ (heading ++ ((MarkupPart markup.EndSummary ∷ MarkupPart markup.Unordered ∷ []) ++ moved_parts place))
+
+  -- The three forms of a log.
+  abbrev pub opening_parts : Level → ℕ → List Part → List Part
+  opening_parts level place heading =
+      if is_empty (node_at build.nodes place) then empty_start place heading
+      else if nat_le max_depth level.depth then flat_start place level.depth heading
+      else nested_start (is_expanded level (node_at build.nodes place)) place heading
+
+  abbrev pub closing_parts : Level → ℕ → List Part
+  closing_parts level place =
+      if is_empty (node_at build.nodes place) then MarkupPart markup.EndItem ∷ []
+      else if nat_le max_depth level.depth then flat_end place
+      else nested_end
+
+  -- The number of logs of the group that begins with the log at this place; 0 if none begins. There are no groups in a silent log.
+  abbrev pub group_size : Level → ℕ → ℕ
+  group_size level place =
+      if nat_le min_group (node_at build.nodes place).silent && not (is_silent (node_if build.nodes level.place)) then (node_at build.nodes place).silent else 0
+
+  -- The number of logs that are left of a group before a log, with this log; 0 if the log is in no group.
+  abbrev pub group_left : Level → ℕ → Pending → ℕ
+  group_left level place (pending.Group left) = left
+  group_left level place before = group_size level place
+
+  -- What precedes a log: the start of a group, if one begins here.
+  abbrev pub group_start : Level → ℕ → Pending → List Part
+  group_start level place (pending.Group left) = []
+  group_start level place before = end_parts before ++ group_parts (group_size level place)
+
+  -- A log up to what it contains, and after that.
+  abbrev pub log_start : Level → ℕ → Pending → Event → List Part
+  log_start level place before event = group_start level place before ++ opening_parts level place (heading_parts event place)
+
+  abbrev pub log_end : Level → ℕ → ℕ → List Part
+  log_end level place left = closing_parts level place ++ group_end left
+
+  -- ---- events that open no log
+
+  abbrev pub opening_place : Opening → Option ℕ
+  opening_place NotOpened = None
+  opening_place (OpenedBefore number) = place_of build.nodes number
+  opening_place (OpensHere number) = place_of build.nodes number
+
+  abbrev pub place_of_name : List ℕ → Option ℕ
+  place_of_name name = option_and_then (place_of build.nodes) (log_number name build.logs)
+
+  -- Whether the log at a place is directly in this level. Then its badge shows how it ended.
+  abbrev pub is_in_level : Level → Option ℕ → Bool
+  is_in_level level None = false
+  is_in_level level (Some place) = is_same_place (node_at build.nodes place).parent level.place
+
+  -- Another target is done: this is seen if it failed and is not in this level.
+  abbrev pub is_seen_done : Level → ℤ → List ℕ → Bool
+  is_seen_done level status name = is_failure (Some status) && not (is_in_level level (place_of_name name))
+
+  abbrev pub done_parts : ℤ → List ℕ → List Part
+  done_parts status name =
+      (MarkupPart markup.NoteItem ∷ NamePart (codes "needs ") ∷ []) ++ (linked_parts (place_of_name name) name ++ (exit_parts status ++ (MarkupPart markup.EndItem ∷ [])))
+
+  -- A mention that opens no log.
+  abbrev pub mention_parts : How → List ℕ → Opening → List Part
+  mention_parts how name opening =
+      (MarkupPart markup.Item ∷ []) ++ (linked_parts (opening_place opening) name ++ (how_parts build.options.debug_locks how ++ (MarkupPart markup.EndItem ∷ [])))
+
+  -- Whether anything is seen of an event that opens no log and is no text line, and what is seen.
+  abbrev pub is_seen_entry : Level → Entry → Bool
+  is_seen_entry level (Done pid status name) = is_seen_done level status name
+  is_seen_entry level (Note pid kind text) = true
+  is_seen_entry level entry = false
+
+  abbrev pub is_seen : Level → Event → Bool
+  is_seen level (Requested name opening) = true
+  is_seen level (Mentioned depth pid how name opening) = true
+  is_seen level (EntryShown depth entry) = is_seen_entry level entry
+  is_seen level (LogEnds depth) = false
+
+  abbrev pub entry_parts : Entry → List Part
+  entry_parts (Done pid status name) = done_parts status name
+  entry_parts (Note pid kind text) = note_parts kind text
+  entry_parts entry = []
+
+  abbrev pub seen_parts : Event → List Part
+  seen_parts (Requested name opening) = request_parts name
+  seen_parts (Mentioned depth pid how name opening) = mention_parts how name opening
+  seen_parts (EntryShown depth entry) = entry_parts entry
+  seen_parts (LogEnds depth) = []
+
+  -- A text line, unless it is in an article.
+  abbrev pub text_parts : Level → Pending → List ℕ → List Part
+  text_parts level before line = if is_moved_if level.place then [] else line_parts before line
+
+  abbrev pub after_text : Level → Pending → List ℕ → Pending
+  after_text level before line = if is_moved_if level.place then before else after_line before line
+
+  -- An event that opens no log, and what isn't ended after it.
+  abbrev pub shown_parts : Level → Pending → Event → List Part
+  shown_parts level before (EntryShown depth (Text line)) = text_parts level before line
+  shown_parts level before event = item_parts before (is_seen level event) (seen_parts event)
+
+  abbrev pub after_shown : Level → Pending → Event → Pending
+  after_shown level before (EntryShown depth (Text line)) = after_text level before line
+  after_shown level before event = after_item before (is_seen level event)
+
+  -- ---- contents
+
+  -- The parts of what a log contains. `place` is the place of the next log, and `before` is what isn't ended.
+  abbrev pub contents_parts : Level → ℕ → Pending → Contents → List Part
+  contents_parts level place before Nothing = end_parts before
+  contents_parts level place before (Shown event rest) = shown_parts level before event ++ contents_parts level place (after_shown level before event) rest
+  contents_parts level place before (Opened event number inside rest) =
+      log_start level place before event
+      ++ (contents_parts (level_of level place) (suc place) pending.Nothing inside
+      ++ (log_end level place (group_left level place before)
+      ++ contents_parts level (suc place + log_count inside) (after_log (group_left level place before)) rest))
+
+-- The section with the tree.
+abbrev pub section_start : List Part
+section_start =
+    MarkupPart markup.TreeSection ∷ MarkupPart markup.TreeHeading ∷ NamePart (codes "All logs") ∷ MarkupPart markup.EndHeading ∷ MarkupPart markup.QuietParagraph
+    ∷ NamePart (codes "Each log is shown where its target is first mentioned. Logs of targets that failed are open.") ∷ MarkupPart markup.EndParagraph ∷ MarkupPart markup.Tree ∷ []
+
+abbrev pub section_end : List Part
+section_end = MarkupPart markup.EndUnordered ∷ MarkupPart markup.EndSection ∷ []
+
+-- The tree of everything that is shown.
+abbrev pub tree_parts : List Log → Options → List Node → Contents → List Part
+tree_parts logs options nodes contents =
+    let build : Build = record { logs = logs; options = options; nodes = nodes; articles = articles nodes } in
+    section_start ++ (contents_parts build top_level 0 pending.Nothing contents ++ section_end)

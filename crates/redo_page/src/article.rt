@@ -1,0 +1,185 @@
+//! The articles of targets that failed: where each target is, and what it printed.
+ghost use Rattle.std.specs.Prelude.{◌≡◌};
+ghost use Rattle.std.specs.Option.{option_copied};
+ghost use Rattle.redo_html.specs.Lines.{line_parts};
+ghost use Rattle.redo_html.specs.Style.{plain_style};
+ghost use Rattle.redo_outline.specs.Facts.{entries_at, texts_of};
+ghost use Rattle.redo_page.specs.Failed.{article_of, article_parts, cause_of_node, cause_parts, no_failure_below, nothing_parts, output_parts, path_parts, whole_parts};
+ghost use Rattle.redo_page.specs.Targets.{name_parts, target_at};
+ghost use Rattle.redo_page.specs.Private.Writing.{WroteParts};
+
+use crate::cause::find_cause;
+use crate::excerpt::{cut_to, write_excerpt, write_in_tree};
+use crate::nodes::{is_short, node_at};
+use crate::printed::Printed;
+use crate::targets::{target_at, write_badge, write_name};
+use crate::writer::PageWriter;
+use redo_device::Sink;
+use redo_html::{Markup, Piece, Style};
+use redo_logs::LogTable;
+use redo_outline::Node;
+
+const MAX_CAUSE: usize = 160;
+
+const MAX_PATH: usize = 4;
+
+// ---- outputs
+
+// Writes the lines that log `number` has.
+fn write_lines<W: Sink>(table: &LogTable, number: u32, page: &mut PageWriter<'_, W>)
+    ensures { WroteParts W.written page.old page.new (line_parts plain_style (texts_of (entries_at number table.now))) }
+{
+    let mut printed = Printed::new(table, number);
+    let mut style = Style::PLAIN;
+    'lines: loop {
+        let lines = printed.next_lines();
+        if lines.is_empty() {
+            return;
+        }
+        page.put_lines(&mut style, lines);
+    }
+}
+
+fn write_whole<W: Sink>(table: &LogTable, number: u32, page: &mut PageWriter<'_, W>)
+    ensures { WroteParts W.written page.old page.new (whole_parts (texts_of (entries_at number table.now))) }
+{
+    page.put(&[Piece::Markup(Markup::Pre)]);
+    write_lines(table, number, page);
+    page.put(&[Piece::Markup(Markup::EndPre)]);
+}
+
+fn no_failure_below(below: usize) -> &'static [u8]
+    ensures { result.now ≡ no_failure_below below }
+{
+    if below == 0 {
+        b""
+    } else {
+        b" No target below it failed: make or redo reported the cause on the terminal."
+    }
+}
+
+#[tactic(auto, using(crate::proofs::WriterLemmas::wrote_then), unfolding(crate::specs::Failed::nothing_parts))]
+fn write_nothing<W: Sink>(node: &Node, page: &mut PageWriter<'_, W>)
+    ensures { WroteParts W.written page.old page.new (nothing_parts node.now) }
+{
+    page.put(&[
+        Piece::Markup(Markup::QuietParagraph),
+        Piece::Name(b"It printed nothing that was captured."),
+        Piece::Name(no_failure_below(node.below)),
+        Piece::Markup(Markup::EndParagraph),
+    ])
+}
+
+#[tactic(auto, using(crate::proofs::WriterLemmas::wrote_then), unfolding(crate::specs::Failed::output_parts))]
+fn write_output<W: Sink>(table: &LogTable, place: usize, node: &Node, page: &mut PageWriter<'_, W>)
+    ensures { WroteParts W.written page.old page.new (output_parts table.now place node.now) }
+{
+    if node.lines == 0 {
+        write_nothing(node, page)
+    } else if is_short(node) {
+        write_whole(table, node.number, page)
+    } else {
+        write_excerpt(table, node.number, place, page)
+    }
+}
+
+// ---- names
+
+/// Writes the name of the target of log `number`.
+pub fn write_target<W: Sink>(table: &LogTable, number: u32, page: &mut PageWriter<'_, W>)
+    ensures { WroteParts W.written page.old page.new (name_parts (target_at table.now number)) }
+{
+    write_name(target_at(table, number), page)
+}
+
+// ---- causes
+
+#[tactic(auto, using(crate::proofs::WriterLemmas::wrote_then), unfolding(crate::specs::Failed::cause_parts))]
+fn write_cause_line<W: Sink>(cause: Option<&[u8]>, page: &mut PageWriter<'_, W>)
+    ensures { WroteParts W.written page.old page.new (cause_parts (option_copied cause.entry)) }
+{
+    match cause {
+        None => {}
+        Some(line) => page.put(&[
+            Piece::Name(b" "),
+            Piece::Markup(Markup::Code),
+            Piece::Log(Style::PLAIN, cut_to(MAX_CAUSE, line)),
+            Piece::Markup(Markup::EndCode),
+        ]),
+    }
+}
+
+/// Writes why a target failed, in one line.
+#[tactic(auto, using(crate::proofs::WriterLemmas::wrote_then), unfolding(crate::specs::Failed::cause_of_node))]
+pub fn write_cause<W: Sink>(table: &LogTable, node: &Node, page: &mut PageWriter<'_, W>)
+    ensures { WroteParts W.written page.old page.new (cause_of_node table.now node.now) }
+{
+    let cause = find_cause(table, node.number);
+    write_cause_line(cause, page)
+}
+
+// ---- articles
+
+// Writes the logs around a target, at most `levels` of them, the outermost first.
+#[tactic(auto, using(crate::proofs::WriterLemmas::wrote_then), unfolding(crate::specs::Failed::path_parts))]
+fn write_path<W: Sink>(
+    table: &LogTable,
+    nodes: &[Node],
+    levels: usize,
+    place: Option<usize>,
+    page: &mut PageWriter<'_, W>,
+)
+    ensures { WroteParts W.written page.old page.new (path_parts table.now nodes.now levels place) }
+{
+    let Some(place) = place else {
+        return;
+    };
+    if levels == 0 {
+        page.put(&[Piece::Name(b"\xe2\x80\xa6 \xe2\x80\xba ")]);
+        return;
+    }
+    let node = node_at(nodes, place);
+    write_path(table, nodes, levels - 1, node.parent, page);
+    write_target(table, node.number, page);
+    page.put(&[Piece::Name(b" \xe2\x80\xba ")]);
+}
+
+fn write_article_of<W: Sink>(
+    table: &LogTable,
+    nodes: &[Node],
+    place: usize,
+    node: &Node,
+    page: &mut PageWriter<'_, W>,
+)
+    ensures { WroteParts W.written page.old page.new (article_of table.now nodes.now place node.now) }
+{
+    page.put(&[
+        Piece::Markup(Markup::Article(place as u64)),
+        Piece::Markup(Markup::Title3),
+    ]);
+    write_target(table, node.number, page);
+    write_badge(node.status, page);
+    page.put(&[
+        Piece::Markup(Markup::EndTitle3),
+        Piece::Markup(Markup::MetaParagraph),
+    ]);
+    write_path(table, nodes, MAX_PATH, node.parent, page);
+    write_in_tree(place, b"its place in the tree", page);
+    page.put(&[Piece::Markup(Markup::EndParagraph)]);
+    write_output(table, place, node, page);
+    page.put(&[Piece::Markup(Markup::EndArticle)]);
+}
+
+/// Writes where the target at a place is, and what it printed.
+#[tactic(auto, using(crate::proofs::WriterLemmas::wrote_then), unfolding(crate::specs::Failed::article_parts))]
+pub fn write_article<W: Sink>(
+    table: &LogTable,
+    nodes: &[Node],
+    place: usize,
+    page: &mut PageWriter<'_, W>,
+)
+    ensures { WroteParts W.written page.old page.new (article_parts table.now nodes.now place) }
+{
+    let node = node_at(nodes, place);
+    write_article_of(table, nodes, place, &node, page)
+}

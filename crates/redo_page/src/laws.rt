@@ -1,0 +1,88 @@
+//! Laws about the definitions alone: their contracts are theorems, and their bodies are empty or cite laws of other crates.
+ghost use Rattle.std.specs.Prelude.{◌≡◌, ℕ, true, [], List, None, length};
+ghost use Rattle.std.specs.List.{All, flat_map, list_all};
+ghost use Rattle.redo_html.specs.Html.{nests_in, read, tags_of, text_of};
+ghost use Rattle.redo_html.specs.Parts.{part_text, part_tokens};
+ghost use Rattle.redo_logs.specs.Logs.{Log};
+ghost use Rattle.redo_options.specs.declared.options.Options.{Options};
+ghost use Rattle.redo_view.specs.View.{find_unknown};
+ghost use Rattle.redo_outline.specs.declared.node.Node.{Node};
+ghost use Rattle.redo_outline.specs.Contents.{Contents};
+ghost use Rattle.redo_page.specs.Laws.{HaveSameLogs, IsOwnTag, IsPartOf, article_ids, article_links, blanked, event_lines, is_among, is_increasing, lines_at, log_bytes, markups, numbers_from, page_article, page_build, page_lines, page_tree, placed_bytes, section_ids, section_links, target_ids, target_links, texts_of, unmoved_lines};
+ghost use Rattle.redo_page.specs.Page.{Request, page_events, page_html, page_outline, page_parts};
+ghost use Rattle.redo_page.specs.Tree.{articles, is_moved, tree_parts};
+
+use redo_html::{parts_are_read, parts_show_their_text, passages_are_read_as_shown};
+use redo_outline::events_are_in_contents;
+use redo_view::logs_show_their_lines;
+
+/// A browser reads a page as its parts: each tag as itself, and everything else as text, in order.
+pub fn page_is_read()
+    ensures parts { (request : Request) (logs : List Log) (requested : List (List ℕ)) →
+        read (page_html request logs requested) ≡ flat_map part_tokens (page_parts request logs requested) }
+    ensures text { (request : Request) (logs : List Log) (requested : List (List ℕ)) →
+        text_of (read (page_html request logs requested)) ≡ flat_map part_text (page_parts request logs requested) }
+{
+    parts_are_read();
+    parts_show_their_text();
+}
+
+/// On a page, each element ends in the element around it: each end tag ends the element that was begun last, and none is left open.
+pub fn tags_nest()
+    ensures { (request : Request) (logs : List Log) (requested : List (List ℕ)) →
+        nests_in [] (tags_of (read (page_html request logs requested))) ≡ true }
+{
+    page_is_read();
+    passages_are_read_as_shown();
+}
+
+/// Each target that is opened, and each article, has an id of its own, and each link leads to an id. There is one link to each section.
+pub fn links_lead_to_ids()
+    ensures targets { (request : Request) (logs : List Log) (requested : List (List ℕ)) →
+        target_ids (page_parts request logs requested) ≡ numbers_from 0 (length (page_outline request logs requested)) }
+    ensures articles { (request : Request) (logs : List Log) (requested : List (List ℕ)) →
+        article_ids (page_parts request logs requested) ≡ articles (page_outline request logs requested) }
+    ensures articles_once { (request : Request) (logs : List Log) (requested : List (List ℕ)) →
+        is_increasing (article_ids (page_parts request logs requested)) ≡ true }
+    ensures target_links { (request : Request) (logs : List Log) (requested : List (List ℕ)) →
+        list_all (is_among (target_ids (page_parts request logs requested))) (target_links (page_parts request logs requested)) ≡ true }
+    ensures article_links { (request : Request) (logs : List Log) (requested : List (List ℕ)) →
+        list_all (is_among (article_ids (page_parts request logs requested))) (article_links (page_parts request logs requested)) ≡ true }
+    ensures section_links { (request : Request) (logs : List Log) (requested : List (List ℕ)) →
+        section_links (page_parts request logs requested) ≡ section_ids (page_parts request logs requested) }
+{}
+
+/// No text line is lost, added, changed or moved out of order, if each requested target has a log. A page has the
+/// text lines of the events. The tree shows them, except the lines of a log whose output is in its article. This article shows exactly the
+/// lines of this log.
+pub fn lines_are_shown()
+    ensures complete { (request : Request) (logs : List Log) (requested : List (List ℕ)) → find_unknown logs requested ≡ None →
+        texts_of (page_lines request logs requested) ≡ flat_map event_lines (page_events request logs requested) }
+    ensures tree { (request : Request) (logs : List Log) (requested : List (List ℕ)) →
+        log_bytes (page_tree request logs requested)
+        ≡ placed_bytes (unmoved_lines (page_build request logs requested) (page_lines request logs requested)) }
+    ensures has_tree { (request : Request) (logs : List Log) (requested : List (List ℕ)) →
+        IsPartOf (page_tree request logs requested) (page_parts request logs requested) }
+    ensures articles { (request : Request) (logs : List Log) (requested : List (List ℕ)) → find_unknown logs requested ≡ None →
+        (place : ℕ) → is_moved (page_build request logs requested) place ≡ true →
+        log_bytes (page_article request logs requested place) ≡ placed_bytes (lines_at place (page_lines request logs requested)) }
+    ensures has_articles { (request : Request) (logs : List Log) (requested : List (List ℕ)) →
+        (place : ℕ) → is_moved (page_build request logs requested) place ≡ true →
+        IsPartOf (page_article request logs requested place) (page_parts request logs requested) }
+{
+    events_are_in_contents();
+    logs_show_their_lines();
+}
+
+/// Each tag of a page is its own: none comes from a log or a name. The tags of the tree depend only on the outline, on which kind each event
+/// is, on numbers and on the lengths of text lines: they stay the same if targets are renamed, and notes and text lines are blanked.
+pub fn tags_are_its_own()
+    ensures tags { (request : Request) (logs : List Log) (requested : List (List ℕ)) →
+        All IsOwnTag (tags_of (read (page_html request logs requested))) }
+    ensures tree { (logs others : List Log) (rename : List ℕ → List ℕ) → HaveSameLogs rename logs others →
+        (options : Options) (nodes : List Node) (contents : Contents) →
+        markups (tree_parts others options nodes (blanked rename contents)) ≡ markups (tree_parts logs options nodes contents) }
+{
+    page_is_read();
+    passages_are_read_as_shown();
+}

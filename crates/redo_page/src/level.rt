@@ -1,0 +1,21 @@
+//! Where a log is in the tree.
+
+/// What is around logs that are directly in one log, or around the logs of the requested targets.
+#[derive(Clone, Copy)]
+pub struct Level {
+    /// The place of the log around, if there is one.
+    pub place: Option<usize>,
+    /// Whether this log is expanded when the page is opened.
+    pub expanded: bool,
+    /// The number of logs around.
+    pub depth: usize,
+}
+
+/// A log that is open: it hasn't ended yet.
+#[derive(Clone, Copy)]
+pub struct OpenLog {
+    pub place: usize,
+    pub expanded: bool,
+    /// The number of logs that are left of the group that the log is in, with this log. It is 0 if the log is in no group.
+    pub left: usize,
+}

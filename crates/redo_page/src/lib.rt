@@ -1,0 +1,26 @@
+//! The page of a build: one HTML file that shows what failed, and all logs.
+#![tactic(auto, using(crate::proofs::WriterLemmas::wrote_then))]
+
+mod article;
+mod block;
+mod build;
+mod cause;
+mod excerpt;
+mod failed;
+mod frame;
+mod items;
+mod laws;
+mod level;
+mod logs;
+mod nodes;
+mod page;
+mod printed;
+mod step;
+mod targets;
+mod texts;
+mod tree;
+mod writer;
+
+pub use laws::{lines_are_shown, links_lead_to_ids, page_is_read, tags_are_its_own, tags_nest};
+pub use page::{PageRequest, write_page};
+pub use redo_view::FormFault;

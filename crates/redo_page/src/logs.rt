@@ -1,0 +1,287 @@
+//! The start and the end of a log in the tree.
+ghost use Rattle.std.specs.Prelude.{◌≡◌};
+ghost use Rattle.redo_view.specs.EventRef.{event_value};
+ghost use Rattle.redo_html.specs.Parts.{Part};
+ghost use Rattle.redo_page.specs.Private.Referring.{build_value};
+ghost use Rattle.redo_page.specs.Private.Writing.{WroteParts};
+ghost use Rattle.redo_page.specs.Tree.{after_log, closing_parts, depth_parts, details_markup, empty_start, flat_end, flat_start, group_end, group_left, group_parts, group_size, group_start, heading_parts, log_end, log_start, max_depth, min_group, moved_parts, nested_start, opening_parts};
+
+use crate::block::Pending;
+use crate::build::{BuildRef, is_empty, is_silent};
+use crate::items::write_end;
+use crate::level::Level;
+use crate::targets::{write_facts, write_how, write_name};
+use crate::writer::PageWriter;
+use redo_device::Sink;
+use redo_html::{Markup, Piece};
+use redo_view::EventRef;
+
+const MAX_DEPTH: usize = 60;
+
+const MIN_GROUP: usize = 5;
+
+// Writes the name of a target whose log an event opens, with what is known of it.
+fn write_heading<W: Sink>(
+    build: &BuildRef<'_>,
+    event: EventRef<'_>,
+    place: usize,
+    page: &mut PageWriter<'_, W>,
+)
+    ensures { WroteParts W.written page.old page.new (heading_parts (build_value build.now) (event_value event.entry) place) }
+{
+    match event {
+        EventRef::Requested { name, .. } => {
+            write_name(name.bytes(), page);
+            write_facts(&build.node(place), page)
+        }
+        EventRef::Mentioned { how, name, .. } => {
+            write_name(name.bytes(), page);
+            write_how(build.options.debug_locks, how, page);
+            write_facts(&build.node(place), page)
+        }
+        EventRef::EntryShown { .. } | EventRef::LogEnds { .. } => {}
+    }
+}
+
+// Writes the link to the output of a target, if it is in an article.
+fn write_moved<W: Sink>(build: &BuildRef<'_>, place: usize, page: &mut PageWriter<'_, W>)
+    ensures { WroteParts W.written page.old page.new (moved_parts (build_value build.now) place) }
+{
+    if !build.is_moved(place) {
+        return;
+    }
+    page.put(&[
+        Piece::Markup(Markup::NoteItem),
+        Piece::Markup(Markup::OutputLink(place as u64)),
+        Piece::Name(b"What it printed is shown above"),
+        Piece::Markup(Markup::EndLink),
+        Piece::Markup(Markup::EndItem),
+    ])
+}
+
+fn write_empty_start<W: Sink>(
+    build: &BuildRef<'_>,
+    place: usize,
+    event: EventRef<'_>,
+    page: &mut PageWriter<'_, W>,
+)
+    ensures { WroteParts W.written page.old page.new
+        (empty_start place (heading_parts (build_value build.now) (event_value event.entry) place)) }
+{
+    page.put(&[Piece::Markup(Markup::TargetItem(place as u64))]);
+    write_heading(build, event, place, page)
+}
+
+fn write_depth<W: Sink>(depth: usize, page: &mut PageWriter<'_, W>)
+    ensures { WroteParts W.written page.old page.new (depth_parts depth) }
+{
+    page.put(&[
+        Piece::Name(b" "),
+        Piece::Markup(Markup::Small),
+        Piece::Name(b"level "),
+        Piece::Number(depth as u64),
+        Piece::Markup(Markup::EndSmall),
+        Piece::Markup(Markup::EndItem),
+    ])
+}
+
+fn write_flat_start<W: Sink>(
+    build: &BuildRef<'_>,
+    place: usize,
+    depth: usize,
+    event: EventRef<'_>,
+    page: &mut PageWriter<'_, W>,
+)
+    ensures { WroteParts W.written page.old page.new
+        (flat_start (build_value build.now) place depth (heading_parts (build_value build.now) (event_value event.entry) place)) }
+{
+    page.put(&[Piece::Markup(Markup::TargetItem(place as u64))]);
+    write_heading(build, event, place, page);
+    write_depth(depth, page);
+    write_moved(build, place, page)
+}
+
+fn write_flat_end<W: Sink>(build: &BuildRef<'_>, place: usize, page: &mut PageWriter<'_, W>)
+    ensures { WroteParts W.written page.old page.new (flat_end (build_value build.now) place) }
+{
+    page.put(&[Piece::Markup(Markup::NoteItem), Piece::Name(b"end of ")]);
+    write_name(build.target(build.node(place).number), page);
+    page.put(&[Piece::Markup(Markup::EndItem)])
+}
+
+fn details_markup(expanded: bool, place: usize) -> Markup
+    ensures { result ≡ details_markup expanded place }
+{
+    if expanded {
+        Markup::OpenDetails(place as u64)
+    } else {
+        Markup::Details(place as u64)
+    }
+}
+
+fn write_nested_start<W: Sink>(
+    build: &BuildRef<'_>,
+    expanded: bool,
+    place: usize,
+    event: EventRef<'_>,
+    page: &mut PageWriter<'_, W>,
+)
+    ensures { WroteParts W.written page.old page.new
+        (nested_start (build_value build.now) expanded place (heading_parts (build_value build.now) (event_value event.entry) place)) }
+{
+    page.put(&[
+        Piece::Markup(Markup::Item),
+        Piece::Markup(details_markup(expanded, place)),
+        Piece::Markup(Markup::Summary),
+    ]);
+    write_heading(build, event, place, page);
+    page.put(&[
+        Piece::Markup(Markup::EndSummary),
+        Piece::Markup(Markup::Unordered),
+    ]);
+    write_moved(build, place, page)
+}
+
+fn write_opening<W: Sink>(
+    build: &BuildRef<'_>,
+    level: Level,
+    place: usize,
+    event: EventRef<'_>,
+    page: &mut PageWriter<'_, W>,
+)
+    ensures { WroteParts W.written page.old page.new
+        (opening_parts (build_value build.now) level place (heading_parts (build_value build.now) (event_value event.entry) place)) }
+{
+    let node = build.node(place);
+    if is_empty(&node) {
+        write_empty_start(build, place, event, page)
+    } else if level.depth >= MAX_DEPTH {
+        write_flat_start(build, place, level.depth, event, page)
+    } else {
+        write_nested_start(build, build.is_expanded(level, &node), place, event, page)
+    }
+}
+
+fn write_closing<W: Sink>(
+    build: &BuildRef<'_>,
+    level: Level,
+    place: usize,
+    page: &mut PageWriter<'_, W>,
+)
+    ensures { WroteParts W.written page.old page.new (closing_parts (build_value build.now) level place) }
+{
+    if is_empty(&build.node(place)) {
+        page.put(&[Piece::Markup(Markup::EndItem)])
+    } else if level.depth >= MAX_DEPTH {
+        write_flat_end(build, place, page)
+    } else {
+        write_end(Pending::Group(0), page)
+    }
+}
+
+// Returns the number of logs of the group that begins with a log, or 0.
+fn group_size(build: &BuildRef<'_>, level: Level, place: usize) -> usize
+    ensures { result ≡ group_size (build_value build.now) level place }
+{
+    let silent = build.node(place).silent;
+    if silent >= MIN_GROUP && !is_silent(build.node_if(level.place)) {
+        silent
+    } else {
+        0
+    }
+}
+
+/// Returns the number of logs that are left of a group before a log, with this log, or 0 if it is in no group.
+pub fn group_left(build: &BuildRef<'_>, level: Level, place: usize, pending: Pending) -> usize
+    ensures { result ≡ group_left (build_value build.now) level place pending }
+{
+    match pending {
+        Pending::Group(left) => left,
+        _ => group_size(build, level, place),
+    }
+}
+
+fn write_group<W: Sink>(size: usize, page: &mut PageWriter<'_, W>)
+    ensures { WroteParts W.written page.old page.new (group_parts size) }
+{
+    if size == 0 {
+        return;
+    }
+    page.put(&[
+        Piece::Markup(Markup::Item),
+        Piece::Markup(Markup::QuietDetails),
+        Piece::Markup(Markup::Summary),
+        Piece::Number(size as u64),
+        Piece::Name(b" targets that printed nothing"),
+        Piece::Markup(Markup::EndSummary),
+        Piece::Markup(Markup::Unordered),
+    ])
+}
+
+fn write_group_start<W: Sink>(
+    build: &BuildRef<'_>,
+    level: Level,
+    place: usize,
+    pending: Pending,
+    page: &mut PageWriter<'_, W>,
+)
+    ensures { WroteParts W.written page.old page.new (group_start (build_value build.now) level place pending) }
+{
+    match pending {
+        Pending::Group(_) => {}
+        Pending::Nothing => write_group(group_size(build, level, place), page),
+        Pending::Text(_) => {
+            write_end(pending, page);
+            write_group(group_size(build, level, place), page)
+        }
+    }
+}
+
+// Writes the end of a group after a log, if it is the last one of the group.
+fn write_group_end<W: Sink>(left: usize, page: &mut PageWriter<'_, W>)
+    ensures { WroteParts W.written page.old page.new (group_end left) }
+{
+    if left == 1 {
+        write_end(Pending::Group(0), page)
+    }
+}
+
+/// Returns what isn't ended after a log. `left` is the number of logs that were left of its group, with this log.
+pub fn after_log(left: usize) -> Pending
+    ensures { result ≡ after_log left }
+{
+    if left > 1 {
+        Pending::Group(left - 1)
+    } else {
+        Pending::Nothing
+    }
+}
+
+/// Writes a log up to what it contains. The event opens the log.
+pub fn write_log_start<W: Sink>(
+    build: &BuildRef<'_>,
+    level: Level,
+    place: usize,
+    pending: Pending,
+    event: EventRef<'_>,
+    page: &mut PageWriter<'_, W>,
+)
+    ensures { WroteParts W.written page.old page.new (log_start (build_value build.now) level place pending (event_value event.entry)) }
+{
+    write_group_start(build, level, place, pending, page);
+    write_opening(build, level, place, event, page)
+}
+
+/// Writes a log after what it contains, and the end of its group if it is the last one of the group.
+pub fn write_log_end<W: Sink>(
+    build: &BuildRef<'_>,
+    level: Level,
+    place: usize,
+    left: usize,
+    page: &mut PageWriter<'_, W>,
+)
+    ensures { WroteParts W.written page.old page.new (log_end (build_value build.now) level place left) }
+{
+    write_closing(build, level, place, page);
+    write_group_end(left, page)
+}

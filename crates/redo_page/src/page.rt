@@ -1,0 +1,203 @@
+//! The page of a build.
+ghost use Rattle.std.specs.Prelude.{◌≡◌, true, None, IfOk};
+ghost use Rattle.std.specs.List.{flat_map, list_all};
+ghost use Rattle.redo_device.specs.Sink.{Writes};
+ghost use Rattle.redo_html.specs.Parts.{part_html};
+ghost use Rattle.redo_logs.specs.Logs.{has_ended};
+ghost use Rattle.redo_view.specs.Form.{FormWrites};
+ghost use Rattle.redo_view.specs.View.{find_unknown};
+ghost use Rattle.redo_page.specs.Frame.{footer_parts};
+ghost use Rattle.redo_page.specs.Failed.{AreFailures};
+ghost use Rattle.redo_page.specs.Page.{options_of, page_html, page_outline, request_of, top_parts_of};
+ghost use Rattle.redo_page.specs.Private.PageTexts.{AreTexts};
+ghost use Rattle.redo_page.specs.Private.Writing.{WroteParts};
+
+use crate::failed::{Failures, MAX_ARTICLES, find_failures, first_of, write_failed};
+use crate::frame::{Verdict, command, title_text, write_footer, write_head, write_header};
+use crate::tree::write_tree;
+use crate::writer::PageWriter;
+use redo_device::{Broken, Sink};
+use redo_line::TargetName;
+use redo_logs::LogTable;
+use redo_outline::{Node, Outline};
+use redo_view::{FormFault, Options, Render};
+use std::alloc::{AllocError, Global};
+
+/// What a page is asked.
+#[derive(Clone, Copy)]
+pub struct PageRequest<'a> {
+    /// A title, or nothing. The page has it at its top, and the browser in its tab.
+    pub title: &'a [u8],
+    /// The capture directory, as it was given.
+    pub dir: &'a [u8],
+    /// Whether targets that needed no rebuild are shown too.
+    pub unchanged: bool,
+    /// Whether every mention is shown, with what was done about the target's lock.
+    pub debug_locks: bool,
+}
+
+/// Writes the page of the requested targets, each of which must have a log. All logs must have ended.
+///
+/// Nothing is written before everything that the page shows at its top is known. A write that fails or takes no byte ends the call, and
+/// nothing is written after it. `out` isn't flushed. Nested logs take memory, but no stack.
+pub fn write_page<W: Sink>(
+    alloc: Global,
+    table: &LogTable,
+    request: &PageRequest<'_>,
+    requested: &[TargetName],
+    out: &mut W,
+) -> Result<(), FormFault>
+    requires ended { list_all has_ended table.now ≡ true }
+    requires known { find_unknown table.now requested.now ≡ None }
+    ensures { FormWrites (W.written out.old) (W.written out.new) (page_html (request_of request.now) table.now requested.now) result }
+{
+    let options = options_of(request);
+    let outline = Outline::new(alloc, table, &options, requested)?;
+    write_outlined(alloc, table, request, &options, requested, &outline, out)
+}
+
+impl Render for PageRequest<'_> {
+    ghost text = { λ request. page_html (request_of request) };
+
+    fn render<W: Sink>(
+        &self,
+        alloc: Global,
+        table: &LogTable,
+        requested: &[TargetName],
+        out: &mut W,
+    ) -> Result<(), FormFault> {
+        write_page(alloc, table, self, requested, out)
+    }
+}
+
+// Writes the page of which this is the outline.
+fn write_outlined<W: Sink>(
+    alloc: Global,
+    table: &LogTable,
+    request: &PageRequest<'_>,
+    options: &Options,
+    requested: &[TargetName],
+    outline: &Outline,
+    out: &mut W,
+) -> Result<(), FormFault>
+    requires ended { list_all has_ended table.now ≡ true }
+    requires known { find_unknown table.now requested.now ≡ None }
+    requires options { options.now ≡ options_of (request_of request.now) }
+    requires outline { outline.now ≡ page_outline (request_of request.now) table.now requested.now }
+    ensures { FormWrites (W.written out.old) (W.written out.new) (page_html (request_of request.now) table.now requested.now) result }
+{
+    let nodes = outline.nodes();
+    let failures = find_failures(alloc, nodes)?;
+    let texts = Texts::new(alloc, request, options, requested, nodes, &failures)?;
+    write_top(table, request, &texts, nodes, &failures, out)?;
+    let articles = first_of(MAX_ARTICLES, failures.first.as_slice());
+    write_tree(alloc, table, options, requested, outline, articles, out)?;
+    write_bottom(request, &texts, nodes.len(), out)?;
+    Ok(())
+}
+
+// The texts of a page that aren't in its logs.
+#[derive(Drop)]
+struct Texts {
+    verdict: Verdict,
+    heading: Vec<u8>,
+    title: Vec<u8>,
+    command: Vec<u8>,
+}
+
+impl Texts {
+    fn new(
+        alloc: Global,
+        request: &PageRequest<'_>,
+        options: &Options,
+        requested: &[TargetName],
+        nodes: &[Node],
+        failures: &Failures,
+    ) -> Result<Texts, AllocError>
+        requires { AreFailures nodes.now failures.now }
+        ensures { IfOk result (AreTexts (request_of request.now) options.now requested.now nodes.now) }
+    {
+        let failures = failures.first.len();
+        let verdict = Verdict::of(nodes, failures);
+        let heading = verdict.text(alloc, nodes, failures)?;
+        let title = title_text(alloc, request.title, verdict, &heading)?;
+        let command = command(alloc, request.dir, options, requested)?;
+        Ok(Texts {
+            verdict,
+            heading,
+            title,
+            command,
+        })
+    }
+}
+
+// Returns the options with which the logs are shown.
+fn options_of(request: &PageRequest<'_>) -> Options
+    ensures { result ≡ options_of (request_of request.now) }
+{
+    Options {
+        recursive: true,
+        unchanged: request.unchanged,
+        details: true,
+        debug_locks: request.debug_locks,
+        debug_pids: false,
+    }
+}
+
+// Writes everything before the tree.
+fn write_top<W: Sink>(
+    table: &LogTable,
+    request: &PageRequest<'_>,
+    texts: &Texts,
+    nodes: &[Node],
+    failures: &Failures,
+    out: &mut W,
+) -> Result<(), Broken>
+    requires { AreFailures nodes.now failures.now }
+    ensures { Writes (W.written out.old) (W.written out.new)
+        (flat_map part_html (top_parts_of request.now.title.now table.now texts.now.verdict
+        texts.now.title.items texts.now.heading.items nodes.now)) result }
+{
+    let mut page = PageWriter::new(out);
+    write_top_parts(table, request, texts, nodes, failures, &mut page);
+    page.result()
+}
+
+fn write_top_parts<W: Sink>(
+    table: &LogTable,
+    request: &PageRequest<'_>,
+    texts: &Texts,
+    nodes: &[Node],
+    failures: &Failures,
+    page: &mut PageWriter<'_, W>,
+)
+    requires { AreFailures nodes.now failures.now }
+    ensures { WroteParts W.written page.old page.new
+        (top_parts_of request.now.title.now table.now texts.now.verdict texts.now.title.items texts.now.heading.items nodes.now) }
+{
+    write_head(&texts.title, texts.verdict, page);
+    write_header(
+        request.title,
+        table,
+        texts.verdict,
+        &texts.heading,
+        nodes,
+        page,
+    );
+    write_failed(table, nodes, failures, page);
+}
+
+// Writes everything after the tree.
+fn write_bottom<W: Sink>(
+    request: &PageRequest<'_>,
+    texts: &Texts,
+    logs: usize,
+    out: &mut W,
+) -> Result<(), Broken>
+    ensures { Writes (W.written out.old) (W.written out.new)
+        (flat_map part_html (footer_parts request.now.dir.now texts.now.command.items logs)) result }
+{
+    let mut page = PageWriter::new(out);
+    write_footer(request.dir, &texts.command, logs, &mut page);
+    page.result()
+}

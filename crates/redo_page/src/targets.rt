@@ -1,0 +1,203 @@
+//! How targets are shown: names, statuses and counts.
+ghost use Rattle.std.specs.Prelude.{◌≡◌, codes};
+ghost use Rattle.redo_page.specs.Private.Writing.{WroteParts};
+ghost use Rattle.redo_page.specs.Targets.{name_parts, sign, magnitude, exit_parts, badge_parts, plural, lines_parts, warnings_parts, below_parts, warnings_below_parts, facts_parts, how_word, how_parts, linked_parts, target_at};
+
+use crate::writer::PageWriter;
+use redo_device::Sink;
+use redo_html::{Markup, Piece};
+use redo_line::How;
+use redo_logs::LogTable;
+use redo_outline::Node;
+
+/// Writes a name.
+pub fn write_name<W: Sink>(name: &[u8], page: &mut PageWriter<'_, W>)
+    ensures { WroteParts W.written page.old page.new (name_parts name.now) }
+{
+    page.put(&[
+        Piece::Markup(Markup::Bdi),
+        Piece::Name(name),
+        Piece::Markup(Markup::EndBdi),
+    ])
+}
+
+/// Writes a name that leads to the place of a target in the tree, if it is there.
+pub fn write_linked<W: Sink>(place: Option<usize>, name: &[u8], page: &mut PageWriter<'_, W>)
+    ensures { WroteParts W.written page.old page.new (linked_parts place name.now) }
+{
+    match place {
+        None => write_name(name, page),
+        Some(place) => page.put(&[
+            Piece::Markup(Markup::TargetLink(place as u64)),
+            Piece::Markup(Markup::Bdi),
+            Piece::Name(name),
+            Piece::Markup(Markup::EndBdi),
+            Piece::Markup(Markup::EndLink),
+        ]),
+    }
+}
+
+/// Returns the sign of a status, if it is negative.
+pub fn sign_of(status: i32) -> &'static [u8]
+    ensures { result.now ≡ sign status }
+{
+    if status < 0 { b"-" } else { b"" }
+}
+
+/// Returns a status without its sign.
+pub fn magnitude_of(status: i32) -> u64
+    ensures { result ≡ magnitude status }
+{
+    u64::from(status.unsigned_abs())
+}
+
+/// Writes the badge of a target that failed.
+pub fn write_exit<W: Sink>(status: i32, page: &mut PageWriter<'_, W>)
+    ensures { WroteParts W.written page.old page.new (exit_parts status) }
+{
+    page.put(&[
+        Piece::Name(b" "),
+        Piece::Markup(Markup::ExitBadge),
+        Piece::Name(b"exit "),
+        Piece::Name(sign_of(status)),
+        Piece::Number(magnitude_of(status)),
+        Piece::Markup(Markup::EndBadge),
+    ])
+}
+
+/// Writes the badge of a target that failed, or of which no record says how it ended.
+pub fn write_badge<W: Sink>(status: Option<i32>, page: &mut PageWriter<'_, W>)
+    ensures { WroteParts W.written page.old page.new (badge_parts status) }
+{
+    match status {
+        None => page.put(&[
+            Piece::Name(b" "),
+            Piece::Markup(Markup::OpenBadge),
+            Piece::Name(b"not closed"),
+            Piece::Markup(Markup::EndBadge),
+        ]),
+        Some(0) => {}
+        Some(status) => write_exit(status, page),
+    }
+}
+
+/// Returns a word that depends on a number.
+pub fn plural<'a>(number: u64, one: &'a [u8], many: &'a [u8]) -> &'a [u8]
+    ensures { result.now ≡ plural number one.now many.now }
+{
+    if number == 1 { one } else { many }
+}
+
+fn write_lines<W: Sink>(lines: u64, page: &mut PageWriter<'_, W>)
+    ensures { WroteParts W.written page.old page.new (lines_parts lines) }
+{
+    if lines == 0 {
+        return;
+    }
+    page.put(&[
+        Piece::Name(b" "),
+        Piece::Markup(Markup::Small),
+        Piece::Number(lines),
+        Piece::Name(plural(lines, b" line", b" lines")),
+        Piece::Markup(Markup::EndSmall),
+    ])
+}
+
+fn write_warnings<W: Sink>(warnings: u64, page: &mut PageWriter<'_, W>)
+    ensures { WroteParts W.written page.old page.new (warnings_parts warnings) }
+{
+    if warnings == 0 {
+        return;
+    }
+    page.put(&[
+        Piece::Name(b" "),
+        Piece::Markup(Markup::Small),
+        Piece::Markup(Markup::Warnings),
+        Piece::Number(warnings),
+        Piece::Name(plural(warnings, b" warning", b" warnings")),
+        Piece::Markup(Markup::EndWarnings),
+        Piece::Markup(Markup::EndSmall),
+    ])
+}
+
+fn write_below<W: Sink>(below: usize, page: &mut PageWriter<'_, W>)
+    ensures { WroteParts W.written page.old page.new (below_parts below) }
+{
+    if below == 0 {
+        return;
+    }
+    page.put(&[
+        Piece::Name(b" "),
+        Piece::Markup(Markup::Small),
+        Piece::Number(below as u64),
+        Piece::Name(b" below"),
+        Piece::Markup(Markup::EndSmall),
+    ])
+}
+
+fn write_warnings_below<W: Sink>(warnings: u64, page: &mut PageWriter<'_, W>)
+    ensures { WroteParts W.written page.old page.new (warnings_below_parts warnings) }
+{
+    if warnings == 0 {
+        return;
+    }
+    page.put(&[
+        Piece::Name(b" "),
+        Piece::Markup(Markup::Small),
+        Piece::Name(b"with "),
+        Piece::Markup(Markup::Warnings),
+        Piece::Number(warnings),
+        Piece::Name(plural(warnings, b" warning", b" warnings")),
+        Piece::Markup(Markup::EndWarnings),
+        Piece::Markup(Markup::EndSmall),
+    ])
+}
+
+/// Writes the facts that follow the name of a target.
+pub fn write_facts<W: Sink>(node: &Node, page: &mut PageWriter<'_, W>)
+    ensures { WroteParts W.written page.old page.new (facts_parts node.now) }
+{
+    write_badge(node.status, page);
+    write_lines(node.lines, page);
+    write_warnings(node.warnings, page);
+    write_below(node.below, page);
+    write_warnings_below(node.warnings_below, page)
+}
+
+fn word_of(how: How) -> &'static [u8]
+    ensures { result.now ≡ how_word how }
+{
+    match how {
+        How::Made => b"made",
+        How::Waiting => b"waiting",
+        How::Locked => b"locked",
+        How::Unlocked => b"unlocked",
+        How::Unchanged => b"unchanged",
+    }
+}
+
+/// Writes what was done about a target's lock, if it is shown.
+pub fn write_how<W: Sink>(shown: bool, how: How, page: &mut PageWriter<'_, W>)
+    ensures { WroteParts W.written page.old page.new (how_parts shown how) }
+{
+    if !shown {
+        return;
+    }
+    page.put(&[
+        Piece::Name(b" "),
+        Piece::Markup(Markup::Small),
+        Piece::Name(word_of(how)),
+        Piece::Markup(Markup::EndSmall),
+    ])
+}
+
+/// Returns the target of the log with this number, or the empty name if there is no such log.
+pub fn target_at(table: &LogTable, number: u32) -> &[u8]
+    ensures { result.now ≡ target_at table.now number }
+{
+    if number < table.len() {
+        table.name(number).bytes()
+    } else {
+        b""
+    }
+}
