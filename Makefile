@@ -1,12 +1,13 @@
 # make try              builds the program without proofs, in a minute, and runs it on the captures in examples/variants
 # make run              proves and builds the program, and runs it on the captures in sample/
 # make check            runs all checks that a change must pass
-# make install          proves and builds the program, and installs in $(PREFIX): the program with the script bin/redo-log, its
-#                       manual page, completions for bash, zsh and fish, and the files of install-capture;
-#                       `make -o build install` installs the program as it was built before
+# make build            proves and builds the program and redo-log-html, which writes a page of HTML
+# make install          does the same, and installs in $(PREFIX): both programs with the scripts that start them, their manual
+#                       pages, completions for bash, zsh and fish, and the files of install-capture;
+#                       `make -o build install` installs the programs as they were built before
 # make install-capture  installs $(PREFIX)/bin/redo-log-capture, which captures builds by make, and the files that it needs
-# make deb              proves and builds the program, and creates the Debian package out/redo-log_VERSION_amd64.deb;
-#                       `make -o build deb` packs the program as it was built before
+# make deb              proves and builds both programs, and creates the Debian package out/redo-log_VERSION_amd64.deb;
+#                       `make -o build deb` packs the programs as they were built before
 # make dist             does the same with the archive out/redo-log-VERSION-linux-x86_64.tar.gz, for any prefix
 PREFIX ?= /usr/local
 # The directory of zsh's completions, relative to the prefix.
@@ -31,21 +32,27 @@ try:
 	else cat "$$stderr_file"; rm "$$stderr_file"; exit 1; fi
 
 run:
-	packaging/prove --dir ../../sample all
+	packaging/prove run --dir ../../sample all
 
 check:
 	bash .ci/run
 
 build:
-	packaging/prove --help >/dev/null
+	packaging/prove build
 
 install: build install-capture
 	install -D crates/redo_log/out/redo_log '$(DEST)/libexec/redo-log/redo-log'
 	install -D shell/launcher '$(DEST)/bin/redo-log'
 	install -D -m 644 docs/redo-log.1 '$(DEST)/share/man/man1/redo-log.1'
 	install -D -m 644 shell/redo-log.bash '$(DEST)/share/bash-completion/completions/redo-log'
-	install -D -m 644 shell/_redo-log '$(DEST)/$(ZSH_FUNCTIONS)/_redo-log'
+	install -D -m 644 -t '$(DEST)/$(ZSH_FUNCTIONS)' shell/_redo-log shell/_redo_log_names
 	install -D -m 644 shell/redo-log.fish '$(DEST)/share/fish/vendor_completions.d/redo-log.fish'
+	install -D crates/redo_log_html/out/redo_log_html '$(DEST)/libexec/redo-log/redo-log-html'
+	install -D shell/launcher '$(DEST)/bin/redo-log-html'
+	install -D -m 644 docs/redo-log-html.1 '$(DEST)/share/man/man1/redo-log-html.1'
+	install -D -m 644 shell/redo-log-html.bash '$(DEST)/share/bash-completion/completions/redo-log-html'
+	install -D -m 644 shell/_redo-log-html '$(DEST)/$(ZSH_FUNCTIONS)/_redo-log-html'
+	install -D -m 644 shell/redo-log-html.fish '$(DEST)/share/fish/vendor_completions.d/redo-log-html.fish'
 
 install-capture:
 	install -d '$(DEST)/bin' '$(DEST)/libexec/redo-log'

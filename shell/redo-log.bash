@@ -56,7 +56,8 @@ _redo_log_names() {
     }' "$dir/names"
 }
 
-_redo_log() {
+# Completes the word at the cursor for a program with these `options`.
+_redo_log_complete() {
   local words quote line=${COMP_LINE:0:COMP_POINT} typed start word option= dir=
   _redo_log_words "$line"
   typed=${words[-1]}
@@ -65,16 +66,16 @@ _redo_log() {
     case $option in
       --) ;;
       --dir) dir=${word/#~\//~/} option= ;;
-      --senders | --capacity) option= ;;
+      --senders | --capacity | --output | --title) option= ;;
       *)
         case $word in
           --dir=*) dir=${word#*=} ;;
-          -- | --dir | --senders | --capacity) option=$word ;;
+          -- | --dir | --senders | --capacity | --output | --title) option=$word ;;
         esac
         ;;
     esac
   done
-  # The default of the installed redo-log.
+  # The default of the installed program.
   [[ -z $dir && ! -e names && -e capture/names ]] && dir=capture
   dir=${dir:-.}
   # Readline replaces only $2, the end of the typed text: it begins after an open quote, or after a character such as `:`.
@@ -85,13 +86,17 @@ _redo_log() {
   case $option:$typed in
     # A capture directory contains no directory except a hidden one.
     --dir:* | :--dir=*) [[ $typed == */ && -d ${typed#--dir=}.capture ]] || compopt -o dirnames ;;
-    --senders:* | --capacity:*) ;;
-    :-*)
-      mapfile -t COMPREPLY < <(compgen -W '-r --recursive -u --unchanged --no-details --debug-locks --debug-pids --dir
-        --senders --capacity -h --help -V --version' -- "$typed")
-      ;;
+    --output:* | :--output=*) compopt -o default ;;
+    --senders:* | --capacity:* | --title:*) ;;
+    :-*) mapfile -t COMPREPLY < <(compgen -W "$options" -- "$typed") ;;
     *) mapfile -t COMPREPLY < <(_redo_log_names) ;;
   esac
+}
+
+_redo_log() {
+  local options='-r --recursive -u --unchanged --no-details --debug-locks --debug-pids --dir --senders --capacity
+    -h --help -V --version'
+  _redo_log_complete "$@"
 }
 
 complete -o nosort -F _redo_log redo-log

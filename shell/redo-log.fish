@@ -11,17 +11,17 @@ function __redo_log_names
         if test "$option" = --dir
             set directory (string replace -r '^~/' ~/ -- $word)
             set option
-        else if contains -- "$option" --senders --capacity
+        else if contains -- "$option" --senders --capacity --output --title
             set option
         else if test "$option" != --
             if string match -q -- '--dir=*' $word
                 set directory (string replace -- --dir= '' $word)
-            else if contains -- $word -- --dir --senders --capacity
+            else if contains -- $word -- --dir --senders --capacity --output --title
                 set option $word
             end
         end
     end
-    # The default of the installed redo-log.
+    # The default of the installed program.
     if test -z "$directory"
         set directory .
         if not test -e names; and test -e capture/names

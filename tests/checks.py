@@ -6,6 +6,7 @@ import sys
 
 TOP = os.path.dirname(os.path.dirname(os.path.abspath(__file__)))
 PROGRAM = os.path.join(TOP, "crates/redo_log/out/redo_log")
+HTML_PROGRAM = os.path.join(TOP, "crates/redo_log_html/out/redo_log_html")
 # The program that makes single calls of the libraries.
 DRIVER = os.path.join(TOP, "crates/redo_log_driver/out/redo_log_driver")
 # The dynamic symbols of capture.so: those that make looks up, those that it imports, and the libraries that it needs.

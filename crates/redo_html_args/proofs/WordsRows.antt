@@ -1,0 +1,63 @@
+-- Examples of command lines, computed: the jobs that they describe, and which of them are rejected or request help.
+use Rattle.std.proofs.Common.{◌≡◌, ℕ, Bool, true, false, List, [], ◌∷◌, Option, Some, None, refl}
+use Rattle.std.specs.Prelude.{codes}
+use Rattle.std.specs.List.{AllByRecursion}
+use Rattle.clap.proofs.OnLiterals.{clap_on_literals}
+use Rattle.redo_args.specs.declared.words_fault.WordsFault.TheVariants.{Help, Refused}
+use Rattle.redo_html_args.specs.CommandLine.{redo_log_html}
+use Rattle.redo_html_args.specs.Job.{PageParts}
+use Rattle.redo_html_args.specs.Words.{fault_of_words, parse_parts}
+
+record Row : Type 0 where
+  words : List (List ℕ)
+  parts_are : PageParts
+
+-- A row: the arguments, and their directory, output file, title, what is shown, number of senders and targets.
+abbrev asks : List (List ℕ) → List ℕ → Option (List ℕ) → Option (List ℕ) → Bool → Bool → ℕ → List (List ℕ) → Row
+asks words dir output title unchanged debug_locks senders targets =
+    record { words = words; parts_are = record { dir = dir; output = output; title = title; unchanged = unchanged; debug_locks = debug_locks; senders = senders; targets = targets } }
+
+abbrev jobs : List Row
+jobs =
+    asks [] (codes ".") None None false false 4 (codes "all" ∷ []) ∷
+    asks (codes "b" ∷ codes "a" ∷ []) (codes ".") None None false false 4 (codes "b" ∷ codes "a" ∷ []) ∷
+    asks (codes "--dir" ∷ codes "d" ∷ codes "--output" ∷ codes "f" ∷ codes "--title" ∷ codes "t" ∷ codes "-u" ∷ codes "--senders" ∷ codes "2" ∷ codes "--" ∷ codes "-x" ∷ []) (codes "d") (Some (codes "f"))
+    (Some (codes "t")) true false 2 (codes "-x" ∷ []) ∷
+    asks (codes "--unchanged" ∷ codes "--debug-locks" ∷ codes "--title=" ∷ codes "--output=-" ∷ []) (codes ".") (Some (codes "-")) (Some []) true true 4 (codes "all" ∷ []) ∷
+    asks (codes "b" ∷ codes "--dir=" ∷ [] ∷ codes "--senders=64" ∷ codes "-" ∷ []) [] None None false false 64 (codes "b" ∷ [] ∷ codes "-" ∷ []) ∷
+    []
+
+these_jobs : AllByRecursion (λ row. (fault_of_words row.words ≡ None) × (parse_parts row.words ≡ row.parts_are)) jobs
+unfolding redo_log_html clap_on_literals
+these_jobs = ((refl, refl), ((refl, refl), ((refl, refl), ((refl, refl), ((refl, refl), tt)))))
+
+abbrev refused : List (List (List ℕ))
+refused =
+    (codes "-r" ∷ codes "all" ∷ []) ∷
+    (codes "--no-details" ∷ codes "all" ∷ []) ∷
+    (codes "--senders" ∷ codes "0" ∷ codes "all" ∷ []) ∷
+    (codes "--senders" ∷ codes "65" ∷ codes "all" ∷ []) ∷
+    (codes "--capacity" ∷ codes "1" ∷ codes "all" ∷ []) ∷
+    (codes "all" ∷ codes "--dir" ∷ []) ∷
+    (codes "all" ∷ codes "--output" ∷ []) ∷
+    (codes "--output" ∷ codes "a" ∷ codes "--output" ∷ codes "b" ∷ []) ∷
+    (codes "-u" ∷ codes "-u" ∷ codes "all" ∷ []) ∷
+    (codes "--unchanged=true" ∷ codes "all" ∷ []) ∷
+    (codes "-f" ∷ codes "--help" ∷ []) ∷
+    []
+
+these_refused : AllByRecursion (λ words. fault_of_words words ≡ Some Refused) refused
+unfolding redo_log_html clap_on_literals
+these_refused = (refl, (refl, (refl, (refl, (refl, (refl, (refl, (refl, (refl, (refl, (refl, tt)))))))))))
+
+abbrev asking_for_help : List (List (List ℕ))
+asking_for_help =
+    (codes "--help" ∷ []) ∷
+    (codes "-h" ∷ []) ∷
+    (codes "all" ∷ codes "--help" ∷ []) ∷
+    (codes "-uh" ∷ codes "all" ∷ []) ∷
+    []
+
+these_ask_for_help : AllByRecursion (λ words. fault_of_words words ≡ Some Help) asking_for_help
+unfolding redo_log_html clap_on_literals
+these_ask_for_help = (refl, (refl, (refl, (refl, tt))))

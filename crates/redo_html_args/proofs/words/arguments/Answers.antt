@@ -1,0 +1,21 @@
+use Rattle.std.proofs.Common.{[], ◌∷◌, refl, subst, sym}
+use Rattle.std.proofs.lemmas.Result.{IfOk-weaker}
+use Rattle.redo_args.specs.Private.Arguments.{AreArguments}
+use Rattle.redo_args.proofs.ErrorLemmas.{map_err_if_ok}
+use Rattle.redo_html_args.specs.CommandLine.{rules}
+use Rattle.redo_html_args.proofs.words.arguments.Goals as goal
+
+pub returns : goal.returns
+returns c =
+    let items = c.text_option.result ∷ c.text_option-2.result ∷ c.text_option-3.result ∷ c.letter_flag.result ∷ c.flag.result ∷ c.number.result ∷ c.targets.result ∷ [] in
+    let are : AreArguments rules items = (
+      rw (c.text_option.ensures.rule, c.text_option-2.ensures.rule, c.text_option-3.ensures.rule, c.letter_flag.ensures.rule, c.flag.ensures.rule, c.number.ensures.rule, c.targets.ensures.rule) refl,
+      (
+        c.text_option.ensures.local,
+        (
+          c.text_option-2.ensures.local,
+          (c.text_option-3.ensures.local, (c.letter_flag.ensures.local, (c.flag.ensures.local, (c.number.ensures.local, (c.targets.ensures.local, tt))))),
+        ),
+      ),
+    ) in
+    map_err_if_ok c.vec.result _ c.map_err.result c.map_err.ensures.cases _ (IfOk-weaker c.vec.result _ _ (λ v is. subst (AreArguments rules) (sym is) are) c.vec.ensures.items)

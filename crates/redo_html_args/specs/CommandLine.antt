@@ -1,0 +1,31 @@
+-- The definition of the command line of `redo-log-html` for `clap`: seven arguments, each with a rule.
+--
+-- `redo_args` defines the kinds of rules and says what their fields mean.
+use Rattle.std.specs.Prelude.{true, List, [], ◌∷◌, Some, codes}
+use Rattle.clap.specs.Simple.{App, new_app, new_rule, on_top}
+use Rattle.clap.specs.Walk.{Rule, Text}
+use Rattle.clap.specs.declared.builder.action.ArgAction.TheVariants.{Append, SetTrue}
+use Rattle.redo_args.specs.CommandLine.{flag_rule, letter_rule, number_rule, text_rule, with_rules}
+
+-- The arguments that are not options: any number of them.
+abbrev pub optional_words_rule : Text → Rule
+optional_words_rule id = record (new_rule id) { value_names = 1; action = Some Append }
+
+-- `--dir DIR`, `--output FILE`, `--title TEXT`, `-u` and `--unchanged`, `--debug-locks`, `--senders N`, `TARGET..`
+abbrev pub rules : List Rule
+rules =
+    text_rule (codes "dir") ∷
+    text_rule (codes "output") ∷
+    text_rule (codes "title") ∷
+    letter_rule (codes "unchanged") 117 ∷
+    flag_rule (codes "debug_locks") (codes "debug-locks") SetTrue ∷
+    number_rule (codes "senders") 64 ∷
+    optional_words_rule (codes "target") ∷
+    []
+
+-- A command without arguments. The name of the program is not part of what it parses.
+abbrev pub plain : App
+plain = on_top (λ shape. record shape { no_binary_name = true }) (new_app (codes "redo-log-html"))
+
+unfoldable pub redo_log_html : App
+redo_log_html = with_rules rules plain

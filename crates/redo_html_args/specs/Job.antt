@@ -1,0 +1,33 @@
+-- A job: what the command-line arguments ask for, computed from the values that `clap` found.
+--
+-- The values are a list of rows, one for each argument of the command line that has a value, given or by default. A row is
+-- looked up by the id of its argument.
+use Rattle.std.specs.Prelude.{ℕ, Bool, List, [], ◌∷◌, Option, codes, unwrap_or}
+use Rattle.clap.specs.Walk.{Row, Text, all_of, first_of}
+use Rattle.redo_args.specs.Job.{dir_of, is_on, number_or}
+
+-- The capture directory, the output file and the title of the page, what is shown, the number of senders, and the arguments that
+-- name the requested targets.
+pub record PageParts : Type 0 where
+  pub dir : List ℕ
+  pub output : Option (List ℕ)
+  pub title : Option (List ℕ)
+  pub unchanged : Bool
+  pub debug_locks : Bool
+  pub senders : ℕ
+  pub targets : List (List ℕ)
+
+-- The arguments that are not options, or `all` if there are none.
+abbrev pub targets_or_all : List Row → List Text
+targets_or_all rows = unwrap_or (all_of (codes "target") rows) (codes "all" ∷ [])
+
+abbrev pub parts_of : List Row → PageParts
+parts_of rows = record {
+  dir = dir_of rows;
+  output = first_of (codes "output") rows;
+  title = first_of (codes "title") rows;
+  unchanged = is_on (codes "unchanged") rows;
+  debug_locks = is_on (codes "debug_locks") rows;
+  senders = number_or 4 (codes "senders") rows;
+  targets = targets_or_all rows;
+}

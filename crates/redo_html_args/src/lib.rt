@@ -1,0 +1,10 @@
+//! The command line of `redo-log-html`: the job that its arguments describe, or why they describe none; and the help
+//! text.
+#![tactic(auto)]
+
+mod job;
+mod words;
+
+pub use job::PageJob;
+pub use redo_args::WordsFault;
+pub use words::{help_text, read_words};

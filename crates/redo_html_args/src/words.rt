@@ -1,0 +1,137 @@
+ghost use Rattle.std.specs.Prelude.{◌≡◌, ◌⊎◌, None, Some, codes, false, IfOk, IfErr, map};
+ghost use Rattle.std.specs.String.{string_bytes};
+ghost use Rattle.clap.specs.Matches.{found_of};
+ghost use Rattle.clap.specs.Simple.{app_of, matches_of};
+ghost use Rattle.clap.specs.Walk.{rows_of, rule_of};
+ghost use Rattle.redo_args.specs.declared.words_fault.WordsFault.TheVariants.{OutOfMemory};
+ghost use Rattle.redo_args.specs.Private.Arguments.{AreArguments};
+ghost use Rattle.redo_html_args.specs.CommandLine.{optional_words_rule, redo_log_html, rules};
+ghost use Rattle.redo_html_args.specs.Private.Matches.{AreSound};
+ghost use Rattle.redo_html_args.specs.Words.{fault_of_words, parse_parts};
+
+use crate::job::{PageJob, job_from_matches};
+use clap::{Arg, ArgAction, ArgMatches, Command};
+use redo_args::WordsFault;
+use redo_args::arguments::{flag, letter_flag, number, text_option};
+use std::alloc::{AllocError, Global};
+
+const ABOUT: &str =
+    "Shows the logs of a parallel build as one HTML page, as if nothing had run in parallel.";
+
+const AFTER_HELP: &str = "Example:
+  redo-log-html --dir captures --output build.html    writes a page of the whole build
+
+Exit status:
+   0  the page, this help or the version was written
+   2  the command line is invalid
+   3  `names` has a bad line, a duplicate number or name, or too many lines
+   4  a log has a bad record, has data after its closing record, is not closed, or is too long
+   5  a log or `names` can't be read
+   6  the page can't be written
+   7  out of memory, or no thread can be started
+  24  a requested target is not listed";
+
+/// Parses the command-line arguments, without the name of the program:
+///
+/// `[--dir DIR] [--output FILE] [--title TEXT] [-u|--unchanged] [--debug-locks] [--senders N] [TARGET..]`
+///
+/// By default, the directory is `.`, the number of senders is 4, and the target is `all`. The rules are the same
+/// as for `redo-log` ([`redo_args::read_words`]), except that no target need be named.
+pub fn read_words(alloc: Global, words: Vec<String>) -> Result<PageJob, WordsFault>
+    // The arguments are valid, and the job is the one that they describe.
+    ensures no_fault { IfOk result (λ _. fault_of_words (map string_bytes words.items) ≡ None) }
+    ensures job { IfOk result (λ job. job ≡ parse_parts (map string_bytes words.items)) }
+
+    // They request help or are rejected; the fault says which. Or memory ran out.
+    ensures fault { IfErr result (λ fault. (fault ≡ OutOfMemory) ⊎ (fault_of_words (map string_bytes words.items) ≡ Some fault)) }
+{
+    let matches = parse_arguments(alloc, words.as_slice())?;
+    job_from_matches(alloc, &matches).map_err(WordsFault::from)
+}
+
+/// Returns the help text: the arguments and options, an example, and the exit statuses. It ends with a
+/// line feed. It also lists `--version`, which `read_words` rejects: the program handles it if it is the
+/// only argument.
+pub fn help_text(alloc: Global) -> Result<String, AllocError> {
+    let mut command = command(alloc)?.version("");
+    let text = command.render_help();
+    drop(command);
+    text
+}
+
+fn command<'a>(alloc: Global) -> Result<Command<'a>, AllocError>
+    ensures { IfOk result (λ command. app_of command ≡ redo_log_html) }
+{
+    let arguments = arguments(alloc)?;
+    Command::new(alloc, "redo-log-html")
+        .about(ABOUT)
+        .after_help(AFTER_HELP)
+        .no_binary_name(true)
+        .args(arguments)
+}
+
+// All arguments and options, in the order of the help text.
+fn arguments<'a>(alloc: Global) -> Result<Vec<Arg<'a>>, AllocError>
+    ensures { IfOk result (λ arguments. AreArguments rules arguments.items) }
+{
+    vec![in alloc;
+        text_option(
+            alloc,
+            "dir",
+            "DIR",
+            "The capture directory: `names`, and a `log.NUMBER` for each line of it [default: .]",
+        ),
+        text_option(
+            alloc,
+            "output",
+            "FILE",
+            "Write the page to FILE, which it replaces once it is complete [default: standard output]",
+        ),
+        text_option(alloc, "title", "TEXT", "The title of the page"),
+        letter_flag(
+            alloc,
+            "unchanged",
+            'u',
+            "Show targets that needed no rebuild too"
+        ),
+        flag(
+            alloc,
+            "debug_locks",
+            "debug-locks",
+            ArgAction::SetTrue,
+            "Show messages about waiting and locking",
+        ),
+        number(
+            alloc,
+            "senders",
+            64,
+            "The number of threads that read logs, 1 to 64 [default: 4]"
+        ),
+        targets(alloc),
+    ]
+    .map_err(AllocError::from)
+}
+
+// The arguments that are not options.
+fn targets<'a>(alloc: Global) -> Arg<'a>
+    ensures rule { rule_of result ≡ optional_words_rule (codes "target") }
+    ensures local { result.global ≡ false }
+{
+    Arg::new(alloc, "target")
+        .value_name("TARGET")
+        .action(ArgAction::Append)
+        .help("A target to show: its name in `names`, in any spelling [default: all]")
+}
+
+// The values that the arguments give to each option.
+fn parse_arguments<'a>(alloc: Global, words: &'a [String]) -> Result<ArgMatches<'a>, WordsFault>
+    ensures sound { IfOk result (λ matches. AreSound (rows_of (found_of matches))) }
+    ensures entries { IfOk result (λ matches. rows_of (found_of matches) ≡ matches_of redo_log_html (map string_bytes words.entry.now)) }
+    ensures no_fault { IfOk result (λ _. fault_of_words (map string_bytes words.entry.now) ≡ None) }
+    ensures fault { IfErr result (λ fault. (fault ≡ OutOfMemory) ⊎ (fault_of_words (map string_bytes words.entry.now) ≡ Some fault)) }
+{
+    let mut command = command(alloc)?;
+    let found = command.try_get_matches_from_mut(words);
+    drop(command);
+    found.map_err(WordsFault::from)
+}

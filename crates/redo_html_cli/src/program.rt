@@ -1,0 +1,167 @@
+ghost use Rattle.std.specs.Prelude.{◌≡◌, ◌≢◌, ◌⊎◌, IfErr, length};
+ghost use Rattle.redo_log_cli.specs.declared.failure.Failure.TheVariants.{Memory};
+ghost use Rattle.redo_log_cli.specs.Failure.{IsBeforeRun, IsReportable, IsStatus, status_of};
+ghost use Rattle.redo_log_cli.specs.Shown.{IsShowResult, directory_call};
+ghost use Rattle.redo_page.specs.Page.{page_html, request_of};
+ghost use Rattle.redo_html_cli.specs.Private.Request.{request_for, title_for};
+
+use redo_html_args::{PageJob, WordsFault, help_text, read_words};
+pub use redo_log_cli::process_arguments;
+use redo_log_cli::{
+    Failure, Output, Shown, create_output, exit_status, print, report_before_run_as,
+    show_directory, show_directory_in_file,
+};
+use redo_page::PageRequest;
+use std::alloc::{AllocError, Global};
+use std::io::Write;
+use std::random::RandomSource;
+use std::rt::Files;
+use std::sync::Wait;
+use std::thread::Threads;
+
+/// The name with which error messages begin.
+const PROGRAM: &str = "redo-log-html";
+
+/// The capacity of the mailbox. It isn't an option: it changes nothing that a page shows.
+const CAPACITY: u32 = 64;
+
+/// Writes the error message of `redo-log-html` for a failure that is neither the fault of a stream nor an unknown
+/// argument, and returns its exit status. If an allocation fails, it returns the status of `Failure::Memory` instead.
+pub fn report_before_run<E: Write>(alloc: Global, failure: &Failure, err: &mut E) -> u8
+    requires { IsBeforeRun failure.now }
+    ensures { (result ≡ status_of failure.now) ⊎ (result ≡ status_of Memory) }
+{
+    report_before_run_as(alloc, PROGRAM, failure, err)
+}
+
+/// Runs the program: reads its command-line arguments, which don't include its own name, and the directory that they
+/// name, and writes the page to the output file that they name, or else to `out`. If it fails, it writes one line to
+/// `err`. It returns the exit status; docs/redo-log-html.1 has the table.
+pub fn command<
+    R: Files<File: Send> + RandomSource + Threads + Wait + Sync + AllocGlobal,
+    W: Write,
+    E: Write,
+>(rt: &R, words: Vec<String>, out: &mut W, err: &mut E) -> u8
+    ensures { IsStatus result }
+{
+    let alloc = rt.alloc();
+    match read_words(alloc, words) {
+        Ok(job) => perform(rt, &job, out, err),
+        Err(WordsFault::Help) => print_help(alloc, out, err),
+        Err(fault) => report_before_run(alloc, &Failure::Words(fault), err),
+    }
+}
+
+// Performs a job, and returns the exit status.
+fn perform<
+    R: Files<File: Send> + RandomSource + Threads + Wait + Sync + AllocGlobal,
+    W: Write,
+    E: Write,
+>(rt: &R, job: &PageJob, out: &mut W, err: &mut E) -> u8
+    ensures { IsStatus result }
+{
+    match job.output() {
+        None => exit_status(
+            rt.alloc(),
+            PROGRAM,
+            &show_job(rt, job, out),
+            job.targets(),
+            err,
+        ),
+        Some(path) => match create_output(rt, path) {
+            Ok(output) => exit_status(
+                rt.alloc(),
+                PROGRAM,
+                &show_job_in_file(rt, job, output),
+                job.targets(),
+                err,
+            ),
+            Err(failure) => report_before_run(rt.alloc(), &failure, err),
+        },
+    }
+}
+
+// Writes the page of a job.
+fn show_job<R: Files<File: Send> + RandomSource + Threads + Wait + Sync + AllocGlobal, W: Write>(
+    rt: &R,
+    job: &PageJob,
+    out: &mut W,
+) -> Shown
+    ensures shown { IsShowResult (directory_call (page_html (request_for job.now)) result.index job.now.targets) result.outcome }
+    ensures reportable { IfErr result.outcome (IsReportable (length result.index) (length job.now.targets)) }
+    ensures nonzero_status { IfErr result.outcome (λ failure. status_of failure ≢ 0) }
+{
+    show_directory(
+        rt,
+        job.dir(),
+        job.senders(),
+        CAPACITY,
+        &request_for(job),
+        job.targets(),
+        out,
+    )
+}
+
+// Writes the page of a job to an output file, and closes it.
+fn show_job_in_file<R: Files<File: Send> + RandomSource + Threads + Wait + Sync + AllocGlobal>(
+    rt: &R,
+    job: &PageJob,
+    output: Output<'_, R::File>,
+) -> Shown
+    ensures shown { IsShowResult (directory_call (page_html (request_for job.now)) result.index job.now.targets) result.outcome }
+    ensures reportable { IfErr result.outcome (IsReportable (length result.index) (length job.now.targets)) }
+    ensures nonzero_status { IfErr result.outcome (λ failure. status_of failure ≢ 0) }
+{
+    show_directory_in_file(
+        rt,
+        job.dir(),
+        job.senders(),
+        CAPACITY,
+        &request_for(job),
+        job.targets(),
+        output,
+    )
+}
+
+// Returns what the page of a job is asked.
+fn request_for(job: &PageJob) -> PageRequest<'_>
+    ensures { request_of result ≡ request_for job.now }
+{
+    PageRequest {
+        title: title_of(job),
+        dir: job.dir().as_bytes(),
+        unchanged: job.unchanged(),
+        debug_locks: job.debug_locks(),
+    }
+}
+
+fn title_of(job: &PageJob) -> &[u8]
+    ensures { result.now ≡ title_for job.now.title }
+{
+    match job.title() {
+        Some(title) => title.as_bytes(),
+        None => b"",
+    }
+}
+
+// Writes the help text.
+fn print_help<W: Write, E: Write>(alloc: Global, out: &mut W, err: &mut E) -> u8
+    ensures { IsStatus result }
+{
+    match help_text(alloc) {
+        Ok(text) => print(alloc, PROGRAM, &text, out, err),
+        Err(AllocError) => report_before_run(alloc, &Failure::Memory, err),
+    }
+}
+
+/// Writes the text of `--version`, and returns the exit status.
+pub fn print_version<W: Write, E: Write>(
+    alloc: Global,
+    version: &str,
+    out: &mut W,
+    err: &mut E,
+) -> u8
+    ensures { IsStatus result }
+{
+    print(alloc, PROGRAM, version, out, err)
+}
