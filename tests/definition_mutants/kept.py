@@ -14,7 +14,7 @@ imports them. The term may also cite names of the example's file. If a law is re
 """
 import os
 import re
-from contracts import HEAD, TOP, Specs, read
+from contracts import COMMENT, HEAD, TOP, Specs, read
 
 FOLDER = os.path.dirname(os.path.abspath(__file__))
 
@@ -63,7 +63,7 @@ def parts_of(text):
 
 def definitions_in(crate, file, text):
     specs = Specs([])
-    specs.add(f"Rattle.{crate}.specs.{file}", re.sub(r"--[^\n]*", "", text))
+    specs.add(f"Rattle.{crate}.specs.{file}", COMMENT.sub("", text))
     return {place: re.sub(r"\s+", " ", own).strip() for place, (_, own) in specs.texts.items()}
 
 

@@ -9,7 +9,7 @@ import re
 import shutil
 import subprocess
 
-from contracts import TOP, Names, Specs, closing, is_private, read
+from contracts import PARTS, TOP, Names, Specs, closing, is_private, read
 from kept import BadEdit
 
 KIT = os.path.dirname(os.path.dirname(os.path.realpath(shutil.which("rt") or "rt")))
@@ -58,7 +58,8 @@ class Crate:
         variants = re.findall(r"\.TheVariants\.\{([^}]*)\}", "\n".join(self.sources))
         self.constructors = {name.split(" as ")[-1].strip() for names in variants for name in names.split(",")}
         for enum in re.findall(r"^pub data [^\n]* where\n((?: +.*\n)+)", "\n".join(self.sources), re.M):
-            self.constructors |= set(re.findall(r"^ +(\S+) *:", enum, re.M))
+            self.constructors |= {name for names in re.findall(PARTS, enum, re.M) for name in names.split()}
+        self.constructors |= lower_constructors("\n".join(self.sources))
 
     def imported(self, text):
         return {module for module in re.findall(rf"Rattle\.{self.name}\.specs\.(\w+)", text) if module in self.modules}
@@ -112,6 +113,19 @@ class Crate:
         own = [name for module in self.modules for name in re.findall(r"^unfoldable (?:pub )?(\S+) *:", self.texts[module], re.M)]
         opened = [name for text in self.sources for names in re.findall(r"^unfolding (.*)", text, re.M) for name in names.split()]
         return list(dict.fromkeys(own + opened))
+
+
+def lower_constructors(text):
+    """Returns the constructors that a text has of types of other crates: those of an enum, by another name of its module, and those
+    of a `data` in specs/ that it imports."""
+    found = set()
+    for alias in re.findall(r"^use [^\n]*\.TheVariants as (\w+)$", text, re.M):
+        found |= set(re.findall(rf"(?<![\w.]){alias}\.([A-Z]\w*)", text))
+    for crate, file, kind, names in re.findall(r"^use Rattle\.(\w+)\.specs\.([A-Z]\w*)\.([A-Z]\w*)\.\{([^}]*)\}", text, re.M):
+        path = os.path.join("crates", crate, "specs", file + ".antt")
+        if os.path.isfile(os.path.join(TOP, path)) and re.search(rf"^pub data {kind}\b", read(path), re.M):
+            found |= {name.split(" as ")[-1].strip() for name in names.split(",")}
+    return found
 
 
 def common():

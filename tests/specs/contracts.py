@@ -11,8 +11,12 @@ GHOST = re.compile(r"\bghost\s+(?!use\b)(\w+)\s*[=:]\s*$")
 ITEM = re.compile(r"\s*(?:#\[[^\]]*\]\s*)*(pub(?:\([^)]*\))? )?(?:unsafe |const )*(impl|trait|mod|struct|enum|fn)\b\s*(.*)", re.S)
 # A comment, a string or a character. Its braces do not count.
 NO_CODE = re.compile(r'//[^\n]*|/\*.*?\*/|b?"(?:\\.|[^"\\])*"|b?\'(?:\\[^\n\']+|[^\\\'\n])\'', re.S)
+# A comment of a definition. An option in a string, such as `--dir`, begins none.
+COMMENT = re.compile(r"--(?!\w)[^\n]*")
 # The beginning of a definition, even within a module with parameters.
 HEAD = r"(?:(?:pub (?!mod )|abbrev |unfoldable |record |data )+| +(?:(?:abbrev|unfoldable) (?:pub )?|pub (?:record|data) ))(?=[\w◌])"
+# The fields or the constructors that a line of a definition declares. Several constructors may share a line.
+PARTS = r"^ +(?:pub )?(?!pub |record |data )([^\s():]+(?: [^\s():]+)*) *:"
 
 
 def read(*path):
@@ -40,6 +44,16 @@ def libraries_of(program):
 
     visit(program)
     return order
+
+
+def libraries():
+    """Returns the libraries of all programs, each after its own dependencies."""
+    return list(dict.fromkeys(libraries_of("redo_log") + libraries_of("redo_log_html")))
+
+
+def title_of(line):
+    """Returns the first line of a file without its full stop; only its first sentence, if the last one goes on in the next line."""
+    return line.rstrip(".") if line.endswith(".") else line.split(". ")[0]
 
 
 class Names:
@@ -81,8 +95,8 @@ class Specs:
                 text = read("crates", crate, "specs", path)
                 if re.search(r"^(?!--|(pub )?mod |\s*$)", text, re.M):  # a file of only such lines has no definitions
                     module = f"Rattle.{crate}.specs." + path.removesuffix(".antt").replace(os.sep, ".")
-                    self.files[module] = (crate, path, text.count("\n"), text.split("\n")[0].removeprefix("-- ").rstrip("."))
-                    self.add(module, re.sub(r"--[^\n]*", "", text))
+                    self.files[module] = (crate, path, text.count("\n"), title_of(text.split("\n")[0].removeprefix("-- ")))
+                    self.add(module, COMMENT.sub("", text))
         self.cites = {place: {self.known(other) for other in names.cited(text)} - {None, place} for place, (names, text) in self.texts.items()}
 
     def add(self, module, text):
@@ -93,8 +107,9 @@ class Specs:
                 place = (module, head[2])
                 self.texts[place] = (names, self.texts.get(place, (names, ""))[1] + part)
                 if re.search(r"\b(record|data)\b", head[1]):
-                    for field in re.findall(r"^ +(?:pub )?(\S+) *:", part, re.M):
-                        self.parts[module, field] = self.parts[".".join(place), field] = place
+                    for fields in re.findall(PARTS, part, re.M):
+                        for field in fields.split():
+                            self.parts[module, field] = self.parts[".".join(place), field] = place
 
     def known(self, place):
         """Returns the definition at a place, or the definition that has this place as a field; None if there is neither."""

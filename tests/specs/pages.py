@@ -7,7 +7,7 @@ import os
 import re
 import sys
 
-from contracts import NO_CODE, TOP, files, is_private, libraries_of, read
+from contracts import COMMENT, NO_CODE, TOP, files, is_private, libraries, read
 
 sys.path.insert(0, os.path.join(TOP, "tests/definition_mutants"))
 from kept import crates_kept, kept  # noqa: E402
@@ -71,7 +71,7 @@ def killers():
 def rows_of_mutants():
     """Yields a table per crate: for each file that its mutants change, these mutants and what kills each."""
     killed, changed = killers()[0], mutants()
-    for crate in libraries_of("redo_log"):
+    for crate in libraries():
         own = {name: file for (other, name), file in changed.items() if other == crate}
         if own:
             yield from ("", f"### `{crate}`", "", "Mutant | Killed by", "---|---")
@@ -86,7 +86,7 @@ def rows_of_counts():
     yield from ("", "Crate | Mutants | Specification mutants | killed by a row | killed by a law", "---|---|---|---|---")
     ways = {crate: [wrong.by for wrong in kept(crate)] for crate in crates_kept()}
     rows = []
-    for crate in libraries_of("redo_log"):
+    for crate in libraries():
         own, by = [one for one, _ in mutants() if one == crate], ways.get(crate, [])
         rows.append((len(own), len(by), by.count("row"), by.count("law")))
         yield " | ".join([f"`{crate}`", *map(str, rows[-1])])
@@ -171,7 +171,7 @@ def words_of_code():
     words = set()
     for path in sources() + [path for path in files("crates", ".antt") if "/specs/" in path]:
         text = read("crates", path)
-        words |= set(WORD.findall(NO_CODE.sub(" ", text) if path.endswith(".rt") else re.sub(r"--[^\n]*", "", text)))
+        words |= set(WORD.findall(NO_CODE.sub(" ", text) if path.endswith(".rt") else COMMENT.sub("", text)))
         words.add(os.path.basename(path).rsplit(".", 1)[0])
     return words
 

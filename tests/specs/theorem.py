@@ -1,7 +1,8 @@
 """Checks docs/theorem.md. It must quote each definition that the clause of a run depends on: once, verbatim, and after the
-definitions that it cites. No two quoted definitions may share a name. `<!-- CRATE FILE -->` is replaced by the definitions of a file
-that a reader needs and that no comment before it quotes, `<!-- CRATE FILE: LAST -->` by those of them up to LAST, and
-`<!-- CRATE FILE: FIRST to LAST -->` by those between two. `run --quote` writes the block after it."""
+definitions that it cites. No two quoted definitions may share a name. `<!-- CRATE FILE -->` stands for the definitions of a file that
+a reader needs and that nothing before it quotes, `<!-- CRATE FILE: LAST -->` for those of them up to LAST, and
+`<!-- CRATE FILE: FIRST to LAST -->` for those between two. `; ` separates several in one comment. `run --quote` writes the block after
+it."""
 import os
 import re
 
@@ -10,8 +11,9 @@ from contracts import TOP, Names, closing, read
 PAGE = "docs/theorem.md"
 CLAUSE_OF = "redo_run/src/running.rt"
 # The maximum number of quoted lines.
-MOST_LINES = 430
-MARK = re.compile(r"^(<!-- (\w+) (\w+)(?:: (?:(\S+) to )?(\S+))? -->\n)(?:```\n.*?\n```\n)?", re.M | re.S)
+MOST_LINES = 400
+PART = r"\w+ \w+(?:: (?:[^\s;]+ to )?[^\s;]+)?"
+MARK = re.compile(rf"^(<!-- ({PART}(?:; {PART})*) -->\n)(?:```\n.*?\n```\n)?", re.M | re.S)
 
 
 def clause():
@@ -42,16 +44,21 @@ def blocks(specs, page):
     """Yields what each comment quotes: the places, and the text."""
     needed = reached(specs, clause()[1])
     left = {}
-    for _, crate, file, first, last in MARK.findall(page):
-        if file == "run":
-            yield [], clause()[0]
-            continue
-        module = f"Rattle.{crate}.specs.{file}"
-        names = left.setdefault(module, [name for place, name in specs.texts if place == module and (place, name) in needed])
-        begin = names.index(first) if first in names else 0
-        end = names.index(last) + 1 if last in names else len(names)
-        yield [(module, name) for name in names[begin:end]], "\n\n".join(quoted(specs, crate, file, name) for name in names[begin:end])
-        del names[begin:end]
+    for _, parts in MARK.findall(page):
+        places, texts = [], []
+        for part in parts.split("; "):
+            crate, file, first, last = re.fullmatch(r"(\w+) (\w+)(?:: (?:(\S+) to )?(\S+))?", part).groups()
+            if file == "run":
+                texts.append(clause()[0])
+                continue
+            module = f"Rattle.{crate}.specs.{file}"
+            names = left.setdefault(module, [name for place, name in specs.texts if place == module and (place, name) in needed])
+            begin = names.index(first) if first in names else 0
+            end = names.index(last) + 1 if last in names else len(names)
+            places += [(module, name) for name in names[begin:end]]
+            texts += [quoted(specs, crate, file, name) for name in names[begin:end]]
+            del names[begin:end]
+        yield places, "\n\n".join(texts)
 
 
 def with_quotes(specs, page):
