@@ -53,6 +53,11 @@ plain_letters (suc count) (byte ∷ bytes) within plain =
           ∙ ap (λ (n : ℕ). Letter byte ∷ symbols form (drop n (byte ∷ bytes))) symbol.1 ∙ ap (λ (ss : List Symbol). Letter byte ∷ ss) (rest.symbols_are form);
     }
 
+pub plain_more : (count more : ℕ) (bytes : List ℕ) → list_all is_plain (take count bytes) ≡ true → list_all is_plain (take more (drop count bytes)) ≡ true → list_all is_plain (take (count + more) bytes) ≡ true
+plain_more count more bytes first next =
+    ap (list_all is_plain) (take-add count more bytes) ∙ list_all-append is_plain (take count bytes) (take more (drop count bytes))
+    ∙ and_from (list_all is_plain (take count bytes)) (list_all is_plain (take more (drop count bytes))) first next
+
 -- ---- a letter that isn't in ASCII
 
 high_symbol : (form : Form) (byte : ℕ) (bytes : List ℕ) (letter : ℕ) → 128 ≤ byte → (decoded (byte ∷ bytes)).char ≡ Some letter → (first_symbol form (byte ∷ bytes) ≡ Letter letter) × (symbol_len form (byte ∷ bytes) ≡ (decoded (byte ∷ bytes)).size)

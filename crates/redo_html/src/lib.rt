@@ -38,8 +38,9 @@
 //! **Tags** (`Tags`). A tag is a value of an enum that has no bytes, only numbers. So it is a matter of types that no byte
 //! of a log is in a tag.
 //!
-//! **Speed.** A stretch of letters that are written as they are (`verbatim_len`) is one write. In ASCII, single bytes decide
-//! how long it is. Every other letter is a write of its own.
+//! **Speed.** A stretch of letters that are written as they are (`verbatim_len`) is one write. Bytes of ASCII are tested in
+//! blocks, without a branch for each byte, so that the compiler can test several at once. Every other letter is a write of
+//! its own.
 #![tactic(auto)]
 
 mod form;

@@ -32,6 +32,9 @@ const UNSEEN: [(u32, u32); 18] = [
     (0xE0000, 0xE0FFF),
 ];
 
+// The number of bytes that are tested at once.
+const BLOCK: usize = 32;
+
 /// Returns the number of bytes at the start that are letters which are written as they are.
 pub fn verbatim_len(bytes: &[u8]) -> usize
     ensures { IsVerbatim bytes.now result }
@@ -68,8 +71,32 @@ fn visible_len(bytes: &[u8]) -> usize
     }
 }
 
-// Returns the number of bytes at the start that are plain.
+// Returns a number of bytes at the start that are plain: all of them that are.
 fn plain_len(bytes: &[u8]) -> usize
+    ensures within { result ≤ length bytes.now }
+    ensures plain { list_all is_plain (take result bytes.now) ≡ true }
+{
+    let len = plain_blocks_len(bytes);
+    len + plain_bytes_len(&bytes[len..])
+}
+
+// Returns the number of bytes in the blocks at the start that consist of plain bytes.
+fn plain_blocks_len(bytes: &[u8]) -> usize
+    ensures within { result ≤ length bytes.now }
+    ensures plain { list_all is_plain (take result bytes.now) ≡ true }
+{
+    let mut len = 0;
+    while bytes.len() - len >= BLOCK {
+        if !are_plain(&bytes[len..len + BLOCK]) {
+            return len;
+        }
+        len += BLOCK;
+    }
+    len
+}
+
+// Returns the number of bytes at the start that are plain, byte by byte.
+fn plain_bytes_len(bytes: &[u8]) -> usize
     ensures within { result ≤ length bytes.now }
     ensures plain { list_all is_plain (take result bytes.now) ≡ true }
 {
@@ -79,6 +106,17 @@ fn plain_len(bytes: &[u8]) -> usize
         }
     }
     bytes.len()
+}
+
+// Returns whether all bytes are plain. It tests them all, so that the compiler can test several at once.
+fn are_plain(bytes: &[u8]) -> bool
+    ensures { result ≡ list_all is_plain bytes.now }
+{
+    let mut plain = true;
+    for byte in bytes {
+        plain = plain && is_plain_byte(*byte);
+    }
+    plain
 }
 
 fn is_plain_byte(byte: u8) -> bool
