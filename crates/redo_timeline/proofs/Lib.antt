@@ -1,0 +1,4 @@
+mod BarLemmas
+mod LaneLemmas
+mod OrderLemmas
+mod TimelineLemmas

@@ -1,0 +1,5 @@
+pub mod Bars
+pub mod Lanes
+pub mod Order
+pub mod Private
+pub mod Timeline

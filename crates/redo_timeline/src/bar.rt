@@ -1,0 +1,22 @@
+//! What is drawn of spans.
+
+/// What is drawn of one span, or of several that are too narrow to be seen apart.
+#[derive(Clone, Copy, Debug, PartialEq, Eq)]
+pub struct Bar {
+    /// The lane, counted from 0.
+    pub lane: usize,
+    /// Where it begins, in units from the left.
+    pub x: u64,
+    /// How wide it is drawn, in units.
+    pub width: u64,
+    /// The place of its first span.
+    pub place: usize,
+    /// The number of its spans.
+    pub count: usize,
+    /// When its first span began, in milliseconds.
+    pub began: u64,
+    /// When the last of its spans ended, in milliseconds.
+    pub ended: u64,
+    /// Whether its target failed.
+    pub failed: bool,
+}

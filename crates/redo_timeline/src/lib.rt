@@ -1,0 +1,23 @@
+//! The layout of a timeline: a bar for each target, from when it began to when it ended, in lanes.
+//!
+//! [`layout`] says where each bar is drawn. It makes no HTML.
+//!
+//! # Terms
+//!
+//! - *Span*: the time from when a target began to when it ended. Its *place* says which target it is.
+//! - *Lane*: a row of the timeline. The spans in a lane follow each other, except in the last lane that is allowed.
+//! - *Bar*: what is drawn of a span, or of several consecutive ones that are too narrow to be seen apart.
+//! - *Unit*: a hundredth of a percent of the width of the timeline.
+#![tactic(auto)]
+
+mod bar;
+mod bars;
+mod draft;
+mod lanes;
+mod sorting;
+mod span;
+mod timeline;
+
+pub use bar::Bar;
+pub use span::{Span, Window};
+pub use timeline::{Timeline, layout};

@@ -1,0 +1,15 @@
+//! The order of spans.
+ghost use Rattle.std.specs.Prelude.{◌≡◌, IfOk};
+ghost use Rattle.redo_timeline.specs.Order.{in_order};
+
+use crate::span::Span;
+use std::alloc::{AllocError, Global};
+
+/// Returns the spans in order.
+pub fn sorted(alloc: Global, spans: &[Span]) -> Result<Vec<Span>, AllocError>
+    ensures { IfOk result (λ sorted. sorted.items ≡ in_order spans.now) }
+{
+    let mut sorted = Vec::from_slice(alloc, spans)?;
+    sorted.sort_unstable();
+    Ok(sorted)
+}
