@@ -26,7 +26,7 @@ not_true : (a : Bool) → not a ≡ true → a ≡ false
 not_true true h = absurd (cc)
 not_true false h = refl
 
-all-last : {A : Type 0} (p : A → Bool) (xs : List A) (x : A) → p x ≡ true → list_all p (xs ++ x ∷ []) ≡ list_all p xs
+pub all-last : {A : Type 0} (p : A → Bool) (xs : List A) (x : A) → p x ≡ true → list_all p (xs ++ x ∷ []) ≡ list_all p xs
 all-last p [] x passes = ap (λ (b : Bool). b && true) passes
 all-last p (y ∷ ys) x passes = ap (λ (b : Bool). p y && b) (all-last p ys x passes)
 

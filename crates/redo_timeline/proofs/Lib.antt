@@ -1,4 +1,5 @@
 mod BarLemmas
 mod LaneLemmas
+mod LawLemmas
 mod OrderLemmas
 mod TimelineLemmas

@@ -1,5 +1,5 @@
 -- What sorting does.
-use Rattle.std.proofs.Common.{◌≡◌, ℕ, suc, ◌+◌, ◌<◌, Bool, true, false, cond, List, [], ◌∷◌, length, get_or, refl, sym, ap, ◌∙◌, subst, arith}
+use Rattle.std.proofs.Common.{◌≡◌, ℕ, zero, suc, ◌+◌, ◌<◌, Bool, true, false, cond, List, [], ◌∷◌, length, get_or, refl, sym, ap, ◌∙◌, subst, arith}
 use Rattle.std.specs.declared.cmp.Ordering.{Ordering}
 use Rattle.std.specs.declared.cmp.Ordering.TheVariants.{Less, Equal, Greater}
 use Rattle.std.specs.Cmp.{IsTotalOrder, bool_cmp_total}
@@ -108,6 +108,25 @@ module _ {K : Type 0} (cmp : K → K → Ordering) where
     sort-rising [] = tt
     sort-rising (x ∷ xs) = insert-rising x (sort cmp xs) (sort-rising xs)
 
+    lt_of_gt : (x y : K) → is_gt (cmp x y) ≡ false → is_lt (cmp y x) ≡ false
+    lt_of_gt x y h = ap is_lt (total.antisymm y x) ∙ by (cmp x y) h
+      where
+        by : (o : Ordering) → is_gt o ≡ false → is_lt (ordering_reverse o) ≡ false
+        by Less h = refl
+        by Equal h = refl
+        by Greater h = absurd (cc)
+
+    rising-adjacent : (xs : List K) → IsRising xs → (k : ℕ) (d : K) → k + 1 < length xs → is_lt (cmp (get_or xs (k + 1) d) (get_or xs k d)) ≡ false
+    rising-adjacent [] up k d high = absurd (omega (arith, high))
+    rising-adjacent (x ∷ []) up k d high = absurd (omega (arith, high))
+    rising-adjacent (x ∷ y ∷ ys) up zero d high = lt_of_gt x y up.0.0
+    rising-adjacent (x ∷ y ∷ ys) up (suc k) d high =
+        let e : suc (k + 1) ≡ suc k + 1 = omega arith in
+        subst (λ (n : ℕ). is_lt (cmp (get_or (x ∷ y ∷ ys) n d) (get_or (y ∷ ys) k d)) ≡ false) e (rising-adjacent (y ∷ ys) up.1 k d (omega (arith, high)))
+
+    pub sort-is_sorted : (xs : List K) → IsSorted cmp (sort cmp xs)
+    sort-is_sorted xs = λ k d low high. rising-adjacent (sort cmp xs) (sort-rising xs) k d high
+
     -- ---- what rises is determined by how often each item occurs
 
     abbrev one_if : Bool → ℕ
@@ -205,3 +224,6 @@ are_in_order spans sorted moved up = sorted_same span_cmp span_cmp_total span_cm
 
 pub in_order-permutation : (spans : List Span) → IsPermutation spans (in_order spans)
 in_order-permutation spans = sort-permutation span_cmp spans
+
+pub in_order-sorted : (spans : List Span) → IsSorted span_cmp (in_order spans)
+in_order-sorted spans = sort-is_sorted span_cmp span_cmp_total spans

@@ -1,5 +1,6 @@
 pub mod Bars
 pub mod Lanes
+pub mod Laws
 pub mod Order
 pub mod Private
 pub mod Timeline

@@ -14,10 +14,15 @@ mod bar;
 mod bars;
 mod draft;
 mod lanes;
+mod laws;
 mod sorting;
 mod span;
 mod timeline;
 
 pub use bar::Bar;
+pub use laws::{
+    bars_are_in_lanes, bars_do_not_overlap, failed_spans_are_alone, joined_bars_are_narrow,
+    spans_are_drawn_once, spans_are_ordered,
+};
 pub use span::{Span, Window};
 pub use timeline::{Timeline, layout};

@@ -1,0 +1,37 @@
+//! Laws about the definitions alone: their contracts are theorems, and their bodies are empty.
+ghost use Rattle.std.specs.Prelude.{ℕ, ◌<◌, List};
+ghost use Rattle.std.specs.List.Sorted.{IsPermutation};
+ghost use Rattle.redo_timeline.specs.declared.span.Span.{Span};
+ghost use Rattle.redo_timeline.specs.declared.span.Window.{Window};
+ghost use Rattle.redo_timeline.specs.Laws.{AreInTurn, AreOrdered, EachBar, IsAloneIfFailed, IsInLanes, IsNarrowIfJoined, spans_of};
+ghost use Rattle.redo_timeline.specs.Timeline.{bars_of, timeline_of};
+
+/// Each span is in exactly one bar.
+pub fn spans_are_drawn_once()
+    ensures { (window : Window) (max_lanes : ℕ) (spans : List Span) → IsPermutation spans (spans_of (bars_of window max_lanes spans)) }
+{}
+
+/// Bars are drawn lane by lane. In each lane but the last one that is allowed, no bar begins before the bar before it has ended.
+pub fn bars_do_not_overlap()
+    ensures { (window : Window) (max_lanes : ℕ) (spans : List Span) → AreInTurn max_lanes ((timeline_of window max_lanes spans).bars) }
+{}
+
+/// A span that failed is a bar of its own.
+pub fn failed_spans_are_alone()
+    ensures { (window : Window) (max_lanes : ℕ) (spans : List Span) → EachBar IsAloneIfFailed (bars_of window max_lanes spans) }
+{}
+
+/// A bar of several spans is narrower than 50 units by its times, and none of its spans failed.
+pub fn joined_bars_are_narrow()
+    ensures { (window : Window) (max_lanes : ℕ) (spans : List Span) → EachBar (IsNarrowIfJoined window) (bars_of window max_lanes spans) }
+{}
+
+/// No more lanes are taken than are allowed, and each bar is in one of them.
+pub fn bars_are_in_lanes()
+    ensures { (window : Window) (max_lanes : ℕ) (spans : List Span) → 0 < max_lanes → IsInLanes max_lanes (timeline_of window max_lanes spans) }
+{}
+
+/// Spans take lanes in the order in which they began.
+pub fn spans_are_ordered()
+    ensures { (spans : List Span) → AreOrdered spans }
+{}
