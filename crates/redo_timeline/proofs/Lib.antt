@@ -3,3 +3,4 @@ mod LaneLemmas
 mod LawLemmas
 mod OrderLemmas
 mod TimelineLemmas
+mod TimelineRows
