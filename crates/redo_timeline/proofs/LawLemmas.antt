@@ -1,5 +1,5 @@
 -- What holds of all timelines.
-use Rattle.std.proofs.Common.{◌≡◌, ℕ, ◌+◌, ◌-◌, ◌<◌, ◌≤◌, ◌⊎◌, inl, inr, max, leb, Bool, true, false, cond, List, [], ◌∷◌, ◌++◌, length, map, refl, sym, ap, ◌∙◌, subst, arith, append_assoc, length-append}
+use Rattle.std.proofs.Common.{◌≡◌, ℕ, ◌+◌, ◌-◌, ◌<◌, ◌≤◌, ◌⊎◌, inl, inr, max, leb, Bool, true, false, not, cond, List, [], ◌∷◌, ◌++◌, length, map, refl, sym, ap, ◌∙◌, subst, arith, append_assoc, length-append}
 use Rattle.std.specs.Prelude.{◌||◌}
 use Rattle.std.specs.List.{AllByRecursion, flat_map, list_all}
 use Rattle.std.specs.List.Sorted.{IsPermutation}
@@ -83,7 +83,7 @@ proper_one window span =
     record {
       some = omega arith;
       alone = λ failed. refl;
-      slim = λ all. let less : units window span.ended - units window span.began < 20 = ltb-true _ _ (and_right _ _ (and_left _ _ all)) in
+      slim = λ all. let less : units window span.ended - units window span.began < 20 = ltb-true (units window span.ended - units window span.began) 20 (and_right (not span.failed) _ (and_left _ true all)) in
           subst (λ (n : ℕ). units window n - units window span.began < 50) (sym ends) (omega (arith, less));
       several = λ more. absurd (omega (arith, more));
     }

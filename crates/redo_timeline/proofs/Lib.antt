@@ -1,4 +1,5 @@
 mod BarLemmas
+mod CountLemmas
 mod LaneLemmas
 mod LawLemmas
 mod OrderLemmas

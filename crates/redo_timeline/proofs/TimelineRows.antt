@@ -1,5 +1,5 @@
 -- Rows of timelines, and of the lanes and bars in them. The values are worked out by hand.
-use Rattle.std.proofs.Common.{◌≡◌, ℕ, Bool, true, false, List, [], ◌∷◌, refl}
+use Rattle.std.proofs.Common.{◌≡◌, ℕ, Bool, true, false, [], ◌∷◌, refl}
 use Rattle.redo_timeline.specs.declared.bar.Bar.{Bar}
 use Rattle.redo_timeline.specs.declared.span.Span.{Span}
 use Rattle.redo_timeline.specs.declared.span.Window.{Window}
@@ -7,6 +7,7 @@ use Rattle.redo_timeline.specs.Bars.{bar_of, bars_in, is_narrow, units}
 use Rattle.redo_timeline.specs.Lanes.{ended_of, lanes_of}
 use Rattle.redo_timeline.specs.Laws.{spans_of}
 use Rattle.redo_timeline.specs.Order.{in_order}
+use Rattle.redo_timeline.specs.Parallelism.{most_of, runs_at}
 use Rattle.redo_timeline.specs.Timeline.{timeline_of}
 
 abbrev span : ℕ → ℕ → ℕ → Span
@@ -119,3 +120,14 @@ timelines = (refl, refl)
 
 all_spans : spans_of (((span 0 0 1 ∷ span 1 1 2 ∷ []) ∷ (span 2 3 4 ∷ []) ∷ []) ∷ [] ∷ ((span 3 0 5 ∷ []) ∷ []) ∷ []) ≡ span 0 0 1 ∷ span 1 1 2 ∷ span 2 3 4 ∷ span 3 0 5 ∷ []
 all_spans = refl
+
+-- ---- parallelism
+
+running : (runs_at 5 (span 0 5 9) ≡ true) × (runs_at 4 (span 0 5 9) ≡ false) × (runs_at 8 (span 0 5 9) ≡ true) × (runs_at 9 (span 0 5 9) ≡ false) × (runs_at 5 (span 0 5 5) ≡ false)
+running = (refl, refl, refl, refl, refl)
+
+-- Spans that touch don't run at once. A span without length counts itself, and others that run.
+most :
+    (most_of [] ≡ 0) × (most_of (span 0 5 9 ∷ []) ≡ 1) × (most_of (span 0 0 10 ∷ span 1 10 20 ∷ []) ≡ 1) × (most_of (span 0 0 10 ∷ span 1 9 20 ∷ []) ≡ 2) × (most_of (span 0 5 5 ∷ []) ≡ 1)
+    × (most_of (span 0 5 5 ∷ span 1 5 5 ∷ []) ≡ 1) × (most_of (span 0 0 10 ∷ span 1 5 5 ∷ []) ≡ 2) × (most_of (span 0 5 6 ∷ failed 1 3 7 ∷ span 2 0 10 ∷ span 3 7 9 ∷ []) ≡ 3)
+most = (refl, refl, refl, refl, refl, refl, refl, refl)

@@ -1,9 +1,11 @@
 //! Laws about the definitions alone: their contracts are theorems, and their bodies are empty.
-ghost use Rattle.std.specs.Prelude.{ℕ, ◌<◌, List};
+ghost use Rattle.std.specs.Prelude.{ℕ, ◌<◌, ◌≤◌, List};
+ghost use Rattle.std.specs.List.{count_by};
 ghost use Rattle.std.specs.List.Sorted.{IsPermutation};
 ghost use Rattle.redo_timeline.specs.declared.span.Span.{Span};
 ghost use Rattle.redo_timeline.specs.declared.span.Window.{Window};
 ghost use Rattle.redo_timeline.specs.Laws.{AreInTurn, AreOrdered, EachBar, IsAloneIfFailed, IsInLanes, IsNarrowIfJoined, spans_of};
+ghost use Rattle.redo_timeline.specs.Parallelism.{most_of, runs_at};
 ghost use Rattle.redo_timeline.specs.Timeline.{bars_of, timeline_of};
 
 /// Each span is in exactly one bar.
@@ -34,4 +36,9 @@ pub fn bars_are_in_lanes()
 /// Spans take lanes in the order in which they began.
 pub fn spans_are_ordered()
     ensures { (spans : List Span) → AreOrdered spans }
+{}
+
+/// No more spans run at any time.
+pub fn no_more_spans_run()
+    ensures { (spans : List Span) (time : ℕ) → count_by (runs_at time) spans ≤ most_of spans }
 {}

@@ -15,6 +15,7 @@ mod bars;
 mod draft;
 mod lanes;
 mod laws;
+mod parallelism;
 mod sorting;
 mod span;
 mod timeline;
@@ -22,7 +23,8 @@ mod timeline;
 pub use bar::Bar;
 pub use laws::{
     bars_are_in_lanes, bars_do_not_overlap, failed_spans_are_alone, joined_bars_are_narrow,
-    spans_are_drawn_once, spans_are_ordered,
+    no_more_spans_run, spans_are_drawn_once, spans_are_ordered,
 };
+pub use parallelism::most_at_once;
 pub use span::{Span, Window};
 pub use timeline::{Timeline, layout};
