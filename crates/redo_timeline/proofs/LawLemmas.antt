@@ -1,6 +1,6 @@
 -- What holds of all timelines.
-use Rattle.std.proofs.Common.{◌≡◌, ℕ, ◌+◌, ◌-◌, ◌<◌, ◌≤◌, ◌⊎◌, inl, inr, max, leb, Bool, true, false, not, cond, List, [], ◌∷◌, ◌++◌, length, map, refl, sym, ap, ◌∙◌, subst, arith, append_assoc, length-append}
-use Rattle.std.specs.Prelude.{◌||◌}
+use Rattle.std.proofs.Common.{◌≡◌, ℕ, ◌+◌, ◌-◌, ◌<◌, ◌≤◌, ◌⊎◌, inl, inr, max, leb, ltb, Bool, true, false, not, cond, List, [], ◌∷◌, ◌++◌, length, map, refl, sym, ap, ◌∙◌, subst, arith, append_assoc, length-append}
+use Rattle.std.specs.Prelude.{◌&&◌, ◌||◌}
 use Rattle.std.specs.List.{AllByRecursion, flat_map, list_all}
 use Rattle.std.specs.List.Sorted.{IsPermutation}
 use Rattle.std.proofs.lemmas.Bool.{leb-false, leb-true, ltb-true}
@@ -11,7 +11,7 @@ use Rattle.redo_timeline.specs.declared.span.Span.{Span}
 use Rattle.redo_timeline.specs.declared.span.Window.{Window}
 use Rattle.redo_timeline.specs.Bars.{bar_of, bars_from, bars_in, began_of, has_failed, is_narrow, joins, units}
 use Rattle.redo_timeline.specs.Lanes.{ended_of, is_free, lanes_of, take_lane, take_lanes}
-use Rattle.redo_timeline.specs.Laws.{AreInTurn, EachBar, IsAloneIfFailed, IsInLanes, IsNarrowIfJoined, spans_of}
+use Rattle.redo_timeline.specs.Laws.{AreInTurn, EachBar, IsAloneIfFailed, IsInLanes, IsSlimIfJoined, spans_of}
 use Rattle.redo_timeline.specs.Order.{in_order}
 use Rattle.redo_timeline.specs.Timeline.{bars_of, drawn_bars, timeline_of}
 use Rattle.redo_timeline.proofs.BarLemmas.{and_left, and_right, all-last, joins_narrow, narrow_not_failed}
@@ -105,9 +105,12 @@ either_max P a b left right = by (max_is a b)
 proper_more : (window : Window) (bar : List Span) (span : Span) → joins window bar span ≡ true → Proper window bar → Proper window (bar ++ span ∷ [])
 proper_more window bar span joined proper =
     let narrow = joins_narrow window bar span joined in
-    let all : list_all (is_narrow window) bar ≡ true = and_right _ _ (and_left _ _ (and_left _ _ joined)) in
+    let close : Bool = ltb (units window span.began - units window (ended_of bar)) 10 in
+    let short : Bool = ltb (units window span.ended - units window (began_of bar)) 50 in
+    let both : is_narrow window span && list_all (is_narrow window) bar ≡ true = and_left _ close (and_left _ short joined) in
+    let all : list_all (is_narrow window) bar ≡ true = and_right (is_narrow window span) (list_all (is_narrow window) bar) both in
     let all_more : list_all (is_narrow window) (bar ++ span ∷ []) ≡ true = all-last (is_narrow window) bar span narrow ∙ all in
-    let less : units window span.ended - units window (began_of bar) < 50 = ltb-true _ _ (and_right _ _ joined) in
+    let less : units window span.ended - units window (began_of bar) < 50 = ltb-true (units window span.ended - units window (began_of bar)) 50 (and_right (is_narrow window span && list_all (is_narrow window) bar && close) short joined) in
     let count = length-append bar (span ∷ []) in
     record {
       some = omega (arith, count);
@@ -145,9 +148,9 @@ each_imply P Q imply lanes each = all_imply (AllByRecursion P) (AllByRecursion Q
 pub failed_alone : (window : Window) (max_lanes : ℕ) (spans : List Span) → EachBar IsAloneIfFailed (bars_of window max_lanes spans)
 failed_alone window max_lanes spans = each_imply (Proper window) IsAloneIfFailed (λ bar proper. proper.alone) (bars_of window max_lanes spans) (each_proper window (lanes_of max_lanes spans))
 
-pub joined_narrow : (window : Window) (max_lanes : ℕ) (spans : List Span) → EachBar (IsNarrowIfJoined window) (bars_of window max_lanes spans)
+pub joined_narrow : (window : Window) (max_lanes : ℕ) (spans : List Span) → EachBar (IsSlimIfJoined window) (bars_of window max_lanes spans)
 joined_narrow window max_lanes spans =
-    each_imply (Proper window) (IsNarrowIfJoined window) (λ bar proper more. (proper.slim (proper.several more), narrow_none_failed window bar (proper.several more))) (bars_of window max_lanes spans) (each_proper window (lanes_of max_lanes spans))
+    each_imply (Proper window) (IsSlimIfJoined window) (λ bar proper more. (proper.slim (proper.several more), narrow_none_failed window bar (proper.several more))) (bars_of window max_lanes spans) (each_proper window (lanes_of max_lanes spans))
 
 -- ---- bars in turn
 
@@ -281,6 +284,6 @@ drawn-below window high lane [] le = tt
 drawn-below window high lane (spans ∷ lanes) le =
     lane-below window high lane (bars_in window spans) (drawn_bars window (lane + 1) (map (bars_in window) lanes)) (omega (arith, le)) (drawn-below window high (lane + 1) lanes (omega (arith, le)))
 
-pub in_lanes : (window : Window) (max_lanes : ℕ) (spans : List Span) → 0 < max_lanes → IsInLanes max_lanes (timeline_of window max_lanes spans)
+pub in_lanes : (window : Window) (max_lanes : ℕ) (spans : List Span) → IsInLanes max_lanes (timeline_of window max_lanes spans)
 in_lanes window max_lanes spans some =
     (take_lanes-count max_lanes [] (in_order spans) some (omega arith), drawn-below window (length (lanes_of max_lanes spans)) 0 (lanes_of max_lanes spans) (omega arith))

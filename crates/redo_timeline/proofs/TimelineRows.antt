@@ -1,9 +1,9 @@
 -- Rows of timelines, and of the lanes and bars in them. The values are worked out by hand.
-use Rattle.std.proofs.Common.{◌≡◌, ℕ, Bool, true, false, [], ◌∷◌, refl}
+use Rattle.std.proofs.Common.{◌≡◌, ℕ, Bool, true, false, [], ◌∷◌, refl, arith, lit<}
 use Rattle.redo_timeline.specs.declared.bar.Bar.{Bar}
 use Rattle.redo_timeline.specs.declared.span.Span.{Span}
 use Rattle.redo_timeline.specs.declared.span.Window.{Window}
-use Rattle.redo_timeline.specs.Bars.{bar_of, bars_in, is_narrow, units}
+use Rattle.redo_timeline.specs.Bars.{IsValidWindow, bar_of, bars_in, is_narrow, units}
 use Rattle.redo_timeline.specs.Lanes.{ended_of, lanes_of}
 use Rattle.redo_timeline.specs.Laws.{spans_of}
 use Rattle.redo_timeline.specs.Order.{in_order}
@@ -60,6 +60,11 @@ spans_without_length :
 spans_without_length = (refl, refl)
 
 -- ---- bars
+
+windows :
+    IsValidWindow (record { began = 7; width = 1 }) × IsValidWindow (record { began = 7; width = 17592186044415 })
+    × ¬ IsValidWindow (record { began = 7; width = 0 }) × ¬ IsValidWindow (record { began = 7; width = 17592186044416 })
+windows = ((lit< tt, lit< tt), (lit< tt, lit< tt), λ valid. omega (arith, valid.0), λ valid. omega (arith, valid.1))
 
 -- Units are rounded down. Times outside the window are at its edges.
 places :

@@ -27,17 +27,18 @@ place_of (span ∷ rest) = span.place
 abbrev pub is_narrow : Window → Span → Bool
 is_narrow window span = not span.failed && ltb (units window span.ended - units window span.began) 20
 
--- Whether a span joins the bar before it, of which these are the spans: each of them is narrow, it begins within 0.1 % of their end, and
--- with it the bar is narrower than 0.5 %.
+-- Whether a span joins the bar before it, of which these are the spans: they and the span are narrow, it begins within 0.1 % of the end
+-- of the bar, and with it the bar is narrower than 0.5 %.
 abbrev pub joins : Window → List Span → Span → Bool
 joins window bar span =
     is_narrow window span && list_all (is_narrow window) bar && ltb (units window span.began - units window (ended_of bar)) 10
     && ltb (units window span.ended - units window (began_of bar)) 50
 
--- The bars of the spans of a bar and those after it in its lane. A bar is given by its spans.
+-- A bar and the bars after it in its lane, of its spans so far and the spans that are left. A bar is given by its spans.
 abbrev pub bars_from : Window → List Span → List Span → List (List Span)
 bars_from window bar [] = bar ∷ []
-bars_from window bar (span ∷ rest) = if joins window bar span then bars_from window (bar ++ span ∷ []) rest else bar ∷ bars_from window (span ∷ []) rest
+bars_from window bar (span ∷ rest) =
+    if joins window bar span then bars_from window (bar ++ span ∷ []) rest else bar ∷ bars_from window (span ∷ []) rest
 
 -- The bars of a lane.
 abbrev pub bars_in : Window → List Span → List (List Span)
@@ -48,12 +49,16 @@ bars_in window (span ∷ rest) = bars_from window (span ∷ []) rest
 abbrev pub has_failed : List Span → Bool
 has_failed bar = list_any (λ (span : Span). span.failed) bar
 
+-- How wide a bar is, by its times.
+abbrev pub width_of : Window → List Span → ℕ
+width_of window bar = units window (ended_of bar) - units window (began_of bar)
+
 -- What is drawn of a bar. A bar is at least 0.1 % wide, and one that failed at least 0.3 %.
 abbrev pub bar_of : Window → ℕ → List Span → Bar
 bar_of window lane bar = record {
   lane = lane;
   x = units window (began_of bar);
-  width = max (units window (ended_of bar) - units window (began_of bar)) (if has_failed bar then 30 else 10);
+  width = max (width_of window bar) (if has_failed bar then 30 else 10);
   place = place_of bar;
   count = length bar;
   began = began_of bar;

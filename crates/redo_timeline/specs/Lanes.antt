@@ -12,8 +12,8 @@ ended_of (span ∷ rest) = max span.ended (ended_of rest)
 abbrev pub is_free : Span → List Span → Bool
 is_free span lane = leb (ended_of lane) span.began
 
--- The lanes, after one more span took the lowest lane that is free. If none is free, it takes a new lane. But if there are `max_lanes`
--- lanes, it takes the last one. At least one lane is allowed.
+-- The lanes, after one more span took the lowest lane that is free. If no lane is free, it takes a new one, or the last one if
+-- `max_lanes` lanes are taken. At least one lane is allowed.
 abbrev pub take_lane : ℕ → Span → List (List Span) → List (List Span)
 take_lane max_lanes span [] = (span ∷ []) ∷ []
 take_lane max_lanes span (lane ∷ lanes) =

@@ -1,12 +1,11 @@
 -- What the laws state.
-use Rattle.std.specs.Prelude.{◌≡◌, ℕ, ◌+◌, ◌-◌, ◌<◌, ◌≤◌, ◌⊎◌, true, false, List, [], ◌∷◌, length}
+use Rattle.std.specs.Prelude.{◌≡◌, ℕ, ◌+◌, ◌<◌, ◌≤◌, ◌⊎◌, true, false, List, [], ◌∷◌, length}
 use Rattle.std.specs.List.{AllByRecursion, flat_map}
 use Rattle.std.specs.List.Sorted.{IsPermutation, IsSorted}
 use Rattle.redo_timeline.specs.declared.bar.Bar.{Bar}
 use Rattle.redo_timeline.specs.declared.span.Span.{Span}
 use Rattle.redo_timeline.specs.declared.span.Window.{Window}
-use Rattle.redo_timeline.specs.Bars.{began_of, has_failed, units}
-use Rattle.redo_timeline.specs.Lanes.{ended_of}
+use Rattle.redo_timeline.specs.Bars.{has_failed, width_of}
 use Rattle.redo_timeline.specs.Order.{in_order, span_cmp}
 use Rattle.redo_timeline.specs.Timeline.{Drawing}
 
@@ -14,7 +13,7 @@ use Rattle.redo_timeline.specs.Timeline.{Drawing}
 abbrev pub spans_of : List (List (List Span)) → List Span
 spans_of lanes = flat_map (λ (bars : List (List Span)). flat_map (λ (bar : List Span). bar) bars) lanes
 
--- Whether something holds of each bar in each lane.
+-- Something holds of each bar in each lane.
 abbrev pub EachBar : (List Span → Type 0) → List (List (List Span)) → Type 0
 EachBar P lanes = AllByRecursion (AllByRecursion P) lanes
 
@@ -23,8 +22,8 @@ abbrev pub IsAloneIfFailed : List Span → Type 0
 IsAloneIfFailed bar = has_failed bar ≡ true → length bar ≡ 1
 
 -- A bar with several spans is narrower than 0.5 % by its times, and none of its spans failed.
-abbrev pub IsNarrowIfJoined : Window → List Span → Type 0
-IsNarrowIfJoined window bar = 1 < length bar → (units window (ended_of bar) - units window (began_of bar) < 50) × (has_failed bar ≡ false)
+abbrev pub IsSlimIfJoined : Window → List Span → Type 0
+IsSlimIfJoined window bar = 1 < length bar → (width_of window bar < 50) × (has_failed bar ≡ false)
 
 -- A bar is in a lower lane than the next one, or the next one begins when this one has ended or later. In the last lane that is allowed,
 -- it may begin earlier.
@@ -37,9 +36,10 @@ AreInTurn max_lanes [] = Unit {0}
 AreInTurn max_lanes (bar ∷ []) = Unit {0}
 AreInTurn max_lanes (bar ∷ next ∷ bars) = IsBefore max_lanes bar next × AreInTurn max_lanes (next ∷ bars)
 
--- No more lanes are taken than are allowed, and each bar is in one of them.
+-- If any lane is allowed, no more lanes are taken than are allowed, and each bar is in one of them.
 abbrev pub IsInLanes : ℕ → Drawing → Type 0
-IsInLanes max_lanes drawing = (drawing.lane_count ≤ max_lanes) × AllByRecursion (λ (bar : Bar). bar.lane < drawing.lane_count) drawing.bars
+IsInLanes max_lanes drawing =
+    0 < max_lanes → (drawing.lane_count ≤ max_lanes) × AllByRecursion (λ (bar : Bar). bar.lane < drawing.lane_count) drawing.bars
 
 -- The same spans, each at or after the one before.
 abbrev pub AreOrdered : List Span → Type 0

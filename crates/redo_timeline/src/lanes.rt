@@ -1,7 +1,7 @@
 //! The lanes that spans take.
-ghost use Rattle.std.specs.Prelude.{◌≡◌, [], IfOk, OnOk, map};
+ghost use Rattle.std.specs.Prelude.{◌≡◌, [], IfOk, OnOk};
 ghost use Rattle.redo_timeline.specs.Lanes.{take_lanes};
-ghost use Rattle.redo_timeline.specs.Private.Placing.{lane_for, put_end, put_in_lane};
+ghost use Rattle.redo_timeline.specs.Private.Placing.{lane_for, put_end, put_in_lane, spans_in};
 
 use crate::span::Span;
 use std::alloc::{AllocError, Global};
@@ -12,7 +12,7 @@ pub fn assign_lanes(
     max_lanes: usize,
     spans: &[Span],
 ) -> Result<Vec<Vec<Span>>, AllocError>
-    ensures { IfOk result (λ lanes. map (λ lane. lane.items) lanes.items ≡ take_lanes max_lanes [] spans.now) }
+    ensures { IfOk result (λ lanes. spans_in lanes.items ≡ take_lanes max_lanes [] spans.now) }
 {
     let mut lanes = Vec::new(alloc);
     // When the last span in each lane ended.
@@ -44,7 +44,7 @@ fn put_in_lane(
     lane: usize,
     span: Span,
 ) -> Result<(), AllocError>
-    ensures { OnOk result (map (λ spans. spans.items) lanes.new.items ≡ put_in_lane lane span (map (λ spans. spans.items) lanes.old.items)) }
+    ensures { OnOk result (spans_in lanes.new.items ≡ put_in_lane lane span (spans_in lanes.old.items)) }
 {
     if lane < lanes.len() {
         lanes[lane].push(span)?;

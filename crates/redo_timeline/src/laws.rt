@@ -1,10 +1,10 @@
 //! Laws about the definitions alone: their contracts are theorems, and their bodies are empty.
-ghost use Rattle.std.specs.Prelude.{ℕ, ◌<◌, ◌≤◌, List};
+ghost use Rattle.std.specs.Prelude.{ℕ, ◌≤◌, List};
 ghost use Rattle.std.specs.List.{count_by};
 ghost use Rattle.std.specs.List.Sorted.{IsPermutation};
 ghost use Rattle.redo_timeline.specs.declared.span.Span.{Span};
 ghost use Rattle.redo_timeline.specs.declared.span.Window.{Window};
-ghost use Rattle.redo_timeline.specs.Laws.{AreInTurn, AreOrdered, EachBar, IsAloneIfFailed, IsInLanes, IsNarrowIfJoined, spans_of};
+ghost use Rattle.redo_timeline.specs.Laws.{AreInTurn, AreOrdered, EachBar, IsAloneIfFailed, IsInLanes, IsSlimIfJoined, spans_of};
 ghost use Rattle.redo_timeline.specs.Parallelism.{most_of, runs_at};
 ghost use Rattle.redo_timeline.specs.Timeline.{bars_of, timeline_of};
 
@@ -25,12 +25,12 @@ pub fn failed_spans_are_alone()
 
 /// A bar of several spans is narrower than 50 units by its times, and none of its spans failed.
 pub fn joined_bars_are_narrow()
-    ensures { (window : Window) (max_lanes : ℕ) (spans : List Span) → EachBar (IsNarrowIfJoined window) (bars_of window max_lanes spans) }
+    ensures { (window : Window) (max_lanes : ℕ) (spans : List Span) → EachBar (IsSlimIfJoined window) (bars_of window max_lanes spans) }
 {}
 
-/// No more lanes are taken than are allowed, and each bar is in one of them.
+/// If any lane is allowed, no more lanes are taken than are allowed, and each bar is in one of them.
 pub fn bars_are_in_lanes()
-    ensures { (window : Window) (max_lanes : ℕ) (spans : List Span) → 0 < max_lanes → IsInLanes max_lanes (timeline_of window max_lanes spans) }
+    ensures { (window : Window) (max_lanes : ℕ) (spans : List Span) → IsInLanes max_lanes (timeline_of window max_lanes spans) }
 {}
 
 /// Spans take lanes in the order in which they began.

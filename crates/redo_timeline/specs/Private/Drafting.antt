@@ -21,7 +21,8 @@ draft_of window bar = record {
 
 abbrev pub joins_draft : Window → Draft → Span → Bool
 joins_draft window draft span =
-    is_narrow window span && draft.narrow && ltb (units window span.began - units window draft.ended) 10 && ltb (units window span.ended - units window draft.began) 50
+    is_narrow window span && draft.narrow && ltb (units window span.began - units window draft.ended) 10
+    && ltb (units window span.ended - units window draft.began) 50
 
 abbrev pub joined_draft : Span → Draft → Draft
 joined_draft span draft = record draft { ended = max draft.ended span.ended; count = draft.count + 1 }

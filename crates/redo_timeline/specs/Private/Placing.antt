@@ -1,7 +1,12 @@
 -- Which lane a span takes, by when the spans in each lane ended.
 use Rattle.std.specs.Prelude.{ℕ, zero, suc, ◌-◌, ◌||◌, leb, max, List, [], ◌∷◌, ◌++◌, map, if◌then◌else◌}
+use Rattle.std.specs.Global.{Vec}
 use Rattle.redo_timeline.specs.declared.span.Span.{Span}
 use Rattle.redo_timeline.specs.Lanes.{ended_of}
+
+-- The spans in each lane.
+abbrev pub spans_in : List (Vec Span) → List (List Span)
+spans_in lanes = map (λ lane. lane.items) lanes
 
 -- When the last span in each lane ended.
 abbrev pub ends_of : List (List Span) → List ℕ

@@ -1,0 +1,7 @@
+//! Tests of timelines.
+#![tactic(auto)]
+
+#[cfg(test)]
+mod cases;
+#[cfg(test)]
+mod timeline;
