@@ -12,7 +12,7 @@ use Rattle.redo_timeline.specs.Private.Counting.{AreSortedTimes, begins_of, end_
 use Rattle.redo_timeline.proofs.BarLemmas.{and_left, and_right}
 use Rattle.redo_timeline.proofs.OrderLemmas.{sum_of, sum_of-permutation}
 
-abbrev one_if : Bool → ℕ
+abbrev pub one_if : Bool → ℕ
 one_if b = cond b 1 0
 
 -- How many items pass a test.
@@ -164,7 +164,7 @@ fewer_run time began [] le earlier = omega arith
 fewer_run time began (span ∷ rest) le earlier =
     let here = still_runs time began span le earlier.0 (runs_at time span) refl in let later = fewer_run time began rest le earlier.1 in omega (arith, here, later)
 
-all_below : (f : Span → ℕ) (spans : List Span) (most : ℕ) → greatest (map f spans) ≤ most → AllByRecursion (λ (span : Span). f span ≤ most) spans
+pub all_below : (f : Span → ℕ) (spans : List Span) (most : ℕ) → greatest (map f spans) ≤ most → AllByRecursion (λ (span : Span). f span ≤ most) spans
 all_below f [] most le = tt
 all_below f (span ∷ rest) most le = (omega (arith, le), all_below f rest most (omega (arith, le)))
 

@@ -20,7 +20,7 @@ use Rattle.redo_timeline.proofs.OrderLemmas.{in_order-permutation}
 
 -- ---- each span is drawn once
 
-abbrev joined : List (List Span) → List Span
+abbrev pub joined : List (List Span) → List Span
 joined lists = flat_map (λ (spans : List Span). spans) lists
 
 module _ (window : Window) where
@@ -41,7 +41,7 @@ module _ (window : Window) where
   spans-bars_in [] = refl
   spans-bars_in (lane ∷ lanes) = ap (λ (spans : List Span). spans ++ spans_of (map (bars_in window) lanes)) (joined-bars_in lane) ∙ ap (λ (spans : List Span). lane ++ spans) (spans-bars_in lanes)
 
-take_lane-permutation : (max_lanes : ℕ) (span : Span) (lanes : List (List Span)) → IsPermutation (span ∷ joined lanes) (joined (take_lane max_lanes span lanes))
+pub take_lane-permutation : (max_lanes : ℕ) (span : Span) (lanes : List (List Span)) → IsPermutation (span ∷ joined lanes) (joined (take_lane max_lanes span lanes))
 take_lane-permutation max_lanes span [] = IsPermutation-refl (span ∷ [])
 take_lane-permutation max_lanes span (lane ∷ lanes) = by (is_free span lane || leb max_lanes 1) (take_lane-permutation (max_lanes - 1) span lanes)
   where

@@ -104,7 +104,7 @@ module _ {K : Type 0} (cmp : K → K → Ordering) where
         by true gt more = (insert-all (λ z. is_gt (cmp y z) ≡ false) x ys (not_both x y gt) up.0, more)
         by false le more = ((le, all_above x y le ys up.0), up)
 
-    sort-rising : (xs : List K) → IsRising (sort cmp xs)
+    pub sort-rising : (xs : List K) → IsRising (sort cmp xs)
     sort-rising [] = tt
     sort-rising (x ∷ xs) = insert-rising x (sort cmp xs) (sort-rising xs)
 
@@ -227,3 +227,6 @@ in_order-permutation spans = sort-permutation span_cmp spans
 
 pub in_order-sorted : (spans : List Span) → IsSorted span_cmp (in_order spans)
 in_order-sorted spans = sort-is_sorted span_cmp span_cmp_total spans
+
+pub in_order-rising : (spans : List Span) → IsRising span_cmp (in_order spans)
+in_order-rising spans = sort-rising span_cmp span_cmp_total spans

@@ -33,6 +33,11 @@ pub fn bars_are_in_lanes()
     ensures { (window : Window) (max_lanes : ℕ) (spans : List Span) → IsInLanes max_lanes (timeline_of window max_lanes spans) }
 {}
 
+/// No more lanes are taken than spans run at one time.
+pub fn lanes_are_needed()
+    ensures { (window : Window) (max_lanes : ℕ) (spans : List Span) → (timeline_of window max_lanes spans).lane_count ≤ most_of spans }
+{}
+
 /// Spans take lanes in the order in which they began.
 pub fn spans_are_ordered()
     ensures { (spans : List Span) → AreOrdered spans }
