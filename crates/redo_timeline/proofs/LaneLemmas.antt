@@ -7,6 +7,10 @@ use Rattle.redo_timeline.specs.declared.span.Span.{Span}
 use Rattle.redo_timeline.specs.Lanes.{ended_of, is_free, take_lane, take_lanes}
 use Rattle.redo_timeline.specs.Private.Placing.{ends_of, lane_for, put_end, put_in_lane}
 
+-- What a position past the end has.
+abbrev pub no_span : Span
+no_span = record { began = 0; place = 0; ended = 0; failed = false }
+
 -- ---- the lane of a span
 
 pub lane_is : (max_lanes : ℕ) (span : Span) (lanes : List (List Span)) → take_lane max_lanes span lanes ≡ put_in_lane (lane_for max_lanes span.began (ends_of lanes)) span lanes

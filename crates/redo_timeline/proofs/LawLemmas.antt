@@ -138,7 +138,7 @@ each_proper : (window : Window) (lanes : List (List Span)) → EachBar (Proper w
 each_proper window [] = tt
 each_proper window (lane ∷ lanes) = (proper_bars_in window lane, each_proper window lanes)
 
-all_imply : {A : Type 0} (P Q : A → Type 0) → ((x : A) → P x → Q x) → (xs : List A) → AllByRecursion P xs → AllByRecursion Q xs
+pub all_imply : {A : Type 0} (P Q : A → Type 0) → ((x : A) → P x → Q x) → (xs : List A) → AllByRecursion P xs → AllByRecursion Q xs
 all_imply P Q imply [] all = tt
 all_imply P Q imply (x ∷ xs) all = (imply x all.0, all_imply P Q imply xs all.1)
 

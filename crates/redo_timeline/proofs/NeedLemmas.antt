@@ -18,7 +18,7 @@ use Rattle.redo_timeline.specs.Order.{in_order, span_cmp}
 use Rattle.redo_timeline.specs.Parallelism.{count_at, most_of, runs_at}
 use Rattle.redo_timeline.specs.Timeline.{timeline_of}
 use Rattle.redo_timeline.proofs.CountLemmas.{all_below, count_by_is, one_if}
-use Rattle.redo_timeline.proofs.LawLemmas.{joined, take_lane-permutation}
+use Rattle.redo_timeline.proofs.LawLemmas.{all_imply, joined, take_lane-permutation}
 use Rattle.redo_timeline.proofs.OrderLemmas.{IsRising, in_order-permutation, in_order-rising, sum_of, sum_of-permutation}
 
 -- ---- the order of beginnings
@@ -37,14 +37,10 @@ abbrev Ascending : ℕ → List Span → Type 0
 Ascending low [] = Unit {0}
 Ascending low (span ∷ rest) = (low ≤ span.began) × Ascending span.began rest
 
-all_map : {A : Type 0} (P Q : A → Type 0) → ((x : A) → P x → Q x) → (xs : List A) → AllByRecursion P xs → AllByRecursion Q xs
-all_map P Q imply [] all = tt
-all_map P Q imply (x ∷ xs) all = (imply x all.0, all_map P Q imply xs all.1)
-
 rising-ascending : (low : ℕ) (spans : List Span) → AllByRecursion (λ (span : Span). low ≤ span.began) spans → IsRising span_cmp spans → Ascending low spans
 rising-ascending low [] above up = tt
 rising-ascending low (span ∷ rest) above up =
-    (above.0, rising-ascending span.began rest (all_map (λ (other : Span). is_gt (span_cmp span other) ≡ false) (λ (other : Span). span.began ≤ other.began) (began_le span) rest up.0) up.1)
+    (above.0, rising-ascending span.began rest (all_imply (λ (other : Span). is_gt (span_cmp span other) ≡ false) (λ (other : Span). span.began ≤ other.began) (began_le span) rest up.0) up.1)
 
 all_above_zero : (spans : List Span) → AllByRecursion (λ (span : Span). 0 ≤ span.began) spans
 all_above_zero [] = tt
@@ -130,7 +126,7 @@ needed : (max_lanes : ℕ) (all : List Span) (lanes : List (List Span)) (spans :
 needed max_lanes all lanes [] low moved begun up le = le
 needed max_lanes all lanes (span ∷ rest) low moved begun up le =
     let earlier : AllByRecursion (λ (other : Span). other.began ≤ span.began) (joined lanes) =
-    all_map (λ (other : Span). other.began ≤ low) (λ (other : Span). other.began ≤ span.began) (λ other before. let least = up.0 in omega (arith, before, least)) (joined lanes) begun in
+    all_imply (λ (other : Span). other.began ≤ low) (λ (other : Span). other.began ≤ span.began) (λ other before. let least = up.0 in omega (arith, before, least)) (joined lanes) begun in
     let taken = take_lane-permutation max_lanes span lanes in
     needed max_lanes all (take_lane max_lanes span lanes) rest span.began
     (IsPermutation-trans _ _ _ moved (IsPermutation-trans _ _ _ (IsPermutation-middle (joined lanes) span rest) (IsPermutation-append_left rest _ _ taken)))

@@ -94,7 +94,7 @@ apart :
     × (bars_in window (failed 0 5 5 ∷ failed 1 5 5 ∷ []) ≡ (failed 0 5 5 ∷ []) ∷ (failed 1 5 5 ∷ []) ∷ [])
 apart = (refl, refl, refl)
 
--- The end of a bar is that of its span that ended last, which may not be the last of its spans.
+-- A bar ends when the last of its spans ends, which may not be its last span.
 last_ends :
     (bars_in window (span 0 0 18 ∷ span 1 1 3 ∷ span 2 20 22 ∷ []) ≡ (span 0 0 18 ∷ span 1 1 3 ∷ span 2 20 22 ∷ []) ∷ []) × (ended_of (span 0 0 18 ∷ span 1 1 3 ∷ []) ≡ 18) × (ended_of [] ≡ 0)
 last_ends = (refl, refl, refl)

@@ -51,7 +51,7 @@ impl Draft {
         }
     }
 
-    /// Whether the span after those of the draft joins them.
+    /// Whether the next span joins the spans of the draft.
     pub fn joins(&self, window: Window, span: &Span) -> bool
         requires { IsValidWindow window }
         ensures { result ≡ joins_draft window self.now span.now }
@@ -62,7 +62,7 @@ impl Draft {
             && units(window, span.ended).saturating_sub(units(window, self.began)) < JOINED
     }
 
-    /// Adds a span that joins those of the draft.
+    /// Adds a span that joins the spans of the draft.
     pub fn join(&mut self, span: &Span)
         requires { self.old.count + 1 < 2 ^ 64 }
         ensures { self.new ≡ joined_draft span.now self.old }

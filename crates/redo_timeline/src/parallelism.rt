@@ -8,10 +8,12 @@ ghost use Rattle.redo_timeline.specs.Private.Counting.{AreSortedTimes, begins_of
 use crate::span::Span;
 use std::alloc::{AllocError, Global};
 
-/// Returns the greatest number of spans that run at one time.
+/// Returns the greatest number of spans that run at one time. The only error is out of memory.
 ///
-/// A span runs from when it begins until right before it ends. Where it begins it counts even if it has no length. Takes time for
-/// sorting the spans.
+/// A span runs from when it begins until right before it ends. A span without length counts when it begins, too. If a span ended
+/// before it began, it has no length.
+///
+/// For n spans, this takes O(n log n) time.
 pub fn most_at_once(alloc: Global, spans: &[Span]) -> Result<usize, AllocError>
     ensures { IfOk result (λ most. most ≡ most_of spans.now) }
 {

@@ -1,11 +1,11 @@
 //! What a timeline is made from.
 
-/// The time from when a target began to when it ended. Spans are ordered by when they began.
+/// The time from when a target began to when it ended. Spans are ordered by when they began, then by place.
 #[derive(Clone, Copy, Debug, PartialEq, Eq, PartialOrd, Ord)]
 pub struct Span {
     /// When the target began, in milliseconds.
     pub began: u64,
-    /// Which target it is. Spans that began at the same time are ordered by place.
+    /// Which target it is. Two spans may have the same place.
     pub place: usize,
     /// When the target ended, in milliseconds.
     pub ended: u64,
@@ -13,11 +13,11 @@ pub struct Span {
     pub failed: bool,
 }
 
-/// The time that the width of a timeline stands for.
+/// The time that a timeline shows, over its whole width.
 #[derive(Clone, Copy, Debug, PartialEq, Eq)]
 pub struct Window {
     /// When it begins, in milliseconds.
     pub began: u64,
-    /// How long it is, in milliseconds.
+    /// How long it is, in milliseconds: from 1 to 2^44 - 1.
     pub width: u64,
 }

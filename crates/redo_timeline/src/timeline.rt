@@ -42,10 +42,17 @@ impl Timeline {
     }
 }
 
-/// Lays out the spans in lanes, and returns what is drawn of them.
+/// Lays out the spans in lanes, and returns the bars that are drawn of them. The only error is out of memory.
 ///
-/// A span takes the lowest lane that is free. If `max_lanes` lanes are taken, it takes the last one, over other spans. At least one
-/// lane is allowed. Takes time for sorting the spans, and for a look at each lane for each span.
+/// The width of the window must be from 1 to 2^44 - 1 milliseconds. A time outside the window is drawn at its edge.
+///
+/// The spans may be in any order. In the order in which they began, each span takes the lowest lane that is free. If `max_lanes` lanes
+/// are taken and none is free, it takes the last one, over other spans; 0 allows one lane, too.
+///
+/// A span is narrow if it is narrower than 20 units and didn't fail. A narrow span joins the bar before it in its lane if that bar
+/// is of narrow spans, ends fewer than 10 units before, and is narrower than 50 units with this span.
+///
+/// For n spans, this takes O(n log n + n * `max_lanes`) time.
 pub fn layout(
     alloc: Global,
     window: Window,

@@ -1,12 +1,9 @@
-use Rattle.std.proofs.Common.{◌+◌, false, ◌∷◌, [], ◌++◌, drop, get_or, sym, ap, ◌∙◌}
-use Rattle.redo_timeline.specs.declared.span.Span.{Span}
+use Rattle.std.proofs.Common.{◌+◌, ◌∷◌, [], ◌++◌, drop, get_or, sym, ap, ◌∙◌}
 use Rattle.redo_timeline.specs.Private.Drafting.{draft_of, drawn_draft, joined_draft}
 use Rattle.redo_timeline.proofs.BarLemmas.{drafted_first, drafted_is, drafted_joined, drafted_next}
 use Rattle.redo_timeline.proofs.bars.add_bars.Goals.{then-joins, else-joins+in_ok-push}
+use Rattle.redo_timeline.proofs.LaneLemmas.{no_span}
 use Rattle.redo_timeline.proofs.bars.add_bars.Goals as goal
-
-abbrev no_span : Span
-no_span = record { began = 0; place = 0; ended = 0; failed = false }
 
 pub loop-span-init : goal.loop-span-init
 loop-span-init c = drafted_first c.args.window c.args.lane c.args.bars.now.items c.args.spans.now c.in-Some.first.now c.in-Some.rest.now c.new-draft.result c.in-Some.ensures.cases.0 c.new-draft.ensures

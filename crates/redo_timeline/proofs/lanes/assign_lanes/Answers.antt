@@ -1,11 +1,7 @@
-use Rattle.std.proofs.Common.{false, map, ap, ◌∙◌}
+use Rattle.std.proofs.Common.{map, ap, ◌∙◌}
 use Rattle.redo_timeline.specs.Private.Placing.{lane_for}
-use Rattle.redo_timeline.specs.declared.span.Span.{Span}
-use Rattle.redo_timeline.proofs.LaneLemmas.{placed_next}
+use Rattle.redo_timeline.proofs.LaneLemmas.{no_span, placed_next}
 use Rattle.redo_timeline.proofs.lanes.assign_lanes.Goals as goal
-
-abbrev no_span : Span
-no_span = record { began = 0; place = 0; ended = 0; failed = false }
 
 pub loop-span-preserved : goal.loop-span-preserved
 loop-span-preserved c =

@@ -1,13 +1,10 @@
-use Rattle.std.proofs.Common.{◌≡◌, ◌+◌, max, false, get_or, arith}
+use Rattle.std.proofs.Common.{◌≡◌, ◌+◌, max, get_or, arith}
 use Rattle.std.specs.List.{count_by}
-use Rattle.redo_timeline.specs.declared.span.Span.{Span}
 use Rattle.redo_timeline.specs.Parallelism.{count_at, runs_at}
 use Rattle.redo_timeline.proofs.CountLemmas.{counts_itself, counts_others, most_next, running_is}
 use Rattle.redo_timeline.proofs.parallelism.most_at_once.Goals.{then-span, else-span, then-most-count, else-most-count}
+use Rattle.redo_timeline.proofs.LaneLemmas.{no_span}
 use Rattle.redo_timeline.proofs.parallelism.most_at_once.Goals as goal
-
-abbrev no_span : Span
-no_span = record { began = 0; place = 0; ended = 0; failed = false }
 
 pub overflow_sub-running : goal.overflow_sub-running
 overflow_sub-running c =
