@@ -1,11 +1,11 @@
 -- Rows of timelines, and of the lanes and bars in them. The values are worked out by hand.
-use Rattle.std.proofs.Common.{◌≡◌, ℕ, Bool, true, false, [], ◌∷◌, refl, arith, lit<}
+use Rattle.std.proofs.Common.{◌≡◌, ℕ, Bool, true, false, [], ◌∷◌, refl, arith, inl, inr, lit<}
 use Rattle.redo_timeline.specs.declared.bar.Bar.{Bar}
 use Rattle.redo_timeline.specs.declared.span.Span.{Span}
 use Rattle.redo_timeline.specs.declared.span.Window.{Window}
 use Rattle.redo_timeline.specs.Bars.{IsValidWindow, bar_of, bars_in, is_narrow, units}
 use Rattle.redo_timeline.specs.Lanes.{ended_of, lanes_of}
-use Rattle.redo_timeline.specs.Laws.{spans_of}
+use Rattle.redo_timeline.specs.Laws.{AreInTurn, EachBar, IsAloneIfFailed, IsInLanes, IsSlimIfJoined, spans_of}
 use Rattle.redo_timeline.specs.Order.{in_order}
 use Rattle.redo_timeline.specs.Parallelism.{most_of, runs_at}
 use Rattle.redo_timeline.specs.Timeline.{timeline_of}
@@ -125,6 +125,33 @@ timelines = (refl, refl)
 
 all_spans : spans_of (((span 0 0 1 ∷ span 1 1 2 ∷ []) ∷ (span 2 3 4 ∷ []) ∷ []) ∷ [] ∷ ((span 3 0 5 ∷ []) ∷ []) ∷ []) ≡ span 0 0 1 ∷ span 1 1 2 ∷ span 2 3 4 ∷ span 3 0 5 ∷ []
 all_spans = refl
+
+-- ---- what the laws reject
+
+-- Two bars overlap in lane 0, though lane 1 is allowed too. Then a higher lane comes first.
+rejected_turns :
+    ¬ AreInTurn 2 (bar 0 0 30 0 1 0 30 false ∷ bar 0 20 70 1 1 20 90 false ∷ [])
+    × ¬ AreInTurn 2 (bar 0 0 30 0 1 0 30 false ∷ bar 0 30 30 1 1 30 60 false ∷ bar 0 50 30 2 1 50 80 false ∷ [])
+    × ¬ AreInTurn 1 (bar 1 0 30 0 1 0 30 false ∷ bar 0 50 30 1 1 50 80 false ∷ [])
+rejected_turns = (
+  λ turn. elim turn.0 [ inl less ↦ omega (arith, less) | inr same ↦ let apart = same.1 (omega arith) in omega (arith, apart) ],
+  λ turn. elim turn.1.0 [ inl less ↦ omega (arith, less) | inr same ↦ let apart = same.1 (omega arith) in omega (arith, apart) ],
+  λ turn. elim turn.0 [ inl less ↦ omega (arith, less) | inr same ↦ let lane = same.0 in omega (arith, lane) ],
+)
+
+rejected_bars :
+    ¬ IsAloneIfFailed (failed 0 0 1 ∷ span 1 1 2 ∷ []) × ¬ IsAloneIfFailed (span 1 1 2 ∷ failed 0 2 3 ∷ []) × ¬ IsSlimIfJoined window (span 0 0 19 ∷ span 1 25 50 ∷ [])
+    × ¬ IsSlimIfJoined window (span 0 0 1 ∷ failed 1 1 2 ∷ []) × ¬ EachBar IsAloneIfFailed ([] ∷ ((span 0 0 1 ∷ []) ∷ (failed 1 0 1 ∷ span 2 1 2 ∷ []) ∷ []) ∷ [])
+rejected_bars = (
+  λ alone. let one = alone refl in omega (arith, one),
+  λ alone. let one = alone refl in omega (arith, one),
+  λ slim. let less = (slim (omega arith)).0 in omega (arith, less),
+  λ slim. let none : true ≡ false = (slim (omega arith)).1 in absurd (cc),
+  λ each. let one = each.1.0.1.0 refl in omega (arith, one),
+)
+
+rejected_lanes : ¬ IsInLanes 1 (record { bars = []; lane_count = 2 }) × ¬ IsInLanes 2 (record { bars = bar 0 0 30 0 1 0 30 false ∷ bar 1 0 30 0 1 0 30 false ∷ []; lane_count = 1 })
+rejected_lanes = (λ lanes. let few = (lanes (omega arith)).0 in omega (arith, few), λ lanes. let below = (lanes (omega arith)).1.1.0 in omega (arith, below))
 
 -- ---- parallelism
 

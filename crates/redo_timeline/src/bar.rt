@@ -7,7 +7,7 @@ pub struct Bar {
     pub lane: usize,
     /// Where it begins, in units from the left.
     pub x: u64,
-    /// How wide it is drawn, in units.
+    /// How wide it is drawn, in units: at least 10, or 30 if its target failed.
     pub width: u64,
     /// The place of its first span.
     pub place: usize,

@@ -49,8 +49,8 @@ impl Timeline {
 /// The spans may be in any order. In the order in which they began, each span takes the lowest lane that is free. If `max_lanes` lanes
 /// are taken and none is free, it takes the last one, over other spans; 0 allows one lane, too.
 ///
-/// A span is narrow if it is narrower than 20 units and didn't fail. A narrow span joins the bar before it in its lane if that bar
-/// is of narrow spans, ends fewer than 10 units before, and is narrower than 50 units with this span.
+/// A span is narrow if it has fewer than 20 units and didn't fail. A narrow span joins the bar before it in its lane if the spans of
+/// this bar are narrow, the bar ends fewer than 10 units before the span, and both together have fewer than 50 units.
 ///
 /// For n spans, this takes O(n log n + n * `max_lanes`) time.
 pub fn layout(
