@@ -4,7 +4,7 @@ ghost use Rattle.std.specs.List.{list_all, list_any, prefix_len};
 ghost use Rattle.redo_html.specs.Laws.{is_plain};
 ghost use Rattle.redo_html.specs.Shown.{is_odd, is_control, is_between, unseen_ranges};
 ghost use Rattle.redo_html.specs.Symbols.{first_letter, letter_len, is_parameter, sequence_len, has_colours, first_symbol, symbol_len};
-ghost use Rattle.redo_html.specs.Private.Writing.{IsVerbatim, symbol_letter};
+ghost use Rattle.redo_html.specs.Private.Writing.{IsVerbatim, oddness_if, symbol_letter};
 
 use crate::form::Form;
 use bstr::decode_utf8;
@@ -108,15 +108,22 @@ fn plain_bytes_len(bytes: &[u8]) -> usize
     bytes.len()
 }
 
-// Returns whether all bytes are plain. It tests them all, so that the compiler can test several at once.
+// Returns whether all bytes are plain. The loop has no branch, so the compiler tests several bytes at once.
 fn are_plain(bytes: &[u8]) -> bool
     ensures { result ≡ list_all is_plain bytes.now }
 {
-    let mut plain = true;
+    let mut odd = 0;
     for byte in bytes {
-        plain = plain && is_plain_byte(*byte);
+        odd = odd | oddness(*byte);
     }
-    plain
+    odd == 0
+}
+
+// Returns 0 for a plain byte, and 1 for any other.
+fn oddness(byte: u8) -> u8
+    ensures { result ≡ oddness_if (is_plain byte) }
+{
+    if is_plain_byte(byte) { 0 } else { 1 }
 }
 
 fn is_plain_byte(byte: u8) -> bool

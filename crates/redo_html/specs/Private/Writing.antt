@@ -95,3 +95,7 @@ pub record IsSequence (bytes : List ℕ) (len : ℕ) : Type 0 where
 pub record ReadsParameter (before after : Setting) (value byte next : ℕ) : Type 0 where
   pub bound : next ≤ 999
   pub same : (rest : List ℕ) → fold setting_after after (numbers_from next rest) ≡ fold setting_after before (numbers_from value (byte ∷ rest))
+
+-- 0 if bytes are plain, and 1 otherwise.
+abbrev pub oddness_if : Bool → ℕ
+oddness_if plain = if plain then 0 else 1
