@@ -5,7 +5,7 @@ use Rattle.std.proofs.lemmas.Bool.{and_left, and_right}
 use Rattle.std.proofs.lemmas.Option.{cond_some}
 use Rattle.redo_line.specs.Decimal.{number}
 use Rattle.redo_line.specs.Parts.{split_once, after_prefix}
-use Rattle.redo_line.specs.Record.{colon, at_sign, space, is_kind, is_pid, is_time, validated, fields_of}
+use Rattle.redo_line.specs.Record.{Fields, colon, at_sign, space, is_kind, is_pid, is_time, validated, fields_of, record_prefix, record_fields, timed_parts}
 use Rattle.redo_line.specs.Private.Record.{parts_of, pid_of}
 
 pub if_none : {X : Type 0} (result : Option X) (P : Type 0) → P → IfNone result P
@@ -62,5 +62,30 @@ module _ (bytes : List ℕ) where
               let pid_fits : is_pid pid ≡ true = pid_is.0 in
               ap (option_map parts_of) fields_are ∙ rw (kind_fits, pid_fits, time_fits) (ap (λ (n : ℕ). Some (kind, n, text)) pid_is.1)
 
+          -- The time of the same fields.
+          pub time_found : (value : ℕ) → is_kind kind ≡ true → pid_of pid ≡ Some value → is_time time ≡ true → option_map (λ (fields : Fields). fields.time) (fields_of bytes) ≡ Some time
+          time_found value kind_fits pid_stands time_fits =
+              let pid_fits : is_pid pid ≡ true = (cond_some (is_pid pid) (number pid) value pid_stands).0 in
+              ap (option_map (λ (fields : Fields). fields.time)) fields_are ∙ rw (kind_fits, pid_fits, time_fits) refl
+
           pub fields_refused : (is_kind kind && is_pid pid && is_time time) ≡ false → fields_of bytes ≡ None
           fields_refused is = fields_are ∙ rw is
+
+-- The kind, the time and the text of fields of which they are known.
+pub timed_found : (found : Option Fields) (kind time text : List ℕ) (pid : ℕ) → option_map parts_of found ≡ Some (kind, pid, text) → option_map (λ (fields : Fields). fields.time) found ≡ Some time
+    → option_map timed_parts found ≡ Some (kind, time, text)
+timed_found None kind time text pid parts is = absurd (cc)
+timed_found (Some fields) kind time text pid parts is =
+    let same : parts_of fields ≡ (kind, pid, text) = cc in
+    let time_is : fields.time ≡ time = cc in
+    λ i. Some ((same i).0, time_is i, (same i).2)
+
+-- The fields of a line, by whether it begins with the record prefix.
+module _ (line : List ℕ) where
+  pub no_prefix : after_prefix record_prefix line ≡ None → record_fields line ≡ None
+  unfolding record_fields
+  no_prefix none = rw none
+
+  pub behind_prefix : (bytes : List ℕ) → after_prefix record_prefix line ≡ Some bytes → record_fields line ≡ fields_of bytes
+  unfolding record_fields
+  behind_prefix bytes is = rw is

@@ -1,6 +1,6 @@
 -- Examples of lines in the log of the target `all`, computed: the line, whether it is ended, and its entry.
 use Rattle.std.proofs.Common.{◌≡◌, ℕ, Bool, true, false, List, [], ◌∷◌, Option, None, Some, pos, negsuc, refl}
-use Rattle.std.specs.Prelude.{codes}
+use Rattle.std.specs.Prelude.{codes, option_map}
 use Rattle.std.specs.List.{AllByRecursion}
 use Rattle.redo_line.specs.declared.entry.Entry.{Entry}
 use Rattle.redo_line.specs.declared.entry.Entry.TheVariants.{Text, Mention, Done, Closing, Note}
@@ -11,7 +11,7 @@ use Rattle.redo_line.specs.Parts.{split_once, after_prefix}
 use Rattle.redo_name.specs.declared.name.NameFault.TheVariants as name
 use Rattle.redo_line.specs.declared.line.LineFault.TheVariants.{BadRecord, OutOfMemory}
 use Rattle.redo_line.specs.Line.{line_fault_of_name}
-use Rattle.redo_line.specs.Record.{is_kind, is_time, fields_of, status_of}
+use Rattle.redo_line.specs.Record.{is_kind, is_time, fields_of, record_fields, status_of, timed_parts}
 use Rattle.redo_line.specs.Entry.{record_entry, entry_of}
 
 record Row : Type 0 where
@@ -107,3 +107,31 @@ statuses = (refl, refl, refl, refl)
 -- The fault of a line whose name can't be resolved.
 bad_names : (line_fault_of_name name.Empty ≡ BadRecord) × (line_fault_of_name name.OutOfMemory ≡ OutOfMemory)
 bad_names = (refl, refl)
+
+-- ---- the kind, the time and the text of a line
+
+record TimedRow : Type 0 where
+  line : List ℕ
+  parts : Option (List ℕ × List ℕ × List ℕ)
+
+abbrev timed : List ℕ → List ℕ → List ℕ → List ℕ → TimedRow
+timed line kind time text = record { line = line; parts = Some (kind, time, text) }
+
+abbrev untimed : List ℕ → TimedRow
+untimed line = record { line = line; parts = None }
+
+abbrev timed_lines : List TimedRow
+timed_lines =
+    timed (codes "@@REDO:do:7:1.25@@ a b") (codes "do") (codes "1.25") (codes "a b") ∷
+    timed (codes "@@REDO:done:7:20@@ x") (codes "done") (codes "20") (codes "x") ∷
+    timed (codes "@@REDO:n:7:1@@ ") (codes "n") (codes "1") [] ∷
+    untimed (codes "do:7:1.25@@ a b") ∷
+    untimed (codes "@@REDO:do:7:1.25@@a") ∷
+    untimed (codes "@@REDO:do:7:x@@ a") ∷
+    untimed (codes " @@REDO:do:7:1@@ a") ∷
+    untimed [] ∷
+    []
+
+these_timed_lines : AllByRecursion (λ row. option_map timed_parts (record_fields row.line) ≡ row.parts) timed_lines
+unfolding record_fields fields_of split_once after_prefix number
+these_timed_lines = (refl, (refl, (refl, (refl, (refl, (refl, (refl, (refl, tt))))))))

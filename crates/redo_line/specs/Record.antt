@@ -115,6 +115,14 @@ fields_of bytes =
     option_and_then (λ (text : List ℕ). validated (record { kind = kind.0; pid = pid.0; time = time.0; text = text }))
     (after_prefix (at_sign ∷ space ∷ []) time.1)) (split_once at_sign pid.1)) (split_once colon kind.1)) (split_once colon bytes)
 
+-- The fields of a line that begins with the record prefix, without a test of whether its text fits its kind.
+unfoldable pub record_fields : List ℕ → Option Fields
+record_fields line = option_and_then (λ (bytes : List ℕ). fields_of bytes) (after_prefix record_prefix line)
+
+-- The kind, the time and the text of a record.
+abbrev pub timed_parts : Fields → List ℕ × List ℕ × List ℕ
+timed_parts fields = (fields.kind, fields.time, fields.text)
+
 abbrev pub signed_status : List ℕ → Option (List ℕ) → Option ℤ
 signed_status bytes None = option_and_then (λ (value : ℕ). Some (pos value)) (number_of 9 bytes)
 signed_status bytes (Some digits) = option_and_then (λ (value : ℕ). Some (neg_ℤ (pos value))) (number_of 9 digits)

@@ -23,6 +23,7 @@ mod resolver;
 mod scan;
 mod split_once;
 mod stream_fault;
+mod timed;
 
 pub use cutter::{Cut, Cutter};
 pub use decimal::read_number;
@@ -35,7 +36,10 @@ pub use laws::{
 };
 pub use line::{LineFault, read_line};
 pub use line_text::LineText;
+pub use record::read_status;
 pub use redo_device::{Broken, Feed, Pieces, Reading, Sink, Taker, Writing, push_all};
 pub use redo_name::{HashKeys, NameFault, TargetName};
 pub use scan::{Scan, Step};
+pub use split_once::split_at_first;
 pub use stream_fault::StreamFault;
+pub use timed::{Timed, read_timed};

@@ -21,7 +21,7 @@ use redo_name::{NameFault, TargetName};
 use std::alloc::{AllocError, Global};
 
 // The record prefix.
-const RECORD_PREFIX: &[u8] = b"@@REDO:";
+pub const RECORD_PREFIX: &[u8] = b"@@REDO:";
 
 /// Why a line has no entry.
 #[derive(Clone, Copy, Debug, PartialEq, Eq)]

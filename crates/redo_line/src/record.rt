@@ -34,12 +34,14 @@ pub enum Kind {
 pub struct Fields<'a> {
     pub kind: &'a [u8],
     pub pid: u32,
+    pub time: &'a [u8],
     pub text: &'a [u8],
 }
 
 // Reads a record from the bytes after the record prefix.
 pub fn read_fields(bytes: &[u8]) -> Option<Fields<'_>>
     ensures some { IfSome result (λ read. option_map parts_of (spec.fields_of bytes.now) ≡ Some (read.kind.now, read.pid, read.text.now)) }
+    ensures time { IfSome result (λ read. option_map (λ fields. fields.time) (spec.fields_of bytes.now) ≡ Some read.time.now) }
     ensures none { IfNone result (spec.fields_of bytes.now ≡ None) }
 {
     let (kind, behind) = split_at_first(b':', bytes)?;
@@ -51,6 +53,7 @@ pub fn read_fields(bytes: &[u8]) -> Option<Fields<'_>>
         Some(Fields {
             kind,
             pid: number,
+            time,
             text,
         })
     } else {
@@ -114,7 +117,8 @@ pub fn kind_of(name: &[u8]) -> Kind
     }
 }
 
-// Returns the value of a status: one to nine digits, optionally after a `-`.
+/// Returns the value of a status: one to nine digits, optionally after a `-`. Returns `None` if the bytes are anything
+/// else.
 pub fn read_status(status: &[u8]) -> Option<i32>
     ensures { result ≡ spec.status_of status.now }
 {

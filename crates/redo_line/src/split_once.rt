@@ -6,7 +6,8 @@ use crate::find::find_near;
 // The number of bytes that are compared one by one. Most fields of records are shorter.
 const LINEAR_SEARCH_BYTES: usize = 16;
 
-// Returns the bytes before and after the first `at`, if there is one.
+/// Returns the bytes before and after the first byte `at`, if there is one. It searches the first bytes without starting
+/// a vector search, because most fields of records are short.
 pub fn split_at_first(at: u8, bytes: &[u8]) -> Option<(&[u8], &[u8])>
     ensures some { IfSome result (λ parts. split_once at bytes.now ≡ Some (parts.0.now, parts.1.now)) }
     ensures none { IfNone result (split_once at bytes.now ≡ None) }

@@ -1,6 +1,6 @@
 use Rattle.std.proofs.Common.{[], ◌∷◌, sym, ◌∙◌}
 use Rattle.redo_line.specs.Record.{at_sign, space}
-use Rattle.redo_line.proofs.FieldLemmas.{if_none, no_kind, no_number, no_pid, no_time, no_text, fields_found, fields_refused, kind_fails, pid_fails, time_fails}
+use Rattle.redo_line.proofs.FieldLemmas.{if_none, no_kind, no_number, no_pid, no_time, no_text, fields_found, time_found, fields_refused, kind_fails, pid_fails, time_fails}
 use Rattle.redo_line.proofs.Stripping.{strips, strips_not}
 use Rattle.redo_line.proofs.record.read_fields.Goals as goal
 use Rattle.redo_line.proofs.record.read_fields.Goals.{else-is_kind-via-then-is_kind+else-is_time, else-is_kind-via-else-is_kind}
@@ -35,6 +35,13 @@ returns-in_err-number-clause-none c =
 pub returns-then-is_time-clause-some : goal.returns-then-is_time-clause-some
 returns-then-is_time-clause-some c =
     fields_found c.args.bytes.now c.in_ok-kind.kind.now c.in_ok-kind.behind.now c.in_ok-kind.ensures.some c.in_ok-pid.pid.now c.in_ok-pid.behind.now c.in_ok-pid.ensures.some
+    c.in_ok-time.time.now c.in_ok-time.behind.now c.in_ok-time.ensures.some c.in_ok-text.text.now
+    (strips (at_sign ∷ space ∷ []) c.in_ok-time.behind.now c.in_ok-text.text.now c.in_ok-text.ensures.cases.0 c.in_ok-text.ensures.cases.1)
+    c.in_ok-number.number (sym c.is_kind.ensures ∙ c.if-is_kind.true) (sym c.read_pid.ensures ∙ c.in_ok-number.was) (sym c.is_time.ensures ∙ c.if-is_time.true)
+
+pub returns-then-is_time-clause-time : goal.returns-then-is_time-clause-time
+returns-then-is_time-clause-time c =
+    time_found c.args.bytes.now c.in_ok-kind.kind.now c.in_ok-kind.behind.now c.in_ok-kind.ensures.some c.in_ok-pid.pid.now c.in_ok-pid.behind.now c.in_ok-pid.ensures.some
     c.in_ok-time.time.now c.in_ok-time.behind.now c.in_ok-time.ensures.some c.in_ok-text.text.now
     (strips (at_sign ∷ space ∷ []) c.in_ok-time.behind.now c.in_ok-text.text.now c.in_ok-text.ensures.cases.0 c.in_ok-text.ensures.cases.1)
     c.in_ok-number.number (sym c.is_kind.ensures ∙ c.if-is_kind.true) (sym c.read_pid.ensures ∙ c.in_ok-number.was) (sym c.is_time.ensures ∙ c.if-is_time.true)
