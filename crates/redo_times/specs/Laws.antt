@@ -1,0 +1,1 @@
+-- Definitions that state the laws about times.

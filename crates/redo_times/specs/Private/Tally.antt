@@ -1,0 +1,49 @@
+-- What was found so far about the times of targets.
+use Rattle.std.specs.Prelude.{◌≡◌, ℕ, List, ◌++◌, Option, Some, map, take}
+use Rattle.std.specs.Option.{option_or}
+use Rattle.redo_device.specs.Feed.{Stream}
+use Rattle.redo_line.specs.Lines.{ended}
+use Rattle.redo_times.specs.declared.report.Report.{Report}
+use Rattle.redo_times.specs.declared.report.Stage.{Stage}
+use Rattle.redo_times.specs.declared.report.Stage.TheVariants.{Began, EndedInOwnLog, EndedInOtherLog}
+use Rattle.redo_times.specs.declared.tally.Tally.{Tally}
+use Rattle.redo_times.specs.declared.times.Times.{Times}
+use Rattle.redo_times.specs.Readers.{SomeStreams, logs_of}
+use Rattle.redo_times.specs.Report.{reports_in, reports_of}
+use Rattle.redo_times.specs.Times.{before_end, earlier, first_time, last_time, later, times_at}
+
+-- What these reports say about a target.
+abbrev pub tally_of : List Report → List ℕ → Tally
+tally_of reports target = record {
+  began = first_time (times_at Began target reports);
+  ended_in_own_log = last_time (times_at EndedInOwnLog target reports);
+  ended_in_other_log = last_time (times_at EndedInOtherLog target reports);
+}
+
+-- These tallies are those of the targets, by these reports.
+abbrev pub AreTallies : List (List ℕ) → List Report → List Tally → Type 0
+AreTallies targets reports tallies = tallies ≡ map (tally_of reports) targets
+
+abbrev pub end_of : Tally → Option ℕ
+end_of tally = option_or tally.ended_in_own_log tally.ended_in_other_log
+
+abbrev pub times_from : Tally → Times
+times_from tally = record { began = before_end tally.began (end_of tally); ended = end_of tally }
+
+-- A tally with one more time at which the target reached a stage.
+abbrev pub with_time : Stage → ℕ → Tally → Tally
+with_time Began time tally = record tally { began = Some (earlier time tally.began) }
+with_time EndedInOwnLog time tally = record tally { ended_in_own_log = Some (later time tally.ended_in_own_log) }
+with_time EndedInOtherLog time tally = record tally { ended_in_other_log = Some (later time tally.ended_in_other_log) }
+
+-- These tallies are those of the targets, by some reports and then by the ended lines of these bytes of the log of `log`.
+abbrev pub AreTalliesAfter : List (List ℕ) → List ℕ → List Report → List ℕ → List Tally → Type 0
+AreTalliesAfter targets log reports bytes tallies = AreTallies targets (reports ++ reports_in log (ended bytes)) tallies
+
+-- These tallies are those of the targets, by some reports and then by the log of `log` with this stream.
+abbrev pub AreTalliesOfStream : List (List ℕ) → List ℕ → List Report → ℕ → Stream → List Tally → Type 0
+AreTalliesOfStream targets log reports max_bytes stream tallies = AreTalliesAfter targets log reports (take max_bytes stream.bytes) tallies
+
+-- These are the tallies of the targets by the logs of some streams that the readers may give.
+abbrev pub AreTalliesOfReaders : ℕ → List (List ℕ) → List (Option Stream) → List Tally → Type 0
+AreTalliesOfReaders max_bytes targets known tallies = SomeStreams known (λ streams. AreTallies targets (reports_of max_bytes (logs_of targets streams)) tallies)

@@ -1,0 +1,61 @@
+-- When a target began and ended.
+use Rattle.std.specs.Prelude.{ℕ, nat_le, Bool, true, false, ◌&&◌, List, [], ◌∷◌, Option, None, Some, min, max, filter_map, if◌then◌else◌}
+use Rattle.std.specs.Option.{option_or}
+use Rattle.std.specs.Str.{bytes_eq}
+use Rattle.redo_times.specs.declared.report.Report.{Report}
+use Rattle.redo_times.specs.declared.report.Stage.{Stage}
+use Rattle.redo_times.specs.declared.report.Stage.TheVariants.{Began, EndedInOwnLog, EndedInOtherLog}
+use Rattle.redo_times.specs.declared.times.Times.{Times}
+use Rattle.redo_times.specs.Report.{TimedLog, reports_of}
+
+abbrev pub earlier : ℕ → Option ℕ → ℕ
+earlier time None = time
+earlier time (Some other) = min time other
+
+abbrev pub later : ℕ → Option ℕ → ℕ
+later time None = time
+later time (Some other) = max time other
+
+-- The first and the last of these times, if there are any.
+abbrev pub first_time : List ℕ → Option ℕ
+first_time [] = None
+first_time (time ∷ times) = Some (earlier time (first_time times))
+
+abbrev pub last_time : List ℕ → Option ℕ
+last_time [] = None
+last_time (time ∷ times) = Some (later time (last_time times))
+
+abbrev pub is_same_stage : Stage → Stage → Bool
+is_same_stage Began Began = true
+is_same_stage EndedInOwnLog EndedInOwnLog = true
+is_same_stage EndedInOtherLog EndedInOtherLog = true
+is_same_stage stage other = false
+
+-- The time of a report, if it says that this target reached this stage.
+abbrev pub time_if : Stage → List ℕ → Report → Option ℕ
+time_if stage target report = if is_same_stage report.stage stage && bytes_eq report.target target then Some report.time else None
+
+-- The times at which some reports say that a target reached this stage.
+abbrev pub times_at : Stage → List ℕ → List Report → List ℕ
+times_at stage target reports = filter_map (time_if stage target) reports
+
+-- The time of a beginning. It is unknown if it is after the end: the clock was set in between.
+abbrev pub before_end : Option ℕ → Option ℕ → Option ℕ
+before_end None ended = None
+before_end (Some began) None = Some began
+before_end (Some began) (Some ended) = if nat_le began ended then Some began else None
+
+-- When a target ended: as its own log says, or else as other logs say.
+abbrev pub end_in : List Report → List ℕ → Option ℕ
+end_in reports target = option_or (last_time (times_at EndedInOwnLog target reports)) (last_time (times_at EndedInOtherLog target reports))
+
+-- When a target began and ended, by these reports.
+abbrev pub times_in : List Report → List ℕ → Times
+times_in reports target = record {
+  began = before_end (first_time (times_at Began target reports)) (end_in reports target);
+  ended = end_in reports target;
+}
+
+-- When a target began and ended, by these logs.
+abbrev pub times_of : ℕ → List TimedLog → List ℕ → Times
+times_of max_bytes logs target = times_in (reports_of max_bytes logs) target

@@ -1,0 +1,14 @@
+//! When targets began and ended, by the records `do` and `done` of all logs.
+//!
+//! [`read_times`] reads the streams of an index's targets by itself, on one thread, and returns the [`Times`] of each
+//! target. Laws state that they don't depend on the order of the logs, and which records they come from.
+#![tactic(auto)]
+
+mod lines;
+mod report;
+mod stream;
+mod tally;
+mod time;
+mod times;
+
+pub use times::{Times, read_times};

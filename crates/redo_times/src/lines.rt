@@ -1,0 +1,85 @@
+//! What the lines of a chunk of a log report.
+ghost use Rattle.std.specs.Prelude.{◌≡◌, ◌≤◌, ℕ, List, ◌++◌, ◌∷◌, [], drop, length, IfOk, OnOk};
+ghost use Rattle.redo_index.specs.Index.{listed_targets, IsIndex};
+ghost use Rattle.redo_line.specs.Lines.{ended, rest};
+ghost use Rattle.redo_times.specs.declared.report.Report.{Report};
+ghost use Rattle.redo_times.specs.Private.Tally.{AreTallies, AreTalliesAfter};
+ghost use Rattle.redo_times.specs.Report.{reports_in};
+
+use crate::report::read_report;
+use crate::tally::{Tally, add_report};
+use memchr::memchr;
+use redo_index::Index;
+use redo_line::TargetName;
+use std::alloc::{AllocError, Global};
+
+/// Adds what the lines that end in a chunk report. `partial` has the bytes after the last line feed so far.
+pub fn add_chunk(
+    alloc: Global,
+    index: &Index,
+    tallies: &mut [Tally],
+    log: &TargetName,
+    partial: &mut Vec<u8>,
+    chunk: &[u8],
+) -> Result<(), AllocError>
+    requires index { IsIndex index.now }
+    requires count { length tallies.old ≡ length index.now }
+    ensures partial { (taken : List ℕ) → partial.old.items ≡ rest taken → OnOk result (partial.new.items ≡ rest (taken ++ chunk.now)) }
+    ensures tallies { (reports : List Report) (taken : List ℕ) → partial.old.items ≡ rest taken
+        → AreTalliesAfter (listed_targets index.now) log.now reports taken tallies.old
+        → OnOk result (AreTalliesAfter (listed_targets index.now) log.now reports (taken ++ chunk.now) tallies.new) }
+{
+    let Some(at) = memchr(b'\n', chunk) else {
+        partial.extend_from_slice(chunk)?;
+        return Ok(());
+    };
+    partial.extend_from_slice(&chunk[..at])?;
+    add_line(alloc, index, tallies, log, partial)?;
+    let others = &chunk[at + 1..];
+    let upto = add_lines(alloc, index, tallies, log, others)?;
+    partial.clear();
+    partial.extend_from_slice(&others[upto..])?;
+    Ok(())
+}
+
+// Adds what the ended lines of these bytes report, and returns the number of bytes up to the last line feed.
+fn add_lines(
+    alloc: Global,
+    index: &Index,
+    tallies: &mut [Tally],
+    log: &TargetName,
+    bytes: &[u8],
+) -> Result<usize, AllocError>
+    requires index { IsIndex index.now }
+    requires count { length tallies.old ≡ length index.now }
+    ensures range { IfOk result (λ upto. upto ≤ length bytes.now) }
+    ensures rest { IfOk result (λ upto. drop upto bytes.now ≡ rest bytes.now) }
+    ensures tallies { (reports : List Report) → AreTallies (listed_targets index.now) reports tallies.old
+        → OnOk result (AreTalliesAfter (listed_targets index.now) log.now reports bytes.now tallies.new) }
+{
+    let mut upto = 0;
+    'lines: while let Some(at) = memchr(b'\n', &bytes[upto..]) {
+        add_line(alloc, index, tallies, log, &bytes[upto..upto + at])?;
+        upto += at + 1;
+    }
+    Ok(upto)
+}
+
+// Adds what an ended line reports.
+fn add_line(
+    alloc: Global,
+    index: &Index,
+    tallies: &mut [Tally],
+    log: &TargetName,
+    line: &[u8],
+) -> Result<(), AllocError>
+    requires index { IsIndex index.now }
+    requires count { length tallies.old ≡ length index.now }
+    ensures { (reports : List Report) → AreTallies (listed_targets index.now) reports tallies.old
+        → OnOk result (AreTallies (listed_targets index.now) (reports ++ reports_in log.now (line.now ∷ [])) tallies.new) }
+{
+    if let Some(report) = read_report(alloc, log, line)? {
+        add_report(index, tallies, report);
+    }
+    Ok(())
+}

@@ -1,0 +1,50 @@
+//! Reads the stream of one log.
+ghost use Rattle.std.specs.Prelude.{◌≡◌, ◌<◌, List, ◌++◌, length, OnOk};
+ghost use Rattle.redo_device.specs.Feed.{SomeStream};
+ghost use Rattle.redo_index.specs.Index.{listed_targets, IsIndex};
+ghost use Rattle.redo_times.specs.declared.report.Report.{Report};
+ghost use Rattle.redo_times.specs.Private.Tally.{AreTallies, AreTalliesOfStream};
+
+use crate::lines::add_chunk;
+use crate::tally::Tally;
+use redo_device::{Broken, Feed};
+use redo_index::Index;
+use redo_line::TargetName;
+use std::alloc::{AllocError, Global};
+
+/// Adds what a log reports. It reads the stream up to its end, a failed read or its first `max_bytes` bytes, whichever
+/// comes first, and never more. `chunk` and `partial` are buffers for the bytes that are read; their contents don't
+/// matter, before or afterwards.
+pub fn add_stream<R: Feed>(
+    alloc: Global,
+    index: &Index,
+    tallies: &mut [Tally],
+    log: &TargetName,
+    reader: &mut R,
+    max_bytes: u64,
+    chunk: &mut [u8],
+    partial: &mut Vec<u8>,
+) -> Result<(), AllocError>
+    requires index { IsIndex index.now }
+    requires count { length tallies.old ≡ length index.now }
+    requires room { 0 < length chunk.old }
+    ensures tallies { (reports : List Report) → AreTallies (listed_targets index.now) reports tallies.old
+        → OnOk result (SomeStream (R.contents reader.old) (λ stream.
+        AreTalliesOfStream (listed_targets index.now) log.now reports max_bytes stream tallies.new)) }
+    ensures chunk { length chunk.new ≡ length chunk.old }
+{
+    partial.clear();
+    let mut left = max_bytes;
+    'reads: while left > 0 {
+        let room = left.min(chunk.len() as u64) as usize;
+        match reader.pull(&mut chunk[..room]) {
+            Err(Broken) => return Ok(()),
+            Ok(0) => return Ok(()),
+            Ok(n) => {
+                add_chunk(alloc, index, tallies, log, partial, &chunk[..n])?;
+                left -= n as u64;
+            }
+        }
+    }
+    Ok(())
+}

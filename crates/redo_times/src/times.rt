@@ -1,0 +1,121 @@
+ghost use Rattle.std.specs.Prelude.{◌≡◌, ◌<◌, [], IfOk, OnOk, length, map};
+ghost use Rattle.redo_index.specs.Index.{listed_targets, IsIndex};
+ghost use Rattle.redo_times.specs.Readers.{AreTimesOfReaders};
+ghost use Rattle.redo_times.specs.Private.Tally.{AreTallies, AreTalliesOfReaders, times_from};
+
+use crate::stream::add_stream;
+use crate::tally::Tally;
+use redo_device::Feed;
+use redo_index::Index;
+use std::alloc::{AllocError, Global};
+
+// How many bytes are read at once, at most.
+const READ_BYTES: usize = 64 * 1024;
+
+/// When a target began and ended, in milliseconds since 1970. A time is `None` if no record says it, or only records with
+/// times that don't count: times before 1,000,000,000 seconds or after 9,999,999,999 seconds.
+#[derive(Clone, Copy, Debug, PartialEq, Eq)]
+pub struct Times {
+    /// The first time of a `do` record of the target. It is `None` if it is after `ended`.
+    pub began: Option<u64>,
+    /// The last time of a `done` record of the target in its own log; if there is none, in any log.
+    pub ended: Option<u64>,
+}
+
+/// Reads the streams of the targets of an index, and returns the times of each target, in the order of the index. Each
+/// reader gives the stream of the target at the same position, so there must be as many readers as targets.
+///
+/// Only ended lines within the first `max_bytes` bytes of a stream count, and no more bytes are read. A failed read ends
+/// the stream: the bytes before it count. A record that is not valid is skipped.
+///
+/// It needs a buffer of 64 KiB, a buffer of the length of the longest line, and 56 bytes for each target. It allocates
+/// for each `do` and `done` record with a time that counts, and for no other line.
+pub fn read_times<R: Feed>(
+    alloc: Global,
+    index: &Index,
+    readers: Vec<R>,
+    max_bytes: u64,
+) -> Result<Vec<Times>, AllocError>
+    requires { length readers.items ≡ length index.now }
+    ensures { IfOk result (λ times.
+        AreTimesOfReaders max_bytes (listed_targets index.now) (map R.contents readers.items) times.items) }
+{
+    let tallies = read_tallies(alloc, index, readers, max_bytes)?;
+    let times = to_times(alloc, &tallies)?;
+    Ok(times)
+}
+
+// Returns when each target began and ended.
+fn to_times(alloc: Global, tallies: &[Tally]) -> Result<Vec<Times>, AllocError>
+    ensures { IfOk result (λ times. times.items ≡ map times_from tallies.now) }
+{
+    tallies.iter().map(|tally| tally.times()).collect(alloc)
+}
+
+// Reads the streams, and returns the tally of each target.
+fn read_tallies<R: Feed>(
+    alloc: Global,
+    index: &Index,
+    readers: Vec<R>,
+    max_bytes: u64,
+) -> Result<Vec<Tally>, AllocError>
+    requires { length readers.items ≡ length index.now }
+    ensures { IfOk result (λ tallies.
+        AreTalliesOfReaders max_bytes (listed_targets index.now) (map R.contents readers.items) tallies.items) }
+{
+    let mut chunk = vec![in alloc; 0u8; READ_BYTES]?;
+    let mut tallies = empty_tallies(alloc, index)?;
+    add_streams(
+        alloc,
+        index,
+        tallies.as_mut_slice(),
+        readers,
+        max_bytes,
+        chunk.as_mut_slice(),
+    )?;
+    Ok(tallies)
+}
+
+// Returns a tally for each target, of which nothing is known.
+fn empty_tallies(alloc: Global, index: &Index) -> Result<Vec<Tally>, AllocError>
+    ensures tallies { IfOk result (λ tallies. AreTallies (listed_targets index.now) [] tallies.items) }
+    ensures index { IsIndex index.now }
+{
+    let tallies = vec![in alloc; Tally::empty(); index.len() as usize]?;
+    Ok(tallies)
+}
+
+// Adds what all logs report to tallies of which nothing is known.
+fn add_streams<R: Feed>(
+    alloc: Global,
+    index: &Index,
+    tallies: &mut [Tally],
+    readers: Vec<R>,
+    max_bytes: u64,
+    chunk: &mut [u8],
+) -> Result<(), AllocError>
+    requires index { IsIndex index.now }
+    requires begins { AreTallies (listed_targets index.now) [] tallies.old }
+    requires readers { length readers.items ≡ length index.now }
+    requires room { 0 < length chunk.old }
+    ensures { OnOk result (
+        AreTalliesOfReaders max_bytes (listed_targets index.now) (map R.contents readers.items) tallies.new) }
+{
+    let mut partial = Vec::new(alloc);
+    let mut i = 0;
+    for mut reader in readers {
+        let log = index.name(i);
+        add_stream(
+            alloc,
+            index,
+            tallies,
+            log,
+            &mut reader,
+            max_bytes,
+            chunk,
+            &mut partial,
+        )?;
+        i += 1;
+    }
+    Ok(())
+}
