@@ -1,8 +1,11 @@
 mod LineLemmas
 mod ReaderLemmas
+mod ReaderRows
 mod ReportLemmas
+mod ReportedLemmas
 mod StreamLemmas
 mod TallyLemmas
 mod TimeLemmas
 mod TimeRows
+mod TimesLaws
 mod TimesRows

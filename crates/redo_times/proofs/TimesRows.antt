@@ -2,13 +2,14 @@
 use Rattle.std.proofs.Common.{◌≡◌, ℕ, List, [], ◌∷◌, ◌++◌, Option, None, Some, refl}
 use Rattle.std.specs.Prelude.{codes}
 use Rattle.std.specs.List.{AllByRecursion}
+use Rattle.redo_line.specs.declared.entry.Entry.TheVariants.{Note, Text}
 use Rattle.redo_line.specs.Decimal.{number}
 use Rattle.redo_line.specs.Entry.{entry_of, record_entry}
 use Rattle.redo_line.specs.Lines.{ended, split_lines, with_line_feed}
 use Rattle.redo_line.specs.Parts.{after_prefix, split_once}
 use Rattle.redo_line.specs.Record.{fields_of, record_fields, status_of}
 use Rattle.redo_name.specs.Names.{normal, reduce_suffix}
-use Rattle.redo_times.specs.Report.{TimedLog, report_of}
+use Rattle.redo_times.specs.Report.{TimedLog, report_of, stage_of}
 use Rattle.redo_times.specs.Time.{time_value}
 use Rattle.redo_times.specs.Times.{times_of}
 
@@ -139,3 +140,7 @@ cut_records =
 these_cut_records : AllByRecursion (HasTimes 26) cut_records
 unfolding split_lines ended record_fields fields_of status_of split_once after_prefix normal reduce_suffix number time_value entry_of record_entry report_of
 these_cut_records = (refl, tt)
+
+-- Text lines and notes report nothing.
+other_entries : (stage_of all (Text a) ≡ None) × (stage_of all (Note 7 (codes "x") a) ≡ None)
+other_entries = (refl, refl)

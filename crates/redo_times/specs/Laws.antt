@@ -1,1 +1,41 @@
 -- Definitions that state the laws about times.
+use Rattle.std.specs.Prelude.{◌≡◌, ℕ, ◌<◌, ◌≤◌, ◌⊎◌, true, List, Option, Some, option_and_then, take}
+use Rattle.std.specs.List.{Contains}
+use Rattle.redo_line.specs.Entry.{entry_of}
+use Rattle.redo_line.specs.Lines.{ended}
+use Rattle.redo_times.specs.declared.report.Stage.{Stage}
+use Rattle.redo_times.specs.declared.report.Stage.TheVariants.{Began, EndedInOwnLog, EndedInOtherLog}
+use Rattle.redo_times.specs.Report.{TimedLog, line_time, stage_of}
+
+-- A record that ends within the first `max_bytes` bytes of one of these logs says that the target reached this stage at this time.
+pub record IsReported (max_bytes : ℕ) (logs : List TimedLog) (stage : Stage) (target : List ℕ) (time : ℕ) : Type 0 where
+  pub log : TimedLog
+  pub is_log : Contains logs log
+  pub line : List ℕ
+  pub is_line : Contains (ended (take max_bytes log.bytes)) line
+  pub says : option_and_then (stage_of log.target) (entry_of log.target line true) ≡ Some (stage, target)
+  pub at : line_time line ≡ Some time
+
+-- `Is` holds of this time, and of no earlier or later one.
+pub record IsFirst (Is : ℕ → Type 0) (time : ℕ) : Type 0 where
+  pub is : Is time
+  pub none_earlier : (other : ℕ) → Is other → time ≤ other
+
+pub record IsLast (Is : ℕ → Type 0) (time : ℕ) : Type 0 where
+  pub is : Is time
+  pub none_later : (other : ℕ) → Is other → other ≤ time
+
+-- `Is` holds of no time.
+abbrev pub Never : (ℕ → Type 0) → Type 0
+Never Is = (time : ℕ) → Is time → ⊥
+
+module _ (max_bytes : ℕ) (logs : List TimedLog) (target : List ℕ) where
+  -- The target ended at this time: the last one that its own log reports; if it reports none, the last one that another log reports.
+  abbrev pub IsEnd : ℕ → Type 0
+  IsEnd time =
+      IsLast (IsReported max_bytes logs EndedInOwnLog target) time
+      ⊎ (Never (IsReported max_bytes logs EndedInOwnLog target) × IsLast (IsReported max_bytes logs EndedInOtherLog target) time)
+
+  -- The end is known, and all beginnings that logs report are after it.
+  abbrev pub BeginsAfter : Option ℕ → Type 0
+  BeginsAfter ended = (end : ℕ) × (ended ≡ Some end) × ((time : ℕ) → IsReported max_bytes logs Began target time → end < time)

@@ -4,6 +4,7 @@
 //! target. Laws state that they don't depend on the order of the logs, and which records they come from.
 #![tactic(auto)]
 
+mod laws;
 mod lines;
 mod report;
 mod stream;
@@ -11,4 +12,5 @@ mod tally;
 mod time;
 mod times;
 
+pub use laws::{beginning_is_first_report, end_is_last_report, order_of_logs_is_irrelevant};
 pub use times::{Times, read_times};

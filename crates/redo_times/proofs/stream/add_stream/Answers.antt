@@ -10,7 +10,7 @@ reads-init g c =
       chunk = refl;
       tallies = refl;
       reading =
-          subst (λ (partial : List ℕ). Reading targets c.args.log.now c.args.max_bytes c.args.max_bytes known known partial c.args.tallies.now c.args.tallies.now) (sym c.clear.ensures.items)
+          subst (λ (partial : List ℕ). Reading targets c.args.log.now c.args.max_bytes c.args.max_bytes known known partial c.args.tallies.now c.args.tallies.now) (sym {A = List ℕ} c.clear.ensures.items)
           (none_read targets c.args.log.now c.args.max_bytes known c.args.tallies.now);
     }
 
