@@ -1,4 +1,7 @@
+mod LawRows
 mod LineLemmas
+mod RangeLaws
+mod RangeLemmas
 mod ReaderLemmas
 mod ReaderRows
 mod ReportLemmas

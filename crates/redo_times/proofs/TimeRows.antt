@@ -1,10 +1,10 @@
 -- Rows of times and their values in milliseconds.
-use Rattle.std.proofs.Common.{◌≡◌, ℕ, List, [], ◌∷◌, Option, None, Some, refl}
+use Rattle.std.proofs.Common.{◌≡◌, ℕ, List, [], ◌∷◌, Option, None, Some, arith, refl}
 use Rattle.std.specs.Prelude.{codes}
 use Rattle.std.specs.List.{AllByRecursion}
 use Rattle.redo_line.specs.Decimal.{number}
 use Rattle.redo_line.specs.Parts.{split_once}
-use Rattle.redo_times.specs.Time.{time_value}
+use Rattle.redo_times.specs.Time.{IsInRange, time_value}
 
 record Row : Type 0 where
   time : List ℕ
@@ -58,3 +58,9 @@ seconds =
 these_seconds : AllByRecursion (λ row. time_value row.time ≡ row.value) seconds
 unfolding time_value split_once number
 these_seconds = (refl, (refl, (refl, (refl, (refl, (refl, (refl, (refl, (refl, (refl, (refl, tt)))))))))))
+
+in_range : IsInRange 1000000000000 × IsInRange 9999999999999
+in_range = ((omega arith, omega arith), (omega arith, omega arith))
+
+not_in_range : (IsInRange 999999999999 → ⊥) × (IsInRange 10000000000000 → ⊥)
+not_in_range = ((λ is. omega (arith, is.0)), (λ is. omega (arith, is.1)))

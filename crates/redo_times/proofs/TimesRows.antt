@@ -1,5 +1,5 @@
 -- Rows of logs and the times of one target.
-use Rattle.std.proofs.Common.{◌≡◌, ℕ, List, [], ◌∷◌, ◌++◌, Option, None, Some, refl}
+use Rattle.std.proofs.Common.{◌≡◌, ℕ, List, [], ◌∷◌, ◌++◌, Option, None, Some, arith, refl}
 use Rattle.std.specs.Prelude.{codes}
 use Rattle.std.specs.List.{AllByRecursion}
 use Rattle.redo_line.specs.declared.entry.Entry.TheVariants.{Note, Text}
@@ -11,7 +11,7 @@ use Rattle.redo_line.specs.Record.{fields_of, record_fields, status_of}
 use Rattle.redo_name.specs.Names.{normal, reduce_suffix}
 use Rattle.redo_times.specs.Report.{TimedLog, report_of, stage_of}
 use Rattle.redo_times.specs.Time.{time_value}
-use Rattle.redo_times.specs.Times.{times_of}
+use Rattle.redo_times.specs.Times.{AreInRange, times_of}
 
 abbrev log : List ℕ → List ℕ → TimedLog
 log target bytes = record { target = target; bytes = bytes }
@@ -144,3 +144,6 @@ these_cut_records = (refl, tt)
 -- Text lines and notes report nothing.
 other_entries : (stage_of all (Text a) ≡ None) × (stage_of all (Note 7 (codes "x") a) ≡ None)
 other_entries = (refl, refl)
+
+not_in_range : (AreInRange (record { began = Some 5; ended = None }) → ⊥) × (AreInRange (record { began = None; ended = Some 5 }) → ⊥)
+not_in_range = ((λ are. omega (arith, are.0.0)), (λ are. omega (arith, are.1.0)))

@@ -1,5 +1,5 @@
 -- The value of a record's time.
-use Rattle.std.specs.Prelude.{ℕ, ◌+◌, ◌*◌, nat_le, ◌&&◌, List, ◌++◌, [], Option, None, Some, option_map, take, codes, if◌then◌else◌}
+use Rattle.std.specs.Prelude.{ℕ, ◌+◌, ◌*◌, ◌≤◌, nat_le, ◌&&◌, List, ◌++◌, [], Option, None, Some, option_map, take, codes, if◌then◌else◌}
 use Rattle.redo_line.specs.Decimal.{number}
 use Rattle.redo_line.specs.Parts.{split_once}
 use Rattle.redo_line.specs.Record.{period}
@@ -30,3 +30,7 @@ value_of_parts parts = option_map (λ seconds. seconds * 1000 + milliseconds par
 -- The value of a record's time, in milliseconds since 1970.
 unfoldable pub time_value : List ℕ → Option ℕ
 time_value time = value_of_parts (seconds_and_fraction time (split_once period time))
+
+-- The range of these values.
+abbrev pub IsInRange : ℕ → Type 0
+IsInRange value = (min_seconds * 1000 ≤ value) × (value ≤ max_seconds * 1000 + 999)

@@ -1,5 +1,5 @@
 -- When a target began and ended.
-use Rattle.std.specs.Prelude.{ℕ, nat_le, Bool, true, false, ◌&&◌, List, [], ◌∷◌, Option, None, Some, min, max, filter_map, if◌then◌else◌}
+use Rattle.std.specs.Prelude.{ℕ, nat_le, Bool, true, false, ◌&&◌, List, [], ◌∷◌, Option, None, Some, IfSome, min, max, filter_map, if◌then◌else◌}
 use Rattle.std.specs.Option.{option_or}
 use Rattle.std.specs.Str.{bytes_eq}
 use Rattle.redo_times.specs.declared.report.Report.{Report}
@@ -7,6 +7,7 @@ use Rattle.redo_times.specs.declared.report.Stage.{Stage}
 use Rattle.redo_times.specs.declared.report.Stage.TheVariants.{Began, EndedInOwnLog, EndedInOtherLog}
 use Rattle.redo_times.specs.declared.times.Times.{Times}
 use Rattle.redo_times.specs.Report.{TimedLog, reports_of}
+use Rattle.redo_times.specs.Time.{IsInRange}
 
 abbrev pub earlier : ℕ → Option ℕ → ℕ
 earlier time None = time
@@ -59,3 +60,7 @@ times_in reports target = record {
 -- When a target began and ended, by these logs.
 abbrev pub times_of : ℕ → List TimedLog → List ℕ → Times
 times_of max_bytes logs target = times_in (reports_of max_bytes logs) target
+
+-- Whether both times are in the range of values of a record's time.
+abbrev pub AreInRange : Times → Type 0
+AreInRange times = IfSome times.began IsInRange × IfSome times.ended IsInRange

@@ -1,6 +1,8 @@
 ghost use Rattle.std.specs.Prelude.{◌≡◌, ◌<◌, [], IfOk, OnOk, length, map};
+ghost use Rattle.std.specs.List.{AllByRecursion};
 ghost use Rattle.redo_index.specs.Index.{listed_targets, IsIndex};
 ghost use Rattle.redo_times.specs.Readers.{AreTimesOfReaders};
+ghost use Rattle.redo_times.specs.Times.{AreInRange};
 ghost use Rattle.redo_times.specs.Private.Tally.{AreTallies, AreTalliesOfReaders, times_from};
 
 use crate::stream::add_stream;
@@ -12,13 +14,14 @@ use std::alloc::{AllocError, Global};
 // How many bytes are read at once, at most.
 const READ_BYTES: usize = 64 * 1024;
 
-/// When a target began and ended, in milliseconds since 1970. A time is `None` if no record says it, or only records with
-/// times that don't count: times before 1,000,000,000 seconds or after 9,999,999,999 seconds.
+/// When a target began and ended, in milliseconds since 1970. Decimals after the third are dropped. A time is `None` if
+/// no record has it. Records with less than 1,000,000,000 or more than 9,999,999,999 seconds don't count, because a clock
+/// was not set.
 #[derive(Clone, Copy, Debug, PartialEq, Eq)]
 pub struct Times {
-    /// The first time of a `do` record of the target. It is `None` if it is after `ended`.
+    /// The first time of a `do` record of the target, in any log. It is `None` if it is after `ended`: the clock was set.
     pub began: Option<u64>,
-    /// The last time of a `done` record of the target in its own log; if there is none, in any log.
+    /// The last time of a `done` record of the target in its own log; if there is none, in another log.
     pub ended: Option<u64>,
 }
 
@@ -28,8 +31,10 @@ pub struct Times {
 /// Only ended lines within the first `max_bytes` bytes of a stream count, and no more bytes are read. A failed read ends
 /// the stream: the bytes before it count. A record that is not valid is skipped.
 ///
-/// It needs a buffer of 64 KiB, a buffer of the length of the longest line, and 56 bytes for each target. It allocates
-/// for each `do` and `done` record with a time that counts, and for no other line.
+/// Each time is from 1,000,000,000,000 to 9,999,999,999,999. The only error is that an allocation failed.
+///
+/// It stores a chunk of 64 KiB, the longest line that chunks divide, and 80 bytes for each target. It allocates for each
+/// `do` and `done` record, but not for other lines.
 pub fn read_times<R: Feed>(
     alloc: Global,
     index: &Index,
@@ -37,8 +42,9 @@ pub fn read_times<R: Feed>(
     max_bytes: u64,
 ) -> Result<Vec<Times>, AllocError>
     requires { length readers.items ≡ length index.now }
-    ensures { IfOk result (λ times.
+    ensures times { IfOk result (λ times.
         AreTimesOfReaders max_bytes (listed_targets index.now) (map R.contents readers.items) times.items) }
+    ensures in_range { IfOk result (λ times. AllByRecursion AreInRange times.items) }
 {
     let tallies = read_tallies(alloc, index, readers, max_bytes)?;
     let times = to_times(alloc, &tallies)?;

@@ -1,0 +1,42 @@
+-- All times are in range.
+use Rattle.std.proofs.Common.{◌≡◌, ℕ, inl, inr, List, [], ◌∷◌, Option, None, Some, IfSome, map, sym, subst}
+use Rattle.std.specs.List.{AllByRecursion}
+use Rattle.redo_device.specs.Feed.{Stream}
+use Rattle.redo_times.specs.declared.report.Stage.TheVariants.{Began}
+use Rattle.redo_times.specs.declared.times.Times.{Times}
+use Rattle.redo_times.specs.Laws.{IsEnd, IsFirst, IsReported}
+use Rattle.redo_times.specs.Readers.{AreTimesOfReaders, SomeStreams, logs_of, times_of_all}
+use Rattle.redo_times.specs.Report.{TimedLog}
+use Rattle.redo_times.specs.Time.{IsInRange}
+use Rattle.redo_times.specs.Times.{AreInRange, times_of}
+use Rattle.redo_times.proofs.RangeLemmas.{line-in-range}
+use Rattle.redo_times.proofs.ReaderLemmas.{weaker_all}
+use Rattle.redo_times.proofs.TimesLaws.{beginning-first, end-last}
+
+weaker_some : (found : Option ℕ) (P Q : ℕ → Type 0) → ((x : ℕ) → P x → Q x) → IfSome found P → IfSome found Q
+weaker_some None P Q follows holds = tt
+weaker_some (Some x) P Q follows holds = follows x holds
+
+-- What holds of some streams, whichever they are.
+in_any_case : (known : List (Option Stream)) (P : Type 0) → SomeStreams known (λ streams. P) → P
+in_any_case [] P holds = holds
+in_any_case (None ∷ known) P holds = in_any_case known P holds.1
+in_any_case (Some stream ∷ known) P holds = in_any_case known P holds
+
+module _ (max_bytes : ℕ) (logs : List TimedLog) where
+  times-in-range : (target : List ℕ) → AreInRange (times_of max_bytes logs target)
+  times-in-range target = (
+    weaker_some (times_of max_bytes logs target).began (IsFirst (IsReported max_bytes logs Began target)) IsInRange (λ time first. line-in-range first.is.line time first.is.at) (beginning-first max_bytes logs target),
+    weaker_some (times_of max_bytes logs target).ended (IsEnd max_bytes logs target) IsInRange
+        (λ time end. elim end [ inl own ↦ line-in-range own.is.line time own.is.at | inr other ↦ line-in-range other.1.is.line time other.1.is.at ]) (end-last max_bytes logs target),
+  )
+
+  each-in-range : (targets : List (List ℕ)) → AllByRecursion AreInRange (map (times_of max_bytes logs) targets)
+  each-in-range [] = tt
+  each-in-range (target ∷ targets) = (times-in-range target, each-in-range targets)
+
+pub all-in-range : (max_bytes : ℕ) (targets : List (List ℕ)) (known : List (Option Stream)) (times : List Times) → AreTimesOfReaders max_bytes targets known times → AllByRecursion AreInRange times
+all-in-range max_bytes targets known times are =
+    in_any_case known (AllByRecursion AreInRange times)
+    (weaker_all known (λ streams. times ≡ times_of_all max_bytes targets streams) (λ streams. AllByRecursion AreInRange times)
+    (λ streams size is. subst (AllByRecursion AreInRange) (sym is) (each-in-range max_bytes (logs_of targets streams) targets)) are)
