@@ -39,10 +39,12 @@ read_rows =
     ∷ row (codes "<pre><i>") (tag (codes "pre") ++ tag (codes "i"))
     ∷ row (codes "<title>a&lt;b>c</title>d") (tag (codes "title") ++ text (codes "a<b>c") ++ tag (codes "/title") ++ text (codes "d"))
     ∷ row (codes "<style>a>b&c\"</style>d") (tag (codes "style") ++ text (codes "a>b&c\"") ++ tag (codes "/style") ++ text (codes "d"))
+    ∷ row (codes "<table><tbody><tr><th scope=\"row\">a</th><td class=\"n\">1</td></tr></tbody></table>") (tag (codes "table") ++ tag (codes "tbody") ++ tag (codes "tr") ++ tag (codes "th scope=\"row\"") ++ text (codes "a") ++ tag (codes "/th") ++ tag (codes "td class=\"n\"") ++ text (codes "1") ++ tag (codes "/td") ++ tag (codes "/tr") ++ tag (codes "/tbody") ++ tag (codes "/table"))
+    ∷ row (codes "<div><dl><dt>a</dt><dd>b</dd></dl></div>") (tag (codes "div") ++ tag (codes "dl") ++ tag (codes "dt") ++ text (codes "a") ++ tag (codes "/dt") ++ tag (codes "dd") ++ text (codes "b") ++ tag (codes "/dd") ++ tag (codes "/dl") ++ tag (codes "/div"))
     ∷ []
 
 reads : AllByRecursion (λ r. read r.html ≡ r.tokens) read_rows
-reads = (refl, (refl, (refl, (refl, (refl, (refl, (refl, (refl, (refl, (refl, (refl, (refl, (refl, (refl, (refl, tt)))))))))))))))
+reads = (refl, (refl, (refl, (refl, (refl, (refl, (refl, (refl, (refl, (refl, (refl, (refl, (refl, (refl, (refl, (refl, (refl, tt)))))))))))))))))
 
 -- What is lost: other elements, whose content a browser may read by other rules; comments; other references; bytes that a browser rejects or
 -- changes; attributes without quotes; text that ends in a tag.
@@ -50,7 +52,7 @@ abbrev lost_rows : List Row
 lost_rows =
     is_lost (codes "<script>x")
     ∷ is_lost (codes "<textarea>x")
-    ∷ is_lost (codes "<svg>x")
+    ∷ is_lost (codes "<math>x")
     ∷ is_lost (codes "<plaintext>x")
     ∷ is_lost (codes "<iframe>x")
     ∷ is_lost (codes "<noscript>x")
@@ -101,6 +103,68 @@ lost_rows =
 
 loses : AllByRecursion (λ r. read r.html ≡ r.tokens) lost_rows
 loses = (refl, (refl, (refl, (refl, (refl, (refl, (refl, (refl, (refl, (refl, (refl, (refl, (refl, (refl, (refl, (refl, (refl, (refl, (refl, (refl, (refl, (refl, (refl, (refl, (refl, (refl, (refl, (refl, (refl, (refl, (refl, (refl, (refl, (refl, (refl, (refl, (refl, (refl, (refl, (refl, (refl, (refl, (refl, (refl, (refl, (refl, (refl, (refl, (refl, tt)))))))))))))))))))))))))))))))))))))))))))))))))
+
+-- What is read in an `svg`, and after it.
+abbrev svg_rows : List Row
+svg_rows =
+    row (codes "<svg width=\"100%\"><rect x1=\"0.50%\" stroke-width=\".5\" fill=\"#8886\"></rect></svg>") (tag (codes "svg width=\"100%\"") ++ tag (codes "rect x1=\"0.50%\" stroke-width=\".5\" fill=\"#8886\"") ++ tag (codes "/rect") ++ tag (codes "/svg"))
+    ∷ row (codes "a<svg>b<g>c<a href=\"#t1\">d<text>e</text></a><line></line></g></svg>f") (text (codes "a") ++ tag (codes "svg") ++ text (codes "b") ++ tag (codes "g") ++ text (codes "c") ++ tag (codes "a href=\"#t1\"") ++ text (codes "d") ++ tag (codes "text") ++ text (codes "e") ++ tag (codes "/text") ++ tag (codes "/a") ++ tag (codes "line") ++ tag (codes "/line") ++ tag (codes "/g") ++ tag (codes "/svg") ++ text (codes "f"))
+    ∷ row (codes "<svg><svg></svg>a</svg><p>b</p>") (tag (codes "svg") ++ tag (codes "svg") ++ tag (codes "/svg") ++ text (codes "a") ++ tag (codes "/svg") ++ tag (codes "p") ++ text (codes "b") ++ tag (codes "/p"))
+    ∷ row (codes "<svg><g><rect><title>a</title></rect></g></svg><b>c</b>") (tag (codes "svg") ++ tag (codes "g") ++ tag (codes "rect") ++ tag (codes "title") ++ text (codes "a") ++ tag (codes "/title") ++ tag (codes "/rect") ++ tag (codes "/g") ++ tag (codes "/svg") ++ tag (codes "b") ++ text (codes "c") ++ tag (codes "/b"))
+    ∷ row (codes "<svg><title>&lt;b>&amp;</title>&gt;</svg>") (tag (codes "svg") ++ tag (codes "title") ++ text (codes "<b>&") ++ tag (codes "/title") ++ text (codes ">") ++ tag (codes "/svg"))
+    -- the `title` of HTML again
+    ∷ row (codes "<svg></svg><title>&lt;</title><p>") (tag (codes "svg") ++ tag (codes "/svg") ++ tag (codes "title") ++ text (codes "<") ++ tag (codes "/title") ++ tag (codes "p"))
+    -- nothing to end: as any other end tag in HTML
+    ∷ row (codes "</svg>a<p>") (tag (codes "/svg") ++ text (codes "a") ++ tag (codes "p"))
+    ∷ []
+
+reads_svg : AllByRecursion (λ r. read r.html ≡ r.tokens) svg_rows
+reads_svg = (refl, (refl, (refl, (refl, (refl, (refl, (refl, tt)))))))
+
+-- What is lost there: HTML elements, which would end the `svg`; other elements of SVG; declarations and CDATA; start tags in a `title`, which are
+-- HTML; end tags of other elements than the innermost one. Elements of SVG alone are lost in HTML.
+abbrev lost_svg_rows : List Row
+lost_svg_rows =
+    row (codes "<svg><b>x") (tag (codes "svg") ++ Lost ∷ [])
+    ∷ row (codes "<svg><p>") (tag (codes "svg") ++ Lost ∷ [])
+    ∷ row (codes "<svg><i>a</i>") (tag (codes "svg") ++ Lost ∷ [])
+    ∷ row (codes "<svg><style>x") (tag (codes "svg") ++ Lost ∷ [])
+    ∷ row (codes "<svg><script>x") (tag (codes "svg") ++ Lost ∷ [])
+    ∷ row (codes "<svg><foreignobject>") (tag (codes "svg") ++ Lost ∷ [])
+    ∷ row (codes "<svg><desc>") (tag (codes "svg") ++ Lost ∷ [])
+    ∷ row (codes "<svg><path>") (tag (codes "svg") ++ Lost ∷ [])
+    ∷ row (codes "<svg><!doctype html>") (tag (codes "svg") ++ Lost ∷ [])
+    ∷ row (codes "<svg><![CDATA[x]]>") (tag (codes "svg") ++ Lost ∷ [])
+    ∷ row (codes "<svg><!-- x -->") (tag (codes "svg") ++ Lost ∷ [])
+    ∷ row (codes "<svg><rect/>") (tag (codes "svg") ++ Lost ∷ [])
+    ∷ row (codes "<svg></g>") (tag (codes "svg") ++ Lost ∷ [])
+    ∷ row (codes "<svg></b>") (tag (codes "svg") ++ Lost ∷ [])
+    ∷ row (codes "<svg></svg a=\"b\">") (tag (codes "svg") ++ Lost ∷ [])
+    ∷ row (codes "<svg></title>") (tag (codes "svg") ++ Lost ∷ [])
+    ∷ row (codes "<svg><a href=\"&lt;\">") (tag (codes "svg") ++ Lost ∷ [])
+    ∷ row (codes "<svg><Rect>") (tag (codes "svg") ++ Lost ∷ [])
+    ∷ row (codes "<svg>&copy;") (tag (codes "svg") ++ Lost ∷ [])
+    ∷ row (codes "<svg><") (tag (codes "svg") ++ Lost ∷ [])
+    ∷ row (codes "<svg>") (tag (codes "svg") ++ Lost ∷ [])
+    ∷ row (codes "<svg>\r</svg>") (tag (codes "svg") ++ Lost ∷ [])
+    ∷ row (codes "<svg><title><title>") (tag (codes "svg") ++ tag (codes "title") ++ Lost ∷ [])
+    ∷ row (codes "<svg><title><g>") (tag (codes "svg") ++ tag (codes "title") ++ Lost ∷ [])
+    ∷ row (codes "<svg><title><svg>") (tag (codes "svg") ++ tag (codes "title") ++ Lost ∷ [])
+    ∷ row (codes "<svg><title></svg>") (tag (codes "svg") ++ tag (codes "title") ++ Lost ∷ [])
+    ∷ row (codes "<svg><title>a<b></title></svg>") (tag (codes "svg") ++ tag (codes "title") ++ text (codes "a") ++ Lost ∷ [])
+    ∷ row (codes "<svg><g></svg>") (tag (codes "svg") ++ tag (codes "g") ++ Lost ∷ [])
+    ∷ row (codes "<svg><g></g></g>") (tag (codes "svg") ++ tag (codes "g") ++ tag (codes "/g") ++ Lost ∷ [])
+    ∷ row (codes "<a><svg></a>") (tag (codes "a") ++ tag (codes "svg") ++ Lost ∷ [])
+    ∷ row (codes "<svg><svg></svg><p>") (tag (codes "svg") ++ tag (codes "svg") ++ tag (codes "/svg") ++ Lost ∷ [])
+    ∷ row (codes "<svg></svg><g>") (tag (codes "svg") ++ tag (codes "/svg") ++ Lost ∷ [])
+    ∷ is_lost (codes "<g>x")
+    ∷ is_lost (codes "<rect>x")
+    ∷ is_lost (codes "<line>x")
+    ∷ is_lost (codes "<text>x")
+    ∷ []
+
+loses_svg : AllByRecursion (λ r. read r.html ≡ r.tokens) lost_svg_rows
+loses_svg = (refl, (refl, (refl, (refl, (refl, (refl, (refl, (refl, (refl, (refl, (refl, (refl, (refl, (refl, (refl, (refl, (refl, (refl, (refl, (refl, (refl, (refl, (refl, (refl, (refl, (refl, (refl, (refl, (refl, (refl, (refl, (refl, (refl, (refl, (refl, (refl, tt))))))))))))))))))))))))))))))))))))
 
 -- Tags that nest, and tags that don't.
 nesting : (nests_in [] (codes "!doctype html" ∷ codes "p class=\"a\"" ∷ codes "b" ∷ codes "/b" ∷ codes "wbr" ∷ codes "/p" ∷ []) ≡ true) × (nests_in [] (codes "p" ∷ []) ≡ false)

@@ -1,9 +1,13 @@
+mod ChartReading
+mod ChartRows
+mod ChartWriting
 mod HtmlRows
 mod LineLemmas
 mod LineRows
 mod LineWriting
 mod MarkReading
 mod PageRows
+mod PartReading
 mod PassageLemmas
 mod PassageWriting
 mod PictureLemmas
@@ -12,6 +16,7 @@ mod RepeatLemmas
 mod ShownRows
 mod StyleLemmas
 mod SymbolLemmas
+mod TagReading
 mod TextReading
 mod Utf8Lemmas
 mod VerbatimLemmas

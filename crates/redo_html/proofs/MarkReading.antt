@@ -1,35 +1,17 @@
 -- How the tags of a page are read.
-use Rattle.std.proofs.Common.{◌≡◌, ℕ, true, false, List, [], ◌∷◌, ◌++◌, refl, sym, ◌∙◌, ap, arith}
-use Rattle.std.specs.Prelude.{◌==◌, nat_le, codes}
-use Rattle.std.specs.List.{list_all}
-use Rattle.std.proofs.lemmas.Bool.{and_parts, leb-true, ne_eqb}
+use Rattle.std.proofs.Common.{◌≡◌, ℕ, List, [], ◌∷◌, ◌++◌, refl, sym, ◌∙◌, ap}
+use Rattle.std.specs.Prelude.{codes}
 use Rattle.std.proofs.lemmas.List.{append_assoc, append-nil}
 use Rattle.redo_html.specs.declared.markup.Markup.{Markup}
-use Rattle.redo_html.specs.declared.markup.Markup.TheVariants.{Doctype, Html, EndHtml, Head, EndHead, Charset, Viewport, ColorScheme, Referrer, Policy, BodyGood, BodyBad, BodyOpen, EndBody, Header, EndHeader, Title1, EndTitle1, Sign, EndSign, Nav, EndNav, Main, EndMain, FailedSection, SummarySection, TreeSection, EndSection, FailedHeading, SummaryHeading, TreeHeading, EndHeading, FailedLink, SummaryLink, TreeLink, TargetLink, OutputLink, EndLink, Article, EndArticle, Title3, EndTitle3, Paragraph, MetaParagraph, QuietParagraph, CutParagraph, ProblemParagraph, EndParagraph, Unordered, Tree, EndUnordered, Ordered, OrderedFrom, EndOrdered, Item, NoteItem, TargetItem, EndItem, Details, OpenDetails, QuietDetails, MoreDetails, EndDetails, Summary, EndSummary, Pre, EndPre, Bdi, EndBdi, Code, EndCode, ExitBadge, OpenBadge, EndBadge, Warnings, EndWarnings, Small, EndSmall, Footer, EndFooter}
-use Rattle.redo_html.specs.Html.{DataState, Normal, AttributeValue, Step, is_digit, emit_tag, read_from}
+use Rattle.redo_html.specs.declared.markup.Markup.TheVariants.{Doctype, Html, EndHtml, Head, EndHead, Charset, Viewport, ColorScheme, Referrer, Policy, BodyGood, BodyBad, BodyOpen, EndBody, Header, EndHeader, Title1, EndTitle1, Sign, EndSign, Nav, EndNav, Main, EndMain, FailedSection, SummarySection, TreeSection, TimelineSection, EndSection, FailedHeading, SummaryHeading, TreeHeading, TimelineHeading, EndHeading, FailedLink, SummaryLink, TreeLink, TimelineLink, TargetLink, OutputLink, EndLink, Article, EndArticle, Title3, EndTitle3, Paragraph, MetaParagraph, QuietParagraph, CutParagraph, ProblemParagraph, EndParagraph, Unordered, Tree, EndUnordered, Ordered, OrderedFrom, EndOrdered, Item, NoteItem, TargetItem, EndItem, Details, OpenDetails, QuietDetails, MoreDetails, EndDetails, Summary, EndSummary, Pre, EndPre, Bdi, EndBdi, Code, EndCode, ExitBadge, OpenBadge, EndBadge, Warnings, EndWarnings, Small, EndSmall, Footer, EndFooter, DescriptionList, EndDescriptionList, Div, EndDiv, Term, EndTerm, Description, EndDescription, Columns, Table, EndTable, TableBody, EndTableBody, TableRow, EndTableRow, RowHeading, EndRowHeading, NumberCell, MeterCell, EndCell, TimelineScroll}
+use Rattle.redo_html.specs.Html.{DataState, Normal, AttributeValue, Step, emit_tag, read_from}
 use Rattle.redo_html.specs.Html.Token.{Tag}
 use Rattle.redo_html.specs.Laws.{ReadsAs}
 use Rattle.redo_html.specs.Shown.{number_text}
 use Rattle.redo_html.specs.Tags.{markup_text, markup_html}
-use Rattle.redo_html.proofs.TextReading.{number_digits}
+use Rattle.redo_html.proofs.TagReading.{number_value, value_read}
 
--- ---- digits in an attribute
-
-digit_read : (digit : ℕ) (tag behind : List ℕ) → is_digit digit ≡ true → read_from (AttributeValue tag) (digit ∷ behind) ≡ read_from (AttributeValue (tag ++ digit ∷ [])) behind
-digit_read digit tag behind is =
-    let parts = and_parts (nat_le 48 digit) (nat_le digit 57) is in
-    let low = leb-true 48 digit parts.0 in
-    let quote : (digit == 34) ≡ false = ne_eqb digit 34 (λ e. omega (arith, low, e)) in
-    let amp : (digit == 38) ≡ false = ne_eqb digit 38 (λ e. omega (arith, low, e)) in
-    let nul : (digit == 0) ≡ false = ne_eqb digit 0 (λ e. omega (arith, low, e)) in
-    let cr : (digit == 13) ≡ false = ne_eqb digit 13 (λ e. omega (arith, low, e)) in
-    simp (quote, amp, nul, cr)
-
-digits_read : (digits tag behind : List ℕ) → list_all is_digit digits ≡ true → read_from (AttributeValue tag) (digits ++ behind) ≡ read_from (AttributeValue (tag ++ digits)) behind
-digits_read [] tag behind are = ap (λ t. read_from (AttributeValue t) behind) (sym (append-nil tag))
-digits_read (digit ∷ digits) tag behind are =
-    let parts = and_parts (is_digit digit) (list_all is_digit digits) are in
-    digit_read digit tag (digits ++ behind) parts.0 ∙ digits_read digits (tag ++ digit ∷ []) behind parts.1 ∙ ap (λ t. read_from (AttributeValue t) behind) (append_assoc tag (digit ∷ []) digits)
+-- ---- numbers in an attribute
 
 -- A tag whose last attribute ends with a number. `begin` is what precedes the number.
 abbrev numbered : List ℕ → ℕ → List ℕ
@@ -38,11 +20,11 @@ numbered begin number = begin ++ number_text number ++ codes "\""
 number_tail : (begin digits behind : List ℕ) → ((begin ++ digits ++ codes "\"") ++ codes ">" ++ []) ++ behind ≡ begin ++ (digits ++ 34 ∷ 62 ∷ behind)
 number_tail begin digits behind = simp append_assoc
 
-numbered_reads : (begin : List ℕ) (number : ℕ) → ((rest : List ℕ) → read_from (DataState Normal) (60 ∷ (begin ++ rest)) ≡ read_from (AttributeValue begin) rest)
-    → emit_tag (numbered begin number) ≡ (DataState Normal, Tag (numbered begin number) ∷ []) → ReadsAs (codes "<" ++ numbered begin number ++ codes ">" ++ []) (Tag (numbered begin number) ∷ [])
+numbered_reads : (begin : List ℕ) (number : ℕ) → ((rest : List ℕ) → read_from (DataState Normal) (60 ∷ (begin ++ rest)) ≡ read_from (AttributeValue Normal begin) rest)
+    → emit_tag Normal (numbered begin number) ≡ (DataState Normal, Tag (numbered begin number) ∷ []) → ReadsAs (codes "<" ++ numbered begin number ++ codes ">" ++ []) (Tag (numbered begin number) ∷ [])
 numbered_reads begin number opens emits behind =
     ap (λ b. read_from (DataState Normal) (60 ∷ b)) (number_tail begin (number_text number) behind) ∙ opens (number_text number ++ 34 ∷ 62 ∷ behind)
-    ∙ digits_read (number_text number) begin (34 ∷ 62 ∷ behind) (number_digits number) ∙ ap (λ (step : Step). step.1 ++ read_from step.0 behind) emits
+    ∙ value_read Normal (number_text number) begin (34 ∷ 62 ∷ behind) (number_value number) ∙ ap (λ (step : Step). step.1 ++ read_from step.0 behind) emits
 
 -- ---- tags
 
@@ -74,14 +56,17 @@ markup_reads EndMain behind = refl
 markup_reads FailedSection behind = refl
 markup_reads SummarySection behind = refl
 markup_reads TreeSection behind = refl
+markup_reads TimelineSection behind = refl
 markup_reads EndSection behind = refl
 markup_reads FailedHeading behind = refl
 markup_reads SummaryHeading behind = refl
 markup_reads TreeHeading behind = refl
+markup_reads TimelineHeading behind = refl
 markup_reads EndHeading behind = refl
 markup_reads FailedLink behind = refl
 markup_reads SummaryLink behind = refl
 markup_reads TreeLink behind = refl
+markup_reads TimelineLink behind = refl
 markup_reads (TargetLink number) behind = numbered_reads (codes "a href=\"#t") number (λ rest. refl) refl behind
 markup_reads (OutputLink number) behind = numbered_reads (codes "a href=\"#f") number (λ rest. refl) refl behind
 markup_reads EndLink behind = refl
@@ -127,6 +112,27 @@ markup_reads Small behind = refl
 markup_reads EndSmall behind = refl
 markup_reads Footer behind = refl
 markup_reads EndFooter behind = refl
+markup_reads DescriptionList behind = refl
+markup_reads EndDescriptionList behind = refl
+markup_reads Div behind = refl
+markup_reads EndDiv behind = refl
+markup_reads Term behind = refl
+markup_reads EndTerm behind = refl
+markup_reads Description behind = refl
+markup_reads EndDescription behind = refl
+markup_reads Columns behind = refl
+markup_reads Table behind = refl
+markup_reads EndTable behind = refl
+markup_reads TableBody behind = refl
+markup_reads EndTableBody behind = refl
+markup_reads TableRow behind = refl
+markup_reads EndTableRow behind = refl
+markup_reads RowHeading behind = refl
+markup_reads EndRowHeading behind = refl
+markup_reads NumberCell behind = refl
+markup_reads MeterCell behind = refl
+markup_reads EndCell behind = refl
+markup_reads TimelineScroll behind = refl
 
 -- The end of a tag whose last attribute ends with a number, as it is written.
 pub number_end : (begin digits : List ℕ) → begin ++ digits ++ codes "\">" ≡ ((begin ++ digits) ++ codes "\"") ++ codes ">" ++ []

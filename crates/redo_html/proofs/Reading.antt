@@ -14,18 +14,14 @@ use Rattle.redo_html.specs.declared.style.Hue.TheVariants.{Plain, Red, Green, Ye
 use Rattle.redo_html.specs.declared.style.Style.{Style}
 use Rattle.redo_html.specs.Passage.{Inline, hue_class, style_name, mark_text, has_marks, mark_html, mark_tokens, inline_html, inline_tokens, is_plain_hue, has_element, style_start, style_end, hue_number, same_bool, is_same_style, mark_if, marks_between, after_letter, with_wanted, start_look, inlines_from, html_from, passage_html, passage_tokens}
 use Rattle.redo_html.specs.Passage.Inline.{OddStart, OddEnd, StyleStart, StyleEnd, Text}
-use Rattle.redo_html.specs.Html.{Token, DataState, Normal, Rcdata, read_from, characters_of, text_of, tag_of, tags_of, nests_in}
+use Rattle.redo_html.specs.Html.{Place, Token, Normal, characters_of, text_of, tag_of, tags_of, nests_in}
 use Rattle.redo_html.specs.Html.Token.{Character, Tag}
 use Rattle.redo_html.specs.Laws.{ReadsAs, is_mark, IsReadAsShown}
-use Rattle.redo_html.specs.Parts.{Part, part_html, part_tokens, part_text}
-use Rattle.redo_html.specs.Parts.Part.{MarkupPart, LogPart, NamePart, NumberPart, TitlePart, StylePart}
-use Rattle.redo_html.specs.Shown.{Run, is_odd, letters_text, run_text, runs_of, shown_text, number_text}
+use Rattle.redo_html.specs.Shown.{Run, is_odd, letters_text, run_text, runs_of, shown_text}
 use Rattle.redo_html.specs.Shown.Run.{Letters, Restyle}
-use Rattle.redo_html.specs.Style.{plain_style, restyled}
-use Rattle.redo_html.specs.StyleSheet.{style_sheet}
+use Rattle.redo_html.specs.Style.{restyled}
 use Rattle.redo_html.specs.Symbols.{symbols}
-use Rattle.redo_html.proofs.MarkReading.{markup_reads}
-use Rattle.redo_html.proofs.TextReading.{ReadsIn, each_reads, escaped_reads, is_raw, raw_reads, letters_clean, all_weaker, number_safe, safe_escaped, is_safe, is_clean, safe_clean}
+use Rattle.redo_html.proofs.TextReading.{HasReferences, ReadsIn, each_reads, escaped_reads, letters_clean}
 
 -- ---- marks and letters
 
@@ -61,28 +57,29 @@ inline_reads form (StyleStart style) = mark_reads form (style_name style.bold ++
 inline_reads form (StyleEnd style) = mark_reads form (47 ∷ style_name style.bold) (style_end_reads style.bold)
 inline_reads form (Text letter count) = escaped_reads Normal tt (letters_text letter count) (letters_clean letter count)
 
-title_inline_reads : (inline : Inline) → ReadsIn Rcdata (inline_html Title inline) (inline_tokens Title inline)
-title_inline_reads OddStart behind = refl
-title_inline_reads OddEnd behind = refl
-title_inline_reads (StyleStart style) behind = refl
-title_inline_reads (StyleEnd style) behind = refl
-title_inline_reads (Text letter count) behind = escaped_reads Rcdata tt (letters_text letter count) (letters_clean letter count) behind
+title_inline_reads : (place : Place) → HasReferences place → (inline : Inline) → ReadsIn place (inline_html Title inline) (inline_tokens Title inline)
+title_inline_reads place has OddStart behind = refl
+title_inline_reads place has OddEnd behind = refl
+title_inline_reads place has (StyleStart style) behind = refl
+title_inline_reads place has (StyleEnd style) behind = refl
+title_inline_reads place has (Text letter count) behind = escaped_reads place has (letters_text letter count) (letters_clean letter count) behind
 
 pub passage_reads : (form : Form) (style : Style) (bytes : List ℕ) → ReadsAs (passage_html form style bytes) (passage_tokens form style bytes)
 unfolding html_from
 passage_reads form style bytes = each_reads Normal (inline_html form) (inline_tokens form) (inline_reads form) (inlines_from (start_look style) (runs_of (symbols form bytes)))
 
-title_passage_reads : (style : Style) (bytes : List ℕ) → ReadsIn Rcdata (passage_html Title style bytes) (passage_tokens Title style bytes)
+-- Text without marks is read in each place whose text may have references.
+pub title_passage_reads : (place : Place) → HasReferences place → (style : Style) (bytes : List ℕ) → ReadsIn place (passage_html Title style bytes) (passage_tokens Title style bytes)
 unfolding html_from
-title_passage_reads style bytes = each_reads Rcdata (inline_html Title) (inline_tokens Title) title_inline_reads (inlines_from (start_look style) (runs_of (symbols Title bytes)))
+title_passage_reads place has style bytes = each_reads place (inline_html Title) (inline_tokens Title) (title_inline_reads place has) (inlines_from (start_look style) (runs_of (symbols Title bytes)))
 
 -- ---- the text
 
-text_characters : (text : List ℕ) → text_of (map Character text) ≡ text
+pub text_characters : (text : List ℕ) → text_of (map Character text) ≡ text
 text_characters [] = refl
 text_characters (byte ∷ text) = ap (λ (t : List ℕ). byte ∷ t) (text_characters text)
 
-tags_characters : (text : List ℕ) → tags_of (map Character text) ≡ []
+pub tags_characters : (text : List ℕ) → tags_of (map Character text) ≡ []
 tags_characters [] = refl
 tags_characters (byte ∷ text) = tags_characters text
 
@@ -357,7 +354,7 @@ runs_nest form has look (Letters letter count ∷ runs) around tags =
     ∙ ap (nests_in (opened look.odd look.current around)) (append_assoc (tags_in form (marks_between look odd)) (tags_in form rest) tags)
     ∙ marks_nest form has look odd around (tags_in form rest ++ tags) ∙ runs_nest form has (after_letter look odd) runs around tags
 
-passage_nests : (form : Form) (style : Style) (bytes : List ℕ) (around tags : List (List ℕ)) → nests_in around (tags_of (passage_tokens form style bytes) ++ tags) ≡ nests_in around tags
+pub passage_nests : (form : Form) (style : Style) (bytes : List ℕ) (around tags : List (List ℕ)) → nests_in around (tags_of (passage_tokens form style bytes) ++ tags) ≡ nests_in around tags
 passage_nests Log style bytes around tags = runs_nest Log refl (start_look style) (runs_of (symbols Log bytes)) around tags
 passage_nests Name style bytes around tags = runs_nest Name refl (start_look style) (runs_of (symbols Name bytes)) around tags
 passage_nests Title style bytes around tags = ap (λ (t : List (List ℕ)). nests_in around (t ++ tags)) (title_tags style bytes)
@@ -369,52 +366,3 @@ passage_is_read form style bytes = record {
   marks = runs_marks form (start_look style) (runs_of (symbols form bytes));
   nests = passage_nests form style bytes;
 }
-
--- ---- pages
-
-title_reads : (title : List ℕ) → ReadsAs (part_html (TitlePart title)) (part_tokens (TitlePart title))
-title_reads title behind =
-    let html = passage_html Title plain_style title in
-    let tokens = passage_tokens Title plain_style title in
-    let end = codes "</title>" in
-    ap (read_from (DataState Normal)) (append_assoc (codes "<title>" ++ html) end behind ∙ append_assoc (codes "<title>") html (end ++ behind))
-    ∙ ap (λ (ts : List Token). Tag (codes "title") ∷ ts) (title_passage_reads plain_style title (end ++ behind) ∙ sym (append_assoc tokens (Tag (codes "/title") ∷ []) (read_from (DataState Normal) behind)))
-
-style_is_raw : list_all is_raw style_sheet ≡ true
-unfolding style_sheet
-style_is_raw = refl
-
-style_sheet_reads : ReadsAs (part_html StylePart) (part_tokens StylePart)
-style_sheet_reads behind =
-    let end = codes "</style>" in
-    ap (read_from (DataState Normal)) (append_assoc (codes "<style>" ++ style_sheet) end behind ∙ append_assoc (codes "<style>") style_sheet (end ++ behind))
-    ∙ ap (λ (ts : List Token). Tag (codes "style") ∷ ts) (raw_reads style_sheet style_is_raw (end ++ behind) ∙ sym (append_assoc (map Character style_sheet) (Tag (codes "/style") ∷ []) (read_from (DataState Normal) behind)))
-
-number_reads : (number : ℕ) → ReadsAs (number_text number) (map Character (number_text number))
-number_reads number =
-    subst (λ (bytes : List ℕ). ReadsAs bytes (map Character (number_text number))) (safe_escaped (number_text number) (number_safe number))
-    (escaped_reads Normal tt (number_text number) (all_weaker is_safe is_clean safe_clean (number_text number) (number_safe number)))
-
-part_reads : (part : Part) → ReadsAs (part_html part) (part_tokens part)
-part_reads (MarkupPart markup) = markup_reads markup
-part_reads (LogPart style text) = passage_reads Log style text
-part_reads (NamePart name) = passage_reads Name plain_style name
-part_reads (NumberPart number) = number_reads number
-part_reads (TitlePart title) = title_reads title
-part_reads StylePart = style_sheet_reads
-
-pub parts_read : (parts : List Part) → ReadsAs (flat_map part_html parts) (flat_map part_tokens parts)
-parts_read parts = each_reads Normal part_html part_tokens part_reads parts
-
-part_shows : (part : Part) → text_of (part_tokens part) ≡ part_text part
-part_shows (MarkupPart markup) = refl
-part_shows (LogPart style text) = passage_text Log style text
-part_shows (NamePart name) = passage_text Name plain_style name
-part_shows (NumberPart number) = text_characters (number_text number)
-part_shows (TitlePart title) = flat_map-append characters_of (passage_tokens Title plain_style title) (Tag (codes "/title") ∷ []) ∙ append-nil (text_of (passage_tokens Title plain_style title)) ∙ passage_text Title plain_style title
-part_shows StylePart = flat_map-append characters_of (map Character style_sheet) (Tag (codes "/style") ∷ []) ∙ append-nil (text_of (map Character style_sheet)) ∙ text_characters style_sheet
-
-pub parts_show : (parts : List Part) → text_of (flat_map part_tokens parts) ≡ flat_map part_text parts
-parts_show [] = refl
-parts_show (part ∷ parts) =
-    flat_map-append characters_of (part_tokens part) (flat_map part_tokens parts) ∙ ap (λ (t : List ℕ). t ++ text_of (flat_map part_tokens parts)) (part_shows part) ∙ ap (λ (t : List ℕ). part_text part ++ t) (parts_show parts)

@@ -9,7 +9,7 @@ use Rattle.std.proofs.lemmas.Fmt.{decimal_by_steps}
 use Rattle.std.proofs.lemmas.List.{append_assoc}
 use Rattle.std.proofs.lemmas.List.Folds.{list_all-append}
 use Rattle.redo_html.specs.Passage.{escaped, escaped_byte}
-use Rattle.redo_html.specs.Html.{Place, Token, DataState, Normal, Rcdata, Rawtext, is_rejected, is_digit, read_from}
+use Rattle.redo_html.specs.Html.{Place, Token, DataState, Normal, Rcdata, Rawtext, Svg, is_rejected, is_digit, read_from}
 use Rattle.redo_html.specs.Html.Token.{Character}
 use Rattle.redo_html.specs.Shown.{is_between, is_odd, lower_hex, upper_hex, picture, number_text, odd_text, letters_text}
 
@@ -66,16 +66,18 @@ safe_escaped (byte ∷ bytes) safe =
     let one : escaped_byte byte ≡ byte ∷ [] = rw (amp, lt, gt) refl in
     ap (λ (b : List ℕ). b ++ escaped bytes) one ∙ ap (λ (b : List ℕ). byte ∷ b) (safe_escaped bytes parts.1)
 
--- Text that may have references: normal text, and the text of a `title`.
+-- Text that may have references: normal text, text in an `svg`, and the text of a `title`.
 abbrev pub HasReferences : Place → Type 0
 HasReferences Normal = ⊤
 HasReferences Rcdata = ⊤
 HasReferences Rawtext = ⊥
+HasReferences (Svg inner outer) = ⊤
 
 byte_reads : (place : Place) → HasReferences place → (byte : ℕ) → (byte == 60) ≡ false → (byte == 38) ≡ false → is_rejected byte ≡ false → ReadsIn place (byte ∷ []) (Character byte ∷ [])
 byte_reads Normal has byte lt amp clean behind = rw (lt, amp, clean) refl
 byte_reads Rcdata has byte lt amp clean behind = rw (lt, amp, clean) refl
 byte_reads Rawtext has byte lt amp clean behind = absurd has
+byte_reads (Svg inner outer) has byte lt amp clean behind = rw (lt, amp, clean) refl
 
 reference_reads : (place : Place) → HasReferences place → (byte : ℕ) → ((byte ≡ 38) ⊎ (byte ≡ 60)) ⊎ (byte ≡ 62) → ReadsIn place (escaped_byte byte) (Character byte ∷ [])
 reference_reads place has byte which = ⊎_elim (λ two. ⊎_elim (λ is. at 38 is (amp place has)) (λ is. at 60 is (lt place has)) two) (λ is. at 62 is (gt place has)) which
@@ -87,16 +89,19 @@ reference_reads place has byte which = ⊎_elim (λ two. ⊎_elim (λ is. at 38 
     amp Normal has behind = refl
     amp Rcdata has behind = refl
     amp Rawtext has behind = absurd has
+    amp (Svg inner outer) has behind = refl
 
     lt : (p : Place) → HasReferences p → ReadsIn p (escaped_byte 60) (Character 60 ∷ [])
     lt Normal has behind = refl
     lt Rcdata has behind = refl
     lt Rawtext has behind = absurd has
+    lt (Svg inner outer) has behind = refl
 
     gt : (p : Place) → HasReferences p → ReadsIn p (escaped_byte 62) (Character 62 ∷ [])
     gt Normal has behind = refl
     gt Rcdata has behind = refl
     gt Rawtext has behind = absurd has
+    gt (Svg inner outer) has behind = refl
 
 escaped_byte_reads : (place : Place) → HasReferences place → (byte : ℕ) → is_clean byte ≡ true → ReadsIn place (escaped_byte byte) (Character byte ∷ [])
 escaped_byte_reads place has byte clean = amp (byte == 38) refl

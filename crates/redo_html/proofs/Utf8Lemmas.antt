@@ -13,14 +13,16 @@ use Rattle.redo_html.specs.declared.form.Form.{Form}
 use Rattle.redo_html.specs.declared.form.Form.TheVariants.{Log, Name, Title}
 use Rattle.redo_html.specs.declared.look.Look.{Look}
 use Rattle.redo_html.specs.declared.markup.Markup.{Markup}
-use Rattle.redo_html.specs.declared.markup.Markup.TheVariants.{Doctype, Html, EndHtml, Head, EndHead, Charset, Viewport, ColorScheme, Referrer, Policy, BodyGood, BodyBad, BodyOpen, EndBody, Header, EndHeader, Title1, EndTitle1, Sign, EndSign, Nav, EndNav, Main, EndMain, FailedSection, SummarySection, TreeSection, EndSection, FailedHeading, SummaryHeading, TreeHeading, EndHeading, FailedLink, SummaryLink, TreeLink, TargetLink, OutputLink, EndLink, Article, EndArticle, Title3, EndTitle3, Paragraph, MetaParagraph, QuietParagraph, CutParagraph, ProblemParagraph, EndParagraph, Unordered, Tree, EndUnordered, Ordered, OrderedFrom, EndOrdered, Item, NoteItem, TargetItem, EndItem, Details, OpenDetails, QuietDetails, MoreDetails, EndDetails, Summary, EndSummary, Pre, EndPre, Bdi, EndBdi, Code, EndCode, ExitBadge, OpenBadge, EndBadge, Warnings, EndWarnings, Small, EndSmall, Footer, EndFooter}
+use Rattle.redo_html.specs.declared.markup.Markup.TheVariants.{Doctype, Html, EndHtml, Head, EndHead, Charset, Viewport, ColorScheme, Referrer, Policy, BodyGood, BodyBad, BodyOpen, EndBody, Header, EndHeader, Title1, EndTitle1, Sign, EndSign, Nav, EndNav, Main, EndMain, FailedSection, SummarySection, TreeSection, TimelineSection, EndSection, FailedHeading, SummaryHeading, TreeHeading, TimelineHeading, EndHeading, FailedLink, SummaryLink, TreeLink, TimelineLink, TargetLink, OutputLink, EndLink, Article, EndArticle, Title3, EndTitle3, Paragraph, MetaParagraph, QuietParagraph, CutParagraph, ProblemParagraph, EndParagraph, Unordered, Tree, EndUnordered, Ordered, OrderedFrom, EndOrdered, Item, NoteItem, TargetItem, EndItem, Details, OpenDetails, QuietDetails, MoreDetails, EndDetails, Summary, EndSummary, Pre, EndPre, Bdi, EndBdi, Code, EndCode, ExitBadge, OpenBadge, EndBadge, Warnings, EndWarnings, Small, EndSmall, Footer, EndFooter, DescriptionList, EndDescriptionList, Div, EndDiv, Term, EndTerm, Description, EndDescription, Columns, Table, EndTable, TableBody, EndTableBody, TableRow, EndTableRow, RowHeading, EndRowHeading, NumberCell, MeterCell, EndCell, TimelineScroll}
 use Rattle.redo_html.specs.declared.style.Hue.{Hue}
 use Rattle.redo_html.specs.declared.style.Hue.TheVariants.{Plain, Red, Green, Yellow, Blue, Magenta, Cyan}
 use Rattle.redo_html.specs.declared.style.Style.{Style}
-use Rattle.redo_html.specs.Html.{is_digit}
-use Rattle.redo_html.specs.Laws.{is_byte, has_bytes}
+use Rattle.redo_html.specs.Chart.{Node, drawing_nodes, meter_nodes, node_html, nodes_html, tag_text}
+use Rattle.redo_html.specs.Chart.Node.{StartTag, EndTag, Words}
+use Rattle.redo_html.specs.Html.{Normal, is_digit}
+use Rattle.redo_html.specs.Laws.{is_byte, has_bytes, node_has_bytes}
 use Rattle.redo_html.specs.Parts.{Part, part_html}
-use Rattle.redo_html.specs.Parts.Part.{MarkupPart, LogPart, NamePart, NumberPart, TitlePart, StylePart}
+use Rattle.redo_html.specs.Parts.Part.{MarkupPart, LogPart, NamePart, NumberPart, TitlePart, StylePart, ChartPart, MeterPart}
 use Rattle.redo_html.specs.Passage.{Inline, escaped, hue_class, style_name, has_marks, mark_html, inline_html, has_element, style_start, style_end, is_same_style, mark_if, marks_between, after_letter, with_wanted, start_look, inlines_from, html_from, passage_html}
 use Rattle.redo_html.specs.Passage.Inline.{OddStart, OddEnd, StyleStart, StyleEnd, Text}
 use Rattle.redo_html.specs.Shown.{is_between, is_odd, lower_hex, upper_hex, picture, number_text, odd_text, Run, with_letter, runs_of, letters_text, run_text, shown_text}
@@ -30,13 +32,12 @@ use Rattle.redo_html.specs.StyleSheet.{style_sheet}
 use Rattle.redo_html.specs.Symbols.{Symbol, letter_of, first_letter, is_sequence, first_symbol, symbol_len, symbols_after, symbols}
 use Rattle.redo_html.specs.Symbols.Symbol.{Letter, Sequence}
 use Rattle.redo_html.specs.Tags.{markup_html}
+use Rattle.redo_html.proofs.ChartReading.{drawing_places, is_well_formed, meter_places, nodes_well_formed}
 use Rattle.redo_html.proofs.SymbolLemmas.{odd_byte}
+use Rattle.redo_html.proofs.TagReading.{element_name_low, is_attribute, is_element, is_low, tag_low}
 use Rattle.redo_html.proofs.TextReading.{all_append, all_weaker, number_digits, odd_safe, safe_escaped, encoded_escaped}
 
 -- ---- ASCII
-
-abbrev is_low : ℕ → Bool
-is_low byte = nat_lt byte 128
 
 low_at : (bytes : List ℕ) → list_all is_low bytes ≡ true → (i : ℕ) → slice_index bytes i < 128
 low_at [] low i = omega arith
@@ -272,14 +273,17 @@ markup_low EndMain = refl
 markup_low FailedSection = refl
 markup_low SummarySection = refl
 markup_low TreeSection = refl
+markup_low TimelineSection = refl
 markup_low EndSection = refl
 markup_low FailedHeading = refl
 markup_low SummaryHeading = refl
 markup_low TreeHeading = refl
+markup_low TimelineHeading = refl
 markup_low EndHeading = refl
 markup_low FailedLink = refl
 markup_low SummaryLink = refl
 markup_low TreeLink = refl
+markup_low TimelineLink = refl
 markup_low (TargetLink number) = numbered_low (codes "a href=\"#t") number refl
 markup_low (OutputLink number) = numbered_low (codes "a href=\"#f") number refl
 markup_low EndLink = refl
@@ -325,12 +329,47 @@ markup_low Small = refl
 markup_low EndSmall = refl
 markup_low Footer = refl
 markup_low EndFooter = refl
+markup_low DescriptionList = refl
+markup_low EndDescriptionList = refl
+markup_low Div = refl
+markup_low EndDiv = refl
+markup_low Term = refl
+markup_low EndTerm = refl
+markup_low Description = refl
+markup_low EndDescription = refl
+markup_low Columns = refl
+markup_low Table = refl
+markup_low EndTable = refl
+markup_low TableBody = refl
+markup_low EndTableBody = refl
+markup_low TableRow = refl
+markup_low EndTableRow = refl
+markup_low RowHeading = refl
+markup_low EndRowHeading = refl
+markup_low NumberCell = refl
+markup_low MeterCell = refl
+markup_low EndCell = refl
+markup_low TimelineScroll = refl
 
 -- ---- pages
 
 sheet_low : list_all is_low style_sheet ≡ true
 unfolding style_sheet
 sheet_low = refl
+
+node_utf8 : (node : Node) → is_well_formed node ≡ true → node_has_bytes node ≡ true → IsUtf8 (node_html node)
+node_utf8 (StartTag element attributes) well are =
+    let parts = and_parts (is_element element) (list_all is_attribute attributes) well in
+    ascii (node_html (StartTag element attributes)) (all_append is_low (codes "<") (tag_text element attributes ++ codes ">") refl (all_append is_low (tag_text element attributes) (codes ">") (tag_low element attributes parts.0 parts.1) refl))
+node_utf8 (EndTag element) well are = ascii (node_html (EndTag element)) (all_append is_low (codes "</") (element ++ codes ">") refl (all_append is_low element (codes ">") (element_name_low element well) refl))
+node_utf8 (Words text) well are = passage_utf8 Title plain_style text are
+
+nodes_utf8 : (nodes : List Node) → list_all is_well_formed nodes ≡ true → list_all node_has_bytes nodes ≡ true → IsUtf8 (nodes_html nodes)
+nodes_utf8 [] well are = IsUtf8-nil
+nodes_utf8 (node ∷ nodes) well are =
+    let first = and_parts (is_well_formed node) (list_all is_well_formed nodes) well in
+    let both = and_parts (node_has_bytes node) (list_all node_has_bytes nodes) are in
+    IsUtf8-append (node_html node) (nodes_html nodes) (node_utf8 node first.0 both.0) (nodes_utf8 nodes first.1 both.1)
 
 part_utf8 : (part : Part) → has_bytes part ≡ true → IsUtf8 (part_html part)
 part_utf8 (MarkupPart markup) are = ascii (markup_html markup) (markup_low markup)
@@ -340,6 +379,8 @@ part_utf8 (NumberPart number) are = ascii (number_text number) (number_low numbe
 part_utf8 (TitlePart title) are =
     IsUtf8-append (codes "<title>" ++ passage_html Title plain_style title) (codes "</title>") (IsUtf8-append (codes "<title>") (passage_html Title plain_style title) (ascii (codes "<title>") refl) (passage_utf8 Title plain_style title are)) (ascii (codes "</title>") refl)
 part_utf8 StylePart are = ascii (codes "<style>" ++ style_sheet ++ codes "</style>") (all_append is_low (codes "<style>" ++ style_sheet) (codes "</style>") (all_append is_low (codes "<style>") style_sheet refl sheet_low) refl)
+part_utf8 (ChartPart drawing) are = nodes_utf8 (drawing_nodes drawing) (nodes_well_formed Normal Normal (drawing_nodes drawing) (drawing_places drawing)) are
+part_utf8 (MeterPart width) are = nodes_utf8 (meter_nodes width) (nodes_well_formed Normal Normal (meter_nodes width) (meter_places width)) refl
 
 pub parts_utf8 : (parts : List Part) → list_all has_bytes parts ≡ true → IsUtf8 (flat_map part_html parts)
 parts_utf8 [] are = IsUtf8-nil

@@ -2,9 +2,17 @@
 use Rattle.std.proofs.Common.{◌≡◌, ℕ, List, [], ◌∷◌, map, ap, refl, true, false}
 use Rattle.std.specs.Prelude.{◌==◌, codes, if◌then◌else◌}
 use Rattle.std.specs.List.{flat_map}
-use Rattle.redo_html.specs.Passage.{escaped_byte}
-use Rattle.redo_html.specs.Html.Token.{Character, Lost}
+use Rattle.std.specs.Char.{encode_utf8}
+use Rattle.std.specs.Fmt.{digits}
+use Rattle.redo_html.specs.declared.form.Form.TheVariants.{Name}
+use Rattle.redo_html.specs.Passage.{escaped_byte, html_from, passage_html, passage_tokens}
+use Rattle.redo_html.specs.Html.{Place, Svg}
+use Rattle.redo_html.specs.Html.Token.{Character, Lost, Tag}
 use Rattle.redo_html.specs.Laws.{ReadsAs}
+use Rattle.redo_html.specs.Shown.{is_odd, number_text, odd_text, picture}
+use Rattle.redo_html.specs.Style.{plain_style}
+use Rattle.redo_html.specs.Symbols.{first_letter, first_symbol, is_sequence, letter_len, sequence_len, sequence_numbers, symbol_len, symbols_after}
+use Rattle.redo_html.proofs.TextReading.{ReadsIn}
 
 -- What `escaped_byte` is for printable text: what it writes is read as the same characters.
 abbrev IsEscape : (ℕ → List ℕ) → List ℕ → Type 0
@@ -44,3 +52,29 @@ leaves_carriage_return is = let same : Lost ∷ [] ≡ Character 13 ∷ [] = is 
 
 leaves_byte_0 : IsEscape escaped_byte (0 ∷ []) → ⊥
 leaves_byte_0 is = let same : Lost ∷ [] ≡ Character 0 ∷ [] = is [] in cc
+
+-- The same in the tooltip of a bar.
+abbrev tooltip : Place
+tooltip = Svg (codes "title") (codes "rect" ∷ codes "a" ∷ codes "g" ∷ codes "svg" ∷ [])
+
+abbrev IsTooltipEscape : (ℕ → List ℕ) → List ℕ → Type 0
+IsTooltipEscape escape text = ReadsIn tooltip (flat_map escape text) (map Character text)
+
+right_in_tooltip : IsTooltipEscape escaped_byte (codes "</title><b>&lt;\"'")
+right_in_tooltip behind = refl
+
+forgets_lt_in_tooltip : IsTooltipEscape (except 60 (codes "<")) (codes "<b>") → ⊥
+forgets_lt_in_tooltip is = let same : Lost ∷ [] ≡ Character 60 ∷ Character 98 ∷ Character 62 ∷ Lost ∷ [] = is [] in cc
+
+-- A tooltip ends its own element.
+escapes_nothing_in_tooltip : IsTooltipEscape (λ byte. byte ∷ []) (codes "</title>") → ⊥
+escapes_nothing_in_tooltip is =
+    let same : Tag (codes "/title") ∷ Lost ∷ [] ≡ Character 60 ∷ Character 47 ∷ Character 116 ∷ Character 105 ∷ Character 116 ∷ Character 108 ∷ Character 101 ∷ Character 62 ∷ Lost ∷ [] = is [] in cc
+
+forgets_amp_in_tooltip : IsTooltipEscape (except 38 (codes "&")) (codes "&lt;") → ⊥
+forgets_amp_in_tooltip is = let same : Character 60 ∷ Lost ∷ [] ≡ Character 38 ∷ Character 108 ∷ Character 116 ∷ Character 59 ∷ Lost ∷ [] = is [] in cc
+
+-- A mark in a label would end the chart.
+marks_a_label : ReadsIn (Svg (codes "text") (codes "svg" ∷ [])) (passage_html Name plain_style (1 ∷ [])) (passage_tokens Name plain_style (1 ∷ [])) → ⊥
+unfolding symbols_after first_symbol symbol_len is_sequence sequence_len sequence_numbers first_letter letter_len is_odd picture odd_text number_text encode_utf8 digits html_from
+marks_a_label is = let same : Lost ∷ [] ≡ Tag (codes "i") ∷ Character 94 ∷ Character 65 ∷ Tag (codes "/i") ∷ Lost ∷ [] = is [] in cc

@@ -1,10 +1,10 @@
 -- How a browser reads bytes as HTML: the tokenizer of the HTML standard, section 13.2.5. It has the states for a page that consists of
--- elements, attributes in double quotes, and text. Each state has the standard's name, and the number of its section.
+-- elements, attributes in double quotes, text, and charts in SVG. Each state has the standard's name, and the number of its section.
 --
 -- If the standard goes to any other state, or reports a parse error, this reading is `Lost`, and stays lost. So whatever is read here is
 -- read in the same way by the standard. The model reads bytes. A browser decodes them first; the pages declare UTF-8, which leaves bytes
 -- below 128 as they are.
-use Rattle.std.specs.Prelude.{ℕ, Bool, true, false, ◌==◌, ◌||◌, ◌&&◌, nat_le, List, [], ◌∷◌, ◌++◌, Option, None, Some, bytes_eq, codes, if◌then◌else◌}
+use Rattle.std.specs.Prelude.{ℕ, Bool, true, false, ◌==◌, ◌||◌, ◌&&◌, not, nat_le, List, [], ◌∷◌, ◌++◌, Option, None, Some, bytes_eq, codes, if◌then◌else◌}
 use Rattle.std.specs.List.{flat_map}
 
 -- What is read: a character of the text, or rather a byte of its UTF-8; a tag, by the bytes between `<` and `>`; or what can't be read.
@@ -13,12 +13,16 @@ pub data Token : Type 0 where
   Tag : List ℕ → Token
   Lost : Token
 
--- Where text is: in an element whose text may have tags and references (13.2.5.1), in a `title`, whose text may have references alone
+-- Where text is: in an HTML element whose text may have tags and references (13.2.5.1), in a `title`, whose text may have references alone
 -- (13.2.5.2), or in a `style`, whose text has neither (13.2.5.3).
+--
+-- In an `svg` a browser parses foreign content (13.2.6.5), in the data state too. `Svg inner outer` is a place in the element `inner`, which
+-- is in the elements `outer`, the innermost first. The outermost one is an `svg` in HTML.
 pub data Place : Type 0 where
   Normal : Place
   Rcdata : Place
   Rawtext : Place
+  Svg : List ℕ → List (List ℕ) → Place
 
 -- A state, with what was read of a tag or of a reference.
 pub data State : Type 0 where
@@ -29,25 +33,25 @@ pub data State : Type 0 where
   -- 13.2.5.72, 13.2.5.73
   CharacterReference : Place → List ℕ → State
   -- 13.2.5.6
-  TagOpen : State
+  TagOpen : Place → State
   -- 13.2.5.7
-  EndTagOpen : State
+  EndTagOpen : Place → State
   -- 13.2.5.9 to 13.2.5.11, 13.2.5.12 to 13.2.5.14: `<` in the text of a `title` or `style`, and what follows it
   TextLessThan : Place → List ℕ → State
   -- 13.2.5.42, 13.2.5.53 to 13.2.5.55
   MarkupDeclaration : List ℕ → State
   -- 13.2.5.8
-  TagName : List ℕ → State
+  TagName : Place → List ℕ → State
   -- 13.2.5.32
-  BeforeAttributeName : List ℕ → State
+  BeforeAttributeName : Place → List ℕ → State
   -- 13.2.5.33
-  AttributeName : List ℕ → State
+  AttributeName : Place → List ℕ → State
   -- 13.2.5.35
-  BeforeAttributeValue : List ℕ → State
+  BeforeAttributeValue : Place → List ℕ → State
   -- 13.2.5.36
-  AttributeValue : List ℕ → State
+  AttributeValue : Place → List ℕ → State
   -- 13.2.5.39
-  AfterAttributeValue : List ℕ → State
+  AfterAttributeValue : Place → List ℕ → State
   LostState : State
 
 -- The state after a byte, and the tokens that are emitted there.
@@ -70,25 +74,48 @@ is_one_of name [] = false
 is_one_of name (one ∷ others) = bytes_eq name one || is_one_of name others
 
 -- The elements whose content a browser reads in the data state, wherever in the body of a page they are. In all others it may go to
--- another state: after `script`, `textarea`, `iframe`, `noscript`, `plaintext`, `svg` and more.
+-- another state: after `script`, `textarea`, `iframe`, `noscript`, `plaintext` and more.
 abbrev pub plain_elements : List (List ℕ)
 plain_elements =
     codes "html" ∷ codes "head" ∷ codes "meta" ∷ codes "body" ∷ codes "header" ∷ codes "nav" ∷ codes "main" ∷ codes "section" ∷ codes "article" ∷ codes "footer" ∷ codes "h1" ∷ codes "h2" ∷ codes "h3" ∷ codes "p" ∷ codes "ul"
-    ∷ codes "ol" ∷ codes "li" ∷ codes "details" ∷ codes "summary" ∷ codes "a" ∷ codes "b" ∷ codes "bdi" ∷ codes "code" ∷ codes "em" ∷ codes "i" ∷ codes "small" ∷ codes "span" ∷ codes "strong" ∷ codes "wbr" ∷ []
+    ∷ codes "ol" ∷ codes "li" ∷ codes "details" ∷ codes "summary" ∷ codes "a" ∷ codes "b" ∷ codes "bdi" ∷ codes "code" ∷ codes "em" ∷ codes "i" ∷ codes "small" ∷ codes "span" ∷ codes "strong" ∷ codes "wbr"
+    ∷ codes "table" ∷ codes "tbody" ∷ codes "tr" ∷ codes "th" ∷ codes "td" ∷ codes "dl" ∷ codes "dt" ∷ codes "dd" ∷ codes "div" ∷ []
 
--- A start tag, and the state after it.
+-- A start tag in HTML, and the state after it.
 abbrev pub start_tag : List ℕ → Step
 start_tag tag =
     if is_one_of (start_name tag) plain_elements then (DataState Normal, Tag tag ∷ [])
     else if bytes_eq (start_name tag) (codes "pre") then (PreState, Tag tag ∷ [])
     else if bytes_eq (start_name tag) (codes "title") then (DataState Rcdata, Tag tag ∷ [])
     else if bytes_eq (start_name tag) (codes "style") then (DataState Rawtext, Tag tag ∷ [])
+    else if bytes_eq (start_name tag) (codes "svg") then (DataState (Svg (codes "svg") []), Tag tag ∷ [])
     else lost
 
--- A tag. After an end tag, text is in the data state.
-abbrev pub emit_tag : List ℕ → Step
-emit_tag [] = lost
-emit_tag (byte ∷ bytes) = if byte == 47 then (DataState Normal, Tag (byte ∷ bytes) ∷ []) else start_tag (byte ∷ bytes)
+-- The elements that may be in an `svg`. HTML elements such as `b` and `p` would end it (13.2.6.5, "A start tag whose tag name is one of").
+abbrev pub svg_elements : List (List ℕ)
+svg_elements = codes "svg" ∷ codes "g" ∷ codes "a" ∷ codes "rect" ∷ codes "line" ∷ codes "text" ∷ codes "title" ∷ []
+
+-- A start tag in an `svg`. A `title` there is read in the data state, but start tags in it are HTML again, because it is an HTML integration
+-- point (13.2.6). So they are lost here.
+abbrev pub svg_start_tag : List ℕ → List (List ℕ) → List ℕ → Step
+svg_start_tag inner outer tag =
+    if not (bytes_eq inner (codes "title")) && is_one_of (start_name tag) svg_elements then (DataState (Svg (start_name tag) (inner ∷ outer)), Tag tag ∷ []) else lost
+
+-- The place in elements of an `svg`, the innermost first.
+abbrev pub place_in : List (List ℕ) → Place
+place_in [] = Normal
+place_in (inner ∷ outer) = Svg inner outer
+
+-- An end tag in an `svg`. It ends the innermost element: any other end tag is a parse error, and may end elements of HTML (13.2.6.5, "Any other
+-- end tag").
+abbrev pub svg_end_tag : List ℕ → List (List ℕ) → List ℕ → Step
+svg_end_tag inner outer name = if bytes_eq name inner then (DataState (place_in outer), Tag (47 ∷ name) ∷ []) else lost
+
+-- A tag. After an end tag in HTML, text is in the data state. There, the end tag of an `svg` ends nothing, as any end tag without a start tag.
+abbrev pub emit_tag : Place → List ℕ → Step
+emit_tag place [] = lost
+emit_tag (Svg inner outer) (byte ∷ bytes) = if byte == 47 then svg_end_tag inner outer bytes else svg_start_tag inner outer (byte ∷ bytes)
+emit_tag place (byte ∷ bytes) = if byte == 47 then (DataState Normal, Tag (byte ∷ bytes) ∷ []) else start_tag (byte ∷ bytes)
 
 abbrev pub is_lower_letter : ℕ → Bool
 is_lower_letter byte = nat_le 97 byte && nat_le byte 122
@@ -108,43 +135,54 @@ abbrev pub after_reference : Place → Option ℕ → Step
 after_reference place None = lost
 after_reference place (Some character) = (DataState place, Character character ∷ [])
 
--- Text, in each of the three places. A tag ends a `title` or a `style` only if it is the end tag of that element.
+-- Text that may have tags and references.
+abbrev pub data_step : Place → ℕ → Step
+data_step place byte = if byte == 60 then on (TagOpen place) else if byte == 38 then on (CharacterReference place []) else if is_rejected byte then lost else (DataState place, Character byte ∷ [])
+
+-- Text, in each of the places. A tag ends a `title` or a `style` of HTML only if it is the end tag of that element.
 abbrev pub text_step : Place → ℕ → Step
-text_step Normal byte = if byte == 60 then on TagOpen else if byte == 38 then on (CharacterReference Normal []) else if is_rejected byte then lost else (DataState Normal, Character byte ∷ [])
+text_step Normal byte = data_step Normal byte
+text_step (Svg inner outer) byte = data_step (Svg inner outer) byte
 text_step Rcdata byte =
     if byte == 60 then on (TextLessThan Rcdata []) else if byte == 38 then on (CharacterReference Rcdata []) else if is_rejected byte then lost else (DataState Rcdata, Character byte ∷ [])
 text_step Rawtext byte = if byte == 60 then on (TextLessThan Rawtext []) else if is_rejected byte then lost else (DataState Rawtext, Character byte ∷ [])
 
--- The end tag that ends the element around text in this place.
+-- The end tag that ends the `title` or the `style` around text in this place.
 abbrev pub closing_tag : Place → List ℕ
 closing_tag Normal = []
+closing_tag (Svg inner outer) = []
 closing_tag Rcdata = codes "/title"
 closing_tag Rawtext = codes "/style"
+
+-- `<!` in HTML. A declaration or CDATA (13.2.5.42) in an `svg` is lost.
+abbrev pub declaration : Place → Step
+declaration Normal = on (MarkupDeclaration (33 ∷ []))
+declaration place = lost
 
 abbrev pub step : State → ℕ → Step
 step (DataState place) byte = text_step place byte
 step PreState byte = if byte == 10 then on (DataState Normal) else text_step Normal byte
 step (CharacterReference place name) byte =
     if is_lower_letter byte then on (CharacterReference place (name ++ byte ∷ [])) else if byte == 59 then after_reference place (named_character name) else lost
-step TagOpen byte = if byte == 47 then on EndTagOpen else if byte == 33 then on (MarkupDeclaration (33 ∷ [])) else if is_lower_letter byte then on (TagName (byte ∷ [])) else lost
-step EndTagOpen byte = if is_lower_letter byte then on (TagName (47 ∷ byte ∷ [])) else lost
-step (TextLessThan place tag) byte = if byte == 62 then (if bytes_eq tag (closing_tag place) then emit_tag tag else lost) else on (TextLessThan place (tag ++ byte ∷ []))
+step (TagOpen place) byte = if byte == 47 then on (EndTagOpen place) else if byte == 33 then declaration place else if is_lower_letter byte then on (TagName place (byte ∷ [])) else lost
+step (EndTagOpen place) byte = if is_lower_letter byte then on (TagName place (47 ∷ byte ∷ [])) else lost
+step (TextLessThan place tag) byte = if byte == 62 then (if bytes_eq tag (closing_tag place) then emit_tag place tag else lost) else on (TextLessThan place (tag ++ byte ∷ []))
 step (MarkupDeclaration tag) byte = if byte == 62 then (if bytes_eq tag (codes "!doctype html") then (DataState Normal, Tag tag ∷ []) else lost) else on (MarkupDeclaration (tag ++ byte ∷ []))
-step (TagName tag) byte =
-    if byte == 62 then emit_tag tag
-    else if byte == 32 then on (BeforeAttributeName (tag ++ byte ∷ []))
-    else if is_lower_letter byte || is_digit byte then on (TagName (tag ++ byte ∷ []))
+step (TagName place tag) byte =
+    if byte == 62 then emit_tag place tag
+    else if byte == 32 then on (BeforeAttributeName place (tag ++ byte ∷ []))
+    else if is_lower_letter byte || is_digit byte then on (TagName place (tag ++ byte ∷ []))
     else lost
-step (BeforeAttributeName tag) byte = if is_lower_letter byte then on (AttributeName (tag ++ byte ∷ [])) else lost
-step (AttributeName tag) byte =
-    if byte == 62 then emit_tag tag
-    else if byte == 32 then on (BeforeAttributeName (tag ++ byte ∷ []))
-    else if byte == 61 then on (BeforeAttributeValue (tag ++ byte ∷ []))
-    else if is_lower_letter byte || byte == 45 then on (AttributeName (tag ++ byte ∷ []))
+step (BeforeAttributeName place tag) byte = if is_lower_letter byte then on (AttributeName place (tag ++ byte ∷ [])) else lost
+step (AttributeName place tag) byte =
+    if byte == 62 then emit_tag place tag
+    else if byte == 32 then on (BeforeAttributeName place (tag ++ byte ∷ []))
+    else if byte == 61 then on (BeforeAttributeValue place (tag ++ byte ∷ []))
+    else if is_lower_letter byte || is_digit byte || byte == 45 then on (AttributeName place (tag ++ byte ∷ []))
     else lost
-step (BeforeAttributeValue tag) byte = if byte == 34 then on (AttributeValue (tag ++ byte ∷ [])) else lost
-step (AttributeValue tag) byte = if byte == 34 then on (AfterAttributeValue (tag ++ byte ∷ [])) else if byte == 38 || is_rejected byte then lost else on (AttributeValue (tag ++ byte ∷ []))
-step (AfterAttributeValue tag) byte = if byte == 62 then emit_tag tag else if byte == 32 then on (BeforeAttributeName (tag ++ byte ∷ [])) else lost
+step (BeforeAttributeValue place tag) byte = if byte == 34 then on (AttributeValue place (tag ++ byte ∷ [])) else lost
+step (AttributeValue place tag) byte = if byte == 34 then on (AfterAttributeValue place (tag ++ byte ∷ [])) else if byte == 38 || is_rejected byte then lost else on (AttributeValue place (tag ++ byte ∷ []))
+step (AfterAttributeValue place tag) byte = if byte == 62 then emit_tag place tag else if byte == 32 then on (BeforeAttributeName place (tag ++ byte ∷ [])) else lost
 step LostState byte = on LostState
 
 -- At the end of the bytes nothing may be open.

@@ -1,11 +1,15 @@
 -- Definitions that state the laws about reading.
-use Rattle.std.specs.Prelude.{◌≡◌, ℕ, Bool, true, ◌==◌, ◌||◌, ◌&&◌, not, nat_lt, nat_le, List, [], ◌∷◌, ◌++◌, codes}
+use Rattle.std.specs.Prelude.{◌≡◌, ◌⊎◌, ℕ, Bool, true, ◌==◌, ◌||◌, ◌&&◌, not, nat_lt, nat_le, List, [], ◌∷◌, ◌++◌, map, option_map, codes}
 use Rattle.std.specs.List.{list_all}
 use Rattle.redo_html.specs.declared.form.Form.{Form}
 use Rattle.redo_html.specs.declared.style.Style.{Style}
+use Rattle.redo_html.specs.Chart.{Shape, Layer, Drawing, Node, drawing_nodes}
+use Rattle.redo_html.specs.Chart.Node.{StartTag, EndTag, Words}
+use Rattle.redo_html.specs.Chart.Shape.{LineShape, TickShape, BarShape}
 use Rattle.redo_html.specs.Passage.{passage_html, passage_tokens}
-use Rattle.redo_html.specs.Parts.{Part}
-use Rattle.redo_html.specs.Parts.Part.{MarkupPart, LogPart, NamePart, NumberPart, TitlePart, StylePart}
+use Rattle.redo_html.specs.Parts.{Part, part_tokens}
+use Rattle.redo_html.specs.Parts.Part.{MarkupPart, LogPart, NamePart, NumberPart, TitlePart, StylePart, ChartPart, MeterPart}
+use Rattle.redo_html.specs.Tags.{markup_text}
 use Rattle.redo_html.specs.Html.{Token, DataState, Normal, read_from, text_of, tags_of, nests_in, is_one_of}
 use Rattle.redo_html.specs.Shown.{shown_text}
 
@@ -34,6 +38,12 @@ is_plain byte = (nat_le 32 byte && nat_lt byte 127 && not (byte == 38 || byte ==
 abbrev pub is_byte : ℕ → Bool
 is_byte number = nat_lt number 256
 
+-- Whether the text of a node consists of bytes.
+abbrev pub node_has_bytes : Node → Bool
+node_has_bytes (StartTag element attributes) = true
+node_has_bytes (EndTag element) = true
+node_has_bytes (Words text) = list_all is_byte text
+
 -- Whether the text of a part consists of bytes.
 abbrev pub has_bytes : Part → Bool
 has_bytes (MarkupPart markup) = true
@@ -42,3 +52,32 @@ has_bytes (NamePart name) = list_all is_byte name
 has_bytes (NumberPart number) = true
 has_bytes (TitlePart title) = list_all is_byte title
 has_bytes StylePart = true
+has_bytes (ChartPart drawing) = list_all node_has_bytes (drawing_nodes drawing)
+has_bytes (MeterPart width) = true
+
+-- The tag of a part that is a tag.
+abbrev pub markup_tag : Part → List (List ℕ)
+markup_tag (MarkupPart markup) = markup_text markup ∷ []
+markup_tag (LogPart style text) = []
+markup_tag (NamePart name) = []
+markup_tag (NumberPart number) = []
+markup_tag (TitlePart title) = []
+markup_tag StylePart = []
+markup_tag (ChartPart drawing) = []
+markup_tag (MeterPart width) = []
+
+-- A chart with other texts.
+module _ (replace : List ℕ → List ℕ) where
+  abbrev pub reworded_shape : Shape → Shape
+  reworded_shape (LineShape x bottom) = LineShape x bottom
+  reworded_shape (TickShape x anchor text) = TickShape x anchor (replace text)
+  reworded_shape (BarShape bar) = BarShape (record bar { title = replace bar.title; label = option_map replace bar.label })
+
+  abbrev pub reworded : Drawing → Drawing
+  reworded drawing = record drawing { layers = map (λ (layer : Layer). record layer { shapes = map reworded_shape layer.shapes }) drawing.layers }
+
+-- Whether a tag is in a chart without texts, or in a meter.
+abbrev pub IsChartTag : List ℕ → Type 0
+IsChartTag tag =
+    ((drawing : Drawing) × (is_one_of tag (tags_of (part_tokens (ChartPart (reworded (λ text. []) drawing)))) ≡ true))
+    ⊎ ((width : ℕ) × (is_one_of tag (tags_of (part_tokens (MeterPart width))) ≡ true))

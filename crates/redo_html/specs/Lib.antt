@@ -1,3 +1,4 @@
+pub mod Chart
 pub mod Html
 pub mod Laws
 pub mod Lines

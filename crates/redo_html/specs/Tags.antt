@@ -1,7 +1,7 @@
 -- The tags of a page.
 use Rattle.std.specs.Prelude.{List, ℕ, [], ◌++◌, codes}
 use Rattle.redo_html.specs.declared.markup.Markup.{Markup}
-use Rattle.redo_html.specs.declared.markup.Markup.TheVariants.{Doctype, Html, EndHtml, Head, EndHead, Charset, Viewport, ColorScheme, Referrer, Policy, BodyGood, BodyBad, BodyOpen, EndBody, Header, EndHeader, Title1, EndTitle1, Sign, EndSign, Nav, EndNav, Main, EndMain, FailedSection, SummarySection, TreeSection, EndSection, FailedHeading, SummaryHeading, TreeHeading, EndHeading, FailedLink, SummaryLink, TreeLink, TargetLink, OutputLink, EndLink, Article, EndArticle, Title3, EndTitle3, Paragraph, MetaParagraph, QuietParagraph, CutParagraph, ProblemParagraph, EndParagraph, Unordered, Tree, EndUnordered, Ordered, OrderedFrom, EndOrdered, Item, NoteItem, TargetItem, EndItem, Details, OpenDetails, QuietDetails, MoreDetails, EndDetails, Summary, EndSummary, Pre, EndPre, Bdi, EndBdi, Code, EndCode, ExitBadge, OpenBadge, EndBadge, Warnings, EndWarnings, Small, EndSmall, Footer, EndFooter}
+use Rattle.redo_html.specs.declared.markup.Markup.TheVariants.{Doctype, Html, EndHtml, Head, EndHead, Charset, Viewport, ColorScheme, Referrer, Policy, BodyGood, BodyBad, BodyOpen, EndBody, Header, EndHeader, Title1, EndTitle1, Sign, EndSign, Nav, EndNav, Main, EndMain, FailedSection, SummarySection, TreeSection, TimelineSection, EndSection, FailedHeading, SummaryHeading, TreeHeading, TimelineHeading, EndHeading, FailedLink, SummaryLink, TreeLink, TimelineLink, TargetLink, OutputLink, EndLink, Article, EndArticle, Title3, EndTitle3, Paragraph, MetaParagraph, QuietParagraph, CutParagraph, ProblemParagraph, EndParagraph, Unordered, Tree, EndUnordered, Ordered, OrderedFrom, EndOrdered, Item, NoteItem, TargetItem, EndItem, Details, OpenDetails, QuietDetails, MoreDetails, EndDetails, Summary, EndSummary, Pre, EndPre, Bdi, EndBdi, Code, EndCode, ExitBadge, OpenBadge, EndBadge, Warnings, EndWarnings, Small, EndSmall, Footer, EndFooter, DescriptionList, EndDescriptionList, Div, EndDiv, Term, EndTerm, Description, EndDescription, Columns, Table, EndTable, TableBody, EndTableBody, TableRow, EndTableRow, RowHeading, EndRowHeading, NumberCell, MeterCell, EndCell, TimelineScroll}
 use Rattle.redo_html.specs.Shown.{number_text}
 
 -- The text of a tag between its `<` and its `>`.
@@ -33,14 +33,17 @@ markup_text EndMain = codes "/main"
 markup_text FailedSection = codes "section id=\"failed\" aria-labelledby=\"h-failed\""
 markup_text SummarySection = codes "section id=\"summary\" aria-labelledby=\"h-summary\""
 markup_text TreeSection = codes "section id=\"tree\" aria-labelledby=\"h-tree\""
+markup_text TimelineSection = codes "section id=\"timeline\" aria-labelledby=\"h-timeline\""
 markup_text EndSection = codes "/section"
 markup_text FailedHeading = codes "h2 id=\"h-failed\""
 markup_text SummaryHeading = codes "h2 id=\"h-summary\""
 markup_text TreeHeading = codes "h2 id=\"h-tree\""
+markup_text TimelineHeading = codes "h2 id=\"h-timeline\""
 markup_text EndHeading = codes "/h2"
 markup_text FailedLink = codes "a href=\"#failed\""
 markup_text SummaryLink = codes "a href=\"#summary\""
 markup_text TreeLink = codes "a href=\"#tree\""
+markup_text TimelineLink = codes "a href=\"#timeline\""
 markup_text (TargetLink number) = codes "a href=\"#t" ++ number_text number ++ codes "\""
 markup_text (OutputLink number) = codes "a href=\"#f" ++ number_text number ++ codes "\""
 markup_text EndLink = codes "/a"
@@ -86,6 +89,27 @@ markup_text Small = codes "small"
 markup_text EndSmall = codes "/small"
 markup_text Footer = codes "footer"
 markup_text EndFooter = codes "/footer"
+markup_text DescriptionList = codes "dl"
+markup_text EndDescriptionList = codes "/dl"
+markup_text Div = codes "div"
+markup_text EndDiv = codes "/div"
+markup_text Term = codes "dt"
+markup_text EndTerm = codes "/dt"
+markup_text Description = codes "dd"
+markup_text EndDescription = codes "/dd"
+markup_text Columns = codes "div class=\"cols\""
+markup_text Table = codes "table"
+markup_text EndTable = codes "/table"
+markup_text TableBody = codes "tbody"
+markup_text EndTableBody = codes "/tbody"
+markup_text TableRow = codes "tr"
+markup_text EndTableRow = codes "/tr"
+markup_text RowHeading = codes "th scope=\"row\""
+markup_text EndRowHeading = codes "/th"
+markup_text NumberCell = codes "td class=\"n\""
+markup_text MeterCell = codes "td class=\"m\""
+markup_text EndCell = codes "/td"
+markup_text TimelineScroll = codes "div class=\"scroll\" tabindex=\"0\" role=\"region\" aria-labelledby=\"h-timeline\""
 
 -- A browser drops a line feed directly after `<pre>`, so that one is written.
 abbrev pub after_markup : Markup → List ℕ
@@ -116,14 +140,17 @@ after_markup EndMain = []
 after_markup FailedSection = []
 after_markup SummarySection = []
 after_markup TreeSection = []
+after_markup TimelineSection = []
 after_markup EndSection = []
 after_markup FailedHeading = []
 after_markup SummaryHeading = []
 after_markup TreeHeading = []
+after_markup TimelineHeading = []
 after_markup EndHeading = []
 after_markup FailedLink = []
 after_markup SummaryLink = []
 after_markup TreeLink = []
+after_markup TimelineLink = []
 after_markup (TargetLink number) = []
 after_markup (OutputLink number) = []
 after_markup EndLink = []
@@ -169,6 +196,27 @@ after_markup Small = []
 after_markup EndSmall = []
 after_markup Footer = []
 after_markup EndFooter = []
+after_markup DescriptionList = []
+after_markup EndDescriptionList = []
+after_markup Div = []
+after_markup EndDiv = []
+after_markup Term = []
+after_markup EndTerm = []
+after_markup Description = []
+after_markup EndDescription = []
+after_markup Columns = []
+after_markup Table = []
+after_markup EndTable = []
+after_markup TableBody = []
+after_markup EndTableBody = []
+after_markup TableRow = []
+after_markup EndTableRow = []
+after_markup RowHeading = []
+after_markup EndRowHeading = []
+after_markup NumberCell = []
+after_markup MeterCell = []
+after_markup EndCell = []
+after_markup TimelineScroll = []
 
 abbrev pub markup_html : Markup → List ℕ
 markup_html markup = codes "<" ++ markup_text markup ++ codes ">" ++ after_markup markup

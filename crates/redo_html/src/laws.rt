@@ -1,5 +1,5 @@
 //! Laws, which are theorems about the definitions alone: each contract is a theorem, and the bodies are empty.
-ghost use Rattle.std.specs.Prelude.{◌≡◌, ℕ, true, [], List, IsUtf8};
+ghost use Rattle.std.specs.Prelude.{◌≡◌, ◌++◌, ℕ, true, [], List, IsUtf8};
 ghost use Rattle.std.specs.List.{flat_map, list_all};
 ghost use Rattle.redo_line.specs.Lines.{with_line_feed};
 ghost use Rattle.redo_html.specs.declared.form.Form.{Form};
@@ -7,10 +7,12 @@ ghost use Rattle.redo_html.specs.declared.form.Form.TheVariants.{Log, Title};
 ghost use Rattle.redo_html.specs.declared.style.Style.{Style};
 ghost use Rattle.redo_html.specs.Style.{plain_style};
 ghost use Rattle.redo_html.specs.Passage.{passage_html, passage_tokens};
-ghost use Rattle.redo_html.specs.Html.{text_of, tags_of};
-ghost use Rattle.redo_html.specs.Laws.{ReadsAs, IsReadAsShown, has_bytes, is_byte, is_plain};
+ghost use Rattle.redo_html.specs.Chart.{Drawing};
+ghost use Rattle.redo_html.specs.Html.{nests_in, text_of, tags_of};
+ghost use Rattle.redo_html.specs.Laws.{ReadsAs, IsReadAsShown, has_bytes, is_byte, is_plain, markup_tag, reworded};
 ghost use Rattle.redo_html.specs.Lines.{is_no_escape, line_parts, lines_html, style_after, style_after_lines};
 ghost use Rattle.redo_html.specs.Parts.{Part, part_html, part_tokens, part_text};
+ghost use Rattle.redo_html.specs.Parts.Part.{ChartPart};
 ghost use Rattle.redo_html.specs.Shown.{shown_text};
 
 /// Whatever the bytes and the style at their start are, they are read as the text that is shown, and as no other tags than marks, which nest.
@@ -59,4 +61,16 @@ pub fn html_is_utf8()
 /// The characters of a page are the text that its parts show, in order.
 pub fn parts_show_their_text()
     ensures { (parts : List Part) → text_of (flat_map part_tokens parts) ≡ flat_map part_text parts }
+{}
+
+/// Whether the tags of parts nest depends only on the parts that are tags: each element that begins in another part ends in it.
+pub fn only_markup_decides_nesting()
+    ensures { (parts : List Part) (around tags : List (List ℕ)) →
+        nests_in around (tags_of (flat_map part_tokens parts) ++ tags) ≡ nests_in around (flat_map markup_tag parts ++ tags) }
+{}
+
+/// The tags of a chart stay the same if its texts are replaced: no byte of a tooltip, a label or a tick is in a tag.
+pub fn charts_have_no_text_in_tags()
+    ensures { (replace : List ℕ → List ℕ) (drawing : Drawing) →
+        tags_of (part_tokens (ChartPart (reworded replace drawing))) ≡ tags_of (part_tokens (ChartPart drawing)) }
 {}

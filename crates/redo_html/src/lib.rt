@@ -43,6 +43,7 @@
 //! its own.
 #![tactic(auto)]
 
+mod chart;
 mod form;
 mod laws;
 mod lines;
@@ -55,10 +56,11 @@ mod style;
 mod style_sheet;
 mod symbol;
 
+pub use chart::{Anchor, Bar, Chart, ChartGroup, ChartItem, GroupKind, write_chart, write_meter};
 pub use laws::{
-    html_is_utf8, lines_show_their_text, parts_are_read, parts_show_their_text,
-    passages_are_read_as_shown, plain_lines_are_one_text, plain_text_is_unchanged,
-    titles_have_no_tags,
+    charts_have_no_text_in_tags, html_is_utf8, lines_show_their_text, only_markup_decides_nesting,
+    parts_are_read, parts_show_their_text, passages_are_read_as_shown, plain_lines_are_one_text,
+    plain_text_is_unchanged, titles_have_no_tags,
 };
 pub use lines::write_log_lines;
 pub use markup::{Markup, write_markup, write_number};

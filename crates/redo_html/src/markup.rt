@@ -64,6 +64,8 @@ pub enum Markup {
     SummarySection,
     /// `<section id="tree" aria-labelledby="h-tree">`
     TreeSection,
+    /// `<section id="timeline" aria-labelledby="h-timeline">`
+    TimelineSection,
     /// `</section>`
     EndSection,
     /// `<h2 id="h-failed">`
@@ -72,6 +74,8 @@ pub enum Markup {
     SummaryHeading,
     /// `<h2 id="h-tree">`
     TreeHeading,
+    /// `<h2 id="h-timeline">`
+    TimelineHeading,
     /// `</h2>`
     EndHeading,
     /// `<a href="#failed">`
@@ -80,6 +84,8 @@ pub enum Markup {
     SummaryLink,
     /// `<a href="#tree">`
     TreeLink,
+    /// `<a href="#timeline">`
+    TimelineLink,
     /// A link to the target with this number. `<a href="#tN">`
     TargetLink(u64),
     /// A link to the article with this number. `<a href="#fN">`
@@ -170,6 +176,48 @@ pub enum Markup {
     Footer,
     /// `</footer>`
     EndFooter,
+    /// A list of terms and their descriptions. `<dl>`
+    DescriptionList,
+    /// `</dl>`
+    EndDescriptionList,
+    /// `<div>`
+    Div,
+    /// `</div>`
+    EndDiv,
+    /// `<dt>`
+    Term,
+    /// `</dt>`
+    EndTerm,
+    /// `<dd>`
+    Description,
+    /// `</dd>`
+    EndDescription,
+    /// Elements next to each other, if there is room. It ends with `EndDiv`. `<div class="cols">`
+    Columns,
+    /// `<table>`
+    Table,
+    /// `</table>`
+    EndTable,
+    /// `<tbody>`
+    TableBody,
+    /// `</tbody>`
+    EndTableBody,
+    /// `<tr>`
+    TableRow,
+    /// `</tr>`
+    EndTableRow,
+    /// `<th scope="row">`
+    RowHeading,
+    /// `</th>`
+    EndRowHeading,
+    /// `<td class="n">`
+    NumberCell,
+    /// `<td class="m">`
+    MeterCell,
+    /// `</td>`
+    EndCell,
+    /// What is wider than the page, and can be scrolled. It ends with `EndDiv`. `<div class="scroll" tabindex="0" role="region" aria-labelledby="h-timeline">`
+    TimelineScroll,
 }
 
 /// Writes a tag.
@@ -219,14 +267,20 @@ pub fn write_markup<W: Sink>(markup: Markup, out: &mut W) -> Result<(), Broken>
             b"<section id=\"summary\" aria-labelledby=\"h-summary\">",
         ),
         Markup::TreeSection => push_all(out, b"<section id=\"tree\" aria-labelledby=\"h-tree\">"),
+        Markup::TimelineSection => push_all(
+            out,
+            b"<section id=\"timeline\" aria-labelledby=\"h-timeline\">",
+        ),
         Markup::EndSection => push_all(out, b"</section>"),
         Markup::FailedHeading => push_all(out, b"<h2 id=\"h-failed\">"),
         Markup::SummaryHeading => push_all(out, b"<h2 id=\"h-summary\">"),
         Markup::TreeHeading => push_all(out, b"<h2 id=\"h-tree\">"),
+        Markup::TimelineHeading => push_all(out, b"<h2 id=\"h-timeline\">"),
         Markup::EndHeading => push_all(out, b"</h2>"),
         Markup::FailedLink => push_all(out, b"<a href=\"#failed\">"),
         Markup::SummaryLink => push_all(out, b"<a href=\"#summary\">"),
         Markup::TreeLink => push_all(out, b"<a href=\"#tree\">"),
+        Markup::TimelineLink => push_all(out, b"<a href=\"#timeline\">"),
         Markup::TargetLink(number) => write_numbered(b"<a href=\"#t", number, out),
         Markup::OutputLink(number) => write_numbered(b"<a href=\"#f", number, out),
         Markup::EndLink => push_all(out, b"</a>"),
@@ -272,6 +326,30 @@ pub fn write_markup<W: Sink>(markup: Markup, out: &mut W) -> Result<(), Broken>
         Markup::EndSmall => push_all(out, b"</small>"),
         Markup::Footer => push_all(out, b"<footer>"),
         Markup::EndFooter => push_all(out, b"</footer>"),
+        Markup::DescriptionList => push_all(out, b"<dl>"),
+        Markup::EndDescriptionList => push_all(out, b"</dl>"),
+        Markup::Div => push_all(out, b"<div>"),
+        Markup::EndDiv => push_all(out, b"</div>"),
+        Markup::Term => push_all(out, b"<dt>"),
+        Markup::EndTerm => push_all(out, b"</dt>"),
+        Markup::Description => push_all(out, b"<dd>"),
+        Markup::EndDescription => push_all(out, b"</dd>"),
+        Markup::Columns => push_all(out, b"<div class=\"cols\">"),
+        Markup::Table => push_all(out, b"<table>"),
+        Markup::EndTable => push_all(out, b"</table>"),
+        Markup::TableBody => push_all(out, b"<tbody>"),
+        Markup::EndTableBody => push_all(out, b"</tbody>"),
+        Markup::TableRow => push_all(out, b"<tr>"),
+        Markup::EndTableRow => push_all(out, b"</tr>"),
+        Markup::RowHeading => push_all(out, b"<th scope=\"row\">"),
+        Markup::EndRowHeading => push_all(out, b"</th>"),
+        Markup::NumberCell => push_all(out, b"<td class=\"n\">"),
+        Markup::MeterCell => push_all(out, b"<td class=\"m\">"),
+        Markup::EndCell => push_all(out, b"</td>"),
+        Markup::TimelineScroll => push_all(
+            out,
+            b"<div class=\"scroll\" tabindex=\"0\" role=\"region\" aria-labelledby=\"h-timeline\">",
+        ),
     }
 }
 

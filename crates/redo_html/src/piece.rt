@@ -5,6 +5,7 @@ ghost use Rattle.redo_device.specs.Sink.{Writes};
 ghost use Rattle.redo_html.specs.Parts.{part_html, part_of};
 ghost use Rattle.redo_html.specs.Parts.Part.{TitlePart};
 
+use crate::chart::{Chart, write_chart, write_meter};
 use crate::markup::{Markup, write_markup, write_number};
 use crate::passage::{write_log_text, write_name, write_title_text};
 use crate::style::Style;
@@ -26,6 +27,10 @@ pub enum Piece<'a> {
     Title(&'a [u8]),
     /// The element `style` with the style sheet of the page. It belongs into the head of the page.
     StyleSheet,
+    /// A chart of bars over time.
+    Chart(Chart<'a>),
+    /// A bar in a cell of a table, which is filled to this width, in hundredths of a percent.
+    Meter(u64),
 }
 
 /// Writes pieces in order. If a write fails, a prefix of them was written, and no write followed.
@@ -48,6 +53,8 @@ fn write_piece<W: Sink>(piece: Piece<'_>, out: &mut W) -> Result<(), Broken>
         Piece::Number(number) => write_number(number, out),
         Piece::Title(title) => write_title(title, out),
         Piece::StyleSheet => push_all(out, style_element()),
+        Piece::Chart(chart) => write_chart(chart, out),
+        Piece::Meter(width) => write_meter(width, out),
     }
 }
 

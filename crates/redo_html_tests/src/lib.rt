@@ -4,6 +4,8 @@
 #[cfg(test)]
 mod cases;
 #[cfg(test)]
+mod chart;
+#[cfg(test)]
 mod lines;
 #[cfg(test)]
 mod page;

@@ -2,7 +2,7 @@ use Rattle.std.proofs.Common.{◌++◌, ◌∙◌, ap, sym}
 use Rattle.std.specs.Prelude.{codes}
 use Rattle.redo_html.specs.Shown.{number_text}
 use Rattle.redo_html.specs.Tags.{markup_html}
-use Rattle.redo_html.specs.declared.markup.Markup.TheVariants.{Viewport, ColorScheme, Referrer, Policy, BodyGood, BodyBad, BodyOpen, Sign, Nav, FailedSection, SummarySection, TreeSection, FailedHeading, SummaryHeading, TreeHeading, SummaryLink, MetaParagraph, QuietParagraph, CutParagraph, ProblemParagraph, Tree, NoteItem}
+use Rattle.redo_html.specs.declared.markup.Markup.TheVariants.{Viewport, ColorScheme, Referrer, Policy, BodyGood, BodyBad, BodyOpen, Sign, Nav, FailedSection, SummarySection, TreeSection, FailedHeading, SummaryHeading, TreeHeading, SummaryLink, MetaParagraph, QuietParagraph, CutParagraph, ProblemParagraph, Tree, NoteItem, TimelineSection, TimelineLink, Columns, RowHeading, NumberCell, MeterCell, TimelineScroll}
 use Rattle.redo_html.proofs.MarkReading.{number_end}
 use Rattle.redo_html.proofs.WritingLemmas.{writes_as}
 use Rattle.redo_html.proofs.markup.write_markup.Goals as goal
@@ -78,3 +78,24 @@ returns-in-NoteItem g c = writes_as _ _ (markup_html NoteItem) (markup_html c.ar
 
 pub returns-in-Details : goal.returns-in-Details
 returns-in-Details g c = writes_as _ _ (codes "<details id=\"t" ++ number_text c.in-Details.number ++ codes "\">") (markup_html c.args.markup) _ (number_end (codes "<details id=\"t") (number_text c.in-Details.number) ∙ ap markup_html (sym c.in-Details.is)) c.write_numbered-in-Details.ensures
+
+pub returns-in-TimelineSection : goal.returns-in-TimelineSection
+returns-in-TimelineSection g c = writes_as _ _ (markup_html TimelineSection) (markup_html c.args.markup) _ (ap markup_html (sym c.in-TimelineSection.is)) c.push_all-in-TimelineSection.ensures
+
+pub returns-in-TimelineLink : goal.returns-in-TimelineLink
+returns-in-TimelineLink g c = writes_as _ _ (markup_html TimelineLink) (markup_html c.args.markup) _ (ap markup_html (sym c.in-TimelineLink.is)) c.push_all-in-TimelineLink.ensures
+
+pub returns-in-Columns : goal.returns-in-Columns
+returns-in-Columns g c = writes_as _ _ (markup_html Columns) (markup_html c.args.markup) _ (ap markup_html (sym c.in-Columns.is)) c.push_all-in-Columns.ensures
+
+pub returns-in-RowHeading : goal.returns-in-RowHeading
+returns-in-RowHeading g c = writes_as _ _ (markup_html RowHeading) (markup_html c.args.markup) _ (ap markup_html (sym c.in-RowHeading.is)) c.push_all-in-RowHeading.ensures
+
+pub returns-in-NumberCell : goal.returns-in-NumberCell
+returns-in-NumberCell g c = writes_as _ _ (markup_html NumberCell) (markup_html c.args.markup) _ (ap markup_html (sym c.in-NumberCell.is)) c.push_all-in-NumberCell.ensures
+
+pub returns-in-MeterCell : goal.returns-in-MeterCell
+returns-in-MeterCell g c = writes_as _ _ (markup_html MeterCell) (markup_html c.args.markup) _ (ap markup_html (sym c.in-MeterCell.is)) c.push_all-in-MeterCell.ensures
+
+pub returns-in-TimelineScroll : goal.returns-in-TimelineScroll
+returns-in-TimelineScroll g c = writes_as _ _ (markup_html TimelineScroll) (markup_html c.args.markup) _ (ap markup_html (sym c.in-TimelineScroll.is)) c.push_all-in-TimelineScroll.ensures

@@ -1,0 +1,197 @@
+-- Rows of charts: the chart, its HTML, its text and its tags. An independent program in Python computed the values.
+use Rattle.std.proofs.Common.{◌≡◌, ℕ, Bool, true, false, List, [], ◌∷◌, ◌++◌, Option, None, Some, Bor, refl}
+use Rattle.std.specs.Char.{encode_utf8}
+use Rattle.std.specs.Prelude.{codes}
+use Rattle.std.specs.Fmt.{digits}
+use Rattle.std.specs.List.{AllByRecursion}
+use Rattle.redo_html.specs.declared.chart.Anchor.TheVariants as anchor
+use Rattle.redo_html.specs.declared.chart.Chart.{Chart}
+use Rattle.redo_html.specs.declared.chart.ChartGroup.{ChartGroup}
+use Rattle.redo_html.specs.declared.chart.ChartItem.{ChartItem}
+use Rattle.redo_html.specs.declared.chart.ChartItem.TheVariants as item
+use Rattle.redo_html.specs.declared.chart.GroupKind.{GroupKind}
+use Rattle.redo_html.specs.declared.chart.GroupKind.TheVariants.{Axis, Parents, Recipes, Untimed}
+use Rattle.redo_html.specs.declared.markup.Markup.TheVariants.{EndCell}
+use Rattle.redo_html.specs.declared.piece.Piece.TheVariants as piece
+use Rattle.redo_html.specs.Chart.{Drawing, drawing_links, drawing_of, percent_text}
+use Rattle.redo_html.specs.Html.{tags_of}
+use Rattle.redo_html.specs.Laws.{has_bytes, markup_tag, reworded}
+use Rattle.redo_html.specs.Parts.{Part, part_html, part_of, part_text, part_tokens}
+use Rattle.redo_html.specs.Parts.Part.{MarkupPart, ChartPart, MeterPart}
+use Rattle.redo_html.specs.Passage.{html_from}
+use Rattle.redo_html.specs.Shown.{is_odd, number_text, odd_text, picture}
+use Rattle.redo_html.specs.Symbols.{first_letter, first_symbol, is_sequence, letter_len, sequence_len, sequence_numbers, symbol_len, symbols_after}
+
+-- ---- charts
+
+abbrev at : {X : Type 0} → X → Bor X
+at x = record { ref_ptr = (0, 0); now = x }
+
+abbrev bar : ℕ → ℕ → ℕ → ℕ → ℕ → Bool → List ℕ → Option (Bor (List ℕ)) → ChartItem
+bar place x y width height failed title label =
+    item.Bar (record { place = place; x = x; y = y; width = width; height = height; failed = failed; title = at title; label = label })
+
+abbrev group : GroupKind → List ChartItem → ChartGroup
+group kind items = record { kind = kind; items = at items }
+
+abbrev chart : ℕ → ℕ → List ChartGroup → Chart
+chart height lanes groups = record { height = height; lanes = lanes; groups = at groups }
+
+-- Every kind of group and item. Texts have tags, references, control characters and a byte that is not UTF-8.
+abbrev full : Chart
+full =
+    chart 90 2 (
+    group Axis (
+    item.Line 0 86
+    ∷ item.Tick 0 anchor.Start (at (codes "0"))
+    ∷ item.Line 2500 86
+    ∷ item.Tick 2500 anchor.Middle (at (codes "1 s"))
+    ∷ item.Tick 9876 anchor.End (at (codes "<" ++ (1 ∷ []) ++ codes ">")) ∷ [])
+    ∷ group Parents (
+    bar 0 0 20 10000 12 false (codes "all, 4 s") (Some (at (codes "all")))
+    ∷ bar 1 5 34 9995 12 true (codes "lib, exit 2") (Some (at (codes "lib"))) ∷ [])
+    ∷ group Recipes (
+    bar 7 1234 54 30 16 false (codes "out/<a>&\"b'.o, 0.01 s") None
+    ∷ bar 8 1264 54 700 16 true (codes "</title>" ++ (255 ∷ [])) None
+    ∷ bar 9 2000 72 350 16 true (codes "c, exit 1") (Some (at (codes "a<b>&")))
+    ∷ bar 12 2350 72 400 3 false ((27 ∷ []) ++ codes "[1md") (Some (at (codes "d" ++ (27 ∷ []) ++ codes "[m"))) ∷ [])
+    ∷ group Untimed (
+    bar 18446744073709551615 9999 90 10 14 false (codes "e") None
+    ∷ bar 13 0 90 350 14 false (codes "f") (Some (at (codes "f"))) ∷ []) ∷ [])
+
+abbrev empty : Chart
+empty = chart 0 1 (
+    [])
+
+record Row : Type 0 where
+  part : Part
+  html : List ℕ
+
+abbrev row : Part → List ℕ → Row
+row part html = record { part = part; html = html }
+
+abbrev rows : List Row
+rows =
+    row (part_of (piece.Chart full)) (codes "<svg role=\"img\" aria-label=\"A bar for each target, from its start to its end, in 2 lanes\" width=\"100%\" height=\"90\" font-size=\"11\">"
+    ++ codes "<g class=\"axis\" stroke=\"#8886\" fill=\"currentColor\" stroke-width=\".5\">"
+    ++ codes "<line x1=\"0.00%\" x2=\"0.00%\" y1=\"15\" y2=\"86\">"
+    ++ codes "</line>"
+    ++ codes "<text x=\"0.00%\" y=\"11\">0</text>"
+    ++ codes "<line x1=\"25.00%\" x2=\"25.00%\" y1=\"15\" y2=\"86\">"
+    ++ codes "</line>"
+    ++ codes "<text x=\"25.00%\" y=\"11\" text-anchor=\"middle\">1 s</text>"
+    ++ codes "<text x=\"98.76%\" y=\"11\" text-anchor=\"end\">&lt;^A&gt;</text>"
+    ++ codes "</g>"
+    ++ codes "<g class=\"w\" fill=\"#8886\">"
+    ++ codes "<a href=\"#t0\" tabindex=\"-1\">"
+    ++ codes "<svg x=\"0.00%\" y=\"20\" width=\"100.00%\" height=\"12\">"
+    ++ codes "<title>all, 4 s</title>"
+    ++ codes "<rect width=\"100%\" height=\"12\">"
+    ++ codes "</rect>"
+    ++ codes "<text x=\"4\" y=\"7\" fill=\"currentColor\">all</text>"
+    ++ codes "</svg>"
+    ++ codes "</a>"
+    ++ codes "<a href=\"#t1\" tabindex=\"-1\">"
+    ++ codes "<svg x=\"0.05%\" y=\"34\" width=\"99.95%\" height=\"12\">"
+    ++ codes "<title>lib, exit 2</title>"
+    ++ codes "<rect width=\"100%\" height=\"12\" class=\"f\" fill=\"#c62828\">"
+    ++ codes "</rect>"
+    ++ codes "<text x=\"4\" y=\"7\" fill=\"#fff\">lib</text>"
+    ++ codes "</svg>"
+    ++ codes "</a>"
+    ++ codes "</g>"
+    ++ codes "<g class=\"k\" fill=\"#3a6ea5\">"
+    ++ codes "<a href=\"#t7\" tabindex=\"-1\">"
+    ++ codes "<rect x=\"12.34%\" y=\"54\" width=\"0.30%\" height=\"16\">"
+    ++ codes "<title>out/&lt;a&gt;&amp;\"b'.o, 0.01 s</title>"
+    ++ codes "</rect>"
+    ++ codes "</a>"
+    ++ codes "<a href=\"#t8\" tabindex=\"-1\">"
+    ++ codes "<rect x=\"12.64%\" y=\"54\" width=\"7.00%\" height=\"16\" class=\"f\" fill=\"#c62828\">"
+    ++ codes "<title>&lt;/title&gt;\\xff</title>"
+    ++ codes "</rect>"
+    ++ codes "</a>"
+    ++ codes "<a href=\"#t9\" tabindex=\"-1\">"
+    ++ codes "<svg x=\"20.00%\" y=\"72\" width=\"3.50%\" height=\"16\">"
+    ++ codes "<title>c, exit 1</title>"
+    ++ codes "<rect width=\"100%\" height=\"16\" class=\"f\" fill=\"#c62828\">"
+    ++ codes "</rect>"
+    ++ codes "<text x=\"4\" y=\"11\" fill=\"#fff\">a&lt;b&gt;&amp;</text>"
+    ++ codes "</svg>"
+    ++ codes "</a>"
+    ++ codes "<a href=\"#t12\" tabindex=\"-1\">"
+    ++ codes "<svg x=\"23.50%\" y=\"72\" width=\"4.00%\" height=\"3\">"
+    ++ codes "<title>^[[1md</title>"
+    ++ codes "<rect width=\"100%\" height=\"3\">"
+    ++ codes "</rect>"
+    ++ codes "<text x=\"4\" y=\"0\" fill=\"#fff\">d^[[m</text>"
+    ++ codes "</svg>"
+    ++ codes "</a>"
+    ++ codes "</g>"
+    ++ codes "<g class=\"e\" fill=\"#8a6d3b\">"
+    ++ codes "<a href=\"#t18446744073709551615\" tabindex=\"-1\">"
+    ++ codes "<rect x=\"99.99%\" y=\"90\" width=\"0.10%\" height=\"14\">"
+    ++ codes "<title>e</title>"
+    ++ codes "</rect>"
+    ++ codes "</a>"
+    ++ codes "<a href=\"#t13\" tabindex=\"-1\">"
+    ++ codes "<svg x=\"0.00%\" y=\"90\" width=\"3.50%\" height=\"14\">"
+    ++ codes "<title>f</title>"
+    ++ codes "<rect width=\"100%\" height=\"14\">"
+    ++ codes "</rect>"
+    ++ codes "<text x=\"4\" y=\"9\" fill=\"#fff\">f</text>"
+    ++ codes "</svg>"
+    ++ codes "</a>"
+    ++ codes "</g>"
+    ++ codes "</svg>")
+    ∷ row (part_of (piece.Chart empty)) (codes "<svg role=\"img\" aria-label=\"A bar for each target, from its start to its end, in 1 lane\" width=\"100%\" height=\"0\" font-size=\"11\"></svg>")
+    ∷ row (part_of (piece.Meter 6320)) (codes "<svg width=\"100%\" height=\"10\" aria-hidden=\"true\"><rect width=\"63.20%\" height=\"10\" fill=\"#3a6ea5\"></rect></svg>")
+    ∷ row (part_of (piece.Meter 5)) (codes "<svg width=\"100%\" height=\"10\" aria-hidden=\"true\"><rect width=\"0.05%\" height=\"10\" fill=\"#3a6ea5\"></rect></svg>")
+    ∷ row (part_of (piece.Meter 10000)) (codes "<svg width=\"100%\" height=\"10\" aria-hidden=\"true\"><rect width=\"100.00%\" height=\"10\" fill=\"#3a6ea5\"></rect></svg>")
+    ∷ []
+
+written_are : AllByRecursion (λ r. part_html r.part ≡ r.html) rows
+unfolding symbols_after first_symbol symbol_len is_sequence sequence_len sequence_numbers first_letter letter_len is_odd picture odd_text number_text encode_utf8 digits html_from
+written_are = (refl, (refl, (refl, (refl, (refl, tt)))))
+
+-- A reader sees the ticks, the tooltips and the labels.
+texts_are : (part_text (part_of (piece.Chart full)) ≡ codes "01 s<^A>all, 4 salllib, exit 2libout/<a>&\"b'.o, 0.01 s</title>\\xffc, exit 1a<b>&^[[1mdd^[[meff") × (part_text (part_of (piece.Chart empty)) ≡ []) × (part_text (part_of (piece.Meter 7)) ≡ [])
+unfolding symbols_after first_symbol symbol_len is_sequence sequence_len sequence_numbers first_letter letter_len is_odd picture odd_text number_text encode_utf8 digits
+texts_are = (refl, refl, refl)
+
+links_are : (drawing_links (drawing_of full) ≡ 0 ∷ 1 ∷ 7 ∷ 8 ∷ 9 ∷ 12 ∷ 18446744073709551615 ∷ 13 ∷ []) × (drawing_links (drawing_of empty) ≡ [])
+links_are = (refl, refl)
+
+-- ---- percentages
+
+percents_are : percent_text 0 ∷ percent_text 5 ∷ percent_text 70 ∷ percent_text 1234 ∷ percent_text 10000 ∷ [] ≡ codes "0.00%" ∷ codes "0.05%" ∷ codes "0.70%" ∷ codes "12.34%" ∷ codes "100.00%" ∷ []
+unfolding number_text digits
+percents_are = refl
+
+-- ---- tags and texts
+
+-- One tick and one bar, with these texts.
+abbrev two : List ℕ → List ℕ → List ℕ → Drawing
+two tick title label =
+    drawing_of (chart 40 3 (group Axis (item.Tick 50 anchor.End (at tick) ∷ []) ∷ group Recipes (bar 4 100 20 250 16 true title (Some (at label)) ∷ []) ∷ []))
+
+tags_are : tags_of (part_tokens (ChartPart (two (codes "<a>") (codes "</title>") (codes "&"))))
+    ≡ codes "svg role=\"img\" aria-label=\"A bar for each target, from its start to its end, in 3 lanes\" width=\"100%\" height=\"40\" font-size=\"11\""
+    ∷ codes "g class=\"axis\" stroke=\"#8886\" fill=\"currentColor\" stroke-width=\".5\"" ∷ codes "text x=\"0.50%\" y=\"11\" text-anchor=\"end\"" ∷ codes "/text" ∷ codes "/g"
+    ∷ codes "g class=\"k\" fill=\"#3a6ea5\"" ∷ codes "a href=\"#t4\" tabindex=\"-1\"" ∷ codes "svg x=\"1.00%\" y=\"20\" width=\"2.50%\" height=\"16\"" ∷ codes "title" ∷ codes "/title"
+    ∷ codes "rect width=\"100%\" height=\"16\" class=\"f\" fill=\"#c62828\"" ∷ codes "/rect" ∷ codes "text x=\"4\" y=\"11\" fill=\"#fff\"" ∷ codes "/text" ∷ codes "/svg" ∷ codes "/a" ∷ codes "/g" ∷ codes "/svg" ∷ []
+unfolding symbols_after first_symbol symbol_len is_sequence sequence_len sequence_numbers first_letter letter_len is_odd picture odd_text number_text encode_utf8 digits
+tags_are = refl
+
+-- Only a tag of a page is one.
+markup_tags_are : (markup_tag (MarkupPart EndCell) ≡ codes "/td" ∷ []) × (markup_tag (ChartPart (two [] [] [])) ≡ []) × (markup_tag (MeterPart 1) ≡ [])
+markup_tags_are = (refl, refl, refl)
+
+reworded_is : reworded (λ text. codes "z") (two (codes "a") (codes "b") (codes "c")) ≡ two (codes "z") (codes "z") (codes "z")
+reworded_is = refl
+
+-- Each text has to consist of bytes.
+bytes_are : has_bytes (ChartPart (two (255 ∷ []) (0 ∷ []) (codes "a"))) ∷ has_bytes (ChartPart (two (256 ∷ []) [] [])) ∷ has_bytes (ChartPart (two [] (1 ∷ 256 ∷ []) [])) ∷ has_bytes (ChartPart (two [] [] (300 ∷ [])))
+    ∷ has_bytes (MeterPart 7) ∷ []
+    ≡ true ∷ false ∷ false ∷ false ∷ true ∷ []
+bytes_are = refl

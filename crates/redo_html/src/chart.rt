@@ -1,0 +1,379 @@
+//! Charts: bars over time as one inline SVG, and meters for the cells of a table.
+ghost use Rattle.std.specs.Prelude.{◌≡◌, map};
+ghost use Rattle.std.specs.List.{flat_map};
+ghost use Rattle.redo_device.specs.Sink.{Writes};
+ghost use Rattle.redo_html.specs.Chart.{anchor_attributes, bar_of, bar_nodes, drawing_nodes, drawing_of, failed_attributes, label_fill, lanes_word, last_digit, layer_of, meter_nodes, nodes_html, percent_text, shape_nodes, shape_of};
+ghost use Rattle.redo_html.specs.Chart.Shape.{BarShape, LineShape, TickShape};
+ghost use Rattle.redo_html.specs.Private.Charting.{attributes_html, chart_start_html, group_start_html, ink_html, layer_html, shape_html};
+
+use crate::markup::write_number;
+use crate::passage::write_title_text;
+use redo_device::{Broken, Sink, push_all};
+
+/// A chart of bars over time. Horizontal positions and widths are percentages, in hundredths, and vertical ones are pixels.
+#[derive(Clone, Copy)]
+pub struct Chart<'a> {
+    /// The height of the chart, in pixels.
+    pub height: u64,
+    /// The number of lanes that its label reports to those who can't see it.
+    pub lanes: u64,
+    /// What is drawn, in order: later groups are in front.
+    pub groups: &'a [ChartGroup<'a>],
+}
+
+/// Items of a chart that look alike.
+#[derive(Clone, Copy)]
+pub struct ChartGroup<'a> {
+    pub kind: GroupKind,
+    pub items: &'a [ChartItem<'a>],
+}
+
+/// What the items of a group are.
+#[derive(Clone, Copy)]
+pub enum GroupKind {
+    /// Lines and ticks. `<g class="axis" stroke="#8886" fill="currentColor" stroke-width=".5">`
+    Axis,
+    /// Recipes that ran others. `<g class="w" fill="#8886">`
+    Parents,
+    /// Other recipes. `<g class="k" fill="#3a6ea5">`
+    Recipes,
+    /// Recipes of which the start or the end is unknown. `<g class="e" fill="#8a6d3b">`
+    Untimed,
+}
+
+/// An item of a chart.
+#[derive(Clone, Copy)]
+pub enum ChartItem<'a> {
+    /// A vertical line from below the ticks to `bottom`. `<line x1="12.34%" x2="12.34%" y1="15" y2="BOTTOM"></line>`
+    Line {
+        x: u64,
+        bottom: u64,
+    },
+    /// Words at the top. `<text x="12.34%" y="11" text-anchor="middle">TEXT</text>`
+    Tick {
+        x: u64,
+        anchor: Anchor,
+        text: &'a [u8],
+    },
+    /// A bar.
+    Bar(Bar<'a>),
+}
+
+/// Which part of a tick is at its position.
+#[derive(Clone, Copy)]
+pub enum Anchor {
+    Start,
+    Middle,
+    End,
+}
+
+/// A bar: a link to the target with the number `place`, with a tooltip. `<a href="#tPLACE" tabindex="-1">`, with a `rect` or, if it has a
+/// label, an `svg` in it.
+#[derive(Clone, Copy)]
+pub struct Bar<'a> {
+    pub place: u64,
+    pub x: u64,
+    pub y: u64,
+    pub width: u64,
+    pub height: u64,
+    /// Whether the target failed: then the bar is red.
+    pub failed: bool,
+    /// The tooltip.
+    pub title: &'a [u8],
+    /// The text in the bar, if it has one.
+    pub label: Option<&'a [u8]>,
+}
+
+/// What a chart is written of: HTML of the program, a number, a percentage in hundredths, or text that is escaped.
+#[derive(Clone, Copy)]
+pub enum Ink<'a> {
+    Html(&'a [u8]),
+    Number(u64),
+    Percent(u64),
+    Words(&'a [u8]),
+}
+
+/// Writes a chart.
+pub fn write_chart<W: Sink>(chart: Chart<'_>, out: &mut W) -> Result<(), Broken>
+    ensures { Writes (W.written out.old) (W.written out.new) (nodes_html (drawing_nodes (drawing_of chart.entry))) result }
+{
+    write_chart_start(chart.height, chart.lanes, out)?;
+    write_groups(chart.groups, out)?;
+    push_all(out, b"</svg>")
+}
+
+/// Writes a meter that is filled to this width, in hundredths of a percent.
+pub fn write_meter<W: Sink>(width: u64, out: &mut W) -> Result<(), Broken>
+    ensures { Writes (W.written out.old) (W.written out.new) (nodes_html (meter_nodes width)) result }
+{
+    write_inks(
+        &[
+            Ink::Html(b"<svg width=\"100%\" height=\"10\" aria-hidden=\"true\"><rect width=\""),
+            Ink::Percent(width),
+            Ink::Html(b"\" height=\"10\" fill=\"#3a6ea5\"></rect></svg>"),
+        ],
+        out,
+    )
+}
+
+fn write_chart_start<W: Sink>(height: u64, lanes: u64, out: &mut W) -> Result<(), Broken>
+    ensures { Writes (W.written out.old) (W.written out.new) (chart_start_html height lanes) result }
+{
+    write_inks(
+        &[
+            Ink::Html(
+                b"<svg role=\"img\" aria-label=\"A bar for each target, from its start to its end, in ",
+            ),
+            Ink::Number(lanes),
+            Ink::Html(lanes_after(lanes)),
+            Ink::Html(b"\" width=\"100%\" height=\""),
+            Ink::Number(height),
+            Ink::Html(b"\" font-size=\"11\">"),
+        ],
+        out,
+    )
+}
+
+fn lanes_after(lanes: u64) -> &'static [u8]
+    ensures { result.now ≡ lanes_word lanes }
+{
+    if lanes == 1 { b" lane" } else { b" lanes" }
+}
+
+fn write_groups<W: Sink>(groups: &[ChartGroup<'_>], out: &mut W) -> Result<(), Broken>
+    ensures { Writes (W.written out.old) (W.written out.new) (flat_map layer_html (map layer_of groups.now)) result }
+{
+    for group in groups {
+        write_group(*group, out)?;
+    }
+    Ok(())
+}
+
+fn write_group<W: Sink>(group: ChartGroup<'_>, out: &mut W) -> Result<(), Broken>
+    ensures { Writes (W.written out.old) (W.written out.new) (layer_html (layer_of group.entry)) result }
+{
+    push_all(out, group_start(group.kind))?;
+    write_items(group.kind, group.items, out)?;
+    push_all(out, b"</g>")
+}
+
+fn group_start(kind: GroupKind) -> &'static [u8]
+    ensures { result.now ≡ group_start_html kind }
+{
+    match kind {
+        GroupKind::Axis => {
+            b"<g class=\"axis\" stroke=\"#8886\" fill=\"currentColor\" stroke-width=\".5\">"
+        }
+        GroupKind::Parents => b"<g class=\"w\" fill=\"#8886\">",
+        GroupKind::Recipes => b"<g class=\"k\" fill=\"#3a6ea5\">",
+        GroupKind::Untimed => b"<g class=\"e\" fill=\"#8a6d3b\">",
+    }
+}
+
+fn write_items<W: Sink>(kind: GroupKind, items: &[ChartItem<'_>], out: &mut W) -> Result<(), Broken>
+    ensures { Writes (W.written out.old) (W.written out.new) (flat_map (shape_html kind) (map shape_of items.now)) result }
+{
+    for item in items {
+        write_item(kind, *item, out)?;
+    }
+    Ok(())
+}
+
+fn write_item<W: Sink>(kind: GroupKind, item: ChartItem<'_>, out: &mut W) -> Result<(), Broken>
+    ensures { Writes (W.written out.old) (W.written out.new) (shape_html kind (shape_of item.entry)) result }
+{
+    match item {
+        ChartItem::Line { x, bottom } => write_line(x, bottom, out),
+        ChartItem::Tick { x, anchor, text } => write_tick(x, anchor, text, out),
+        ChartItem::Bar(bar) => write_bar(kind, bar, out),
+    }
+}
+
+fn write_line<W: Sink>(x: u64, bottom: u64, out: &mut W) -> Result<(), Broken>
+    ensures { (kind : GroupKind) → Writes (W.written out.old) (W.written out.new) (shape_html kind (LineShape x bottom)) result }
+{
+    write_inks(
+        &[
+            Ink::Html(b"<line x1=\""),
+            Ink::Percent(x),
+            Ink::Html(b"\" x2=\""),
+            Ink::Percent(x),
+            Ink::Html(b"\" y1=\"15\" y2=\""),
+            Ink::Number(bottom),
+            Ink::Html(b"\"></line>"),
+        ],
+        out,
+    )
+}
+
+fn write_tick<W: Sink>(x: u64, anchor: Anchor, text: &[u8], out: &mut W) -> Result<(), Broken>
+    ensures { (kind : GroupKind) → Writes (W.written out.old) (W.written out.new) (shape_html kind (TickShape x anchor text.now)) result }
+{
+    write_inks(
+        &[
+            Ink::Html(b"<text x=\""),
+            Ink::Percent(x),
+            Ink::Html(b"\" y=\"11\""),
+            Ink::Html(anchor_attribute(anchor)),
+            Ink::Html(b">"),
+            Ink::Words(text),
+            Ink::Html(b"</text>"),
+        ],
+        out,
+    )
+}
+
+fn anchor_attribute(anchor: Anchor) -> &'static [u8]
+    ensures { result.now ≡ attributes_html (anchor_attributes anchor) }
+{
+    match anchor {
+        Anchor::Start => b"",
+        Anchor::Middle => b" text-anchor=\"middle\"",
+        Anchor::End => b" text-anchor=\"end\"",
+    }
+}
+
+fn write_bar<W: Sink>(kind: GroupKind, bar: Bar<'_>, out: &mut W) -> Result<(), Broken>
+    ensures { Writes (W.written out.old) (W.written out.new) (shape_html kind (BarShape (bar_of bar.entry))) result }
+{
+    write_inks(
+        &[
+            Ink::Html(b"<a href=\"#t"),
+            Ink::Number(bar.place),
+            Ink::Html(b"\" tabindex=\"-1\">"),
+        ],
+        out,
+    )?;
+    write_bar_shape(kind, bar, out)?;
+    push_all(out, b"</a>")
+}
+
+fn write_bar_shape<W: Sink>(kind: GroupKind, bar: Bar<'_>, out: &mut W) -> Result<(), Broken>
+    ensures { let drawn = bar_of bar.entry in
+        Writes (W.written out.old) (W.written out.new) (nodes_html (bar_nodes kind drawn drawn.label)) result }
+{
+    match bar.label {
+        None => write_plain_bar(bar, out),
+        Some(label) => write_labelled_bar(kind, bar, label, out),
+    }
+}
+
+fn write_plain_bar<W: Sink>(bar: Bar<'_>, out: &mut W) -> Result<(), Broken>
+    ensures { (kind : GroupKind) → Writes (W.written out.old) (W.written out.new) (nodes_html (bar_nodes kind (bar_of bar.entry) None)) result }
+{
+    write_inks(
+        &[
+            Ink::Html(b"<rect x=\""),
+            Ink::Percent(bar.x),
+            Ink::Html(b"\" y=\""),
+            Ink::Number(bar.y),
+            Ink::Html(b"\" width=\""),
+            Ink::Percent(bar.width),
+            Ink::Html(b"\" height=\""),
+            Ink::Number(bar.height),
+            Ink::Html(b"\""),
+            Ink::Html(failed_attribute(bar.failed)),
+            Ink::Html(b"><title>"),
+            Ink::Words(bar.title),
+            Ink::Html(b"</title></rect>"),
+        ],
+        out,
+    )
+}
+
+fn write_labelled_bar<'a, W: Sink>(
+    kind: GroupKind,
+    bar: Bar<'a>,
+    label: &'a [u8],
+    out: &mut W,
+) -> Result<(), Broken>
+    ensures { Writes (W.written out.old) (W.written out.new) (nodes_html (bar_nodes kind (bar_of bar.entry) (Some label.now))) result }
+{
+    write_inks(
+        &[
+            Ink::Html(b"<svg x=\""),
+            Ink::Percent(bar.x),
+            Ink::Html(b"\" y=\""),
+            Ink::Number(bar.y),
+            Ink::Html(b"\" width=\""),
+            Ink::Percent(bar.width),
+            Ink::Html(b"\" height=\""),
+            Ink::Number(bar.height),
+            Ink::Html(b"\"><title>"),
+            Ink::Words(bar.title),
+            Ink::Html(b"</title><rect width=\"100%\" height=\""),
+            Ink::Number(bar.height),
+            Ink::Html(b"\""),
+            Ink::Html(failed_attribute(bar.failed)),
+            Ink::Html(b"></rect><text x=\"4\" y=\""),
+            Ink::Number(bar.height.saturating_sub(5)),
+            Ink::Html(b"\" fill=\""),
+            Ink::Html(fill_of_label(kind, bar.failed)),
+            Ink::Html(b"\">"),
+            Ink::Words(label),
+            Ink::Html(b"</text></svg>"),
+        ],
+        out,
+    )
+}
+
+fn failed_attribute(failed: bool) -> &'static [u8]
+    ensures { result.now ≡ attributes_html (failed_attributes failed) }
+{
+    if failed {
+        b" class=\"f\" fill=\"#c62828\""
+    } else {
+        b""
+    }
+}
+
+fn fill_of_label(kind: GroupKind, failed: bool) -> &'static [u8]
+    ensures { result.now ≡ label_fill kind failed }
+{
+    match kind {
+        GroupKind::Parents if !failed => b"currentColor",
+        _ => b"#fff",
+    }
+}
+
+fn write_inks<W: Sink>(inks: &[Ink<'_>], out: &mut W) -> Result<(), Broken>
+    ensures { Writes (W.written out.old) (W.written out.new) (flat_map ink_html inks.now) result }
+{
+    for ink in inks {
+        write_ink(*ink, out)?;
+    }
+    Ok(())
+}
+
+fn write_ink<W: Sink>(ink: Ink<'_>, out: &mut W) -> Result<(), Broken>
+    ensures { Writes (W.written out.old) (W.written out.new) (ink_html ink.entry) result }
+{
+    match ink {
+        Ink::Html(html) => push_all(out, html),
+        Ink::Number(number) => write_number(number, out),
+        Ink::Percent(hundredths) => write_percent(hundredths, out),
+        Ink::Words(words) => write_title_text(words, out),
+    }
+}
+
+// Writes a percentage, which is given in hundredths, with two decimals.
+fn write_percent<W: Sink>(hundredths: u64, out: &mut W) -> Result<(), Broken>
+    ensures { Writes (W.written out.old) (W.written out.new) (percent_text hundredths) result }
+{
+    write_number(hundredths / 100, out)?;
+    push_all(
+        out,
+        &[
+            b'.',
+            last_digit_of(hundredths / 10),
+            last_digit_of(hundredths),
+            b'%',
+        ],
+    )
+}
+
+fn last_digit_of(number: u64) -> u8
+    ensures { result ≡ last_digit number }
+{
+    b'0' + (number % 10) as u8
+}
