@@ -190,7 +190,8 @@ fn write_item<W: Sink>(kind: GroupKind, item: ChartItem<'_>, out: &mut W) -> Res
 }
 
 fn write_line<W: Sink>(x: u64, bottom: u64, out: &mut W) -> Result<(), Broken>
-    ensures { (kind : GroupKind) → Writes (W.written out.old) (W.written out.new) (shape_html kind (LineShape x bottom)) result }
+    ensures { (kind : GroupKind) →
+        Writes (W.written out.old) (W.written out.new) (shape_html kind (LineShape x bottom)) result }
 {
     write_inks(
         &[
@@ -207,7 +208,8 @@ fn write_line<W: Sink>(x: u64, bottom: u64, out: &mut W) -> Result<(), Broken>
 }
 
 fn write_tick<W: Sink>(x: u64, anchor: Anchor, text: &[u8], out: &mut W) -> Result<(), Broken>
-    ensures { (kind : GroupKind) → Writes (W.written out.old) (W.written out.new) (shape_html kind (TickShape x anchor text.now)) result }
+    ensures { (kind : GroupKind) →
+        Writes (W.written out.old) (W.written out.new) (shape_html kind (TickShape x anchor text.now)) result }
 {
     write_inks(
         &[
@@ -259,7 +261,8 @@ fn write_bar_shape<W: Sink>(kind: GroupKind, bar: Bar<'_>, out: &mut W) -> Resul
 }
 
 fn write_plain_bar<W: Sink>(bar: Bar<'_>, out: &mut W) -> Result<(), Broken>
-    ensures { (kind : GroupKind) → Writes (W.written out.old) (W.written out.new) (nodes_html (bar_nodes kind (bar_of bar.entry) None)) result }
+    ensures { (kind : GroupKind) →
+        Writes (W.written out.old) (W.written out.new) (nodes_html (bar_nodes kind (bar_of bar.entry) None)) result }
 {
     write_inks(
         &[

@@ -1,8 +1,9 @@
-//! Text as HTML: how bytes are shown, how a browser reads them, and the tags of a page.
+//! Text as HTML: how bytes are shown, how a browser reads them, the tags of a page, and charts.
 //!
 //! The crates above rely on this: whatever the bytes of a log or of a name are, [`write_pieces`] writes them so that they are read as
 //! text, in the form that `specs/Shown.antt` defines, and so that no byte of them is in a tag. [`Markup`] has the tags, which have no
-//! bytes but numbers of their own. The laws say so of any pieces; `specs/Html.antt` models how a browser reads.
+//! bytes but numbers of their own. A [`Chart`] has texts, and they are read as text too. The laws say so of any pieces;
+//! `specs/Html.antt` models how a browser reads.
 //!
 //! # Terms
 //!
@@ -13,6 +14,7 @@
 //! - *Passage*: a text that begins with a style, and of which all marks end at its end. A *mark* is an element around odd
 //!   letters or for a style.
 //! - *Markup*: a tag of a page.
+//! - *Chart*: bars over time, drawn by one `svg` element. A *meter* is a bar in a cell of a table.
 //!
 //! # Design
 //!
@@ -31,16 +33,26 @@
 //! **Reading** (`Html`). The tokenizer of the HTML standard, in the states that a page needs. The laws compose: each part
 //! of a page is read from the data state to the data state (`ReadsAs`), whatever follows it. A reading that leaves the
 //! modelled states is lost, and no law allows that. The model reads tokens, not the tree that a browser builds. It knows
-//! two rules of the tree: the text of `title` and `style` is read by other states, and a line feed directly after `<pre>`
-//! is dropped. Only elements of a list are read, because others switch the tokenizer to other states. The model reads bytes,
-//! and a browser decodes them first: whatever the bytes of a log are, the page is valid UTF-8 (`html_is_utf8`).
+//! three rules of the tree: the text of `title` and `style` is read by other states, a line feed directly after `<pre>`
+//! is dropped, and an `svg` is foreign content. There, HTML elements would end the `svg`, and an end tag that ends none of
+//! its elements could end HTML around it. So the place of the text has the elements that are open in the `svg`: only
+//! elements of SVG may begin, and only the innermost one may end. Nothing may begin in a `title` of SVG, because a browser
+//! reads start tags there as HTML. Only elements of a list are read, because others switch the tokenizer to other states.
+//! The model reads bytes, and a browser decodes them first: whatever the bytes of a log are, the page is valid UTF-8
+//! (`html_is_utf8`).
 //!
 //! **Tags** (`Tags`). A tag is a value of an enum that has no bytes, only numbers. So it is a matter of types that no byte
 //! of a log is in a tag.
 //!
+//! **Charts** (`Chart`). A chart is typed data: groups of lines, ticks and bars, with numbers and texts. The definition
+//! makes elements of it, whose attributes have text of the program, numbers and percentages. So elements nest by type. The
+//! texts are passages without marks, because a mark is an HTML element. Three laws about charts depend on one lemma: it
+//! computes, from the place before an element, the place after it (`next_place`). The laws also state that the tags of a
+//! chart stay the same with other texts, and that of all parts of a page, only markup decides whether its tags nest.
+//!
 //! **Speed.** A stretch of letters that are written as they are (`verbatim_len`) is one write. Bytes of ASCII are tested in
 //! blocks, without a branch for each byte, so that the compiler can test several at once. Every other letter is a write of
-//! its own.
+//! its own, and so is each number and each fixed text of a chart.
 #![tactic(auto)]
 
 mod chart;

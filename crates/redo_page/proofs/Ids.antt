@@ -3,12 +3,14 @@ use Rattle.std.proofs.Common.{◌≡◌, ℕ, Bool, true, false, List, [], ◌�
 use Rattle.std.specs.Prelude.{◌==◌, not, nat_lt, if◌then◌else◌}
 use Rattle.std.specs.List.{flat_map, list_all}
 use Rattle.std.proofs.lemmas.Bool.{and_from}
+use Rattle.std.proofs.lemmas.List.{append-nil}
 use Rattle.std.proofs.lemmas.List.Folds.{list_all-append}
 use Rattle.std.proofs.lemmas.Grind.{flat_map-append}
 use Rattle.redo_html.specs.declared.markup.Markup.{Markup}
-use Rattle.redo_html.specs.declared.markup.Markup.TheVariants.{FailedSection, SummarySection, TreeSection, FailedLink, SummaryLink, TreeLink, TargetLink, OutputLink, Article, TargetItem, Details, OpenDetails}
+use Rattle.redo_html.specs.declared.markup.Markup.TheVariants.{FailedSection, SummarySection, TimelineSection, TreeSection, FailedLink, SummaryLink, TimelineLink, TreeLink, TargetLink, OutputLink, Article, TargetItem, Details, OpenDetails}
+use Rattle.redo_html.specs.Chart.{drawing_links}
 use Rattle.redo_html.specs.Parts.{Part}
-use Rattle.redo_html.specs.Parts.Part.{MarkupPart, LogPart, NamePart, NumberPart, TitlePart, StylePart}
+use Rattle.redo_html.specs.Parts.Part.{MarkupPart, LogPart, NamePart, NumberPart, TitlePart, StylePart, ChartPart, MeterPart}
 use Rattle.redo_page.specs.Laws.{target_id, target_ids, target_link, target_links, article_id, article_ids, article_link, article_links, is_among}
 use Rattle.redo_line.specs.declared.entry.How.{How}
 use Rattle.redo_outline.specs.declared.node.Node.{Node}
@@ -19,9 +21,11 @@ use Rattle.redo_page.specs.Targets.{name_parts, exit_parts, badge_parts, lines_p
 abbrev pub is_section : Markup → Bool
 is_section FailedSection = true
 is_section SummarySection = true
+is_section TimelineSection = true
 is_section TreeSection = true
 is_section FailedLink = true
 is_section SummaryLink = true
+is_section TimelineLink = true
 is_section TreeLink = true
 is_section markup = false
 
@@ -39,7 +43,7 @@ is_reference (Details number) = true
 is_reference (OpenDetails number) = true
 is_reference markup = is_section markup
 
--- Such tags, and text of logs.
+-- Such tags, text of logs, and charts.
 abbrev pub reference : Part → List Part
 reference (MarkupPart markup) = if is_reference markup then MarkupPart markup ∷ [] else []
 reference (LogPart style text) = LogPart style text ∷ []
@@ -47,6 +51,8 @@ reference (NamePart name) = []
 reference (NumberPart number) = []
 reference (TitlePart title) = []
 reference StylePart = []
+reference (ChartPart drawing) = ChartPart drawing ∷ []
+reference (MeterPart width) = []
 
 abbrev pub references : List Part → List Part
 references parts = flat_map reference parts
@@ -106,6 +112,7 @@ target_link_part (MarkupPart markup) = by markup
     by : (markup : Markup) → flat_map target_link (reference (MarkupPart markup)) ≡ target_link (MarkupPart markup)
     by (TargetLink number) = refl
     by markup = refl
+target_link_part (ChartPart drawing) = append-nil (drawing_links drawing)
 target_link_part part = refl
 
 article_id_part : (part : Part) → flat_map article_id (reference part) ≡ article_id part

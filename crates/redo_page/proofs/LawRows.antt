@@ -5,9 +5,12 @@ use Rattle.redo_line.specs.declared.entry.Entry.TheVariants.{Text, Done, Closing
 use Rattle.redo_line.specs.declared.entry.How.TheVariants.{Made}
 use Rattle.redo_view.specs.declared.event.Opening.TheVariants.{NotOpened, OpensHere}
 use Rattle.redo_view.specs.Event.Event.{Requested, Mentioned, EntryShown}
+use Rattle.redo_html.specs.declared.chart.GroupKind.TheVariants.{Recipes}
 use Rattle.redo_html.specs.declared.markup.Markup.TheVariants as markup
+use Rattle.redo_html.specs.Chart.{Shape}
+use Rattle.redo_html.specs.Chart.Shape.{BarShape}
 use Rattle.redo_html.specs.Parts.{Part}
-use Rattle.redo_html.specs.Parts.Part.{MarkupPart, LogPart, NamePart, NumberPart, TitlePart, StylePart}
+use Rattle.redo_html.specs.Parts.Part.{MarkupPart, LogPart, NamePart, NumberPart, TitlePart, StylePart, ChartPart, MeterPart}
 use Rattle.redo_html.specs.Style.{plain_style}
 use Rattle.redo_outline.specs.Contents.{Contents}
 use Rattle.redo_outline.specs.Contents.Contents.{Nothing, Shown, Opened}
@@ -16,15 +19,20 @@ use Rattle.redo_page.specs.Tree.{Build, no_node}
 
 -- ---- parts
 
+-- A bar that leads to a target.
+abbrev bar : ℕ → Shape
+bar place = BarShape (record { place = place; x = 1; y = 2; width = 3; height = 4; failed = false; title = codes "e"; label = None })
+
 abbrev parts : List Part
 parts =
     MarkupPart (markup.TargetItem 3) ∷ MarkupPart (markup.Details 4) ∷ LogPart plain_style (codes "a\n") ∷ MarkupPart (markup.OpenDetails 5) ∷ MarkupPart (markup.TargetLink 6)
-    ∷ NamePart (codes "b") ∷ MarkupPart (markup.OutputLink 7) ∷ NumberPart 9 ∷ MarkupPart (markup.Article 8) ∷ TitlePart (codes "c") ∷ StylePart ∷ LogPart plain_style (codes "d\n") ∷ []
+    ∷ NamePart (codes "b") ∷ MarkupPart (markup.OutputLink 7) ∷ NumberPart 9 ∷ MarkupPart (markup.Article 8) ∷ TitlePart (codes "c") ∷ StylePart ∷ LogPart plain_style (codes "d\n")
+    ∷ ChartPart (record { height = 9; lanes = 1; layers = record { kind = Recipes; shapes = bar 11 ∷ bar 10 ∷ [] } ∷ [] }) ∷ MeterPart 12 ∷ []
 
 target_ids_are : target_ids parts ≡ 3 ∷ 4 ∷ 5 ∷ []
 target_ids_are = refl
 
-target_links_are : target_links parts ≡ 6 ∷ []
+target_links_are : target_links parts ≡ 6 ∷ 11 ∷ 10 ∷ []
 target_links_are = refl
 
 article_links_are : article_links parts ≡ 7 ∷ []
@@ -37,12 +45,12 @@ article_ids_are = refl
 abbrev framed : List Part
 framed =
     MarkupPart markup.FailedLink ∷ MarkupPart markup.TreeLink ∷ MarkupPart markup.EndLink ∷ MarkupPart markup.SummaryLink ∷ MarkupPart markup.TreeSection ∷ MarkupPart markup.TreeHeading ∷ MarkupPart markup.SummarySection
-    ∷ MarkupPart markup.FailedSection ∷ MarkupPart markup.EndSection ∷ []
+    ∷ MarkupPart markup.FailedSection ∷ MarkupPart markup.TimelineLink ∷ MarkupPart markup.TimelineSection ∷ MarkupPart markup.EndSection ∷ []
 
-section_links_are : section_links framed ≡ codes "failed" ∷ codes "tree" ∷ codes "summary" ∷ []
+section_links_are : section_links framed ≡ codes "failed" ∷ codes "tree" ∷ codes "summary" ∷ codes "timeline" ∷ []
 section_links_are = refl
 
-section_ids_are : section_ids framed ≡ codes "tree" ∷ codes "summary" ∷ codes "failed" ∷ []
+section_ids_are : section_ids framed ≡ codes "tree" ∷ codes "summary" ∷ codes "failed" ∷ codes "timeline" ∷ []
 section_ids_are = refl
 
 log_bytes_are : log_bytes parts ≡ codes "a\nd\n"

@@ -1,18 +1,20 @@
 -- The tags of a page are its own.
 use Rattle.std.proofs.Common.{◌≡◌, inl, inr, ℕ, true, List, [], ◌∷◌, ◌++◌, map, zero, suc, refl, sym, subst, arith}
-use Rattle.std.specs.Prelude.{codes}
+use Rattle.std.specs.Prelude.{bytes_eq, codes}
 use Rattle.std.specs.List.{All, AllByRecursion, flat_map, list_all}
-use Rattle.std.proofs.lemmas.Bool.{and_parts, or_left}
+use Rattle.std.proofs.lemmas.Bool.{and_parts, or_left, or_right}
 use Rattle.std.proofs.lemmas.Grind.{flat_map-append}
+use Rattle.std.proofs.lemmas.Slice.Eq.{bytes_eq-Decides}
 use Rattle.redo_html.specs.declared.form.Form.{Form}
 use Rattle.redo_html.specs.declared.form.Form.TheVariants.{Log, Name, Title}
 use Rattle.redo_html.specs.declared.style.Style.{Style}
+use Rattle.redo_html.specs.Chart.{Drawing}
 use Rattle.redo_html.specs.Html.{is_one_of, tag_of, tags_of}
 use Rattle.redo_html.specs.Html.Token.{Character, Tag}
-use Rattle.redo_html.specs.Laws.{IsReadAsShown, is_mark}
+use Rattle.redo_html.specs.Laws.{IsReadAsShown, is_mark, reworded}
 use Rattle.redo_html.specs.Passage.{passage_tokens}
 use Rattle.redo_html.specs.Parts.{Part, part_tokens}
-use Rattle.redo_html.specs.Parts.Part.{MarkupPart, LogPart, NamePart, NumberPart, TitlePart, StylePart}
+use Rattle.redo_html.specs.Parts.Part.{MarkupPart, LogPart, NamePart, NumberPart, TitlePart, StylePart, ChartPart, MeterPart}
 use Rattle.redo_html.specs.Shown.{number_text}
 use Rattle.redo_html.specs.Style.{plain_style}
 use Rattle.redo_html.specs.StyleSheet.{style_sheet}
@@ -30,33 +32,51 @@ marks_own : (tags : List (List ℕ)) → list_all is_mark tags ≡ true → AreO
 marks_own [] marks = tt
 marks_own (tag ∷ tags) marks =
     let parts = and_parts (is_mark tag) (list_all is_mark tags) marks in
-    (inr (or_left (is_mark tag) (is_one_of tag (codes "title" ∷ codes "/title" ∷ codes "style" ∷ codes "/style" ∷ [])) parts.0), marks_own tags parts.1)
+    (inr (inl (or_left (is_mark tag) (is_one_of tag (codes "title" ∷ codes "/title" ∷ codes "style" ∷ codes "/style" ∷ [])) parts.0)), marks_own tags parts.1)
 
-part_own : ((form : Form) (style : Style) (bytes : List ℕ) → IsReadAsShown form style bytes) → (part : Part) → AreOwn (tags_of (part_tokens part))
-part_own read (MarkupPart markup) = (inl (markup, refl), tt)
-part_own read (LogPart style text) = marks_own (tags_of (passage_tokens Log style text)) (read Log style text).marks
-part_own read (NamePart name) = marks_own (tags_of (passage_tokens Name plain_style name)) (read Name plain_style name).marks
-part_own read (NumberPart number) = subst AreOwn (sym (characters_tags (number_text number))) tt
-part_own read (TitlePart title) = (
-  inr refl,
+-- The tags of a chart don't depend on its texts.
+abbrev HaveNoText : Type 0
+HaveNoText = (replace : List ℕ → List ℕ) (drawing : Drawing) → tags_of (part_tokens (ChartPart (reworded replace drawing))) ≡ tags_of (part_tokens (ChartPart drawing))
+
+-- Each of some tags is one of them.
+each_among : (tags : List (List ℕ)) → ((tag : List ℕ) → is_one_of tag tags ≡ true → IsOwnTag tag) → AreOwn tags
+each_among [] own = tt
+each_among (tag ∷ tags) own =
+    (own tag (or_left (bytes_eq tag tag) (is_one_of tag tags) ((bytes_eq-Decides tag tag).1 refl)), each_among tags (λ other is. own other (or_right (bytes_eq other tag) (is_one_of other tags) is)))
+
+chart_own : (drawing : Drawing) → AreOwn (tags_of (part_tokens (ChartPart (reworded (λ text. []) drawing))))
+chart_own drawing = each_among (tags_of (part_tokens (ChartPart (reworded (λ text. []) drawing)))) (λ tag is. inr (inr (inl (drawing, is))))
+
+meter_own : (width : ℕ) → AreOwn (tags_of (part_tokens (MeterPart width)))
+meter_own width = each_among (tags_of (part_tokens (MeterPart width))) (λ tag is. inr (inr (inr (width, is))))
+
+part_own : ((form : Form) (style : Style) (bytes : List ℕ) → IsReadAsShown form style bytes) → HaveNoText → (part : Part) → AreOwn (tags_of (part_tokens part))
+part_own read charts (MarkupPart markup) = (inl (markup, refl), tt)
+part_own read charts (LogPart style text) = marks_own (tags_of (passage_tokens Log style text)) (read Log style text).marks
+part_own read charts (NamePart name) = marks_own (tags_of (passage_tokens Name plain_style name)) (read Name plain_style name).marks
+part_own read charts (NumberPart number) = subst AreOwn (sym (characters_tags (number_text number))) tt
+part_own read charts (TitlePart title) = (
+  inr (inl refl),
   subst AreOwn (sym (flat_map-append tag_of (passage_tokens Title plain_style title) (Tag (codes "/title") ∷ [])))
-      (both_own (tags_of (passage_tokens Title plain_style title)) (codes "/title" ∷ []) (marks_own (tags_of (passage_tokens Title plain_style title)) (read Title plain_style title).marks) (inr refl, tt)),
+      (both_own (tags_of (passage_tokens Title plain_style title)) (codes "/title" ∷ []) (marks_own (tags_of (passage_tokens Title plain_style title)) (read Title plain_style title).marks) (inr (inl refl), tt)),
 )
-part_own read StylePart = (
-  inr refl,
+part_own read charts StylePart = (
+  inr (inl refl),
   subst AreOwn (sym (flat_map-append tag_of (map Character style_sheet) (Tag (codes "/style") ∷ [])))
-      (both_own (tags_of (map Character style_sheet)) (codes "/style" ∷ []) (subst AreOwn (sym (characters_tags style_sheet)) tt) (inr refl, tt)),
+      (both_own (tags_of (map Character style_sheet)) (codes "/style" ∷ []) (subst AreOwn (sym (characters_tags style_sheet)) tt) (inr (inl refl), tt)),
 )
+part_own read charts (ChartPart drawing) = subst AreOwn (charts (λ text. []) drawing) (chart_own drawing)
+part_own read charts (MeterPart width) = meter_own width
 
-parts_own : ((form : Form) (style : Style) (bytes : List ℕ) → IsReadAsShown form style bytes) → (parts : List Part) → AreOwn (tags_of (flat_map part_tokens parts))
-parts_own read [] = tt
-parts_own read (part ∷ parts) =
-    subst AreOwn (sym (flat_map-append tag_of (part_tokens part) (flat_map part_tokens parts))) (both_own (tags_of (part_tokens part)) (tags_of (flat_map part_tokens parts)) (part_own read part) (parts_own read parts))
+parts_own : ((form : Form) (style : Style) (bytes : List ℕ) → IsReadAsShown form style bytes) → HaveNoText → (parts : List Part) → AreOwn (tags_of (flat_map part_tokens parts))
+parts_own read charts [] = tt
+parts_own read charts (part ∷ parts) =
+    subst AreOwn (sym (flat_map-append tag_of (part_tokens part) (flat_map part_tokens parts))) (both_own (tags_of (part_tokens part)) (tags_of (flat_map part_tokens parts)) (part_own read charts part) (parts_own read charts parts))
 
 own_at : (tags : List (List ℕ)) → AreOwn tags → All IsOwnTag tags
 own_at [] own k d below = absurd (omega arith)
 own_at (tag ∷ tags) own zero d below = own.0
 own_at (tag ∷ tags) own (suc k) d below = own_at tags own.1 k d (omega arith)
 
-pub each_own : ((form : Form) (style : Style) (bytes : List ℕ) → IsReadAsShown form style bytes) → (parts : List Part) → All IsOwnTag (tags_of (flat_map part_tokens parts))
-each_own read parts = own_at (tags_of (flat_map part_tokens parts)) (parts_own read parts)
+pub each_own : ((form : Form) (style : Style) (bytes : List ℕ) → IsReadAsShown form style bytes) → HaveNoText → (parts : List Part) → All IsOwnTag (tags_of (flat_map part_tokens parts))
+each_own read charts parts = own_at (tags_of (flat_map part_tokens parts)) (parts_own read charts parts)

@@ -7,11 +7,12 @@ use Rattle.redo_logs.specs.Logs.{Log, log_number}
 use Rattle.redo_view.specs.Event.{Event}
 use Rattle.redo_view.specs.Event.Event.{Requested, Mentioned, EntryShown}
 use Rattle.redo_html.specs.declared.markup.Markup.{Markup}
-use Rattle.redo_html.specs.declared.markup.Markup.TheVariants.{FailedSection, SummarySection, TreeSection, FailedLink, SummaryLink, TreeLink, TargetLink, OutputLink, Article, TargetItem, Details, OpenDetails}
+use Rattle.redo_html.specs.declared.markup.Markup.TheVariants.{FailedSection, SummarySection, TimelineSection, TreeSection, FailedLink, SummaryLink, TimelineLink, TreeLink, TargetLink, OutputLink, Article, TargetItem, Details, OpenDetails}
+use Rattle.redo_html.specs.Chart.{drawing_links}
 use Rattle.redo_html.specs.Html.{is_one_of}
-use Rattle.redo_html.specs.Laws.{is_mark}
+use Rattle.redo_html.specs.Laws.{IsChartTag, is_mark}
 use Rattle.redo_html.specs.Parts.{Part}
-use Rattle.redo_html.specs.Parts.Part.{MarkupPart, LogPart}
+use Rattle.redo_html.specs.Parts.Part.{MarkupPart, LogPart, ChartPart}
 use Rattle.redo_html.specs.Tags.{markup_text}
 use Rattle.redo_outline.specs.Contents.{Contents, contents_of}
 use Rattle.redo_outline.specs.Contents.Contents.{Nothing, Shown, Opened}
@@ -35,6 +36,7 @@ target_ids parts = flat_map target_id parts
 -- The links to targets.
 abbrev pub target_link : Part → List ℕ
 target_link (MarkupPart (TargetLink number)) = number ∷ []
+target_link (ChartPart drawing) = drawing_links drawing
 target_link part = []
 
 abbrev pub target_links : List Part → List ℕ
@@ -60,6 +62,7 @@ article_links parts = flat_map article_link parts
 abbrev pub section_id : Part → List (List ℕ)
 section_id (MarkupPart FailedSection) = codes "failed" ∷ []
 section_id (MarkupPart SummarySection) = codes "summary" ∷ []
+section_id (MarkupPart TimelineSection) = codes "timeline" ∷ []
 section_id (MarkupPart TreeSection) = codes "tree" ∷ []
 section_id part = []
 
@@ -69,6 +72,7 @@ section_ids parts = flat_map section_id parts
 abbrev pub section_link : Part → List (List ℕ)
 section_link (MarkupPart FailedLink) = codes "failed" ∷ []
 section_link (MarkupPart SummaryLink) = codes "summary" ∷ []
+section_link (MarkupPart TimelineLink) = codes "timeline" ∷ []
 section_link (MarkupPart TreeLink) = codes "tree" ∷ []
 section_link part = []
 
@@ -160,11 +164,11 @@ pub record IsPartOf (inner whole : List Part) : Type 0 where
 
 -- ---- tags
 
--- Whether a tag is a page's own: the text of a `Markup`, a mark in a text, or a tag of the title or of the style sheet.
+-- Whether a tag is a page's own: the text of a `Markup`, a mark in a text, a tag of the title or of the style sheet, or a tag of a chart.
 abbrev pub IsOwnTag : List ℕ → Type 0
 IsOwnTag tag =
     ((markup : Markup) × (tag ≡ markup_text markup))
-    ⊎ ((is_mark tag || is_one_of tag (codes "title" ∷ codes "/title" ∷ codes "style" ∷ codes "/style" ∷ [])) ≡ true)
+    ⊎ (((is_mark tag || is_one_of tag (codes "title" ∷ codes "/title" ∷ codes "style" ∷ codes "/style" ∷ [])) ≡ true) ⊎ IsChartTag tag)
 
 abbrev pub markup_of : Part → List Markup
 markup_of (MarkupPart markup) = markup ∷ []

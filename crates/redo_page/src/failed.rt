@@ -1,7 +1,8 @@
 //! What failed: the section at the top of a page.
-ghost use Rattle.std.specs.Prelude.{◌≡◌, true, false, IfOk, codes, drop, take};
+ghost use Rattle.std.specs.Prelude.{◌≡◌, ◌∷◌, ◌++◌, true, false, IfOk, [], codes, drop, take};
 ghost use Rattle.std.specs.List.{flat_map};
-ghost use Rattle.redo_html.specs.declared.markup.Markup.TheVariants.{Ordered, OrderedFrom};
+ghost use Rattle.redo_html.specs.declared.markup.Markup.TheVariants.{EndDetails, EndOrdered, Ordered, OrderedFrom};
+ghost use Rattle.redo_html.specs.Parts.Part.{MarkupPart};
 ghost use Rattle.redo_page.specs.Failed.{AreFailures, article_parts, article_row, cause_if, failed_above, failed_parts, is_unclosed, list_parts, more_parts, places_where, row_parts, section_parts, target_row, unlisted_parts};
 ghost use Rattle.redo_page.specs.Tree.{first_failures};
 ghost use Rattle.redo_page.specs.Private.Writing.{WroteParts};
@@ -257,8 +258,15 @@ fn write_more<W: Sink>(
         Piece::Markup(list),
     ]);
     write_target_rows(table, nodes, causes, first_of(MAX_ROWS, places), page);
+    write_more_end(places.len(), page);
+}
+
+fn write_more_end<W: Sink>(count: usize, page: &mut PageWriter<'_, W>)
+    ensures { WroteParts W.written page.old page.new
+        (MarkupPart EndOrdered ∷ (unlisted_parts count ++ MarkupPart EndDetails ∷ [])) }
+{
     page.put(&[Piece::Markup(Markup::EndOrdered)]);
-    write_unlisted(places.len(), page);
+    write_unlisted(count, page);
     page.put(&[Piece::Markup(Markup::EndDetails)]);
 }
 

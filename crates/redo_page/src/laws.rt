@@ -12,7 +12,10 @@ ghost use Rattle.redo_page.specs.Laws.{HaveSameLogs, IsOwnTag, IsPartOf, article
 ghost use Rattle.redo_page.specs.Page.{Request, page_events, page_html, page_outline, page_parts};
 ghost use Rattle.redo_page.specs.Tree.{articles, is_moved, tree_parts};
 
-use redo_html::{parts_are_read, parts_show_their_text, passages_are_read_as_shown};
+use redo_html::{
+    charts_have_no_text_in_tags, only_markup_decides_nesting, parts_are_read,
+    parts_show_their_text, passages_are_read_as_shown,
+};
 use redo_outline::events_are_in_contents;
 use redo_view::logs_show_their_lines;
 
@@ -33,7 +36,7 @@ pub fn tags_nest()
         nests_in [] (tags_of (read (page_html request logs requested))) ≡ true }
 {
     page_is_read();
-    passages_are_read_as_shown();
+    only_markup_decides_nesting();
 }
 
 /// Each target that is opened, and each article, has an id of its own, and each link leads to an id. There is one link to each section.
@@ -85,4 +88,5 @@ pub fn tags_are_its_own()
 {
     page_is_read();
     passages_are_read_as_shown();
+    charts_have_no_text_in_tags();
 }

@@ -14,5 +14,4 @@ returns g c =
     let differs = eqb-false (length places) 0 (sym c.is_empty.ensures ∙ c.if-is_empty.false) in
     let some : 0 < length places = omega (arith, differs) in
     let rows = wrote_as written c.put.new.self c.write_target_rows.new.page _ _ (ap (flat_map (target_row c.args.table.now c.args.nodes.now c.args.causes)) c.first_of.ensures) c.write_target_rows.ensures in
-    wrote_if written c.args.page.now c.put-3.new.self _ _ (lt-ltb 0 (length places) some)
-    (wrote_then c.put.ensures (wrote_then rows (wrote_then c.put-2.ensures (wrote_then c.write_unlisted.ensures c.put-3.ensures))))
+    wrote_if written c.args.page.now c.write_more_end.new.page _ _ (lt-ltb 0 (length places) some) (wrote_then c.put.ensures (wrote_then rows c.write_more_end.ensures))

@@ -10,7 +10,7 @@ use Rattle.redo_page.specs.Frame.{command, title_text, verdict_of}
 use Rattle.redo_outline.specs.declared.node.Node.{Node}
 use Rattle.redo_page.specs.declared.frame.Verdict.{Verdict}
 use Rattle.redo_page.specs.Page.{Request, heading_of, options_of, page_events, page_outline, page_parts, top_parts_of}
-use Rattle.redo_page.proofs.Nesting.{Leads, Nest, lead_around, lead_in, texts_nest, then_lead}
+use Rattle.redo_page.proofs.Nesting.{Leads, Nest, lead_around, lead_in, then_lead}
 use Rattle.redo_page.proofs.FrameNesting.{head_leads, header_leads, footer_leads}
 use Rattle.redo_page.proofs.FailedNesting.{failed_nests}
 use Rattle.redo_page.proofs.TreeNesting.{tree_nests}
@@ -38,5 +38,5 @@ returns c = λ request logs requested.
     let parts = page_parts request logs requested in
     ap (λ tokens. nests_in [] (tags_of tokens)) (c.page_is_read.ensures.parts request logs requested)
     ∙ ap (nests_in []) (sym (append-nil (tags_of (flat_map part_tokens parts))))
-    ∙ texts_nest c.passages_are_read_as_shown.ensures parts [] []
+    ∙ c.only_markup_decides_nesting.ensures parts [] []
     ∙ (page_nests request logs requested).leads [] []
