@@ -111,7 +111,7 @@ place_in (inner ∷ outer) = Svg inner outer
 abbrev pub svg_end_tag : List ℕ → List (List ℕ) → List ℕ → Step
 svg_end_tag inner outer name = if bytes_eq name inner then (DataState (place_in outer), Tag (47 ∷ name) ∷ []) else lost
 
--- A tag. After an end tag in HTML, text is in the data state. There, the end tag of an `svg` ends nothing, as any end tag without a start tag.
+-- A tag. After an end tag in HTML, text is in the data state. An end tag of `svg` in HTML ends nothing, like any end tag without a start tag.
 abbrev pub emit_tag : Place → List ℕ → Step
 emit_tag place [] = lost
 emit_tag (Svg inner outer) (byte ∷ bytes) = if byte == 47 then svg_end_tag inner outer bytes else svg_start_tag inner outer (byte ∷ bytes)

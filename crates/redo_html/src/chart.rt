@@ -24,7 +24,9 @@ pub struct Chart<'a> {
 /// Items of a chart that look alike.
 #[derive(Clone, Copy)]
 pub struct ChartGroup<'a> {
+    /// What the items are, and so how they look.
     pub kind: GroupKind,
+    /// The items, in order: later ones are in front.
     pub items: &'a [ChartItem<'a>],
 }
 
@@ -49,7 +51,7 @@ pub enum ChartItem<'a> {
         x: u64,
         bottom: u64,
     },
-    /// Words at the top. `<text x="12.34%" y="11" text-anchor="middle">TEXT</text>`
+    /// Text at the top. `<text x="12.34%" y="11" text-anchor="middle">TEXT</text>`
     Tick {
         x: u64,
         anchor: Anchor,
@@ -59,22 +61,29 @@ pub enum ChartItem<'a> {
     Bar(Bar<'a>),
 }
 
-/// Which part of a tick is at its position.
+/// Which part of a tick's text is at its position.
 #[derive(Clone, Copy)]
 pub enum Anchor {
+    /// The start of the text. It has no attribute.
     Start,
+    /// The middle of the text. `text-anchor="middle"`
     Middle,
+    /// The end of the text. `text-anchor="end"`
     End,
 }
 
-/// A bar: a link to the target with the number `place`, with a tooltip. `<a href="#tPLACE" tabindex="-1">`, with a `rect` or, if it has a
-/// label, an `svg` in it.
+/// A bar with a tooltip, which links to a target. It is `<a href="#tPLACE" tabindex="-1">` with a `rect`, or with an `svg` if it has a label.
 #[derive(Clone, Copy)]
 pub struct Bar<'a> {
+    /// The number of the target, as in [`Markup::TargetLink`](crate::Markup::TargetLink).
     pub place: u64,
+    /// The position of its left end, in hundredths of a percent of the chart's width.
     pub x: u64,
+    /// The position of its upper end, in pixels.
     pub y: u64,
+    /// Its width, in hundredths of a percent of the chart's width.
     pub width: u64,
+    /// Its height, in pixels.
     pub height: u64,
     /// Whether the target failed: then the bar is red.
     pub failed: bool,
@@ -84,7 +93,7 @@ pub struct Bar<'a> {
     pub label: Option<&'a [u8]>,
 }
 
-/// What a chart is written of: HTML of the program, a number, a percentage in hundredths, or text that is escaped.
+/// A part of a chart's HTML: HTML of the program, a number, a percentage in hundredths, or text, which is escaped.
 #[derive(Clone, Copy)]
 pub enum Ink<'a> {
     Html(&'a [u8]),
@@ -93,7 +102,7 @@ pub enum Ink<'a> {
     Words(&'a [u8]),
 }
 
-/// Writes a chart.
+/// Writes a chart. If a write fails, a prefix of it was written, and no write followed.
 pub fn write_chart<W: Sink>(chart: Chart<'_>, out: &mut W) -> Result<(), Broken>
     ensures { Writes (W.written out.old) (W.written out.new) (nodes_html (drawing_nodes (drawing_of chart.entry))) result }
 {
@@ -102,7 +111,7 @@ pub fn write_chart<W: Sink>(chart: Chart<'_>, out: &mut W) -> Result<(), Broken>
     push_all(out, b"</svg>")
 }
 
-/// Writes a meter that is filled to this width, in hundredths of a percent.
+/// Writes a meter that is filled to this width, in hundredths of a percent. If a write fails, a prefix of it was written.
 pub fn write_meter<W: Sink>(width: u64, out: &mut W) -> Result<(), Broken>
     ensures { Writes (W.written out.old) (W.written out.new) (nodes_html (meter_nodes width)) result }
 {
