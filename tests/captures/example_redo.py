@@ -90,8 +90,11 @@ def touch(path):
 
 
 def kinds_of(folder, name):
-    """The records of a log, without what differs from run to run, and its lines."""
-    return re.sub(r"^@@REDO:([a-z]+):\d+:\d+\.\d{4}@@ ", r"\1 ", log_of(folder, name), flags=re.M)
+    """The records of a log, without what differs from run to run, and its lines. Its first record, the start of its own target, is left
+    out."""
+    text = re.sub(r"^@@REDO:([a-z]+):\d+:\d+\.\d{4}@@ ", r"\1 ", log_of(folder, name), flags=re.M)
+    start = f"do {os.path.basename(name)}\n"
+    return text[len(start):] if text.startswith(start) else f"no record of its start: {text}"
 
 
 def wait_until(what, holds):
@@ -627,7 +630,7 @@ def chain(checks, at):
     checks.expect("is unchanged", (listed(folder)["t1"], listed(folder)["t10000"]), ((True, "1"), (True, "10000")))
     touch(os.path.join(folder, "leaf"))
     checks.expect("a long chain of which the end has changed: redo", redo(folder, "t1", command="redo-ifchange"), (0, "", ""))
-    checks.expect("is made anew", (listed(folder)["t1"], log_of(folder, "t1")[:3]), ((True, "10001"), "t1\n"))
+    checks.expect("is made anew", (listed(folder)["t1"], kinds_of(folder, "t1")[:3]), ((True, "10001"), "t1\n"))
 
 
 def no_space(checks, at):
