@@ -4,7 +4,7 @@ ghost use Rattle.std.specs.List.{flat_map};
 ghost use Rattle.redo_device.specs.Sink.{Writes};
 ghost use Rattle.redo_html.specs.Chart.{anchor_attributes, bar_of, bar_nodes, drawing_nodes, drawing_of, failed_attributes, label_fill, lanes_word, last_digit, layer_of, meter_nodes, nodes_html, percent_text, shape_nodes, shape_of};
 ghost use Rattle.redo_html.specs.Chart.Shape.{BarShape, LineShape, TickShape};
-ghost use Rattle.redo_html.specs.Private.Charting.{attributes_html, chart_start_html, group_start_html, ink_html, layer_html, shape_html};
+ghost use Rattle.redo_html.specs.Private.Charting.{attributes_html, chart_start_html, group_start_html, fragment_html, layer_html, shape_html};
 
 use crate::markup::write_number;
 use crate::passage::write_title_text;
@@ -95,7 +95,7 @@ pub struct Bar<'a> {
 
 /// A part of a chart's HTML: HTML of the program, a number, a percentage in hundredths, or text, which is escaped.
 #[derive(Clone, Copy)]
-pub enum Ink<'a> {
+pub enum Fragment<'a> {
     Html(&'a [u8]),
     Number(u64),
     Percent(u64),
@@ -115,11 +115,13 @@ pub fn write_chart<W: Sink>(chart: Chart<'_>, out: &mut W) -> Result<(), Broken>
 pub fn write_meter<W: Sink>(width: u64, out: &mut W) -> Result<(), Broken>
     ensures { Writes (W.written out.old) (W.written out.new) (nodes_html (meter_nodes width)) result }
 {
-    write_inks(
+    write_fragments(
         &[
-            Ink::Html(b"<svg width=\"100%\" height=\"10\" aria-hidden=\"true\"><rect width=\""),
-            Ink::Percent(width),
-            Ink::Html(b"\" height=\"10\" fill=\"#3a6ea5\"></rect></svg>"),
+            Fragment::Html(
+                b"<svg width=\"100%\" height=\"10\" aria-hidden=\"true\"><rect width=\"",
+            ),
+            Fragment::Percent(width),
+            Fragment::Html(b"\" height=\"10\" fill=\"#3a6ea5\"></rect></svg>"),
         ],
         out,
     )
@@ -128,16 +130,16 @@ pub fn write_meter<W: Sink>(width: u64, out: &mut W) -> Result<(), Broken>
 fn write_chart_start<W: Sink>(height: u64, lanes: u64, out: &mut W) -> Result<(), Broken>
     ensures { Writes (W.written out.old) (W.written out.new) (chart_start_html height lanes) result }
 {
-    write_inks(
+    write_fragments(
         &[
-            Ink::Html(
+            Fragment::Html(
                 b"<svg role=\"img\" aria-label=\"A bar for each target, from its start to its end, in ",
             ),
-            Ink::Number(lanes),
-            Ink::Html(lanes_after(lanes)),
-            Ink::Html(b"\" width=\"100%\" height=\""),
-            Ink::Number(height),
-            Ink::Html(b"\" font-size=\"11\">"),
+            Fragment::Number(lanes),
+            Fragment::Html(lanes_after(lanes)),
+            Fragment::Html(b"\" width=\"100%\" height=\""),
+            Fragment::Number(height),
+            Fragment::Html(b"\" font-size=\"11\">"),
         ],
         out,
     )
@@ -202,15 +204,15 @@ fn write_line<W: Sink>(x: u64, bottom: u64, out: &mut W) -> Result<(), Broken>
     ensures { (kind : GroupKind) →
         Writes (W.written out.old) (W.written out.new) (shape_html kind (LineShape x bottom)) result }
 {
-    write_inks(
+    write_fragments(
         &[
-            Ink::Html(b"<line x1=\""),
-            Ink::Percent(x),
-            Ink::Html(b"\" x2=\""),
-            Ink::Percent(x),
-            Ink::Html(b"\" y1=\"15\" y2=\""),
-            Ink::Number(bottom),
-            Ink::Html(b"\"></line>"),
+            Fragment::Html(b"<line x1=\""),
+            Fragment::Percent(x),
+            Fragment::Html(b"\" x2=\""),
+            Fragment::Percent(x),
+            Fragment::Html(b"\" y1=\"15\" y2=\""),
+            Fragment::Number(bottom),
+            Fragment::Html(b"\"></line>"),
         ],
         out,
     )
@@ -220,15 +222,15 @@ fn write_tick<W: Sink>(x: u64, anchor: Anchor, text: &[u8], out: &mut W) -> Resu
     ensures { (kind : GroupKind) →
         Writes (W.written out.old) (W.written out.new) (shape_html kind (TickShape x anchor text.now)) result }
 {
-    write_inks(
+    write_fragments(
         &[
-            Ink::Html(b"<text x=\""),
-            Ink::Percent(x),
-            Ink::Html(b"\" y=\"11\""),
-            Ink::Html(anchor_attribute(anchor)),
-            Ink::Html(b">"),
-            Ink::Words(text),
-            Ink::Html(b"</text>"),
+            Fragment::Html(b"<text x=\""),
+            Fragment::Percent(x),
+            Fragment::Html(b"\" y=\"11\""),
+            Fragment::Html(anchor_attribute(anchor)),
+            Fragment::Html(b">"),
+            Fragment::Words(text),
+            Fragment::Html(b"</text>"),
         ],
         out,
     )
@@ -247,11 +249,11 @@ fn anchor_attribute(anchor: Anchor) -> &'static [u8]
 fn write_bar<W: Sink>(kind: GroupKind, bar: Bar<'_>, out: &mut W) -> Result<(), Broken>
     ensures { Writes (W.written out.old) (W.written out.new) (shape_html kind (BarShape (bar_of bar.entry))) result }
 {
-    write_inks(
+    write_fragments(
         &[
-            Ink::Html(b"<a href=\"#t"),
-            Ink::Number(bar.place),
-            Ink::Html(b"\" tabindex=\"-1\">"),
+            Fragment::Html(b"<a href=\"#t"),
+            Fragment::Number(bar.place),
+            Fragment::Html(b"\" tabindex=\"-1\">"),
         ],
         out,
     )?;
@@ -273,21 +275,21 @@ fn write_plain_bar<W: Sink>(bar: Bar<'_>, out: &mut W) -> Result<(), Broken>
     ensures { (kind : GroupKind) →
         Writes (W.written out.old) (W.written out.new) (nodes_html (bar_nodes kind (bar_of bar.entry) None)) result }
 {
-    write_inks(
+    write_fragments(
         &[
-            Ink::Html(b"<rect x=\""),
-            Ink::Percent(bar.x),
-            Ink::Html(b"\" y=\""),
-            Ink::Number(bar.y),
-            Ink::Html(b"\" width=\""),
-            Ink::Percent(bar.width),
-            Ink::Html(b"\" height=\""),
-            Ink::Number(bar.height),
-            Ink::Html(b"\""),
-            Ink::Html(failed_attribute(bar.failed)),
-            Ink::Html(b"><title>"),
-            Ink::Words(bar.title),
-            Ink::Html(b"</title></rect>"),
+            Fragment::Html(b"<rect x=\""),
+            Fragment::Percent(bar.x),
+            Fragment::Html(b"\" y=\""),
+            Fragment::Number(bar.y),
+            Fragment::Html(b"\" width=\""),
+            Fragment::Percent(bar.width),
+            Fragment::Html(b"\" height=\""),
+            Fragment::Number(bar.height),
+            Fragment::Html(b"\""),
+            Fragment::Html(failed_attribute(bar.failed)),
+            Fragment::Html(b"><title>"),
+            Fragment::Words(bar.title),
+            Fragment::Html(b"</title></rect>"),
         ],
         out,
     )
@@ -301,29 +303,29 @@ fn write_labelled_bar<'a, W: Sink>(
 ) -> Result<(), Broken>
     ensures { Writes (W.written out.old) (W.written out.new) (nodes_html (bar_nodes kind (bar_of bar.entry) (Some label.now))) result }
 {
-    write_inks(
+    write_fragments(
         &[
-            Ink::Html(b"<svg x=\""),
-            Ink::Percent(bar.x),
-            Ink::Html(b"\" y=\""),
-            Ink::Number(bar.y),
-            Ink::Html(b"\" width=\""),
-            Ink::Percent(bar.width),
-            Ink::Html(b"\" height=\""),
-            Ink::Number(bar.height),
-            Ink::Html(b"\"><title>"),
-            Ink::Words(bar.title),
-            Ink::Html(b"</title><rect width=\"100%\" height=\""),
-            Ink::Number(bar.height),
-            Ink::Html(b"\""),
-            Ink::Html(failed_attribute(bar.failed)),
-            Ink::Html(b"></rect><text x=\"4\" y=\""),
-            Ink::Number(bar.height.saturating_sub(5)),
-            Ink::Html(b"\" fill=\""),
-            Ink::Html(fill_of_label(kind, bar.failed)),
-            Ink::Html(b"\">"),
-            Ink::Words(label),
-            Ink::Html(b"</text></svg>"),
+            Fragment::Html(b"<svg x=\""),
+            Fragment::Percent(bar.x),
+            Fragment::Html(b"\" y=\""),
+            Fragment::Number(bar.y),
+            Fragment::Html(b"\" width=\""),
+            Fragment::Percent(bar.width),
+            Fragment::Html(b"\" height=\""),
+            Fragment::Number(bar.height),
+            Fragment::Html(b"\"><title>"),
+            Fragment::Words(bar.title),
+            Fragment::Html(b"</title><rect width=\"100%\" height=\""),
+            Fragment::Number(bar.height),
+            Fragment::Html(b"\""),
+            Fragment::Html(failed_attribute(bar.failed)),
+            Fragment::Html(b"></rect><text x=\"4\" y=\""),
+            Fragment::Number(bar.height.saturating_sub(5)),
+            Fragment::Html(b"\" fill=\""),
+            Fragment::Html(fill_of_label(kind, bar.failed)),
+            Fragment::Html(b"\">"),
+            Fragment::Words(label),
+            Fragment::Html(b"</text></svg>"),
         ],
         out,
     )
@@ -348,23 +350,23 @@ fn fill_of_label(kind: GroupKind, failed: bool) -> &'static [u8]
     }
 }
 
-fn write_inks<W: Sink>(inks: &[Ink<'_>], out: &mut W) -> Result<(), Broken>
-    ensures { Writes (W.written out.old) (W.written out.new) (flat_map ink_html inks.now) result }
+fn write_fragments<W: Sink>(fragments: &[Fragment<'_>], out: &mut W) -> Result<(), Broken>
+    ensures { Writes (W.written out.old) (W.written out.new) (flat_map fragment_html fragments.now) result }
 {
-    for ink in inks {
-        write_ink(*ink, out)?;
+    for fragment in fragments {
+        write_fragment(*fragment, out)?;
     }
     Ok(())
 }
 
-fn write_ink<W: Sink>(ink: Ink<'_>, out: &mut W) -> Result<(), Broken>
-    ensures { Writes (W.written out.old) (W.written out.new) (ink_html ink.entry) result }
+fn write_fragment<W: Sink>(fragment: Fragment<'_>, out: &mut W) -> Result<(), Broken>
+    ensures { Writes (W.written out.old) (W.written out.new) (fragment_html fragment.entry) result }
 {
-    match ink {
-        Ink::Html(html) => push_all(out, html),
-        Ink::Number(number) => write_number(number, out),
-        Ink::Percent(hundredths) => write_percent(hundredths, out),
-        Ink::Words(words) => write_title_text(words, out),
+    match fragment {
+        Fragment::Html(html) => push_all(out, html),
+        Fragment::Number(number) => write_number(number, out),
+        Fragment::Percent(hundredths) => write_percent(hundredths, out),
+        Fragment::Words(words) => write_title_text(words, out),
     }
 }
 

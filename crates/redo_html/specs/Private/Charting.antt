@@ -2,19 +2,19 @@
 use Rattle.std.specs.Prelude.{ℕ, List, ◌++◌, codes}
 use Rattle.std.specs.List.{flat_map}
 use Rattle.redo_html.specs.declared.chart.GroupKind.{GroupKind}
-use Rattle.redo_html.specs.declared.chart.Ink.{Ink}
-use Rattle.redo_html.specs.declared.chart.Ink.TheVariants.{Html, Number, Percent, Words}
+use Rattle.redo_html.specs.declared.chart.Fragment.{Fragment}
+use Rattle.redo_html.specs.declared.chart.Fragment.TheVariants.{Html, Number, Percent, Words}
 use Rattle.redo_html.specs.declared.form.Form.TheVariants.{Title}
 use Rattle.redo_html.specs.Chart.{Attribute, Layer, Shape, attribute_text, chart_attributes, group_attributes, layer_nodes, nodes_html, percent_text, shape_nodes, tag_text}
 use Rattle.redo_html.specs.Passage.{passage_html}
 use Rattle.redo_html.specs.Shown.{number_text}
 use Rattle.redo_html.specs.Style.{plain_style}
 
-abbrev pub ink_html : Ink → List ℕ
-ink_html (Html html) = html.now
-ink_html (Number number) = number_text number
-ink_html (Percent hundredths) = percent_text hundredths
-ink_html (Words words) = passage_html Title plain_style words.now
+abbrev pub fragment_html : Fragment → List ℕ
+fragment_html (Html html) = html.now
+fragment_html (Number number) = number_text number
+fragment_html (Percent hundredths) = percent_text hundredths
+fragment_html (Words words) = passage_html Title plain_style words.now
 
 abbrev pub attributes_html : List Attribute → List ℕ
 attributes_html attributes = flat_map attribute_text attributes
