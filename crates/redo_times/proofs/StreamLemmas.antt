@@ -31,20 +31,6 @@ module _ (targets : List (List ℕ)) (log : List ℕ) (max_bytes : ℕ) (known :
   }
 
   module _ (left : ℕ) (now : Option Stream) (partial : List ℕ) (tallies : List Tally) (so_far : Reading targets log max_bytes left known now partial first tallies) where
-    -- A chunk was read.
-    pub one_more : (n : ℕ) (buffer after_partial : List ℕ) (after : Option Stream) (after_tallies : List Tally) → 0 < n → n ≤ left → n ≤ length buffer → Pulls now after (Ok n) buffer
-        → ((taken : List ℕ) → partial ≡ rest taken → after_partial ≡ rest (taken ++ take n buffer))
-        → ((reports : List Report) (taken : List ℕ) → partial ≡ rest taken → AreTalliesAfter targets log reports taken tallies → AreTalliesAfter targets log reports (taken ++ take n buffer) after_tallies)
-        → Reading targets log max_bytes (left - n) known after after_partial first after_tallies
-    one_more n buffer after_partial after after_tallies some within fits pulls keeps adds =
-        let size = so_far.size in record {
-          taken = so_far.taken ++ take n buffer;
-          size = omega (arith, size, within, length-append so_far.taken (take n buffer), length-take n buffer, fits);
-          gave = Gave-more known now after so_far.taken n buffer some so_far.gave pulls;
-          kept = keeps so_far.taken so_far.kept;
-          are = λ reports are. adds reports so_far.taken so_far.kept (so_far.are reports are);
-        }
-
     -- The bytes that count are the bytes that were taken.
     abbrev AreTaken : Stream → Type 0
     AreTaken stream = take max_bytes stream.bytes ≡ so_far.taken
