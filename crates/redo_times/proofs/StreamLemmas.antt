@@ -1,10 +1,10 @@
 -- The tallies after the bytes that a reader gave.
-use Rattle.std.proofs.Common.{◌≡◌, ℕ, ◌+◌, ◌-◌, ◌<◌, ◌≤◌, List, [], ◌++◌, false, Option, None, Some, Ok, Err, length, take, refl, sym, ap, ◌∙◌, subst, arith}
+use Rattle.std.proofs.Common.{◌≡◌, ℕ, ◌+◌, ◌≤◌, List, [], false, Option, None, Some, Ok, Err, length, take, refl, sym, ap, ◌∙◌, subst, arith}
 use Rattle.std.proofs.Math.Seq.{take-append_seam}
-use Rattle.std.proofs.lemmas.List.{length-append, length-take, take_all}
+use Rattle.std.proofs.lemmas.List.{take_all}
 use Rattle.redo_device.specs.declared.feed.Broken.{Broken}
 use Rattle.redo_device.specs.Feed.{Pulls, SomeStream, Stream}
-use Rattle.redo_device.proofs.GaveLemmas.{Gave, Gave-end, Gave-failed, Gave-more, Gave-none, weaker}
+use Rattle.redo_device.proofs.GaveLemmas.{Gave, Gave-end, Gave-failed, Gave-none, weaker}
 use Rattle.redo_line.specs.Lines.{rest}
 use Rattle.redo_line.proofs.LineLemmas.{rest-free}
 use Rattle.redo_times.specs.declared.report.Report.{Report}
