@@ -48,7 +48,7 @@
 //! makes elements of it, whose attributes have text of the program, numbers and percentages. So elements nest by type. The
 //! texts are passages without marks, because a mark is an HTML element. Three laws about charts depend on one lemma: it
 //! computes, from the place before an element, the place after it (`next_place`). The laws also state that the tags of a
-//! chart stay the same with other texts, and that of all parts of a page, only markup decides whether its tags nest.
+//! chart stay the same with other texts, and that only the markup of a page decides whether its tags nest.
 //!
 //! **Speed.** A stretch of letters that are written as they are (`verbatim_len`) is one write. Bytes of ASCII are tested in
 //! blocks, without a branch for each byte, so that the compiler can test several at once. Every other letter is a write of

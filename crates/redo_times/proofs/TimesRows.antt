@@ -35,7 +35,7 @@ record Row : Type 0 where
 abbrev from : List TimedLog → List ℕ → Option ℕ → Option ℕ → Row
 from logs target began ended = record { logs = logs; target = target; began = began; ended = ended }
 
--- The times of the target, if so many bytes of each stream count.
+-- The times of the target, if at most `max_bytes` bytes of each stream count.
 abbrev HasTimes : ℕ → Row → Type 0
 HasTimes max_bytes row = times_of max_bytes row.logs row.target ≡ record { began = row.began; ended = row.ended }
 

@@ -20,7 +20,7 @@ tally_of reports target = record {
   ended_in_other_log = last_time (times_at EndedInOtherLog target reports);
 }
 
--- These tallies are those of the targets, by these reports.
+-- The targets have these tallies, by these reports.
 abbrev pub AreTallies : List (List ℕ) → List Report → List Tally → Type 0
 AreTallies targets reports tallies = tallies ≡ map (tally_of reports) targets
 
@@ -36,11 +36,11 @@ with_time Began time tally = record tally { began = Some (earlier time tally.beg
 with_time EndedInOwnLog time tally = record tally { ended_in_own_log = Some (later time tally.ended_in_own_log) }
 with_time EndedInOtherLog time tally = record tally { ended_in_other_log = Some (later time tally.ended_in_other_log) }
 
--- These tallies are those of the targets, by some reports and then by the ended lines of these bytes of the log of `log`.
+-- The targets have these tallies, by some reports and then by the ended lines of these bytes of the log of `log`.
 abbrev pub AreTalliesAfter : List (List ℕ) → List ℕ → List Report → List ℕ → List Tally → Type 0
 AreTalliesAfter targets log reports bytes tallies = AreTallies targets (reports ++ reports_in log (ended bytes)) tallies
 
--- These tallies are those of the targets, by some reports and then by the log of `log` with this stream.
+-- The targets have these tallies, by some reports and then by the log of `log` with this stream.
 abbrev pub AreTalliesOfStream : List (List ℕ) → List ℕ → List Report → ℕ → Stream → List Tally → Type 0
 AreTalliesOfStream targets log reports max_bytes stream tallies = AreTalliesAfter targets log reports (take max_bytes stream.bytes) tallies
 
