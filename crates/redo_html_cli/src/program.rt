@@ -132,6 +132,8 @@ fn request_for(job: &PageJob) -> PageRequest<'_>
         dir: job.dir().as_bytes(),
         unchanged: job.unchanged(),
         debug_locks: job.debug_locks(),
+        max_bytes: 0,
+        times: &[],
     }
 }
 

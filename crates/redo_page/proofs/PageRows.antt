@@ -40,14 +40,14 @@ log target entries = record { target = target; entries = entries; state = Ended 
 -- ---- what is asked
 
 abbrev request : List ℕ → Bool → Bool → Request
-request title unchanged locks = record { title = title; dir = codes "d"; unchanged = unchanged; debug_locks = locks }
+request title unchanged locks = record { title = title; dir = codes "d"; unchanged = unchanged; debug_locks = locks; max_bytes = 5; times = [] }
 
 abbrev at : List ℕ → Bor (List ℕ)
 at bytes = record { ref_ptr = (0, 0); now = bytes }
 
 requests_are :
-    (request_of (record { title = at (codes "t"); dir = at (codes "d"); unchanged = true; debug_locks = false }) ≡ request (codes "t") true false)
-    × (request_of (record { title = at []; dir = at (codes "d"); unchanged = false; debug_locks = true }) ≡ request [] false true)
+    (request_of (record { title = at (codes "t"); dir = at (codes "d"); unchanged = true; debug_locks = false; max_bytes = 5; times = at [] }) ≡ request (codes "t") true false)
+    × (request_of (record { title = at []; dir = at (codes "d"); unchanged = false; debug_locks = true; max_bytes = 5; times = at [] }) ≡ request [] false true)
 requests_are = (refl, refl)
 
 options_are :

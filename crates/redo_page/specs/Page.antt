@@ -14,17 +14,27 @@ use Rattle.redo_page.specs.Frame.{command, head_parts, header_parts, footer_part
 use Rattle.redo_page.specs.declared.frame.Verdict.{Verdict}
 use Rattle.redo_page.specs.declared.page.PageRequest.{PageRequest}
 use Rattle.redo_page.specs.Tree.{tree_parts}
+use Rattle.redo_times.specs.declared.times.Times.{Times}
 
 -- What a page is asked: a title, or none if it is empty; the capture directory as it was given; whether unchanged targets are shown, and
--- what was done about locks.
+-- what was done about locks; how many bytes of text lines are shown, or 0 for all; and the times of targets, by the numbers of their logs.
 pub record Request : Type 0 where
   pub title : List ℕ
   pub dir : List ℕ
   pub unchanged : Bool
   pub debug_locks : Bool
+  pub max_bytes : ℕ
+  pub times : List Times
 
 abbrev pub request_of : PageRequest → Request
-request_of request = record { title = request.title.now; dir = request.dir.now; unchanged = request.unchanged; debug_locks = request.debug_locks }
+request_of request = record {
+  title = request.title.now;
+  dir = request.dir.now;
+  unchanged = request.unchanged;
+  debug_locks = request.debug_locks;
+  max_bytes = request.max_bytes;
+  times = request.times.now;
+}
 
 -- A page shows the logs of mentioned targets too, and all text lines.
 abbrev pub options_of : Request → Options

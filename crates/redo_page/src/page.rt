@@ -20,6 +20,7 @@ use redo_device::{Broken, Sink};
 use redo_line::TargetName;
 use redo_logs::LogTable;
 use redo_outline::{Node, Outline};
+use redo_times::Times;
 use redo_view::{FormFault, Options, Render};
 use std::alloc::{AllocError, Global};
 
@@ -34,6 +35,10 @@ pub struct PageRequest<'a> {
     pub unchanged: bool,
     /// Whether every mention is shown, with what was done about the target's lock.
     pub debug_locks: bool,
+    /// The number of bytes of text lines that the page may show; 0 if it shows all.
+    pub max_bytes: u64,
+    /// When each target began and ended, by the number of its log. Nothing is known of a target past the end.
+    pub times: &'a [Times],
 }
 
 /// Writes the page of the requested targets, each of which must have a log. All logs must have ended.

@@ -9,4 +9,11 @@ title_for None = []
 title_for (Some title) = title
 
 abbrev pub request_for : PageParts → Request
-request_for job = record { title = title_for job.title; dir = job.dir; unchanged = job.unchanged; debug_locks = job.debug_locks }
+request_for job = record {
+  title = title_for job.title;
+  dir = job.dir;
+  unchanged = job.unchanged;
+  debug_locks = job.debug_locks;
+  max_bytes = 0;
+  times = [];
+}
