@@ -48,13 +48,13 @@ logs =
 -- What is known of each log, in the order in which they are opened.
 abbrev nodes : List Node
 nodes =
-    record { number = 0; parent = None; status = Some (pos 1); lines = 0; bytes = 0; warnings = 0; below = 6; children = 5; others = true; warnings_below = 2; fails_below = true; silent = 0 }
-    ∷ record { number = 1; parent = Some 0; status = Some (pos 0); lines = 2; bytes = 23; warnings = 1; below = 1; children = 1; others = true; warnings_below = 1; fails_below = true; silent = 0 }
-    ∷ record { number = 6; parent = Some 1; status = Some (negsuc 0); lines = 2; bytes = 25; warnings = 1; below = 0; children = 0; others = true; warnings_below = 0; fails_below = false; silent = 0 }
-    ∷ record { number = 2; parent = Some 0; status = Some (pos 0); lines = 0; bytes = 0; warnings = 0; below = 0; children = 0; others = false; warnings_below = 0; fails_below = false; silent = 3 }
-    ∷ record { number = 3; parent = Some 0; status = Some (pos 0); lines = 0; bytes = 0; warnings = 0; below = 0; children = 0; others = false; warnings_below = 0; fails_below = false; silent = 2 }
-    ∷ record { number = 4; parent = Some 0; status = Some (pos 0); lines = 0; bytes = 0; warnings = 0; below = 0; children = 0; others = false; warnings_below = 0; fails_below = false; silent = 1 }
-    ∷ record { number = 5; parent = Some 0; status = Some (pos 2); lines = 1; bytes = 6; warnings = 0; below = 0; children = 0; others = true; warnings_below = 0; fails_below = false; silent = 0 }
+    record { number = 0; parent = None; status = Some (pos 1); lines = 0; bytes = 0; warnings = 0; below = 6; children = 5; others = true; warnings_below = 2; fails_below = true; silent = 0; took = None }
+    ∷ record { number = 1; parent = Some 0; status = Some (pos 0); lines = 2; bytes = 23; warnings = 1; below = 1; children = 1; others = true; warnings_below = 1; fails_below = true; silent = 0; took = None }
+    ∷ record { number = 6; parent = Some 1; status = Some (negsuc 0); lines = 2; bytes = 25; warnings = 1; below = 0; children = 0; others = true; warnings_below = 0; fails_below = false; silent = 0; took = None }
+    ∷ record { number = 2; parent = Some 0; status = Some (pos 0); lines = 0; bytes = 0; warnings = 0; below = 0; children = 0; others = false; warnings_below = 0; fails_below = false; silent = 3; took = None }
+    ∷ record { number = 3; parent = Some 0; status = Some (pos 0); lines = 0; bytes = 0; warnings = 0; below = 0; children = 0; others = false; warnings_below = 0; fails_below = false; silent = 2; took = None }
+    ∷ record { number = 4; parent = Some 0; status = Some (pos 0); lines = 0; bytes = 0; warnings = 0; below = 0; children = 0; others = false; warnings_below = 0; fails_below = false; silent = 1; took = None }
+    ∷ record { number = 5; parent = Some 0; status = Some (pos 2); lines = 1; bytes = 6; warnings = 0; below = 0; children = 0; others = true; warnings_below = 0; fails_below = false; silent = 0; took = None }
     ∷ []
 
 outline : outline_of logs (shown_events logs options (codes "all" ∷ [])) ≡ nodes

@@ -1,5 +1,5 @@
 -- The outline of what is shown: each log that is opened, in order, with what is known of it and of the logs in it.
-use Rattle.std.specs.Prelude.{ℕ, suc, ◌+◌, Bool, true, false, not, ◌&&◌, ◌||◌, ℤ, List, [], ◌∷◌, ◌++◌, Option, None, Some, length, if◌then◌else◌}
+use Rattle.std.specs.Prelude.{ℕ, suc, ◌+◌, Bool, true, false, not, ◌&&◌, ◌||◌, ℤ, List, [], ◌∷◌, ◌++◌, Option, None, Some, length, slice_index_or, if◌then◌else◌}
 use Rattle.std.specs.List.{count_by}
 use Rattle.redo_line.specs.declared.entry.Entry.{Entry}
 use Rattle.redo_line.specs.declared.entry.Entry.TheVariants.{Done, Closing}
@@ -93,6 +93,7 @@ module _ (logs : List Log) (status : ℕ → Option ℤ) where
     warnings_below = warnings_in inside;
     fails_below = has_failures inside;
     silent = (if not (has_failed number) && is_silent inside then suc (silent_count rest) else 0);
+    took = None;
   }
 
   -- The nodes of some contents. The first one has the place `place`: a place is the number of nodes before it.
@@ -101,6 +102,10 @@ module _ (logs : List Log) (status : ℕ → Option ℤ) where
   nodes_of parent place (Shown event rest) = nodes_of parent place rest
   nodes_of parent place (Opened event number inside rest) =
       node_of parent number inside rest ∷ (nodes_of (Some place) (suc place) inside ++ nodes_of parent (suc place + log_count inside) rest)
+
+-- A node, with how long its target took. `durations` has this for each log, by its number.
+abbrev pub with_duration : List (Option ℕ) → Node → Node
+with_duration durations node = record node { took = slice_index_or durations node.number None }
 
 -- The outline of these events.
 abbrev pub outline_of : List Log → List Event → List Node

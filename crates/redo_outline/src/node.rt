@@ -27,4 +27,6 @@ pub struct Node {
     pub fails_below: bool,
     /// The number of silent logs in a row, of which this one is the first. It is 0 if this one isn't silent.
     pub silent: usize,
+    /// How long the target took, in milliseconds, if it was set ([`Outline::set_durations`](crate::Outline::set_durations)).
+    pub took: Option<u64>,
 }

@@ -1,10 +1,10 @@
 //! The outline of what is shown.
-ghost use Rattle.std.specs.Prelude.{◌≡◌, ◌==◌, true, None, IfOk, position};
+ghost use Rattle.std.specs.Prelude.{◌≡◌, ◌==◌, true, None, IfOk, map, position, slice_index_or};
 ghost use Rattle.std.specs.List.{list_all};
 ghost use Rattle.redo_logs.specs.Logs.{has_ended};
 ghost use Rattle.redo_view.specs.Expansion.{shown_events};
 ghost use Rattle.redo_view.specs.View.{find_unknown};
-ghost use Rattle.redo_outline.specs.Outline.{outline_of};
+ghost use Rattle.redo_outline.specs.Outline.{outline_of, with_duration};
 
 use crate::collector::Collector;
 use crate::laws::events_are_in_contents;
@@ -63,6 +63,14 @@ impl Outline {
         Ok(Outline { nodes, places })
     }
 
+    /// Sets how long the targets took, in milliseconds. `durations` has this by the numbers of logs; nothing is known of a log past its
+    /// end.
+    pub fn set_durations(&mut self, durations: &[Option<u64>])
+        ensures { self.new ≡ map (with_duration durations.now) self.old }
+    {
+        set_durations(self.nodes.as_mut_slice(), durations);
+    }
+
     /// Returns the nodes.
     pub fn nodes(&self) -> &[Node]
         ensures { result.now ≡ self.now }
@@ -78,6 +86,25 @@ impl Outline {
             Some(place) => *place,
             None => None,
         }
+    }
+}
+
+fn set_durations(nodes: &mut [Node], durations: &[Option<u64>])
+    ensures { nodes.new ≡ map (with_duration durations.now) nodes.old }
+{
+    for place in 0..nodes.len() {
+        let took = duration_of(durations, nodes[place].number);
+        nodes[place].took = took;
+    }
+}
+
+// Returns how long the target of the log with this number took.
+fn duration_of(durations: &[Option<u64>], number: u32) -> Option<u64>
+    ensures { result ≡ slice_index_or durations.now number None }
+{
+    match durations.get(number as usize) {
+        Some(duration) => *duration,
+        None => None,
     }
 }
 

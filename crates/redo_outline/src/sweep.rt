@@ -113,6 +113,7 @@ fn node_from(
         warnings_below: inside.warnings,
         fails_below: inside.fails,
         silent: if is_silent { rest.silent_logs + 1 } else { 0 },
+        took: None,
     }
 }
 

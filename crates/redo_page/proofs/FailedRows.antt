@@ -51,6 +51,7 @@ node number parent status lines below fails = record {
   warnings_below = 0;
   fails_below = fails;
   silent = 0;
+  took = None;
 }
 
 abbrev b : Node

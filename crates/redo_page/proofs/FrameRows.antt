@@ -29,7 +29,7 @@ number value = NumberPart value
 
 -- What is known of a target that is in the log at `parent`.
 abbrev node : Option ℕ → Option ℤ → Bool → Node
-node parent status fails = record { number = 0; parent = parent; status = status; lines = 0; bytes = 0; warnings = 0; below = 0; children = 0; others = false; warnings_below = 0; fails_below = fails; silent = 0 }
+node parent status fails = record { number = 0; parent = parent; status = status; lines = 0; bytes = 0; warnings = 0; below = 0; children = 0; others = false; warnings_below = 0; fails_below = fails; silent = 0; took = None }
 
 abbrev begun : Node
 begun = node None None false

@@ -42,8 +42,8 @@ log target entries = record { target = target; entries = entries; state = Ended 
 abbrev request : List ℕ → Bool → Bool → Request
 request title unchanged locks = record { title = title; dir = codes "d"; unchanged = unchanged; debug_locks = locks; max_bytes = 5; times = [] }
 
-abbrev at : List ℕ → Bor (List ℕ)
-at bytes = record { ref_ptr = (0, 0); now = bytes }
+abbrev at : {A : Type 0} → List A → Bor (List A)
+at items = record { ref_ptr = (0, 0); now = items }
 
 requests_are :
     (request_of (record { title = at (codes "t"); dir = at (codes "d"); unchanged = true; debug_locks = false; max_bytes = 5; times = at [] }) ≡ request (codes "t") true false)
@@ -70,8 +70,8 @@ events_are = refl
 
 outline_is :
     page_outline (request [] false false) made (codes "a" ∷ [])
-    ≡ record { number = 0; parent = None; status = Some (pos 0); lines = 1; bytes = 2; warnings = 0; below = 1; children = 1; others = true; warnings_below = 0; fails_below = false; silent = 0 }
-    ∷ record { number = 1; parent = Some 0; status = Some (pos 0); lines = 0; bytes = 0; warnings = 0; below = 0; children = 0; others = false; warnings_below = 0; fails_below = false; silent = 1 }
+    ≡ record { number = 0; parent = None; status = Some (pos 0); lines = 1; bytes = 2; warnings = 0; below = 1; children = 1; others = true; warnings_below = 0; fails_below = false; silent = 0; took = None }
+    ∷ record { number = 1; parent = Some 0; status = Some (pos 0); lines = 0; bytes = 0; warnings = 0; below = 0; children = 0; others = false; warnings_below = 0; fails_below = false; silent = 1; took = None }
     ∷ []
 unfolding show_log show_log_within
 outline_is = refl

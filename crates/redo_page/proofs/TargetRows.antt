@@ -82,7 +82,7 @@ warnings_below_are = (refl, refl, refl)
 
 -- It printed three lines, two of which are warnings, and four targets are below it, with one warning.
 abbrev node : Node
-node = record { number = 0; parent = None; status = Some (pos 5); lines = 3; bytes = 9; warnings = 2; below = 4; children = 1; others = true; warnings_below = 1; fails_below = false; silent = 0 }
+node = record { number = 0; parent = None; status = Some (pos 5); lines = 3; bytes = 9; warnings = 2; below = 4; children = 1; others = true; warnings_below = 1; fails_below = false; silent = 0; took = None }
 
 facts_are :
     facts_parts node

@@ -43,7 +43,7 @@ abbrev logs : List Log
 logs = log (codes "a") ∷ log (codes "b") ∷ log (codes "c") ∷ []
 
 abbrev node : ℕ → Option ℕ → Option ℤ → ℕ → ℕ → Bool → Node
-node number parent status lines children others = record { number = number; parent = parent; status = status; lines = lines; bytes = lines; warnings = 0; below = 0; children = children; others = others; warnings_below = 0; fails_below = false; silent = 0 }
+node number parent status lines children others = record { number = number; parent = parent; status = status; lines = lines; bytes = lines; warnings = 0; below = 0; children = children; others = others; warnings_below = 0; fails_below = false; silent = 0; took = None }
 
 -- `c` is requested, and has two logs in it and something else. Of these `a` failed, and printed one line, and `b` has nothing in it.
 abbrev c : Node

@@ -194,7 +194,7 @@ groups = refl
 -- ---- limits
 
 abbrev node : Option ℤ → ℕ → ℕ → Bool → Node
-node status lines bytes fails_below = record { number = 0; parent = None; status = status; lines = lines; bytes = bytes; warnings = 0; below = 0; children = 0; others = true; warnings_below = 0; fails_below = fails_below; silent = 0 }
+node status lines bytes fails_below = record { number = 0; parent = None; status = status; lines = lines; bytes = bytes; warnings = 0; below = 0; children = 0; others = true; warnings_below = 0; fails_below = fails_below; silent = 0; took = None }
 
 -- Which targets have an article: those that failed, and none below them.
 abbrev failed : Node
@@ -214,7 +214,7 @@ short_are = (refl, refl, refl, refl, refl)
 -- What is known of a log that isn't there.
 none_there :
     node_at (failed ∷ []) 1
-    ≡ record { number = 0; parent = None; status = None; lines = 0; bytes = 0; warnings = 0; below = 0; children = 0; others = false; warnings_below = 0; fails_below = false; silent = 0 }
+    ≡ record { number = 0; parent = None; status = None; lines = 0; bytes = 0; warnings = 0; below = 0; children = 0; others = false; warnings_below = 0; fails_below = false; silent = 0; took = None }
 none_there = refl
 
 -- A log at depth 59 is nested, and one at depth 60 isn't. The output of the second one is in an article.

@@ -17,6 +17,7 @@ const NO_NODE: Node = Node {
     warnings_below: 0,
     fails_below: false,
     silent: 0,
+    took: None,
 };
 
 /// Returns what is known of the log at a place.

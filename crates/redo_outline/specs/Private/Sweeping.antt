@@ -53,6 +53,7 @@ node_from log facts status inside rest = record {
   warnings_below = inside.warnings;
   fails_below = inside.fails;
   silent = (if is_silent_log status inside then rest.silent_logs + 1 else 0);
+  took = None;
 }
 
 -- What is known of a log from the opening of a log in it on.

@@ -1,5 +1,5 @@
-use Rattle.std.proofs.Common.{◌≡◌, arith, ap, ◌∙◌}
-use Rattle.redo_outline.specs.Private.Sweeping.{node_at, opening_added}
+use Rattle.std.proofs.Common.{arith, ap, ◌∙◌}
+use Rattle.redo_outline.specs.Private.Sweeping.{opening_added}
 use Rattle.redo_outline.proofs.SweepLemmas.{counted_with, counted_without, node_at_is, opening_is, popped_below, popped_children, popped_silent, split_some, swept_of}
 use Rattle.redo_outline.proofs.sweep.Sweep.add_opening.Goals as goal
 
