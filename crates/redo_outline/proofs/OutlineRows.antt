@@ -15,7 +15,7 @@ use Rattle.redo_view.specs.Expansion.{shown_events, show_log, show_log_within}
 use Rattle.redo_outline.specs.declared.node.Node.{Node}
 use Rattle.redo_outline.specs.Contents.{contents_from, contents_of}
 use Rattle.redo_outline.specs.Contents.Contents.{Nothing, Shown, Opened}
-use Rattle.redo_outline.specs.Facts.{entries_at, is_failure, is_warning, saturated, target_status, text_size, texts_of}
+use Rattle.redo_outline.specs.Facts.{entries_at, is_failure, is_warning, name_or_empty, saturated, target_at, target_status, text_size, texts_of}
 use Rattle.redo_outline.specs.Laws.{events_of}
 use Rattle.redo_outline.specs.Outline.{is_visible, outline_of}
 
@@ -136,6 +136,11 @@ events : events_of 2 (Opened (line (OpensHere 5)) 5 (Shown (text 3) Nothing) (Sh
 events = refl
 
 -- ---- facts
+
+targets :
+    (target_at (log a [] ∷ log (codes "b") [] ∷ []) 0 ≡ a) × (target_at (log a [] ∷ log (codes "b") [] ∷ []) 1 ≡ codes "b") × (target_at (log a [] ∷ log (codes "b") [] ∷ []) 2 ≡ [])
+    × (name_or_empty None ≡ []) × (name_or_empty (Some (codes "c")) ≡ codes "c")
+targets = (refl, refl, refl, refl, refl)
 
 counts : (saturated 5 ≡ 5) × (saturated 0xFFFFFFFFFFFFFFFF ≡ 0xFFFFFFFFFFFFFFFF) × (saturated 0x10000000000000000 ≡ 0xFFFFFFFFFFFFFFFF)
 counts = (refl, refl, refl)

@@ -1,16 +1,24 @@
--- Facts of a single log, and the status of its target.
+-- Facts of a single log, its target, and the status of this target.
 use Rattle.std.specs.Prelude.{ℕ, suc, ◌+◌, ◌==◌, Bool, true, false, min, ℤ, pos, zero, List, [], ◌∷◌, Option, None, Some, length, nat_eq, codes, slice_get, if◌then◌else◌}
 use Rattle.std.specs.List.{filter_map, starts_with, sum_by}
 use Rattle.std.specs.Option.{option_or}
 use Rattle.redo_line.specs.declared.entry.Entry.{Entry}
 use Rattle.redo_line.specs.declared.entry.Entry.TheVariants.{Text, Done, Closing}
-use Rattle.redo_logs.specs.Logs.{Log, log_number}
+use Rattle.redo_logs.specs.Logs.{Log, log_number, targets_of}
 use Rattle.redo_view.specs.Event.{Event}
 use Rattle.redo_view.specs.Event.Event.{EntryShown}
 
 -- A number as it fits into 64 bits: larger ones are cut down to the largest that fits.
 abbrev pub saturated : ℕ → ℕ
 saturated number = min number 0xFFFFFFFFFFFFFFFF
+
+-- The target of the log with this number; the empty name if there is no such log.
+abbrev pub name_or_empty : Option (List ℕ) → List ℕ
+name_or_empty None = []
+name_or_empty (Some name) = name
+
+abbrev pub target_at : List Log → ℕ → List ℕ
+target_at logs number = name_or_empty (slice_get (targets_of logs) number)
 
 -- The entries of the log with this number; none if there is no such log.
 abbrev pub entries_at : ℕ → List Log → List Entry

@@ -2,7 +2,7 @@
 ghost use Rattle.std.specs.Prelude.{◌≡◌, [], count_by};
 ghost use Rattle.redo_line.specs.Lines.{ended, rest};
 ghost use Rattle.redo_logs.specs.EntryRef.{entry_value};
-ghost use Rattle.redo_outline.specs.Facts.{closing_status, entries_at, is_warning};
+ghost use Rattle.redo_outline.specs.Facts.{closing_status, entries_at, is_warning, target_at};
 ghost use Rattle.redo_outline.specs.Private.LogFacts.{after_line, facts_of};
 
 use memchr::memchr;
@@ -17,6 +17,17 @@ pub struct LogFacts {
     pub warnings: u64,
     /// The status in its closing record.
     pub status: Option<i32>,
+}
+
+/// Returns the target of the log with this number, or the empty name if there is no such log.
+pub fn target_at(table: &LogTable, number: u32) -> &[u8]
+    ensures { result.now ≡ target_at table.now number }
+{
+    if number < table.len() {
+        table.name(number).bytes()
+    } else {
+        b""
+    }
 }
 
 /// Returns the facts of log `number`. A log that doesn't exist has no entries.

@@ -18,6 +18,7 @@ mod outline;
 mod places;
 mod sweep;
 
+pub use facts::target_at;
 pub use laws::events_are_in_contents;
 pub use node::Node;
 pub use outline::Outline;
