@@ -1,0 +1,2 @@
+mod UnitRows
+mod WordLemmas
