@@ -1,0 +1,47 @@
+-- What the laws state.
+use Rattle.std.specs.Prelude.{◌≡◌, ℕ, ◌<◌, ◌≤◌, ◌⊎◌, List, [], ◌∷◌, ◌++◌, length}
+use Rattle.std.specs.List.{AllByRecursion}
+use Rattle.std.specs.List.Sorted.{IsPermutation}
+use Rattle.redo_timeline.specs.declared.span.Span.{Span}
+use Rattle.redo_times.specs.declared.times.Times.{Times}
+use Rattle.redo_outline.specs.declared.node.Node.{Node}
+use Rattle.redo_summary.specs.declared.rank.Rank.{Rank}
+use Rattle.redo_summary.specs.Parents.{spans_of}
+use Rattle.redo_summary.specs.Summary.{Facts}
+use Rattle.redo_summary.specs.Targets.{targets_of}
+
+-- The places of spans, or of ranks, are below a number.
+abbrev pub AreSpansBelow : ℕ → List Span → Type 0
+AreSpansBelow count spans = AllByRecursion (λ (span : Span). span.place < count) spans
+
+abbrev pub AreRanksBelow : ℕ → List Rank → Type 0
+AreRanksBelow count ranks = AllByRecursion (λ (rank : Rank). rank.place < count) ranks
+
+-- All places are those of nodes.
+pub record AreOfNodes (nodes : List Node) (facts : Facts) : Type 0 where
+  pub parents : AreSpansBelow (length nodes) facts.parents
+  pub recipes : AreSpansBelow (length nodes) facts.recipes
+  pub marks : AreSpansBelow (length nodes) facts.marks
+  pub longest : AreRanksBelow (length nodes) facts.longest
+  pub warned : AreRanksBelow (length nodes) facts.warned
+
+-- Each span of a shown target is in exactly one of the lists.
+abbrev pub AreSplit : List Node → List Times → Facts → Type 0
+AreSplit nodes times facts = IsPermutation (spans_of (targets_of nodes times)) (facts.parents ++ facts.recipes)
+
+-- A rank is before another: its value is larger, or it is equal and its place isn't higher.
+abbrev pub IsBefore : Rank → Rank → Type 0
+IsBefore rank next = (next.value < rank.value) ⊎ ((rank.value ≡ next.value) × (rank.place ≤ next.place))
+
+abbrev pub IsBeforeFirst : Rank → List Rank → Type 0
+IsBeforeFirst rank [] = Unit {0}
+IsBeforeFirst rank (next ∷ ranks) = IsBefore rank next
+
+-- Each rank is before the next one.
+abbrev pub AreInOrder : List Rank → Type 0
+AreInOrder [] = Unit {0}
+AreInOrder (rank ∷ ranks) = IsBeforeFirst rank ranks × AreInOrder ranks
+
+-- At most ten ranks, each before the next one.
+abbrev pub IsTable : List Rank → Type 0
+IsTable ranks = (length ranks ≤ 10) × AreInOrder ranks

@@ -1,0 +1,7 @@
+pub mod Laws
+pub mod Parents
+pub mod Private
+pub mod Ranks
+pub mod Summary
+pub mod Targets
+pub mod Window

@@ -1,0 +1,37 @@
+-- The recipes that took longest, and the targets with the most warnings.
+use Rattle.std.specs.Prelude.{ℕ, ◌+◌, ◌-◌, ltb, List, [], ◌∷◌, map, filter, take}
+use Rattle.std.specs.declared.cmp.Ordering.{Ordering}
+use Rattle.std.specs.Ordering.{nat_cmp, ordering_then}
+use Rattle.redo_timeline.specs.declared.span.Span.{Span}
+use Rattle.redo_timeline.specs.Order.{sort}
+use Rattle.redo_outline.specs.declared.node.Node.{Node}
+use Rattle.redo_summary.specs.declared.rank.Rank.{Rank}
+use Rattle.redo_summary.specs.Window.{cut}
+
+-- The largest value is first. Of equal values, the lowest place is first.
+abbrev pub rank_cmp : Rank → Rank → Ordering
+rank_cmp a b = ordering_then (nat_cmp b.value a.value) (nat_cmp a.place b.place)
+
+-- The first ten of some ranks.
+abbrev pub first_ranks : List Rank → List Rank
+first_ranks ranks = take 10 (sort rank_cmp ranks)
+
+-- How long a span is.
+abbrev pub duration : Span → ℕ
+duration span = cut (span.ended - span.began)
+
+abbrev pub rank_of : Span → Rank
+rank_of span = record { value = duration span; place = span.place }
+
+-- The ten longest of some recipes.
+abbrev pub longest_of : List Span → List Rank
+longest_of recipes = first_ranks (map rank_of recipes)
+
+-- The number of warnings of each of some nodes, of which the first one has this place.
+abbrev pub warnings_from : ℕ → List Node → List Rank
+warnings_from place [] = []
+warnings_from place (node ∷ nodes) = record { value = node.warnings; place = place } ∷ warnings_from (place + 1) nodes
+
+-- The ten targets with the most warnings. Targets without warnings are not among them.
+abbrev pub most_warned : List Node → List Rank
+most_warned nodes = first_ranks (filter (λ (rank : Rank). ltb 0 rank.value) (warnings_from 0 nodes))

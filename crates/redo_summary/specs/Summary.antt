@@ -1,0 +1,67 @@
+-- What the times of the shown targets say.
+use Rattle.std.specs.Prelude.{ℕ, ◌+◌, ◌*◌, Bool, ◌&&◌, leb, ltb, List, Option, length, sum_by}
+use Rattle.redo_timeline.specs.declared.span.Span.{Span}
+use Rattle.redo_timeline.specs.declared.span.Window.{Window}
+use Rattle.redo_timeline.specs.Parallelism.{most_of}
+use Rattle.redo_times.specs.declared.times.Times.{Times}
+use Rattle.redo_outline.specs.declared.node.Node.{Node}
+use Rattle.redo_outline.specs.Facts.{saturated}
+use Rattle.redo_summary.specs.declared.rank.Rank.{Rank}
+use Rattle.redo_summary.specs.declared.target.Target.{Target}
+use Rattle.redo_summary.specs.Parents.{marks_of, parents_of, recipes_of}
+use Rattle.redo_summary.specs.Ranks.{duration, longest_of, most_warned}
+use Rattle.redo_summary.specs.Targets.{targets_of}
+use Rattle.redo_summary.specs.Window.{known_times, time_over, window_over}
+
+pub record Facts : Type 0 where
+  -- The time from the first to the last known time, and its length. The window is at least one millisecond wide.
+  pub window : Option Window
+  pub took : ℕ
+  -- The spans of the targets that ran others, all other spans, and the marks.
+  pub parents : List Span
+  pub recipes : List Span
+  pub marks : List Span
+  -- How long all recipes took, one after another, and how many ran at once, at most.
+  pub sum : ℕ
+  pub most : ℕ
+  -- The numbers of warnings, and of bytes of text, in all logs.
+  pub warnings : ℕ
+  pub bytes : ℕ
+  -- The ten recipes that took longest, and the ten targets with the most warnings.
+  pub longest : List Rank
+  pub warned : List Rank
+
+-- How long some recipes took, one after another.
+abbrev pub sum_of : List Span → ℕ
+sum_of recipes = saturated (sum_by duration recipes)
+
+abbrev pub warnings_of : List Node → ℕ
+warnings_of nodes = saturated (sum_by (λ (node : Node). node.warnings) nodes)
+
+abbrev pub bytes_of : List Node → ℕ
+bytes_of nodes = saturated (sum_by (λ (node : Node). node.bytes) nodes)
+
+-- What some nodes and the targets of them say.
+abbrev pub facts_of : List Node → List Target → Facts
+facts_of nodes targets = record {
+  window = window_over (known_times targets);
+  took = time_over (known_times targets);
+  parents = parents_of targets;
+  recipes = recipes_of targets;
+  marks = marks_of targets;
+  sum = sum_of (recipes_of targets);
+  most = most_of (recipes_of targets);
+  warnings = warnings_of nodes;
+  bytes = bytes_of nodes;
+  longest = longest_of (recipes_of targets);
+  warned = most_warned nodes;
+}
+
+abbrev pub summary_of : List Node → List Times → Facts
+summary_of nodes times = facts_of nodes (targets_of nodes times)
+
+-- Whether there is a timeline: there is a span, and at most a tenth of the spans and marks are marks.
+abbrev pub is_timed : Facts → Bool
+is_timed facts =
+    ltb 0 (length facts.parents + length facts.recipes)
+    && leb (length facts.marks * 10) (length facts.parents + length facts.recipes + length facts.marks)

@@ -1,0 +1,22 @@
+//! Laws about the definitions alone: their contracts are theorems, and their bodies are empty.
+ghost use Rattle.std.specs.Prelude.{List};
+ghost use Rattle.redo_outline.specs.declared.node.Node.{Node};
+ghost use Rattle.redo_times.specs.declared.times.Times.{Times};
+ghost use Rattle.redo_summary.specs.Laws.{AreOfNodes, AreSplit, IsTable};
+ghost use Rattle.redo_summary.specs.Summary.{summary_of};
+
+/// All places are those of nodes.
+pub fn places_are_of_nodes()
+    ensures { (nodes : List Node) (times : List Times) → AreOfNodes nodes (summary_of nodes times) }
+{}
+
+/// The span of each shown target whose times are known is in exactly one of the lists of parents and recipes.
+pub fn spans_are_parents_or_recipes()
+    ensures { (nodes : List Node) (times : List Times) → AreSplit nodes times (summary_of nodes times) }
+{}
+
+/// A table has at most ten ranks. Their values fall, and ranks with equal values are in order of place.
+pub fn ranks_are_in_order()
+    ensures longest { (nodes : List Node) (times : List Times) → IsTable (summary_of nodes times).longest }
+    ensures warned { (nodes : List Node) (times : List Times) → IsTable (summary_of nodes times).warned }
+{}

@@ -1,0 +1,27 @@
+//! What the times of the shown targets of a build say: when they ran, how long it took, and which ones took longest.
+//!
+//! [`Summary::new`] computes it from the nodes of an outline and the times of all targets. It makes no HTML.
+//!
+//! # Terms
+//!
+//! - *Shown target*: the target of a node. Its *place* is the position of the node.
+//! - *Span*: the time from when a target began to when it ended, if both are known.
+//! - *Mark*: the one time that is known of a target, as a span without length.
+//! - *Parent*: a span in which the span of a target lies that its target ran. All other spans are *recipes*.
+#![tactic(auto)]
+
+mod laws;
+mod parents;
+mod rank;
+mod ranking;
+mod spans;
+mod summary;
+mod target;
+mod targets;
+mod totals;
+mod window;
+
+pub use laws::{places_are_of_nodes, ranks_are_in_order, spans_are_parents_or_recipes};
+pub use rank::Rank;
+pub use summary::Summary;
+pub use targets::duration_of;

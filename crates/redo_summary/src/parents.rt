@@ -1,0 +1,47 @@
+//! Which targets ran others.
+ghost use Rattle.std.specs.Prelude.{◌≡◌, ◌<◌, IfOk, length};
+ghost use Rattle.redo_summary.specs.Parents.{is_in};
+ghost use Rattle.redo_summary.specs.Private.Marking.{AreMarked, ArePlaced, IsMarked};
+
+use crate::target::Target;
+use redo_timeline::Span;
+use std::alloc::{AllocError, Global};
+
+/// Returns for each target whether it ran others.
+pub fn find_parents(alloc: Global, targets: &[Target]) -> Result<Vec<bool>, AllocError>
+    requires { ArePlaced targets.now }
+    ensures length { IfOk result (λ marked. length marked.items ≡ length targets.now) }
+    ensures marked { IfOk result (λ marked. AreMarked targets.now targets.now marked.items) }
+{
+    let mut marked = vec![in alloc; false; targets.len()]?;
+    for target in targets {
+        mark_parent(targets, target, marked.as_mut_slice());
+    }
+    Ok(marked)
+}
+
+// Marks the parent of a target, if it ran the target.
+fn mark_parent(targets: &[Target], target: &Target, marked: &mut [bool])
+    requires placed { ArePlaced targets.now }
+    requires length { length marked.old ≡ length targets.now }
+    ensures { IsMarked targets.now target.now marked.old marked.new }
+{
+    let (Some(place), Some(span)) = (target.parent, target.span()) else {
+        return;
+    };
+    let Some(parent) = targets.get(place) else {
+        return;
+    };
+    if let Some(outer) = parent.span()
+        && is_in(&outer, &span)
+    {
+        marked[place] = true;
+    }
+}
+
+// Whether a span is in another, which ended after the first one began.
+fn is_in(outer: &Span, span: &Span) -> bool
+    ensures { result ≡ is_in outer.now span.now }
+{
+    outer.began <= span.began && span.ended <= outer.ended && outer.began < span.ended
+}

@@ -1,0 +1,61 @@
+//! The recipes that took longest, and the targets with the most warnings.
+ghost use Rattle.std.specs.Prelude.{◌≡◌, take, IfOk, OnOk};
+ghost use Rattle.std.specs.Ordering.{is_gt};
+ghost use Rattle.redo_timeline.specs.Order.{insert_sorted};
+ghost use Rattle.redo_summary.specs.Ranks.{longest_of, most_warned, rank_cmp};
+
+use crate::rank::Rank;
+use crate::totals::duration;
+use redo_outline::Node;
+use redo_timeline::Span;
+use std::alloc::{AllocError, Global};
+
+// A table has at most this many ranks.
+const MAX_RANKS: usize = 10;
+
+/// Returns the recipes that took longest.
+pub fn longest_of(alloc: Global, recipes: &[Span]) -> Result<Vec<Rank>, AllocError>
+    ensures { IfOk result (λ ranks. ranks.items ≡ longest_of recipes.now) }
+{
+    let mut ranks = Vec::new(alloc);
+    for i in (0..recipes.len()).rev() {
+        let value = duration(&recipes[i]);
+        let place = recipes[i].place;
+        insert_rank(&mut ranks, Rank { value, place })?;
+    }
+    Ok(ranks)
+}
+
+/// Returns the targets with the most warnings.
+pub fn most_warned(alloc: Global, nodes: &[Node]) -> Result<Vec<Rank>, AllocError>
+    ensures { IfOk result (λ ranks. ranks.items ≡ most_warned nodes.now) }
+{
+    let mut ranks = Vec::new(alloc);
+    for place in (0..nodes.len()).rev() {
+        let value = nodes[place].warnings;
+        if value > 0 {
+            insert_rank(&mut ranks, Rank { value, place })?;
+        }
+    }
+    Ok(ranks)
+}
+
+// Inserts a rank into a table in order. If the table is full, its last rank is removed.
+fn insert_rank(ranks: &mut Vec<Rank>, rank: Rank) -> Result<(), AllocError>
+    ensures { OnOk result (ranks.new.items ≡ take 10 (insert_sorted rank_cmp rank ranks.old.items)) }
+{
+    let mut position = 0;
+    while position < ranks.len() && is_after(&rank, &ranks[position]) {
+        position += 1;
+    }
+    ranks.insert(position, rank)?;
+    ranks.truncate(MAX_RANKS);
+    Ok(())
+}
+
+// Whether a rank is after another.
+fn is_after(rank: &Rank, other: &Rank) -> bool
+    ensures { result ≡ is_gt (rank_cmp rank.now other.now) }
+{
+    rank.value < other.value || rank.value == other.value && rank.place > other.place
+}

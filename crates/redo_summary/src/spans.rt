@@ -1,0 +1,44 @@
+//! The spans and marks of targets.
+ghost use Rattle.std.specs.Prelude.{◌≡◌, ◌<◌, Bool, IfOk, length};
+ghost use Rattle.redo_summary.specs.Parents.{marks_of, parents_of, recipes_of};
+ghost use Rattle.redo_summary.specs.Private.Marking.{ArePlaced};
+
+use crate::parents::find_parents;
+use crate::target::Target;
+use redo_timeline::Span;
+use std::alloc::{AllocError, Global};
+
+/// The spans of the targets that ran others, and all other spans.
+#[derive(Drop)]
+pub struct Spans {
+    pub parents: Vec<Span>,
+    pub recipes: Vec<Span>,
+}
+
+/// Returns the spans of targets.
+pub fn split_spans(alloc: Global, targets: &[Target]) -> Result<Spans, AllocError>
+    requires { ArePlaced targets.now }
+    ensures parents { IfOk result (λ spans. spans.parents.items ≡ parents_of targets.now) }
+    ensures recipes { IfOk result (λ spans. spans.recipes.items ≡ recipes_of targets.now) }
+{
+    let ran_others = find_parents(alloc, targets)?;
+    let mut parents = Vec::new(alloc);
+    let mut recipes = Vec::new(alloc);
+    for (place, target) in targets.iter().enumerate() {
+        if let Some(span) = target.span() {
+            if ran_others[place] {
+                parents.push(span)?;
+            } else {
+                recipes.push(span)?;
+            }
+        }
+    }
+    Ok(Spans { parents, recipes })
+}
+
+/// Returns the marks of targets.
+pub fn list_marks(alloc: Global, targets: &[Target]) -> Result<Vec<Span>, AllocError>
+    ensures { IfOk result (λ marks. marks.items ≡ marks_of targets.now) }
+{
+    targets.iter().filter_map(|target| target.mark()).collect(alloc)
+}

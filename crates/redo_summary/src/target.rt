@@ -1,0 +1,52 @@
+//! When a shown target ran.
+ghost use Rattle.std.specs.Prelude.{◌≡◌};
+ghost use Rattle.redo_summary.specs.Targets.{mark_of, span_between, span_of};
+
+use redo_timeline::Span;
+use redo_times::Times;
+
+/// What is known of when a shown target ran.
+#[derive(Clone, Copy)]
+pub struct Target {
+    pub place: usize,
+    /// The place of the target whose log contains its log. A requested target has none.
+    pub parent: Option<usize>,
+    pub failed: bool,
+    pub times: Times,
+}
+
+impl Target {
+    /// Returns the span of the target, if both times are known.
+    pub fn span(&self) -> Option<Span>
+        ensures { result ≡ span_of self.now }
+    {
+        match (self.times.began, self.times.ended) {
+            (Some(began), Some(ended)) => Some(self.span_between(began, ended)),
+            _ => None,
+        }
+    }
+
+    /// Returns the mark of the target, if one time is known. The log of a run by make is the log of a requested target, and says only
+    /// when it ended: this is no mark.
+    pub fn mark(&self) -> Option<Span>
+        ensures { result ≡ mark_of self.now }
+    {
+        match (self.parent, self.times.began, self.times.ended) {
+            (_, Some(began), None) => Some(self.span_between(began, began)),
+            (Some(_), None, Some(ended)) => Some(self.span_between(ended, ended)),
+            _ => None,
+        }
+    }
+
+    // Returns the target's span from one time to another.
+    fn span_between(&self, began: u64, ended: u64) -> Span
+        ensures { result ≡ span_between self.now began ended }
+    {
+        Span {
+            began,
+            place: self.place,
+            ended,
+            failed: self.failed,
+        }
+    }
+}
