@@ -1,0 +1,103 @@
+-- What the laws state.
+use Rattle.std.specs.Prelude.{◌≡◌, ℕ, ◌+◌, ◌-◌, ◌<◌, ◌^◌, List, [], ◌∷◌, ◌++◌, nat_le, if◌then◌else◌}
+use Rattle.std.specs.List.{AllByRecursion}
+use Rattle.redo_line.specs.declared.entry.Entry.TheVariants.{Text}
+use Rattle.redo_view.specs.Event.{Event}
+use Rattle.redo_view.specs.Event.Event.{EntryShown}
+use Rattle.redo_view.specs.Form.{text_events}
+use Rattle.redo_outline.specs.Contents.{Contents, contents_of}
+use Rattle.redo_outline.specs.Contents.Contents.{Nothing, Shown, Opened}
+use Rattle.redo_outline.specs.Facts.{text_size}
+use Rattle.redo_outline.specs.Laws.{events_of}
+use Rattle.redo_outline.specs.Outline.{log_count}
+use Rattle.redo_trim.specs.declared.limit.Gauge.{Gauge}
+use Rattle.redo_trim.specs.declared.limit.Limit.{Limit}
+use Rattle.redo_trim.specs.Trim.{gauge_of, limit_of, line_size, marker, trim, trimmed}
+
+-- ---- the tree
+
+-- Whether the tree of these events has exactly these events.
+abbrev pub AreInTree : List Event → Type 0
+AreInTree events = events_of 0 (contents_of events) ≡ events
+
+-- What is shown makes a tree again.
+abbrev pub StayInTree : List Limit → List Event → Type 0
+StayInTree limits events = AreInTree events → AreInTree (trimmed limits [] events)
+
+-- It is the tree of all events, trimmed.
+abbrev pub TreeIsTrimmed : List Limit → List Event → Type 0
+TreeIsTrimmed limits events = AreInTree events → contents_of (trimmed limits [] events) ≡ trim limits [] (contents_of events)
+
+-- No log is left out.
+abbrev pub KeepsLogs : List Limit → List Event → Type 0
+KeepsLogs limits events = AreInTree events → log_count (contents_of (trimmed limits [] events)) ≡ log_count (contents_of events)
+
+-- Nothing is left out if each limit lets the tail begin at once.
+abbrev pub AreWhole : List Limit → List Event → Type 0
+AreWhole limits events = AllByRecursion (λ limit. limit.tail ≡ 0) limits → trimmed limits [] events ≡ events
+
+-- ---- the lines of one log
+
+-- The head: the longest beginning that has at most this many bytes.
+abbrev pub head_lines : ℕ → List (List ℕ) → List (List ℕ)
+head_lines bytes [] = []
+head_lines bytes (line ∷ lines) = if nat_le (line_size line) bytes then line ∷ head_lines (bytes - line_size line) lines else []
+
+-- The lines after the head.
+abbrev pub after_head : ℕ → List (List ℕ) → List (List ℕ)
+after_head bytes [] = []
+after_head bytes (line ∷ lines) = if nat_le (line_size line) bytes then after_head (bytes - line_size line) lines else line ∷ lines
+
+-- Of lines of which the first one begins at byte `begin`, those that begin at byte `tail` or after it.
+abbrev pub lines_from : ℕ → ℕ → List (List ℕ) → List (List ℕ)
+lines_from tail begin [] = []
+lines_from tail begin (line ∷ lines) = if nat_le tail begin then line ∷ lines else lines_from tail (begin + line_size line) lines
+
+-- Those that begin before it.
+abbrev pub lines_before : ℕ → ℕ → List (List ℕ) → List (List ℕ)
+lines_before tail begin [] = []
+lines_before tail begin (line ∷ lines) = if nat_le tail begin then [] else line ∷ lines_before tail (begin + line_size line) lines
+
+-- The tail: the lines after the head that begin at the limit's `tail` or after it.
+abbrev pub tail_lines : Limit → List (List ℕ) → List (List ℕ)
+tail_lines limit lines = lines_from limit.tail (text_size (head_lines limit.head lines)) (after_head limit.head lines)
+
+-- The lines between them.
+abbrev pub left_out : Limit → List (List ℕ) → List (List ℕ)
+left_out limit lines = lines_before limit.tail (text_size (head_lines limit.head lines)) (after_head limit.head lines)
+
+-- A log has its head, then the lines that are left out, then its tail.
+abbrev pub HasThreeParts : Limit → List (List ℕ) → Type 0
+HasThreeParts limit lines = lines ≡ head_lines limit.head lines ++ (left_out limit lines ++ tail_lines limit lines)
+
+-- The limit is one of two numbers that fit into 64 bits.
+pub record FitsInto64Bits (limit : Limit) : Type 0 where
+  pub head : limit.head < 2 ^ 64
+  pub tail : limit.tail < 2 ^ 64
+
+-- One marker, if any lines are left out.
+abbrev pub marker_for : ℕ → List (List ℕ) → List Event
+marker_for depth [] = []
+marker_for depth (line ∷ lines) = marker depth ∷ []
+
+-- Of the lines of a log, its head and its tail are shown, and between them a marker.
+abbrev pub ShowsHeadAndTail : List Limit → ℕ → List (List ℕ) → Type 0
+ShowsHeadAndTail limits number lines =
+    (depth : ℕ) (outer : List Gauge) → FitsInto64Bits (limit_of limits number)
+    → trimmed limits (gauge_of limits number ∷ outer) (text_events depth lines)
+    ≡ text_events depth (head_lines (limit_of limits number).head lines)
+    ++ (marker_for depth (left_out (limit_of limits number) lines) ++ text_events depth (tail_lines (limit_of limits number) lines))
+
+-- The text lines directly in some contents.
+abbrev pub lines_in : Contents → List (List ℕ)
+lines_in Nothing = []
+lines_in (Shown (EntryShown depth (Text line)) rest) = line ∷ lines_in rest
+lines_in (Shown event rest) = lines_in rest
+lines_in (Opened event number inside rest) = lines_in rest
+
+-- Of the lines directly in a log, its head and its tail are kept, whatever is between them.
+abbrev pub KeepsHeadAndTail : List Limit → ℕ → Contents → Type 0
+KeepsHeadAndTail limits number contents =
+    (outer : List Gauge) → FitsInto64Bits (limit_of limits number)
+    → lines_in (trim limits (gauge_of limits number ∷ outer) contents)
+    ≡ head_lines (limit_of limits number).head (lines_in contents) ++ tail_lines (limit_of limits number) (lines_in contents)

@@ -1,0 +1,4 @@
+pub mod Laws
+pub mod Private
+pub mod Trim
+pub mod TrimmedForm

@@ -1,0 +1,19 @@
+-- A form that passes on what is left of the events: its state, and the bytes that it writes.
+use Rattle.std.specs.Prelude.{◌≡◌, ℕ, List}
+use Rattle.redo_view.specs.Event.{Event}
+use Rattle.redo_view.specs.Form.{bytes_of, state_after}
+use Rattle.redo_trim.specs.declared.trimmed.Trimmed.{Trimmed}
+use Rattle.redo_trim.specs.Trim.{gauges_after, kept, trimmed}
+
+module _ {F : Type 0} (bytes : F → Event → List ℕ) (after : F → Event → F) where
+  -- What the inner form writes for what is shown in place of an event.
+  abbrev pub form_bytes : Trimmed F → Event → List ℕ
+  form_bytes form event = bytes_of bytes after form.form (kept form.gauges event)
+
+module _ {F : Type 0} (after : F → Event → F) where
+  abbrev pub form_after : Trimmed F → Event → Trimmed F
+  form_after form event = record {
+    form = state_after after form.form (kept form.gauges event);
+    gauges = gauges_after form.limits.now form.gauges event;
+    limits = form.limits;
+  }

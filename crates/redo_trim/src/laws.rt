@@ -1,0 +1,26 @@
+//! Laws about the definitions alone: their contracts are theorems, and their bodies are empty.
+ghost use Rattle.std.specs.Prelude.{ℕ, List};
+ghost use Rattle.redo_view.specs.Event.{Event};
+ghost use Rattle.redo_outline.specs.Contents.{Contents};
+ghost use Rattle.redo_trim.specs.declared.limit.Limit.{Limit};
+ghost use Rattle.redo_trim.specs.Laws.{AreWhole, HasThreeParts, KeepsHeadAndTail, KeepsLogs, ShowsHeadAndTail, StayInTree, TreeIsTrimmed};
+
+/// If events make a tree, so do the events that are shown of them, and it is the tree of all events, trimmed. It has the same logs.
+pub fn trimmed_events_are_in_tree()
+    ensures in_tree { (limits : List Limit) (events : List Event) → StayInTree limits events }
+    ensures tree { (limits : List Limit) (events : List Event) → TreeIsTrimmed limits events }
+    ensures logs { (limits : List Limit) (events : List Event) → KeepsLogs limits events }
+{}
+
+/// Without limits nothing is left out: a limit whose tail begins at once is none.
+pub fn unlimited_logs_are_whole()
+    ensures { (limits : List Limit) (events : List Event) → AreWhole limits events }
+{}
+
+/// Of a log, only lines in the middle are left out: its head and its tail are kept, unchanged and in order. One marker is shown
+/// between them, if any line is left out.
+pub fn head_and_tail_are_kept()
+    ensures parts { (limit : Limit) (lines : List (List ℕ)) → HasThreeParts limit lines }
+    ensures shown { (limits : List Limit) (number : ℕ) (lines : List (List ℕ)) → ShowsHeadAndTail limits number lines }
+    ensures kept { (limits : List Limit) (number : ℕ) (contents : Contents) → KeepsHeadAndTail limits number contents }
+{}

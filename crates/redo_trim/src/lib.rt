@@ -1,0 +1,19 @@
+//! Leaves out the middle of long logs: an adapter for a form, which is passed the events that are left.
+//!
+//! [`Trimmed`] passes events on to the form that it owns. Of a log with a [`Limit`], it passes on only the text lines
+//! in the log's head and in its tail. A marker takes the place of the first line that it leaves out.
+//!
+//! # Terms
+//!
+//! - *Head*: the lines of a log that end within its first bytes. Only text lines count, with their line feeds.
+//! - *Tail*: the lines of a log that begin at some byte or after it.
+//! - *Gauge*: what is known of a log that is open: its limit, and the number of bytes seen so far.
+#![tactic(auto)]
+
+mod gauges;
+mod laws;
+mod limit;
+mod trimmed;
+
+pub use limit::{Gauge, Limit};
+pub use trimmed::Trimmed;

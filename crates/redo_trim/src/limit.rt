@@ -1,0 +1,48 @@
+//! Limits of logs, and what becomes of a text line.
+ghost use Rattle.std.specs.Prelude.{◌≡◌, ◌<◌};
+ghost use Rattle.redo_trim.specs.Trim.{showing_of};
+
+/// How much of a log is shown, in bytes of its text lines with their line feeds.
+#[derive(Clone, Copy)]
+pub struct Limit {
+    /// The lines that end within this many bytes are the log's head. They are shown.
+    pub head: u64,
+    /// The lines that begin at this byte or after it are the log's tail. They are shown. With 0, all lines are.
+    pub tail: u64,
+}
+
+/// What is known of a log that is open.
+#[derive(Clone, Copy)]
+pub struct Gauge {
+    pub limit: Limit,
+    /// The number of bytes of its text lines so far, with their line feeds. It is 2^64 - 1 if there were more.
+    pub seen: u64,
+}
+
+/// What is shown of a text line.
+#[derive(Clone, Copy)]
+pub enum Showing {
+    /// The line itself.
+    Whole,
+    /// The marker: the line is the first one that is left out.
+    Marker,
+    Nothing,
+}
+
+/// Returns what is shown of the next text line of a log. `size` is its number of bytes with the line feed.
+pub fn showing_of(gauge: Gauge, size: u64) -> Showing
+    requires { 0 < size }
+    ensures { result ≡ showing_of gauge size }
+{
+    if gauge.limit.tail <= gauge.seen {
+        return Showing::Whole;
+    }
+    if gauge.seen > gauge.limit.head {
+        return Showing::Nothing;
+    }
+    if size <= gauge.limit.head - gauge.seen {
+        Showing::Whole
+    } else {
+        Showing::Marker
+    }
+}

@@ -1,0 +1,157 @@
+//! The adapter.
+ghost use Rattle.std.specs.Prelude.{◌≡◌, ◌<◌, ◌^◌, true, [], length, OnOk};
+ghost use Rattle.redo_line.specs.Lines.{ended, rest};
+ghost use Rattle.redo_view.specs.EventRef.{IsWrittenAlone, event_value};
+ghost use Rattle.redo_view.specs.Form.{FormWrites, bytes_of, state_after, text_events};
+ghost use Rattle.redo_trim.specs.Trim.{marker};
+ghost use Rattle.redo_trim.specs.TrimmedForm.{form_after, form_bytes};
+ghost use Rattle.redo_trim.specs.Private.Writing.{IsFirstLine, IsOneLine, keeps_all};
+
+use crate::gauges::Gauges;
+use crate::limit::{Limit, Showing};
+use memchr::memchr;
+use redo_line::Sink;
+use redo_logs::EntryRef;
+use redo_view::{EventRef, Form, FormFault};
+use std::alloc::Global;
+
+const MARKER_TEXT: &[u8] =
+    b"Lines are left out here. The command at the end of this page shows all of them.";
+
+/// A form that passes events on to another form, without the middle of long logs.
+///
+/// The limit of a log is at the log's number. A log whose number is past the end is shown whole.
+#[derive(Drop)]
+pub struct Trimmed<'a, F> {
+    form: F,
+    gauges: Gauges,
+    limits: &'a [Limit],
+}
+
+impl<'a, F: Form> Trimmed<'a, F> {
+    /// Creates the adapter before all events: no log is open. It allocates when a log is opened.
+    pub fn new(alloc: Global, form: F, limits: &'a [Limit]) -> Trimmed<'a, F>
+        ensures form { result.form ≡ form }
+        ensures gauges { result.gauges ≡ [] }
+        ensures limits { result.limits.now ≡ limits.now }
+    {
+        Trimmed {
+            form,
+            gauges: Gauges::new(alloc),
+            limits,
+        }
+    }
+
+    /// Returns the form that events were passed on to.
+    pub fn into_form(self) -> F
+        ensures { result ≡ self.entry.form }
+    {
+        let Trimmed {
+            form,
+            gauges: _,
+            limits: _,
+        } = self;
+        form
+    }
+
+    // Passes on text lines of which none is left out.
+    fn pass_on<W: Sink>(
+        &mut self,
+        depth: usize,
+        lines: &[u8],
+        out: &mut W,
+    ) -> Result<(), FormFault>
+        requires depth { depth < 2 ^ 60 }
+        requires complete { rest lines.now ≡ [] }
+        requires all { keeps_all self.old.gauges ≡ true }
+        ensures wrote { FormWrites (W.written out.old) (W.written out.new)
+            (bytes_of (form_bytes F.bytes F.after) (form_after F.after) self.old (text_events depth (ended lines.now))) result }
+        ensures state { OnOk result
+            (self.new ≡ state_after (form_after F.after) self.old (text_events depth (ended lines.now))) }
+    {
+        self.form.write_texts(depth, lines, out)?;
+        self.gauges.add_text(lines.len() as u64);
+        Ok(())
+    }
+
+    // Passes on a text line, or what is shown in its place. It is passed with its line feed.
+    fn write_line<W: Sink>(
+        &mut self,
+        depth: usize,
+        line: &[u8],
+        out: &mut W,
+    ) -> Result<(), FormFault>
+        requires depth { depth < 2 ^ 60 }
+        requires line { IsOneLine line.now }
+        ensures wrote { FormWrites (W.written out.old) (W.written out.new)
+            (bytes_of (form_bytes F.bytes F.after) (form_after F.after) self.old (text_events depth (ended line.now))) result }
+        ensures state { OnOk result
+            (self.new ≡ state_after (form_after F.after) self.old (text_events depth (ended line.now))) }
+    {
+        match self.gauges.showing(line.len() as u64) {
+            Showing::Whole => self.form.write_texts(depth, line, out)?,
+            Showing::Marker => self.form.write(marker(depth), out)?,
+            Showing::Nothing => {}
+        }
+        self.gauges.add_text(line.len() as u64);
+        Ok(())
+    }
+}
+
+impl<F: Form> Form for Trimmed<'_, F> {
+    ghost bytes = { form_bytes F.bytes F.after };
+
+    ghost after = { form_after F.after };
+
+    fn write<W: Sink>(&mut self, event: EventRef<'_>, out: &mut W) -> Result<(), FormFault> {
+        self.form.write(event, out)?;
+        self.gauges.follow(self.limits, event)?;
+        Ok(())
+    }
+
+    fn write_texts<W: Sink>(
+        &mut self,
+        depth: usize,
+        lines: &[u8],
+        out: &mut W,
+    ) -> Result<(), FormFault> {
+        let mut done = 0;
+        'lines: while done < lines.len() {
+            let left = &lines[done..];
+            if self.gauges.keeps_all() {
+                return self.pass_on(depth, left, out);
+            }
+            let size = first_line(left);
+            self.write_line(depth, &left[..size], out)?;
+            done += size;
+        }
+        Ok(())
+    }
+}
+
+// Returns the size of the first line.
+fn first_line(lines: &[u8]) -> usize
+    requires some { 0 < length lines.now }
+    requires complete { rest lines.now ≡ [] }
+    ensures { IsFirstLine lines.now result }
+{
+    match memchr(b'\n', lines) {
+        Some(at) => at + 1,
+        None => lines.len(),
+    }
+}
+
+// Returns the event that takes the place of the first line that is left out.
+fn marker(depth: usize) -> EventRef<'static>
+    ensures is { event_value result ≡ marker depth }
+    ensures alone { depth < 2 ^ 60 → IsWrittenAlone result }
+{
+    EventRef::EntryShown {
+        depth,
+        entry: EntryRef::Note {
+            pid: 0,
+            kind: b"",
+            text: MARKER_TEXT,
+        },
+    }
+}
