@@ -1,1 +1,3 @@
+pub mod FormLemmas
+mod LineLemmas
 mod TreeLemmas

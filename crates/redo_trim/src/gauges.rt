@@ -2,7 +2,7 @@
 ghost use Rattle.std.specs.Prelude.{◌≡◌, ◌<◌, ◌∷◌, [], OnOk};
 ghost use Rattle.redo_view.specs.EventRef.{IsWrittenAlone, event_value};
 ghost use Rattle.redo_trim.specs.Trim.{after_end, gauge_of, gauges_after, innermost, showing_in, with_opened, with_text};
-ghost use Rattle.redo_trim.specs.Private.Writing.{keeps_all};
+ghost use Rattle.redo_trim.specs.Private.Writing.{TailFits, keeps_all};
 ghost use Rattle.redo_outline.specs.Contents.{number_of_opening};
 
 use crate::limit::{Gauge, Limit, Showing, showing_of};
@@ -48,7 +48,8 @@ impl Gauges {
 
     /// Returns whether no line is left out any more in the innermost log.
     pub fn keeps_all(&self) -> bool
-        ensures { result ≡ keeps_all self.now }
+        ensures keeps { result ≡ keeps_all self.now }
+        ensures fits { TailFits self.now }
     {
         match self.innermost() {
             Some(gauge) => gauge.limit.tail <= gauge.seen,
@@ -71,7 +72,9 @@ impl Gauges {
     pub fn add_text(&mut self, size: u64)
         ensures { self.new ≡ with_text size self.old }
     {
-        if let Some(gauge) = self.logs.last_mut() {
+        let count = self.logs.len();
+        if count > 0 {
+            let gauge = &mut self.logs[count - 1];
             gauge.seen = gauge.seen.saturating_add(size);
         }
     }

@@ -3,7 +3,11 @@ ghost use Rattle.std.specs.Prelude.{ℕ, List};
 ghost use Rattle.redo_view.specs.Event.{Event};
 ghost use Rattle.redo_outline.specs.Contents.{Contents};
 ghost use Rattle.redo_trim.specs.declared.limit.Limit.{Limit};
+ghost use Rattle.redo_trim.specs.declared.trimmed.Trimmed.{Trimmed};
 ghost use Rattle.redo_trim.specs.Laws.{AreWhole, HasThreeParts, KeepsHeadAndTail, KeepsLogs, ShowsHeadAndTail, StayInTree, TreeIsTrimmed};
+ghost use Rattle.redo_trim.specs.TrimmedForm.{HasShown, WritesShown};
+
+use redo_view::Form;
 
 /// If events make a tree, so do the events that are shown of them, and it is the tree of all events, trimmed. It has the same logs.
 pub fn trimmed_events_are_in_tree()
@@ -23,4 +27,10 @@ pub fn head_and_tail_are_kept()
     ensures parts { (limit : Limit) (lines : List (List ℕ)) → HasThreeParts limit lines }
     ensures shown { (limits : List Limit) (number : ℕ) (lines : List (List ℕ)) → ShowsHeadAndTail limits number lines }
     ensures kept { (limits : List Limit) (number : ℕ) (contents : Contents) → KeepsHeadAndTail limits number contents }
+{}
+
+/// What the adapter writes for events is what its form writes for what is shown of them. So it is with the form's state.
+pub fn trimmed_form_writes<F: Form>()
+    ensures bytes { (form : Trimmed F) (events : List Event) → WritesShown F.bytes F.after form events }
+    ensures state { (form : Trimmed F) (events : List Event) → HasShown F.after form events }
 {}

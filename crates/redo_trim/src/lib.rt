@@ -15,5 +15,9 @@ mod laws;
 mod limit;
 mod trimmed;
 
+pub use laws::{
+    head_and_tail_are_kept, trimmed_events_are_in_tree, trimmed_form_writes,
+    unlimited_logs_are_whole,
+};
 pub use limit::{Gauge, Limit};
 pub use trimmed::Trimmed;

@@ -5,7 +5,7 @@ ghost use Rattle.redo_view.specs.EventRef.{IsWrittenAlone, event_value};
 ghost use Rattle.redo_view.specs.Form.{FormWrites, bytes_of, state_after, text_events};
 ghost use Rattle.redo_trim.specs.Trim.{marker};
 ghost use Rattle.redo_trim.specs.TrimmedForm.{form_after, form_bytes};
-ghost use Rattle.redo_trim.specs.Private.Writing.{IsFirstLine, IsOneLine, keeps_all};
+ghost use Rattle.redo_trim.specs.Private.Writing.{IsFirstLine, IsOneLine, TailFits, keeps_all, lines_shown};
 
 use crate::gauges::Gauges;
 use crate::limit::{Limit, Showing};
@@ -54,7 +54,7 @@ impl<'a, F: Form> Trimmed<'a, F> {
         form
     }
 
-    // Passes on text lines of which none is left out.
+    // Passes on text lines, at least one, of which none is left out.
     fn pass_on<W: Sink>(
         &mut self,
         depth: usize,
@@ -63,7 +63,9 @@ impl<'a, F: Form> Trimmed<'a, F> {
     ) -> Result<(), FormFault>
         requires depth { depth < 2 ^ 60 }
         requires complete { rest lines.now ≡ [] }
+        requires some { 0 < length lines.now }
         requires all { keeps_all self.old.gauges ≡ true }
+        requires fits { TailFits self.old.gauges }
         ensures wrote { FormWrites (W.written out.old) (W.written out.new)
             (bytes_of (form_bytes F.bytes F.after) (form_after F.after) self.old (text_events depth (ended lines.now))) result }
         ensures state { OnOk result
@@ -88,13 +90,32 @@ impl<'a, F: Form> Trimmed<'a, F> {
         ensures state { OnOk result
             (self.new ≡ state_after (form_after F.after) self.old (text_events depth (ended line.now))) }
     {
-        match self.gauges.showing(line.len() as u64) {
-            Showing::Whole => self.form.write_texts(depth, line, out)?,
-            Showing::Marker => self.form.write(marker(depth), out)?,
-            Showing::Nothing => {}
-        }
-        self.gauges.add_text(line.len() as u64);
+        let size = line.len() as u64;
+        let showing = self.gauges.showing(size);
+        write_shown(&mut self.form, showing, depth, line, out)?;
+        self.gauges.add_text(size);
         Ok(())
+    }
+}
+
+// Writes what is shown of text lines that are all shown in the same way.
+fn write_shown<F: Form, W: Sink>(
+    form: &mut F,
+    showing: Showing,
+    depth: usize,
+    lines: &[u8],
+    out: &mut W,
+) -> Result<(), FormFault>
+    requires depth { depth < 2 ^ 60 }
+    requires complete { rest lines.now ≡ [] }
+    ensures wrote { FormWrites (W.written out.old) (W.written out.new)
+        (bytes_of F.bytes F.after form.old (lines_shown showing depth (ended lines.now))) result }
+    ensures state { OnOk result (form.new ≡ state_after F.after form.old (lines_shown showing depth (ended lines.now))) }
+{
+    match showing {
+        Showing::Whole => form.write_texts(depth, lines, out),
+        Showing::Marker => form.write(marker(depth), out),
+        Showing::Nothing => Ok(()),
     }
 }
 
