@@ -1,2 +1,6 @@
+mod DateLemmas
+mod DateRows
+mod TickLemmas
+mod TickRows
 mod UnitRows
 mod WordLemmas

@@ -1,3 +1,5 @@
+pub mod Dates
 pub mod Durations
 pub mod Sizes
+pub mod Ticks
 pub mod Words

@@ -4,11 +4,11 @@ ghost use Rattle.redo_units.specs.Words.{word_of};
 
 use crate::words::{NO_WORD, Word};
 
-const SECOND: u64 = 1000;
+pub const SECOND: u64 = 1000;
 
-const MINUTE: u64 = 60 * SECOND;
+pub const MINUTE: u64 = 60 * SECOND;
 
-const HOUR: u64 = 60 * MINUTE;
+pub const HOUR: u64 = 60 * MINUTE;
 
 /// Returns how a duration in milliseconds is written: `1.23 s`, `12.3 s`, `2 min 05 s`, `1 h 02 min`. What the last unit
 /// doesn't show is cut off. All milliseconds are allowed.

@@ -1,13 +1,17 @@
-//! How a page writes durations, sizes and quotients.
+//! How durations, sizes, dates and the ticks of an axis are written.
 //!
-//! The functions return words: numbers, and text of the program. So a caller can write
-//! them without memory of its own.
+//! Most functions return words: numbers, and text of the program. A caller can write them as parts of a page, or append them
+//! to a text by [`push_words`].
 #![tactic(auto)]
 
+mod dates;
 mod durations;
 mod sizes;
+mod ticks;
 mod words;
 
+pub use dates::date;
 pub use durations::duration;
 pub use sizes::{size, tenths};
+pub use ticks::{tick, tick_step};
 pub use words::{Word, push_words};
