@@ -33,9 +33,10 @@ pub fn most_warned(alloc: Global, nodes: &[Node]) -> Result<Vec<Rank>, AllocErro
     let mut ranks = Vec::new(alloc);
     for place in (0..nodes.len()).rev() {
         let value = nodes[place].warnings;
-        if value > 0 {
-            insert_rank(&mut ranks, Rank { value, place })?;
+        if value == 0 {
+            continue;
         }
+        insert_rank(&mut ranks, Rank { value, place })?;
     }
     Ok(ranks)
 }

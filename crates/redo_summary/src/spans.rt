@@ -1,5 +1,5 @@
 //! The spans and marks of targets.
-ghost use Rattle.std.specs.Prelude.{◌≡◌, ◌<◌, Bool, IfOk, length};
+ghost use Rattle.std.specs.Prelude.{◌≡◌, IfOk};
 ghost use Rattle.redo_summary.specs.Parents.{marks_of, parents_of, recipes_of};
 ghost use Rattle.redo_summary.specs.Private.Marking.{ArePlaced};
 
@@ -25,12 +25,10 @@ pub fn split_spans(alloc: Global, targets: &[Target]) -> Result<Spans, AllocErro
     let mut parents = Vec::new(alloc);
     let mut recipes = Vec::new(alloc);
     for (place, target) in targets.iter().enumerate() {
-        if let Some(span) = target.span() {
-            if ran_others[place] {
-                parents.push(span)?;
-            } else {
-                recipes.push(span)?;
-            }
+        match target.span() {
+            Some(span) if ran_others[place] => parents.push(span)?,
+            Some(span) => recipes.push(span)?,
+            None => {}
         }
     }
     Ok(Spans { parents, recipes })

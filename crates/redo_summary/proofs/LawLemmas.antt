@@ -1,0 +1,110 @@
+-- What the laws state.
+use Rattle.std.proofs.Common.{◌≡◌, ℕ, zero, suc, ◌+◌, ◌<◌, ◌≤◌, Bool, true, false, cond, ltb, List, [], ◌∷◌, Option, None, Some, filter, filter_map, length, map, not, option_map, take, refl, arith}
+use Rattle.std.specs.Prelude.{IfSome}
+use Rattle.std.specs.declared.cmp.Ordering.{Ordering}
+use Rattle.std.specs.List.{AllByRecursion, cons_option}
+use Rattle.std.specs.Ordering.{is_gt}
+use Rattle.std.proofs.lemmas.List.Sorted.{IsPermutation-filter_both}
+use Rattle.redo_timeline.specs.declared.span.Span.{Span}
+use Rattle.redo_timeline.specs.Order.{insert_sorted, sort}
+use Rattle.redo_times.specs.declared.times.Times.{Times}
+use Rattle.redo_outline.specs.declared.node.Node.{Node}
+use Rattle.redo_summary.specs.declared.rank.Rank.{Rank}
+use Rattle.redo_summary.specs.declared.target.Target.{Target}
+use Rattle.redo_summary.specs.Laws.{AreOfNodes, AreSplit}
+use Rattle.redo_summary.specs.Parents.{ran_others, spans_of}
+use Rattle.redo_summary.specs.Ranks.{first_ranks, rank_cmp, rank_of, warnings_from}
+use Rattle.redo_summary.specs.Summary.{summary_of}
+use Rattle.redo_summary.specs.Targets.{mark_of, only_time, span_between, span_if, span_of, targets_from, targets_of}
+
+-- ---- what holds of each item still holds
+
+module _ {X : Type 0} (P : X → Type 0) where
+  all_passed : (test : X → Bool) (xs : List X) → AllByRecursion P xs → AllByRecursion P (filter test xs)
+  all_passed test [] all = tt
+  all_passed test (x ∷ xs) all = by (test x) (all_passed test xs all.1)
+    where
+      by : (b : Bool) → AllByRecursion P (filter test xs) → AllByRecursion P (cond b (x ∷ filter test xs) (filter test xs))
+      by true more = (all.0, more)
+      by false more = more
+
+  all_taken : (n : ℕ) (xs : List X) → AllByRecursion P xs → AllByRecursion P (take n xs)
+  all_taken zero xs all = tt
+  all_taken (suc n) [] all = tt
+  all_taken (suc n) (x ∷ xs) all = (all.0, all_taken n xs all.1)
+
+  module _ (cmp : X → X → Ordering) where
+    all_inserted : (x : X) (xs : List X) → P x → AllByRecursion P xs → AllByRecursion P (insert_sorted cmp x xs)
+    all_inserted x [] here all = (here, tt)
+    all_inserted x (y ∷ ys) here all = by (is_gt (cmp x y)) (all_inserted x ys here all.1)
+      where
+        by : (b : Bool) → AllByRecursion P (insert_sorted cmp x ys) → AllByRecursion P (cond b (y ∷ insert_sorted cmp x ys) (x ∷ y ∷ ys))
+        by true more = (all.0, more)
+        by false more = (here, all)
+
+    all_sorted : (xs : List X) → AllByRecursion P xs → AllByRecursion P (sort cmp xs)
+    all_sorted [] all = tt
+    all_sorted (x ∷ xs) all = all_inserted x (sort cmp xs) all.0 (all_sorted xs all.1)
+
+all_chosen : {X Y : Type 0} (P : X → Type 0) (Q : Y → Type 0) (choose : X → Option Y) → ((x : X) → P x → IfSome (choose x) Q) → (xs : List X) → AllByRecursion P xs → AllByRecursion Q (filter_map choose xs)
+all_chosen {X = X} {Y = Y} P Q choose kept [] all = tt
+all_chosen {X = X} {Y = Y} P Q choose kept (x ∷ xs) all = by (choose x) (kept x all.0) (all_chosen P Q choose kept xs all.1)
+  where
+    by : (chosen : Option Y) → IfSome chosen Q → AllByRecursion Q (filter_map choose xs) → AllByRecursion Q (cons_option chosen (filter_map choose xs))
+    by None here more = more
+    by (Some y) here more = (here, more)
+
+-- ---- places
+
+module _ (count : ℕ) where
+  targets_below : (times : List Times) (place : ℕ) (nodes : List Node) → place + length nodes ≤ count → AllByRecursion (λ (target : Target). target.place < count) (targets_from times place nodes)
+  targets_below times place [] within = tt
+  targets_below times place (node ∷ nodes) within = (omega (arith, within), targets_below times (place + 1) nodes (omega (arith, within)))
+
+  warnings_below : (place : ℕ) (nodes : List Node) → place + length nodes ≤ count → AllByRecursion (λ (rank : Rank). rank.place < count) (warnings_from place nodes)
+  warnings_below place [] within = tt
+  warnings_below place (node ∷ nodes) within = (omega (arith, within), warnings_below (place + 1) nodes (omega (arith, within)))
+
+  span_below : (target : Target) → target.place < count → IfSome (span_of target) (λ (span : Span). span.place < count)
+  span_below target below = by target.times.began target.times.ended
+    where
+      by : (began ended : Option ℕ) → IfSome (span_if target began ended) (λ (span : Span). span.place < count)
+      by None None = tt
+      by None (Some ended) = tt
+      by (Some began) None = tt
+      by (Some began) (Some ended) = below
+
+  mark_below : (target : Target) → target.place < count → IfSome (mark_of target) (λ (span : Span). span.place < count)
+  mark_below target below = by (only_time target.parent target.times.began target.times.ended)
+    where
+      by : (time : Option ℕ) → IfSome (option_map (λ (time : ℕ). span_between target time time) time) (λ (span : Span). span.place < count)
+      by None = tt
+      by (Some time) = below
+
+  ranks_below : (spans : List Span) → AllByRecursion (λ (span : Span). span.place < count) spans → AllByRecursion (λ (rank : Rank). rank.place < count) (map rank_of spans)
+  ranks_below [] all = tt
+  ranks_below (span ∷ spans) all = (all.0, ranks_below spans all.1)
+
+  first_below : (ranks : List Rank) → AllByRecursion (λ (rank : Rank). rank.place < count) ranks → AllByRecursion (λ (rank : Rank). rank.place < count) (first_ranks ranks)
+  first_below ranks all =
+      all_taken (λ (rank : Rank). rank.place < count) 10 (sort rank_cmp ranks) (all_sorted (λ (rank : Rank). rank.place < count) rank_cmp ranks all)
+
+pub are_of_nodes : (nodes : List Node) (times : List Times) → AreOfNodes nodes (summary_of nodes times)
+are_of_nodes nodes times =
+    let count = length nodes in
+    let targets = targets_of nodes times in
+    let below = targets_below count times 0 nodes (omega arith) in
+    let spans = all_chosen (λ (target : Target). target.place < count) (λ (span : Span). span.place < count) span_of (span_below count) targets below in
+    let recipes = all_passed (λ (span : Span). span.place < count) (λ (span : Span). not (ran_others targets span)) (spans_of targets) spans in
+    record {
+      parents = all_passed (λ (span : Span). span.place < count) (ran_others targets) (spans_of targets) spans;
+      recipes = recipes;
+      marks = all_chosen (λ (target : Target). target.place < count) (λ (span : Span). span.place < count) mark_of (mark_below count) targets below;
+      longest = first_below count _ (ranks_below count _ recipes);
+      warned = first_below count _ (all_passed (λ (rank : Rank). rank.place < count) (λ (rank : Rank). ltb 0 rank.value) (warnings_from 0 nodes) (warnings_below count 0 nodes (omega arith)));
+    }
+
+pub are_split : (nodes : List Node) (times : List Times) → AreSplit nodes times (summary_of nodes times)
+are_split nodes times =
+    let targets = targets_of nodes times in
+    IsPermutation-filter_both (ran_others targets) (λ (span : Span). not (ran_others targets span)) (λ span. refl) (spans_of targets)

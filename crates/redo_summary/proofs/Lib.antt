@@ -1,0 +1,6 @@
+mod LawLemmas
+mod ParentLemmas
+mod RankLemmas
+mod TargetLemmas
+mod TimeLemmas
+mod TotalLemmas
