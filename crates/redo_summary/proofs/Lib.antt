@@ -3,4 +3,3 @@ mod ParentLemmas
 mod RankLemmas
 mod TargetLemmas
 mod TimeLemmas
-mod TotalLemmas

@@ -11,17 +11,6 @@ use Rattle.redo_summary.specs.Parents.{is_run_by, ran_others, spans_of}
 use Rattle.redo_summary.specs.Private.Marking.{AreMarked, IsMarked, ran_any}
 use Rattle.redo_summary.specs.Targets.{span_of}
 
-ran_any-append : (others more : List Target) (span : Option Span) → ran_any (others ++ more) span ≡ (ran_any others span || ran_any more span)
-ran_any-append others more None = refl
-ran_any-append others more (Some span) = list_any-append (is_run_by span) others more
-
--- One more target.
-pub marked_more : (targets : List Target) (i : ℕ) (d : Target) (old new : List Bool) → i < length targets → AreMarked targets (take i targets) old → IsMarked targets (get_or targets i d) old new → AreMarked targets (take (i + 1) targets) new
-marked_more targets i d old new below so_far set place target within =
-    set place target within ∙ ap (λ b. b || ran_any (get_or targets i d ∷ []) (span_of (get_or targets place target))) (so_far place target within)
-    ∙ sym (ran_any-append (take i targets) (get_or targets i d ∷ []) (span_of (get_or targets place target)))
-    ∙ ap (λ others. ran_any others (span_of (get_or targets place target))) (sym (take_more targets i d below))
-
 -- ---- parents and recipes
 
 -- These are the spans of the first targets that ran others, and all other spans of these targets.

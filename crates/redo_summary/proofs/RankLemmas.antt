@@ -19,9 +19,6 @@ module _ {K : Type 0} (cmp : K → K → Ordering) where
   abbrev pub IsInsertedFrom : ℕ → K → List K → Type 0
   IsInsertedFrom position item items = insert_sorted cmp item items ≡ take position items ++ insert_sorted cmp item (drop position items)
 
-  pub inserted_from_start : (item : K) (items : List K) → IsInsertedFrom 0 item items
-  inserted_from_start item items = refl
-
   take_longer : (n : ℕ) (items : List K) → take n (take (suc n) items) ≡ take n items
   take_longer zero items = refl
   take_longer (suc n) [] = refl

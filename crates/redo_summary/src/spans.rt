@@ -38,5 +38,8 @@ pub fn split_spans(alloc: Global, targets: &[Target]) -> Result<Spans, AllocErro
 pub fn list_marks(alloc: Global, targets: &[Target]) -> Result<Vec<Span>, AllocError>
     ensures { IfOk result (λ marks. marks.items ≡ marks_of targets.now) }
 {
-    targets.iter().filter_map(|target| target.mark()).collect(alloc)
+    targets
+        .iter()
+        .filter_map(|target| target.mark())
+        .collect(alloc)
 }

@@ -39,17 +39,17 @@ impl Model for Summary {
     ghost Value = { Facts };
 
     ghost view = { λ summary. record {
-        window = summary.window;
-        took = summary.took;
-        parents = summary.parents.items;
-        recipes = summary.recipes.items;
-        marks = summary.marks.items;
-        sum = summary.total;
-        most = summary.most;
-        warnings = summary.warnings;
-        bytes = summary.bytes;
-        longest = summary.longest.items;
-        warned = summary.warned.items;
+      window = summary.window;
+      took = summary.took;
+      parents = summary.parents.items;
+      recipes = summary.recipes.items;
+      marks = summary.marks.items;
+      sum = summary.total;
+      most = summary.most;
+      warnings = summary.warnings;
+      bytes = summary.bytes;
+      longest = summary.longest.items;
+      warned = summary.warned.items;
     } };
 
     ghost invariant = { λ summary. IfSome summary.window IsValidWindow };
