@@ -1,3 +1,5 @@
 pub mod FormLemmas
+mod GaugeLemmas
+mod LawLemmas
 mod LineLemmas
 mod TreeLemmas

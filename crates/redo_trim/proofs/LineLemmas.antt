@@ -61,9 +61,19 @@ split_ended : (bytes : List ℕ) (len : ℕ) → rest (take len bytes) ≡ [] �
 split_ended bytes len first =
     ap ended (sym (take-append-drop len bytes)) ∙ ended-append (take len bytes) (drop len bytes) ∙ ap (λ (r : List ℕ). ended (take len bytes) ++ ended (r ++ drop len bytes)) first
 
-pub split_texts : (depth : ℕ) (bytes : List ℕ) (len : ℕ) → rest (take len bytes) ≡ [] → text_events depth (ended bytes) ≡ text_events depth (ended (take len bytes)) ++ text_events depth (ended (drop len bytes))
+split_texts : (depth : ℕ) (bytes : List ℕ) (len : ℕ) → rest (take len bytes) ≡ [] → text_events depth (ended bytes) ≡ text_events depth (ended (take len bytes)) ++ text_events depth (ended (drop len bytes))
 split_texts depth bytes len first =
     ap (text_events depth) (split_ended bytes len first) ∙ map-append (λ (text : List ℕ). EntryShown depth (Text text)) (ended (take len bytes)) (ended (drop len bytes))
+
+module _ {F : Type 0} (bytes : F → Event → List ℕ) (after : F → Event → F) (depth : ℕ) (form : F) (text : List ℕ) (len : ℕ) (first : rest (take len text) ≡ []) where
+  pub next_bytes : bytes_of bytes after form (text_events depth (ended text))
+      ≡ bytes_of bytes after form (text_events depth (ended (take len text))) ++ bytes_of bytes after (state_after after form (text_events depth (ended (take len text)))) (text_events depth (ended (drop len text)))
+  next_bytes =
+      ap (bytes_of bytes after form) (split_texts depth text len first) ∙ bytes-append bytes after form (text_events depth (ended (take len text))) (text_events depth (ended (drop len text)))
+
+  pub next_state : state_after after form (text_events depth (ended text)) ≡ state_after after (state_after after form (text_events depth (ended (take len text)))) (text_events depth (ended (drop len text)))
+  next_state =
+      ap (state_after after form) (split_texts depth text len first) ∙ state-append bytes after form (text_events depth (ended (take len text))) (text_events depth (ended (drop len text)))
 
 lines_length : (lines : List (List ℕ)) → length (flat_map with_line_feed lines) ≡ text_size lines
 lines_length [] = refl
@@ -94,7 +104,7 @@ fits_still : (size : ℕ) (gauges : List Gauge) → TailFits gauges → TailFits
 fits_still size [] fits = fits
 fits_still size (gauge ∷ outer) fits = fits
 
-keeps_whole : (gauges : List Gauge) (size : ℕ) → keeps_all gauges ≡ true → showing_in (innermost gauges) size ≡ showing.Whole
+pub keeps_whole : (gauges : List Gauge) (size : ℕ) → keeps_all gauges ≡ true → showing_in (innermost gauges) size ≡ showing.Whole
 keeps_whole [] size keeps = refl
 keeps_whole (gauge ∷ outer) size keeps =
     ap (λ (b : Bool). if b || nat_le (gauge.seen + size) gauge.limit.head then showing.Whole else if nat_le gauge.seen gauge.limit.head then showing.Marker else showing.Nothing) keeps
