@@ -26,19 +26,21 @@ use Rattle.redo_trim.proofs.LineLemmas.{keeps_whole}
 
 head_parts : (bytes : ℕ) (lines : List (List ℕ)) → lines ≡ head_lines bytes lines ++ after_head bytes lines
 head_parts bytes [] = refl
-head_parts bytes (line ∷ lines) = by (nat_le (line_size line) bytes)
+head_parts bytes (line ∷ lines) = by (head_parts (bytes - line_size line) lines) (nat_le (line_size line) bytes)
   where
-    by : (fits : Bool) → line ∷ lines ≡ (if fits then line ∷ head_lines (bytes - line_size line) lines else []) ++ (if fits then after_head (bytes - line_size line) lines else line ∷ lines)
-    by true = ap (λ ls. line ∷ ls) (head_parts (bytes - line_size line) lines)
-    by false = refl
+    by : lines ≡ head_lines (bytes - line_size line) lines ++ after_head (bytes - line_size line) lines
+        → (fits : Bool) → line ∷ lines ≡ (if fits then line ∷ head_lines (bytes - line_size line) lines else []) ++ (if fits then after_head (bytes - line_size line) lines else line ∷ lines)
+    by others true = ap (λ ls. line ∷ ls) others
+    by others false = refl
 
 tail_parts : (tail begin : ℕ) (lines : List (List ℕ)) → lines ≡ lines_before tail begin lines ++ lines_from tail begin lines
 tail_parts tail begin [] = refl
-tail_parts tail begin (line ∷ lines) = by (nat_le tail begin)
+tail_parts tail begin (line ∷ lines) = by (tail_parts tail (begin + line_size line) lines) (nat_le tail begin)
   where
-    by : (late : Bool) → line ∷ lines ≡ (if late then [] else line ∷ lines_before tail (begin + line_size line) lines) ++ (if late then line ∷ lines else lines_from tail (begin + line_size line) lines)
-    by true = refl
-    by false = ap (λ ls. line ∷ ls) (tail_parts tail (begin + line_size line) lines)
+    by : lines ≡ lines_before tail (begin + line_size line) lines ++ lines_from tail (begin + line_size line) lines
+        → (late : Bool) → line ∷ lines ≡ (if late then [] else line ∷ lines_before tail (begin + line_size line) lines) ++ (if late then line ∷ lines else lines_from tail (begin + line_size line) lines)
+    by others true = refl
+    by others false = ap (λ ls. line ∷ ls) others
 
 pub three_parts : (limit : Limit) (lines : List (List ℕ)) → HasThreeParts limit lines
 three_parts limit lines =
@@ -91,14 +93,15 @@ module _ (limit : Limit) where
 
     past_head : (begin : ℕ) (lines : List (List ℕ)) → limit.head < begin → shown_at depth begin lines ≡ text_events depth (lines_from limit.tail begin lines)
     past_head begin [] past = refl
-    past_head begin (line ∷ lines) past = by (nat_le limit.tail begin) refl
+    past_head begin (line ∷ lines) past = by (past_head (begin + line_size line) lines (omega (arith, past))) (nat_le limit.tail begin) refl
       where
-        by : (late : Bool) → nat_le limit.tail begin ≡ late → shown_at depth begin (line ∷ lines) ≡ text_events depth (if late then line ∷ lines else lines_from limit.tail (begin + line_size line) lines)
-        by true is = in_tail begin (line ∷ lines) (leb-true limit.tail begin is)
-        by false is =
+        by : shown_at depth (begin + line_size line) lines ≡ text_events depth (lines_from limit.tail (begin + line_size line) lines)
+            → (late : Bool) → nat_le limit.tail begin ≡ late → shown_at depth begin (line ∷ lines) ≡ text_events depth (if late then line ∷ lines else lines_from limit.tail (begin + line_size line) lines)
+        by others true is = in_tail begin (line ∷ lines) (leb-true limit.tail begin is)
+        by others false is =
             ap (λ (s : Showing). line_shown s depth line ++ shown_at depth (begin + line_size line) lines)
             (not_whole begin (line_size line) is (omega (arith, past)) ∙ ap (λ (b : Bool). if b then showing.Marker else showing.Nothing) (lt-leb begin limit.head past))
-            ∙ past_head (begin + line_size line) lines (omega (arith, past))
+            ∙ others
 
     after_first : (begin : ℕ) (line : List ℕ) (lines : List (List ℕ)) → begin ≤ limit.head → limit.head < begin + line_size line
         → shown_at depth begin (line ∷ lines) ≡ marker_for depth (lines_before limit.tail begin (line ∷ lines)) ++ text_events depth (lines_from limit.tail begin (line ∷ lines))
@@ -119,26 +122,31 @@ module _ (limit : Limit) where
 
     from_head : (begin room : ℕ) (lines : List (List ℕ)) → begin + room ≡ limit.head → shown_at depth begin lines ≡ parts begin (head_lines room lines) (after_head room lines)
     from_head begin room [] same = refl
-    from_head begin room (line ∷ lines) same = by (nat_le (line_size line) room) refl
+    from_head begin room (line ∷ lines) same = by (λ below. from_head (begin + line_size line) (room - line_size line) lines (omega (arith, below, same))) (nat_le (line_size line) room) refl
       where
-        by : (fits : Bool) → nat_le (line_size line) room ≡ fits
+        by : (line_size line ≤ room → shown_at depth (begin + line_size line) lines ≡ parts (begin + line_size line) (head_lines (room - line_size line) lines) (after_head (room - line_size line) lines))
+            → (fits : Bool) → nat_le (line_size line) room ≡ fits
             → shown_at depth begin (line ∷ lines) ≡ parts begin (if fits then line ∷ head_lines (room - line_size line) lines else []) (if fits then after_head (room - line_size line) lines else line ∷ lines)
-        by true is =
+        by others_shown true is =
             let within = leb-true (line_size line) room is in
             let first = head_lines (room - line_size line) lines in
             let others = after_head (room - line_size line) lines in
             let size = sum_by-cons (λ (text : List ℕ). length text + 1) line first in
             ap (λ (s : Showing). line_shown s depth line ++ shown_at depth (begin + line_size line) lines)
             (head_whole begin (line_size line) (le-leb (begin + line_size line) limit.head (omega (arith, within, same))))
-            ∙ ap (λ es. EntryShown depth (Text line) ∷ es) (from_head (begin + line_size line) (room - line_size line) lines (omega (arith, within, same)))
+            ∙ ap (λ es. EntryShown depth (Text line) ∷ es) (others_shown within)
             ∙ ap (λ (n : ℕ). EntryShown depth (Text line) ∷ (text_events depth first ++ (marker_for depth (lines_before limit.tail n others) ++ text_events depth (lines_from limit.tail n others)))) (omega (arith, size))
-        by false is =
+        by others_shown false is =
             let past = leb-false (line_size line) room is in
             after_first begin line lines (omega (arith, same)) (omega (arith, past, same))
             ∙ ap (λ (n : ℕ). marker_for depth (lines_before limit.tail n (line ∷ lines)) ++ text_events depth (lines_from limit.tail n (line ∷ lines))) (omega arith)
 
     whole_log : (lines : List (List ℕ)) → shown_at depth 0 lines ≡ text_events depth (head_lines limit.head lines) ++ (marker_for depth (left_out limit lines) ++ text_events depth (tail_lines limit lines))
-    whole_log lines = from_head 0 limit.head lines (omega arith)
+    whole_log lines =
+        let first = head_lines limit.head lines in
+        let others = after_head limit.head lines in
+        from_head 0 limit.head lines (omega arith)
+        ∙ ap (λ (n : ℕ). text_events depth first ++ (marker_for depth (lines_before limit.tail n others) ++ text_events depth (lines_from limit.tail n others))) (omega arith)
 
 -- ---- gauges
 

@@ -3,3 +3,4 @@ mod GaugeLemmas
 mod LawLemmas
 mod LineLemmas
 mod TreeLemmas
+mod TrimRows
