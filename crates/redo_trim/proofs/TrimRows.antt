@@ -147,6 +147,6 @@ number_bytes state event = state ∷ []
 abbrev number_after : ℕ → Event → ℕ
 number_after state event = state + 1
 
-forms : (limits : Bor (List Limit)) → (form_bytes number_bytes number_after (form_at limits 7 0) (text (codes "a")) ≡ 7 ∷ []) × (form_bytes number_bytes number_after (form_at limits 7 9) (text (codes "a")) ≡ [])
-    × (form_after number_after (form_at limits 7 0) (text (codes "a")) ≡ form_at limits 8 2) × (form_after number_after (form_at limits 7 9) (text (codes "a")) ≡ form_at limits 7 11)
-forms limits = (refl, refl, refl, refl)
+forms : (given : Bor (List Limit)) → (form_bytes number_bytes number_after (form_at given 7 0) (text (codes "a")) ≡ 7 ∷ []) × (form_bytes number_bytes number_after (form_at given 7 9) (text (codes "a")) ≡ [])
+    × (form_after number_after (form_at given 7 0) (text (codes "a")) ≡ form_at given 8 2) × (form_after number_after (form_at given 7 9) (text (codes "a")) ≡ form_at given 7 11)
+forms given = (refl, refl, refl, refl)
