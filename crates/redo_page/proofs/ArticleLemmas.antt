@@ -4,7 +4,8 @@ use Rattle.redo_html.specs.Parts.Part.{NamePart}
 use Rattle.redo_logs.specs.Logs.{Log}
 use Rattle.redo_outline.specs.declared.node.Node.{Node}
 use Rattle.redo_page.specs.Failed.{more_above, path_parts, path_separator}
-use Rattle.redo_page.specs.Targets.{name_parts, target_at}
+use Rattle.redo_page.specs.Targets.{name_parts}
+use Rattle.redo_outline.specs.Facts.{target_at}
 use Rattle.redo_page.specs.Tree.{node_at}
 
 module _ (logs : List Log) (nodes : List Node) where

@@ -18,11 +18,12 @@ use Rattle.redo_outline.specs.declared.node.Node.{Node}
 use Rattle.redo_page.specs.Errors.{cause_of}
 use Rattle.redo_page.specs.Excerpt.{Stretch, error_position, excerpt_line_parts, excerpt_parts, in_tree_parts, is_kept, left_out_parts, stretch_parts, stretches_from}
 use Rattle.redo_page.specs.Excerpt.Stretch.{Shown, LeftOut}
-use Rattle.redo_page.specs.Failed.{article_of, article_parts, article_row, cause_if, cause_of_node, cause_parts, failed_above, failed_parts, is_unclosed, list_parts, max_path, max_rows, more_parts, nothing_parts, output_parts, path_parts, places_where, printed_by, row_parts, section_parts, target_row, unlisted_parts, whole_parts}
+use Rattle.redo_units.specs.Durations.{duration_words}
+use Rattle.redo_page.specs.Failed.{article_of, article_parts, article_took, article_row, cause_if, cause_of_node, cause_parts, failed_above, failed_parts, is_unclosed, list_parts, max_path, max_rows, more_parts, nothing_parts, output_parts, path_parts, places_where, printed_by, row_parts, section_parts, target_row, unlisted_parts, whole_parts}
 use Rattle.redo_page.specs.Laws.{is_among, is_increasing}
 use Rattle.redo_page.specs.Targets.{parts_if}
 use Rattle.redo_page.specs.Tree.{articles, failed_first, first_failures, first_failures_from, is_short, max_articles, node_at}
-use Rattle.redo_page.proofs.Ids.{Bare, Refer, Refers, badge_bare, bare_if, bare_refers, bare_then, link_refers, article_link_refers, reference, references, refer_each, refer_if, same_refer, then_refer}
+use Rattle.redo_page.proofs.Ids.{Bare, Refer, Refers, badge_bare, bare_if, bare_refers, bare_then, link_refers, article_link_refers, reference, references, refer_each, refer_if, same_refer, then_refer, words_bare}
 
 -- ---- places
 
@@ -101,6 +102,10 @@ articles_increase nodes = take_increases max_articles (first_failures nodes) (fi
 
 -- ---- paths
 
+pub article_took_bare : (took : Option ℕ) → Bare (article_took took)
+article_took_bare None = refl
+article_took_bare (Some ms) = words_bare [] (NamePart (32 ∷ 0xC2 ∷ 0xB7 ∷ 32 ∷ []) ∷ []) (duration_words ms) refl refl
+
 pub path_bare : (logs : List Log) (nodes : List Node) (levels : ℕ) (place : Option ℕ) → Bare (path_parts logs nodes levels place)
 unfolding path_parts
 path_bare logs nodes levels None = refl
@@ -177,7 +182,7 @@ module _ (count : ℕ) (listed : List ℕ) where
     article_refers place below =
         let node = node_at nodes place in
         same_refer {others = MarkupPart (markup.Article place) ∷ (in_tree_parts place (codes "its place in the tree") ++ output_parts logs place node)}
-        (simp (flat_map-append, append-nil, badge_bare node.status, path_bare logs nodes (max_path logs nodes) node.parent))
+        (simp (flat_map-append, append-nil, badge_bare node.status, article_took_bare node.took, path_bare logs nodes (max_path logs nodes) node.parent))
         (then_refer {parts = MarkupPart (markup.Article place) ∷ []} (record { target_ids_are = refl; article_ids_are = refl; target_links_lead = refl; article_links_lead = refl; sections_are = refl })
         (then_refer (in_tree_refers place (codes "its place in the tree") below) (output_refers place node below)))
 

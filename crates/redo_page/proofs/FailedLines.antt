@@ -18,7 +18,7 @@ use Rattle.redo_page.specs.Failed.{article_of, article_parts, max_path, nothing_
 use Rattle.redo_page.specs.Laws.{log_bytes, log_text}
 use Rattle.redo_page.specs.Tree.{is_short, node_at}
 use Rattle.redo_page.proofs.Ids.{badge_bare}
-use Rattle.redo_page.proofs.FailedIds.{path_bare}
+use Rattle.redo_page.proofs.FailedIds.{article_took_bare, path_bare}
 use Rattle.redo_page.proofs.TreeLines.{same_text}
 
 lines_text : (style : Style) (lines : List (List ℕ)) → log_bytes (line_parts style lines) ≡ flat_map with_line_feed lines
@@ -50,5 +50,5 @@ article_text logs nodes place short =
     let node = node_at nodes place in
     let link = in_tree_parts place (codes "its place in the tree") in
     same_text (article_parts logs nodes place) (MarkupPart (markup.Article place) ∷ (link ++ output_parts logs place node))
-    (simp (flat_map-append, append-nil, badge_bare node.status, path_bare logs nodes (max_path logs nodes) node.parent))
+    (simp (flat_map-append, append-nil, badge_bare node.status, article_took_bare node.took, path_bare logs nodes (max_path logs nodes) node.parent))
     ∙ flat_map-append log_text link (output_parts logs place node) ∙ ap (λ t. t ++ log_bytes (output_parts logs place node)) (in_tree_text place (codes "its place in the tree")) ∙ output_text logs place node short

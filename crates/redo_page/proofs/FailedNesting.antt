@@ -15,10 +15,11 @@ use Rattle.redo_outline.specs.declared.node.Node.{Node}
 use Rattle.redo_page.specs.Errors.{cause_of}
 use Rattle.redo_page.specs.Excerpt.{Stretch, error_position, excerpt_line_parts, excerpt_parts, in_tree_parts, is_kept, left_out_parts, stretch_parts, stretches_from}
 use Rattle.redo_page.specs.Excerpt.Stretch.{Shown, LeftOut}
-use Rattle.redo_page.specs.Failed.{article_of, article_parts, article_row, cause_if, cause_of_node, cause_parts, failed_above, failed_parts, is_unclosed, list_parts, max_path, max_rows, more_parts, nothing_parts, output_parts, path_parts, places_where, printed_by, row_parts, section_parts, target_row, unlisted_parts, whole_parts}
+use Rattle.redo_units.specs.Durations.{duration_words}
+use Rattle.redo_page.specs.Failed.{article_of, article_parts, article_took, article_row, cause_if, cause_of_node, cause_parts, failed_above, failed_parts, is_unclosed, list_parts, max_path, max_rows, more_parts, nothing_parts, output_parts, path_parts, places_where, printed_by, row_parts, section_parts, target_row, unlisted_parts, whole_parts}
 use Rattle.redo_page.specs.Tree.{first_failures, is_short, max_articles, node_at}
 use Rattle.redo_page.proofs.Nesting.{Leads, Nest, nest_if, nest_each, then_lead, joined}
-use Rattle.redo_page.proofs.TargetNesting.{badge_nests}
+use Rattle.redo_page.proofs.TargetNesting.{badge_nests, words_nest}
 
 in_tree_nests : (place : ℕ) (text : List ℕ) → Nest (in_tree_parts place text)
 unfolding in_tree_parts
@@ -81,6 +82,10 @@ module _ (logs : List Log) where
   unfolding row_parts
   row_nests causes node start = then_lead start (record { leads = λ around tags. simp (joined, (badge_nests node.status).leads, (cause_if_nests causes node).leads) })
 
+article_took_nests : (took : Option ℕ) → Nest (article_took took)
+article_took_nests None = record { leads = λ around tags. refl }
+article_took_nests (Some ms) = words_nest {inside = []} [] (NamePart (32 ∷ 0xC2 ∷ 0xB7 ∷ 32 ∷ []) ∷ []) (duration_words ms) (record { leads = λ around tags. refl }) (record { leads = λ around tags. refl })
+
 module _ (logs : List Log) (nodes : List Node) where
   path_nests : (levels : ℕ) (place : Option ℕ) → Nest (path_parts logs nodes levels place)
   unfolding path_parts
@@ -93,7 +98,7 @@ module _ (logs : List Log) (nodes : List Node) where
   article_nests place =
       let node = node_at nodes place in
       record {
-        leads = λ around tags. simp (joined, (badge_nests node.status).leads, (path_nests (max_path logs nodes) node.parent).leads, (in_tree_nests place (codes "its place in the tree")).leads, (output_nests logs place node).leads);
+        leads = λ around tags. simp (joined, (badge_nests node.status).leads, (article_took_nests node.took).leads, (path_nests (max_path logs nodes) node.parent).leads, (in_tree_nests place (codes "its place in the tree")).leads, (output_nests logs place node).leads);
       }
 
   -- ---- lists

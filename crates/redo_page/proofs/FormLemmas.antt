@@ -112,9 +112,9 @@ module _ (build : Build) (events : List Event) (same : events_of 0 (contents_of 
 abbrev pub tree_text : Build → List Event → List ℕ
 tree_text build events = bytes_of tree_bytes after_event (start_of build) events ++ flat_map part_html (end_parts (state_after after_event (start_of build) events).before ++ section_end)
 
-module _ (logs : List Log) (options : Options) (nodes : List Node) (places : List ℕ) (events : List Event) (same : events_of 0 (contents_of events) ≡ events) (outline : nodes ≡ outline_of logs events) (are : places ≡ articles nodes) where
+module _ (logs : List Log) (options : Options) (nodes : List Node) (places : List ℕ) (events : List Event) (same : events_of 0 (contents_of events) ≡ events) (outline : length nodes ≡ log_count (contents_of events)) (are : places ≡ articles nodes) where
   within_outline : log_count (contents_of events) ≤ length nodes
-  within_outline = let count = ap length outline ∙ node_count logs (target_status logs events) None 0 (contents_of events) in omega (arith, count)
+  within_outline = omega (arith, outline)
 
   pub whole_tree : flat_map part_html section_start ++ tree_text (record { logs = logs; options = options; nodes = nodes; articles = places }) events ≡ flat_map part_html (tree_parts logs options nodes (contents_of events))
   whole_tree =

@@ -1,17 +1,23 @@
 -- The frame of a page has no ids of targets and articles, and no links to them.
-use Rattle.std.proofs.Common.{◌≡◌, ℕ, List, [], ◌∷◌, ◌++◌, ℤ, Option, refl, sym, ◌∙◌}
-use Rattle.std.specs.Prelude.{◌==◌, not, is_none, length}
+use Rattle.std.proofs.Common.{◌≡◌, ℕ, ◌/◌, Bool, true, false, List, [], ◌∷◌, ◌++◌, ℤ, Option, None, Some, refl, sym, ◌∙◌}
+use Rattle.std.specs.Prelude.{◌==◌, codes, not, is_none, length}
 use Rattle.std.proofs.lemmas.Grind.{flat_map-append}
 use Rattle.redo_logs.specs.Logs.{Log}
-use Rattle.redo_html.specs.declared.markup.Markup.TheVariants.{FailedLink, TreeLink}
+use Rattle.redo_html.specs.declared.markup.Markup.TheVariants.{FailedLink, SummaryLink, TimelineLink, TreeLink, MetaParagraph, EndParagraph}
 use Rattle.redo_html.specs.Parts.{Part}
-use Rattle.redo_html.specs.Parts.Part.{MarkupPart}
+use Rattle.redo_html.specs.Parts.Part.{MarkupPart, NamePart}
 use Rattle.redo_outline.specs.declared.node.Node.{Node}
 use Rattle.redo_page.specs.declared.frame.Verdict.{Verdict}
 use Rattle.redo_page.specs.declared.frame.Verdict.TheVariants.{Failed, Unfinished, Made}
-use Rattle.redo_page.specs.Frame.{head_parts, requested_parts, root_parts, title_parts, failed_nav, header_parts, footer_parts}
-use Rattle.redo_page.specs.Targets.{target_at}
-use Rattle.redo_page.proofs.Ids.{Bare, Refers, badge_bare, bare_each, bare_if, references, same_refer}
+use Rattle.redo_page.specs.Frame.{began_parts, date_parts, head_parts, requested_parts, root_parts, timeline_nav, title_parts, failed_nav, header_parts, footer_parts}
+use Rattle.redo_page.specs.Targets.{parts_if}
+use Rattle.redo_page.specs.Words.{words_parts}
+use Rattle.redo_summary.specs.Summary.{Facts, is_timed}
+use Rattle.redo_timeline.specs.declared.span.Window.{Window}
+use Rattle.redo_units.specs.Dates.{date_text_of}
+use Rattle.redo_units.specs.Durations.{duration_words}
+use Rattle.redo_outline.specs.Facts.{target_at}
+use Rattle.redo_page.proofs.Ids.{Bare, Refers, badge_bare, bare_each, bare_if, bare_then, references, same_refer, words_bare}
 
 pub head_bare : (title : List ℕ) (verdict : Verdict) → Bare (head_parts title verdict)
 head_bare title Failed = refl
@@ -38,22 +44,50 @@ failed_nav_same Failed = refl
 failed_nav_same Unfinished = refl
 failed_nav_same Made = refl
 
-link_refers : {count : ℕ} {articles : List ℕ} (verdict : Verdict) → Refers count articles (failed_link verdict ++ MarkupPart TreeLink ∷ []) [] [] (failed_link verdict ++ MarkupPart TreeLink ∷ [])
-link_refers Failed = record { target_ids_are = refl; article_ids_are = refl; target_links_lead = refl; article_links_lead = refl; sections_are = refl }
-link_refers Unfinished = record { target_ids_are = refl; article_ids_are = refl; target_links_lead = refl; article_links_lead = refl; sections_are = refl }
-link_refers Made = record { target_ids_are = refl; article_ids_are = refl; target_links_lead = refl; article_links_lead = refl; sections_are = refl }
+abbrev pub timeline_link : Bool → List Part
+timeline_link timed = parts_if timed (MarkupPart TimelineLink ∷ [])
 
-links_same : (verdict : Verdict) → references (failed_link verdict ++ MarkupPart TreeLink ∷ []) ≡ failed_link verdict ++ MarkupPart TreeLink ∷ []
-links_same Failed = refl
-links_same Unfinished = refl
-links_same Made = refl
+timeline_nav_same : (timed : Bool) → references (timeline_nav timed) ≡ timeline_link timed
+timeline_nav_same true = refl
+timeline_nav_same false = refl
 
-header_same : (title : List ℕ) (logs : List Log) (verdict : Verdict) (heading : List ℕ) (nodes : List Node) → references (header_parts title logs verdict heading nodes) ≡ failed_link verdict ++ MarkupPart TreeLink ∷ []
-header_same title logs verdict heading nodes = simp (flat_map-append, title_bare title, bare_each (root_parts logs) (root_bare logs) nodes, failed_nav_same verdict)
+-- The links to sections.
+abbrev pub links : Verdict → Bool → List Part
+links verdict timed = failed_link verdict ++ (MarkupPart SummaryLink ∷ (timeline_link timed ++ MarkupPart TreeLink ∷ []))
 
-pub header_refers : {count : ℕ} {articles : List ℕ} (title : List ℕ) (logs : List Log) (verdict : Verdict) (heading : List ℕ) (nodes : List Node)
-    → Refers count articles (header_parts title logs verdict heading nodes) [] [] (failed_link verdict ++ MarkupPart TreeLink ∷ [])
-header_refers title logs verdict heading nodes = same_refer (header_same title logs verdict heading nodes ∙ sym (links_same verdict)) (link_refers verdict)
+links_refer : {count : ℕ} {articles : List ℕ} (verdict : Verdict) (timed : Bool) → Refers count articles (links verdict timed) [] [] (links verdict timed)
+links_refer Failed true = record { target_ids_are = refl; article_ids_are = refl; target_links_lead = refl; article_links_lead = refl; sections_are = refl }
+links_refer Failed false = record { target_ids_are = refl; article_ids_are = refl; target_links_lead = refl; article_links_lead = refl; sections_are = refl }
+links_refer Unfinished true = record { target_ids_are = refl; article_ids_are = refl; target_links_lead = refl; article_links_lead = refl; sections_are = refl }
+links_refer Unfinished false = record { target_ids_are = refl; article_ids_are = refl; target_links_lead = refl; article_links_lead = refl; sections_are = refl }
+links_refer Made true = record { target_ids_are = refl; article_ids_are = refl; target_links_lead = refl; article_links_lead = refl; sections_are = refl }
+links_refer Made false = record { target_ids_are = refl; article_ids_are = refl; target_links_lead = refl; article_links_lead = refl; sections_are = refl }
+
+links_same : (verdict : Verdict) (timed : Bool) → references (links verdict timed) ≡ links verdict timed
+links_same Failed true = refl
+links_same Failed false = refl
+links_same Unfinished true = refl
+links_same Unfinished false = refl
+links_same Made true = refl
+links_same Made false = refl
+
+date_bare : (date : Option (List ℕ)) → Bare (date_parts date)
+date_bare None = refl
+date_bare (Some date) = refl
+
+began_bare : (window : Option Window) (took : ℕ) → Bare (began_parts window took)
+began_bare None took = refl
+began_bare (Some window) took =
+    bare_then (MarkupPart MetaParagraph ∷ date_parts (date_text_of (window.began / 1000))) (NamePart (codes "took ") ∷ (words_parts (duration_words took) ++ MarkupPart EndParagraph ∷ [])) (date_bare (date_text_of (window.began / 1000)))
+    (words_bare (NamePart (codes "took ") ∷ []) (MarkupPart EndParagraph ∷ []) (duration_words took) refl refl)
+
+header_same : (title : List ℕ) (logs : List Log) (verdict : Verdict) (heading : List ℕ) (nodes : List Node) (facts : Facts) → references (header_parts title logs verdict heading nodes facts) ≡ links verdict (is_timed facts)
+header_same title logs verdict heading nodes facts =
+    simp (flat_map-append, title_bare title, bare_each (root_parts logs) (root_bare logs) nodes, began_bare facts.window facts.took, failed_nav_same verdict, timeline_nav_same (is_timed facts))
+
+pub header_refers : {count : ℕ} {articles : List ℕ} (title : List ℕ) (logs : List Log) (verdict : Verdict) (heading : List ℕ) (nodes : List Node) (facts : Facts)
+    → Refers count articles (header_parts title logs verdict heading nodes facts) [] [] (links verdict (is_timed facts))
+header_refers title logs verdict heading nodes facts = same_refer (header_same title logs verdict heading nodes facts ∙ sym (links_same verdict (is_timed facts))) (links_refer verdict (is_timed facts))
 
 pub footer_bare : (dir command : List ℕ) (logs : ℕ) → Bare (footer_parts dir command logs)
 unfolding footer_parts

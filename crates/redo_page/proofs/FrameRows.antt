@@ -14,7 +14,10 @@ use Rattle.redo_logs.specs.Logs.{Log}
 use Rattle.redo_options.specs.declared.options.Options.{Options}
 use Rattle.redo_outline.specs.declared.node.Node.{Node}
 use Rattle.redo_page.specs.declared.frame.Verdict.TheVariants.{Failed, Unfinished, Made}
-use Rattle.redo_page.specs.Frame.{argument, body_markup, command, failed_nav, footer_parts, head_parts, header_parts, is_safe, log_count_parts, quoted, root_parts, sign_text, title_parts, title_text, titled, top_heading_parts, verdict_of, verdict_text}
+use Rattle.redo_summary.specs.Summary.{Facts}
+use Rattle.redo_timeline.specs.declared.span.Window.{Window}
+use Rattle.redo_units.specs.Dates as dates
+use Rattle.redo_page.specs.Frame.{began_parts, timeline_nav, argument, body_markup, command, failed_nav, footer_parts, head_parts, header_parts, is_safe, log_count_parts, quoted, root_parts, sign_text, title_parts, title_text, titled, top_heading_parts, verdict_of, verdict_text}
 
 abbrev tag : Markup → Part
 tag markup = MarkupPart markup
@@ -110,15 +113,36 @@ navs_are :
     × (failed_nav Unfinished ≡ []) × (failed_nav Made ≡ [])
 navs_are = (refl, refl, refl)
 
+-- What is known of times: a window, and how long it took.
+abbrev facts : Option Window → ℕ → Facts
+facts window took = record { window = window; took = took; parents = []; recipes = []; marks = []; sum = 0; most = 0; warnings = 0; bytes = 0; longest = []; warned = [] }
+
+-- A number of seconds from the year 10000 on has no date.
+began_are :
+    (began_parts None 5 ≡ [])
+    × (began_parts (Some (record { began = 253402300800000; width = 1 })) 0
+    ≡ tag markup.MetaParagraph ∷ words (codes "took ") ∷ number 0 ∷ words (codes ".") ∷ number 0 ∷ number 0 ∷ words (codes " s") ∷ tag markup.EndParagraph ∷ [])
+unfolding dates.date_text_of dates.date_parts dates.period_of
+began_are = (refl, refl)
+
+timeline_navs_are :
+    (timeline_nav true ≡ tag markup.Item ∷ tag markup.TimelineLink ∷ words (codes "Timeline") ∷ tag markup.EndLink ∷ tag markup.EndItem ∷ [])
+    × (timeline_nav false ≡ [])
+timeline_navs_are = (refl, refl)
+
 header_is :
-    header_parts (codes "t") logs Failed (codes "h") (made ∷ [])
+    header_parts (codes "t") logs Failed (codes "h") (made ∷ []) (facts (Some (record { began = 1795829211999; width = 1 })) 61000)
     ≡ tag markup.Header ∷ tag markup.Title1 ∷ tag markup.Sign ∷ words (0xE2 ∷ 0x9C ∷ 0x97 ∷ []) ∷ tag markup.EndSign ∷ words (codes " ") ∷ words (codes "h") ∷ tag markup.EndTitle1
     ∷ tag markup.Paragraph ∷ words (codes "t") ∷ tag markup.EndParagraph
     ∷ tag markup.Paragraph ∷ tag markup.Bdi ∷ words (codes "a") ∷ tag markup.EndBdi ∷ tag markup.EndParagraph
+    ∷ tag markup.MetaParagraph ∷ words (codes "Sat, 28 Nov 2026 01:26:51 GMT") ∷ words (32 ∷ 0xC2 ∷ 0xB7 ∷ 32 ∷ []) ∷ words (codes "took ")
+    ∷ number 1 ∷ words (codes " min ") ∷ number 0 ∷ number 1 ∷ words (codes " s") ∷ tag markup.EndParagraph
     ∷ tag markup.EndHeader ∷ tag markup.Nav ∷ tag markup.Unordered
     ∷ tag markup.Item ∷ tag markup.FailedLink ∷ words (codes "What failed") ∷ tag markup.EndLink ∷ tag markup.EndItem
+    ∷ tag markup.Item ∷ tag markup.SummaryLink ∷ words (codes "Summary") ∷ tag markup.EndLink ∷ tag markup.EndItem
     ∷ tag markup.Item ∷ tag markup.TreeLink ∷ words (codes "All logs") ∷ tag markup.EndLink ∷ tag markup.EndItem
     ∷ tag markup.EndUnordered ∷ tag markup.EndNav ∷ tag markup.Main ∷ []
+unfolding dates.date_text_of dates.date_parts dates.period_of
 header_is = refl
 
 -- ---- the end

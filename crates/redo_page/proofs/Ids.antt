@@ -1,13 +1,13 @@
 -- The ids and the links of parts of a page.
 use Rattle.std.proofs.Common.{◌≡◌, ℕ, Bool, true, false, List, [], ◌∷◌, ◌++◌, ℤ, Option, None, Some, refl, sym, ◌∙◌, ap}
-use Rattle.std.specs.Prelude.{◌==◌, not, nat_lt, if◌then◌else◌}
+use Rattle.std.specs.Prelude.{◌==◌, codes, not, nat_lt, if◌then◌else◌}
 use Rattle.std.specs.List.{flat_map, list_all}
 use Rattle.std.proofs.lemmas.Bool.{and_from}
 use Rattle.std.proofs.lemmas.List.{append-nil}
 use Rattle.std.proofs.lemmas.List.Folds.{list_all-append}
 use Rattle.std.proofs.lemmas.Grind.{flat_map-append}
 use Rattle.redo_html.specs.declared.markup.Markup.{Markup}
-use Rattle.redo_html.specs.declared.markup.Markup.TheVariants.{FailedSection, SummarySection, TimelineSection, TreeSection, FailedLink, SummaryLink, TimelineLink, TreeLink, TargetLink, OutputLink, Article, TargetItem, Details, OpenDetails}
+use Rattle.redo_html.specs.declared.markup.Markup.TheVariants.{FailedSection, SummarySection, TimelineSection, TreeSection, FailedLink, SummaryLink, TimelineLink, TreeLink, TargetLink, OutputLink, Article, TargetItem, Details, OpenDetails, Small, EndSmall}
 use Rattle.redo_html.specs.Chart.{drawing_links}
 use Rattle.redo_html.specs.Parts.{Part}
 use Rattle.redo_html.specs.Parts.Part.{MarkupPart, LogPart, NamePart, NumberPart, TitlePart, StylePart, ChartPart, MeterPart}
@@ -15,7 +15,11 @@ use Rattle.redo_page.specs.Laws.{target_id, target_ids, target_link, target_link
 use Rattle.redo_line.specs.declared.entry.How.{How}
 use Rattle.redo_outline.specs.declared.node.Node.{Node}
 use Rattle.redo_outline.specs.Facts.{is_failure}
-use Rattle.redo_page.specs.Targets.{name_parts, exit_parts, badge_parts, lines_parts, warnings_parts, below_parts, warnings_below_parts, facts_parts, how_parts, linked_parts, parts_if}
+use Rattle.redo_page.specs.Targets.{name_parts, exit_parts, badge_parts, lines_parts, warnings_parts, below_parts, warnings_below_parts, facts_parts, how_parts, linked_parts, parts_if, took_parts}
+use Rattle.redo_page.specs.Words.{word_part, words_parts}
+use Rattle.redo_units.specs.Durations.{duration_words}
+use Rattle.redo_units.specs.Words.{WordValue}
+use Rattle.redo_units.specs.Words.WordValue.{NumberWord, TextWord}
 
 -- Whether a tag begins a section, or leads to one.
 abbrev pub is_section : Markup → Bool
@@ -194,11 +198,24 @@ warnings_bare warnings = bare_if (not (warnings == 0)) _ refl
 below_bare : (below : ℕ) → Bare (below_parts below)
 below_bare below = bare_if (not (below == 0)) _ refl
 
+pub word_bare : (word : WordValue) → Bare (word_part word)
+word_bare (NumberWord number) = refl
+word_bare (TextWord text) = refl
+
+-- Words between parts without references.
+pub words_bare : (before after : List Part) (words : List WordValue) → Bare before → Bare after → Bare (before ++ (words_parts words ++ after))
+words_bare before after words first last =
+    bare_then before (words_parts words ++ after) first (bare_then (words_parts words) after (bare_each word_part word_bare words) last)
+
+pub took_bare : (took : Option ℕ) → Bare (took_parts took)
+took_bare None = refl
+took_bare (Some ms) = words_bare (NamePart (codes " ") ∷ MarkupPart Small ∷ []) (MarkupPart EndSmall ∷ []) (duration_words ms) refl refl
+
 warnings_below_bare : (warnings : ℕ) → Bare (warnings_below_parts warnings)
 warnings_below_bare warnings = bare_if (not (warnings == 0)) _ refl
 
 pub facts_bare : (node : Node) → Bare (facts_parts node)
-facts_bare node = simp (flat_map-append, badge_bare node.status, lines_bare node.lines, warnings_bare node.warnings, below_bare node.below, warnings_below_bare node.warnings_below)
+facts_bare node = simp (flat_map-append, badge_bare node.status, took_bare node.took, lines_bare node.lines, warnings_bare node.warnings, below_bare node.below, warnings_below_bare node.warnings_below)
 
 pub how_bare : (shown : Bool) (how : How) → Bare (how_parts shown how)
 how_bare shown how = bare_if shown _ refl

@@ -28,6 +28,8 @@ mod PartLoops
 mod PrintedLemmas
 mod ShownLemmas
 mod StackLemmas
+mod SummaryIds
+mod SummaryNesting
 mod TargetNesting
 mod TargetRows
 mod TextLemmas

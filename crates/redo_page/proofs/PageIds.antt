@@ -3,10 +3,10 @@ use Rattle.std.proofs.Common.{◌≡◌, ℕ, zero, suc, ◌+◌, ◌<◌, ◌�
 use Rattle.std.specs.Prelude.{◌==◌, ◌||◌, nat_lt, length, if◌then◌else◌}
 use Rattle.std.specs.List.{flat_map, list_all, list_any}
 use Rattle.std.proofs.lemmas.Bool.{and_from, and_parts, eqb-false, ltb-true}
-use Rattle.std.proofs.lemmas.List.{append-nil}
+use Rattle.std.proofs.lemmas.List.{append-nil, length-map}
 use Rattle.redo_logs.specs.Logs.{Log}
 use Rattle.redo_html.specs.declared.markup.Markup.{Markup}
-use Rattle.redo_html.specs.declared.markup.Markup.TheVariants.{FailedSection, TreeLink, TreeSection}
+use Rattle.redo_html.specs.declared.markup.Markup.TheVariants.{FailedSection, SummarySection, TimelineSection, TreeSection}
 use Rattle.redo_html.specs.Parts.{Part}
 use Rattle.redo_html.specs.Parts.Part.{MarkupPart}
 use Rattle.redo_page.specs.Targets.{parts_if}
@@ -14,18 +14,23 @@ use Rattle.std.proofs.lemmas.Grind.{flat_map-append}
 use Rattle.redo_outline.specs.declared.node.Node.{Node}
 use Rattle.redo_outline.specs.Contents.{contents_of}
 use Rattle.redo_outline.specs.Facts.{target_status}
-use Rattle.redo_outline.specs.Outline.{log_count}
+use Rattle.redo_outline.specs.Outline.{log_count, outline_of, with_duration}
 use Rattle.std.specs.Prelude.{None}
 use Rattle.redo_page.specs.declared.frame.Verdict.TheVariants.{Failed, Unfinished, Made}
 use Rattle.redo_page.specs.Frame.{command, footer_parts, head_parts, is_unfinished, title_text, verdict_of}
 use Rattle.redo_page.specs.Laws.{article_ids, article_links, is_among, numbers_from, section_id, section_ids, section_link, section_links, target_ids, target_links}
 use Rattle.redo_page.specs.declared.frame.Verdict.{Verdict}
-use Rattle.redo_page.specs.Page.{Request, heading_of, options_of, page_events, page_outline, page_parts, top_parts_of}
+use Rattle.redo_page.specs.Page.{Request, durations_of, heading_of, options_of, page_events, page_facts, page_outline, page_parts, top_parts_of}
 use Rattle.redo_page.specs.Tree.{articles, first_failures}
 use Rattle.redo_page.proofs.Ids.{Refers, bare_refers, section, then_refer}
-use Rattle.redo_page.proofs.FrameIds.{failed_link, footer_bare, head_bare, header_refers}
+use Rattle.redo_page.proofs.FrameIds.{footer_bare, head_bare, header_refers, links}
 use Rattle.redo_page.proofs.FailedIds.{failed_refers, failed_section}
+use Rattle.redo_page.proofs.SummaryIds.{summary_refers}
 use Rattle.redo_page.proofs.TreeIds.{nodes_counted, tree_refers}
+use Rattle.redo_summary.specs.Laws.{AreOfNodes}
+use Rattle.redo_summary.specs.Summary.{Facts, is_timed, summary_of}
+use Rattle.redo_times.specs.declared.times.Times.{Times}
+use Rattle.redo_view.specs.Event.{Event}
 
 pub all_weaker : (passes others : ℕ → Bool) → ((number : ℕ) → passes number ≡ true → others number ≡ true) → (numbers : List ℕ) → list_all passes numbers ≡ true → list_all others numbers ≡ true
 all_weaker passes others weaker [] all = refl
@@ -64,49 +69,72 @@ section_link_part (MarkupPart markup) = by markup
 section_link_part part = refl
 
 -- The tags of sections before the tree.
-abbrev top_sections : Verdict → List ℕ → List Part
-top_sections verdict first = (failed_link verdict ++ MarkupPart TreeLink ∷ []) ++ failed_section first
+abbrev top_sections : Verdict → Bool → List Part → List Part
+top_sections verdict timed failed = links verdict timed ++ (failed ++ MarkupPart SummarySection ∷ [])
 
-top_refers : (title : List ℕ) (logs : List Log) (verdict : Verdict) (title_is heading : List ℕ) (nodes : List Node)
-    → Refers (length nodes) (articles nodes) (top_parts_of title logs verdict title_is heading nodes) [] (articles nodes ++ []) (top_sections verdict (first_failures nodes))
-unfolding top_parts_of
-top_refers title logs verdict title_is heading nodes =
-    then_refer (bare_refers (head_parts title_is verdict) (head_bare title_is verdict))
-    (then_refer (header_refers title logs verdict heading nodes) (failed_refers logs nodes))
+-- The tags of sections of a page.
+abbrev page_sections : Verdict → Bool → List Part → List Part
+page_sections verdict timed failed = top_sections verdict timed failed ++ (parts_if timed (MarkupPart TimelineSection ∷ []) ++ MarkupPart TreeSection ∷ [])
+
+module _ (nodes : List Node) (facts : Facts) (places : AreOfNodes nodes facts) where
+  top_refers : (title : List ℕ) (logs : List Log) (verdict : Verdict) (title_is heading : List ℕ)
+      → Refers (length nodes) (articles nodes) (top_parts_of title logs verdict title_is heading nodes facts) [] ((articles nodes ++ []) ++ []) (top_sections verdict (is_timed facts) (failed_section (first_failures nodes)))
+  unfolding top_parts_of
+  top_refers title logs verdict title_is heading =
+      then_refer (bare_refers (head_parts title_is verdict) (head_bare title_is verdict))
+      (then_refer (header_refers title logs verdict heading nodes facts) (then_refer (failed_refers logs nodes) (summary_refers (length nodes) (articles nodes) logs nodes facts places.longest places.warned)))
 
 -- There is a link to each section.
-sections_linked : (nodes : List Node) → section_links (top_sections (verdict_of nodes) (first_failures nodes) ++ MarkupPart TreeSection ∷ []) ≡ section_ids (top_sections (verdict_of nodes) (first_failures nodes) ++ MarkupPart TreeSection ∷ [])
-sections_linked nodes = by (nat_lt 0 (length (first_failures nodes))) (list_any is_unfinished nodes)
+sections_linked : (nodes : List Node) (timed : Bool) → section_links (page_sections (verdict_of nodes) timed (failed_section (first_failures nodes))) ≡ section_ids (page_sections (verdict_of nodes) timed (failed_section (first_failures nodes)))
+sections_linked nodes timed = by (nat_lt 0 (length (first_failures nodes))) (list_any is_unfinished nodes) timed
   where
-    by : (some unfinished : Bool)
-        → section_links (((failed_link (if some then Failed else if unfinished then Unfinished else Made) ++ MarkupPart TreeLink ∷ []) ++ parts_if some (MarkupPart FailedSection ∷ [])) ++ MarkupPart TreeSection ∷ [])
-        ≡ section_ids (((failed_link (if some then Failed else if unfinished then Unfinished else Made) ++ MarkupPart TreeLink ∷ []) ++ parts_if some (MarkupPart FailedSection ∷ [])) ++ MarkupPart TreeSection ∷ [])
-    by true unfinished = refl
-    by false true = refl
-    by false false = refl
+    by : (some unfinished timed : Bool)
+        → section_links (page_sections (if some then Failed else if unfinished then Unfinished else Made) timed (parts_if some (MarkupPart FailedSection ∷ [])))
+        ≡ section_ids (page_sections (if some then Failed else if unfinished then Unfinished else Made) timed (parts_if some (MarkupPart FailedSection ∷ [])))
+    by true unfinished true = refl
+    by true unfinished false = refl
+    by false true true = refl
+    by false true false = refl
+    by false false true = refl
+    by false false false = refl
 
-module _ (request : Request) (logs : List Log) (requested : List (List ℕ)) where
+-- The places that the times of shown targets lead to are those of nodes.
+abbrev pub HavePlaces : Type 0
+HavePlaces = (nodes : List Node) (times : List Times) → AreOfNodes nodes (summary_of nodes times)
+
+module _ (have : HavePlaces) (request : Request) (logs : List Log) (requested : List (List ℕ)) where
   abbrev parts : List Part
   parts = page_parts request logs requested
 
   abbrev nodes : List Node
   nodes = page_outline request logs requested
 
-  page_refers : Refers (length nodes) (articles nodes) parts (numbers_from 0 (log_count (contents_of (page_events request logs requested))) ++ []) ((articles nodes ++ []) ++ [])
-      (top_sections (verdict_of nodes) (first_failures nodes) ++ MarkupPart TreeSection ∷ [])
+  abbrev facts : Facts
+  facts = page_facts request logs requested
+
+  abbrev events : List Event
+  events = page_events request logs requested
+
+  -- There is a node for each log that is opened.
+  counted : length nodes ≡ log_count (contents_of events)
+  counted =
+      length-map (outline_of logs events) (with_duration (durations_of request.times)) ∙ nodes_counted logs (target_status logs events) None 0 (contents_of events)
+
+  page_refers : Refers (length nodes) (articles nodes) parts (numbers_from 0 (log_count (contents_of (page_events request logs requested))) ++ []) (((articles nodes ++ []) ++ []) ++ [])
+      (page_sections (verdict_of nodes) (is_timed facts) (failed_section (first_failures nodes)))
   unfolding page_parts
   page_refers =
-      then_refer (top_refers request.title logs (verdict_of nodes) (title_text request.title (verdict_of nodes) (heading_of nodes)) (heading_of nodes) nodes)
+      then_refer (top_refers nodes facts (have nodes request.times) request.title logs (verdict_of nodes) (title_text request.title (verdict_of nodes) (heading_of nodes)) (heading_of nodes))
       (then_refer (tree_refers logs (options_of request) nodes (contents_of (page_events request logs requested)))
       (bare_refers (footer_parts request.dir (command request.dir (options_of request) requested) (length nodes)) (footer_bare request.dir (command request.dir (options_of request) requested) (length nodes))))
 
   pub page_target_ids : target_ids parts ≡ numbers_from 0 (length nodes)
   page_target_ids =
       page_refers.target_ids_are ∙ append-nil (numbers_from 0 (log_count (contents_of (page_events request logs requested))))
-      ∙ ap (numbers_from 0) (sym (nodes_counted logs (target_status logs (page_events request logs requested)) None 0 (contents_of (page_events request logs requested))))
+      ∙ ap (numbers_from 0) (sym counted)
 
   pub page_article_ids : article_ids parts ≡ articles nodes
-  page_article_ids = page_refers.article_ids_are ∙ append-nil (articles nodes ++ []) ∙ append-nil (articles nodes)
+  page_article_ids = page_refers.article_ids_are ∙ append-nil ((articles nodes ++ []) ++ []) ∙ append-nil (articles nodes ++ []) ∙ append-nil (articles nodes)
 
   pub page_target_links : list_all (is_among (target_ids parts)) (target_links parts) ≡ true
   page_target_links =
@@ -118,5 +146,4 @@ module _ (request : Request) (logs : List Log) (requested : List (List ℕ)) whe
 
   pub page_section_links : section_links parts ≡ section_ids parts
   page_section_links =
-      let sections = top_sections (verdict_of nodes) (first_failures nodes) ++ MarkupPart TreeSection ∷ [] in
-      in_sections section_link section_link_part parts ∙ ap section_links page_refers.sections_are ∙ sections_linked nodes ∙ sym (ap section_ids page_refers.sections_are) ∙ sym (in_sections section_id section_id_part parts)
+      in_sections section_link section_link_part parts ∙ ap section_links page_refers.sections_are ∙ sections_linked nodes (is_timed facts) ∙ sym (ap section_ids page_refers.sections_are) ∙ sym (in_sections section_id section_id_part parts)

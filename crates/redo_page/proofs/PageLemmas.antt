@@ -18,7 +18,8 @@ use Rattle.redo_outline.specs.declared.node.Node.{Node}
 use Rattle.redo_outline.specs.Contents.{contents_of}
 use Rattle.redo_page.specs.declared.page.Texts.{Texts}
 use Rattle.redo_page.specs.Frame.{command, footer_parts, title_text, verdict_of}
-use Rattle.redo_page.specs.Page.{Request, heading_of, options_of, page_html, page_outline, page_parts, top_parts, top_parts_of}
+use Rattle.redo_summary.specs.Summary.{Facts, summary_of}
+use Rattle.redo_page.specs.Page.{Request, heading_of, options_of, page_facts, page_html, page_outline, page_parts, top_parts, top_parts_of}
 use Rattle.redo_page.specs.Private.PageTexts.{AreTexts}
 use Rattle.redo_page.specs.Tree.{tree_parts}
 
@@ -47,8 +48,8 @@ module _ (before : Option Output) where
 -- ---- the three stages of a page
 
 module _ (request : Request) (logs : List Log) (requested : List (List ℕ)) (texts : Texts) where
-  abbrev pub top_html : List Node → List ℕ
-  top_html nodes = flat_map part_html (top_parts_of request.title logs texts.verdict texts.title.items texts.heading.items nodes)
+  abbrev pub top_html : List Node → Facts → List ℕ
+  top_html nodes facts = flat_map part_html (top_parts_of request.title logs texts.verdict texts.title.items texts.heading.items nodes facts)
 
   abbrev pub tree_html : Options → List Node → List ℕ
   tree_html options outline = flat_map part_html (tree_parts logs options outline (contents_of (shown_events logs options requested)))
@@ -58,28 +59,30 @@ module _ (request : Request) (logs : List Log) (requested : List (List ℕ)) (te
 
   -- The page is its three stages.
   stages_of_page : AreTexts request (options_of request) requested (page_outline request logs requested) texts
-      → top_html (page_outline request logs requested) ++ (tree_html (options_of request) (page_outline request logs requested) ++ bottom_html (length (page_outline request logs requested))) ≡ page_html request logs requested
+      → top_html (page_outline request logs requested) (page_facts request logs requested) ++ (tree_html (options_of request) (page_outline request logs requested) ++ bottom_html (length (page_outline request logs requested))) ≡ page_html request logs requested
   unfolding page_parts
   stages_of_page are =
       let nodes = page_outline request logs requested in
-      let top_is : top_parts_of request.title logs texts.verdict texts.title.items texts.heading.items nodes ≡ top_parts request.title logs nodes =
-      ap (λ v. top_parts_of request.title logs v texts.title.items texts.heading.items nodes) are.verdict
-      ∙ ap (λ t. top_parts_of request.title logs (verdict_of nodes) t texts.heading.items nodes) are.title
-      ∙ ap (λ h. top_parts_of request.title logs (verdict_of nodes) (title_text request.title (verdict_of nodes) (heading_of nodes)) h nodes) are.heading in
+      let facts = page_facts request logs requested in
+      let top_is : top_parts_of request.title logs texts.verdict texts.title.items texts.heading.items nodes facts ≡ top_parts request.title logs nodes facts =
+      ap (λ v. top_parts_of request.title logs v texts.title.items texts.heading.items nodes facts) are.verdict
+      ∙ ap (λ t. top_parts_of request.title logs (verdict_of nodes) t texts.heading.items nodes facts) are.title
+      ∙ ap (λ h. top_parts_of request.title logs (verdict_of nodes) (title_text request.title (verdict_of nodes) (heading_of nodes)) h nodes facts) are.heading in
       let last = footer_parts request.dir (command request.dir (options_of request) requested) (length nodes) in
       let last_is : footer_parts request.dir texts.command.items (length nodes) ≡ last = ap (λ c. footer_parts request.dir c (length nodes)) are.command in
       let tree = tree_parts logs (options_of request) nodes (contents_of (shown_events logs (options_of request) requested)) in
       ap (λ t. flat_map part_html t ++ (flat_map part_html tree ++ bottom_html (length nodes))) top_is
-      ∙ ap (λ b. flat_map part_html (top_parts request.title logs nodes) ++ (flat_map part_html tree ++ flat_map part_html b)) last_is
-      ∙ ap (λ r. flat_map part_html (top_parts request.title logs nodes) ++ r) (sym (flat_map-append part_html tree last))
-      ∙ sym (flat_map-append part_html (top_parts request.title logs nodes) (tree ++ last))
+      ∙ ap (λ b. flat_map part_html (top_parts request.title logs nodes facts) ++ (flat_map part_html tree ++ flat_map part_html b)) last_is
+      ∙ ap (λ r. flat_map part_html (top_parts request.title logs nodes facts) ++ r) (sym (flat_map-append part_html tree last))
+      ∙ sym (flat_map-append part_html (top_parts request.title logs nodes facts) (tree ++ last))
 
-  pub page_splits : (options : Options) (outline nodes : List Node) → options ≡ options_of request → outline ≡ page_outline request logs requested → nodes ≡ outline → AreTexts request options requested nodes texts
-      → top_html nodes ++ (tree_html options outline ++ bottom_html (length nodes)) ≡ page_html request logs requested
-  page_splits options outline nodes options_are outline_is nodes_are are =
+  pub page_splits : (options : Options) (outline nodes : List Node) (facts : Facts) → facts ≡ summary_of nodes request.times → options ≡ options_of request → outline ≡ page_outline request logs requested → nodes ≡ outline → AreTexts request options requested nodes texts
+      → top_html nodes facts ++ (tree_html options outline ++ bottom_html (length nodes)) ≡ page_html request logs requested
+  page_splits options outline nodes facts facts_are options_are outline_is nodes_are are =
       let nodes_is = nodes_are ∙ outline_is in
       let texts_are = subst (λ n. AreTexts request (options_of request) requested n texts) nodes_is (subst (λ o. AreTexts request o requested nodes texts) options_are are) in
-      ap (λ n. top_html n ++ (tree_html options outline ++ bottom_html (length n))) nodes_is
-      ∙ ap (λ o. top_html (page_outline request logs requested) ++ (tree_html o outline ++ bottom_html (length (page_outline request logs requested)))) options_are
-      ∙ ap (λ n. top_html (page_outline request logs requested) ++ (tree_html (options_of request) n ++ bottom_html (length (page_outline request logs requested)))) outline_is
+      ap (λ f. top_html nodes f ++ (tree_html options outline ++ bottom_html (length nodes))) facts_are
+      ∙ ap (λ n. top_html n (summary_of n request.times) ++ (tree_html options outline ++ bottom_html (length n))) nodes_is
+      ∙ ap (λ o. top_html (page_outline request logs requested) (page_facts request logs requested) ++ (tree_html o outline ++ bottom_html (length (page_outline request logs requested)))) options_are
+      ∙ ap (λ n. top_html (page_outline request logs requested) (page_facts request logs requested) ++ (tree_html (options_of request) n ++ bottom_html (length (page_outline request logs requested)))) outline_is
       ∙ stages_of_page texts_are

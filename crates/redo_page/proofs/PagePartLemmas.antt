@@ -13,8 +13,10 @@ use Rattle.redo_page.specs.declared.frame.Verdict.{Verdict}
 use Rattle.redo_page.specs.Failed.{article_parts, failed_above, failed_parts, is_unclosed, list_parts, more_parts, places_where, section_parts}
 use Rattle.redo_page.specs.Frame.{command, footer_parts, head_parts, header_parts, title_text, verdict_of}
 use Rattle.redo_page.specs.Laws.{IsPartOf, is_among, page_article, page_tree}
-use Rattle.redo_page.specs.Page.{Request, heading_of, options_of, page_outline, page_parts, top_parts, top_parts_of}
+use Rattle.redo_page.specs.Page.{Request, heading_of, options_of, page_facts, page_outline, page_parts, top_parts, top_parts_of}
+use Rattle.redo_page.specs.Summary.{summary_parts}
 use Rattle.redo_page.specs.Targets.{parts_if}
+use Rattle.redo_summary.specs.Summary.{Facts}
 use Rattle.redo_page.specs.Tree.{articles, first_failures, max_articles}
 
 part_of_itself : (parts : List Part) (after : List Part) → IsPartOf parts (parts ++ after)
@@ -66,10 +68,11 @@ failed_has_article logs nodes place among = by (first_failures nodes) among
         some (nat_lt 0 (length (other ∷ places))) (lt-ltb 0 (length (other ∷ places)) (omega arith))
         (section_has_article logs nodes (take max_articles (other ∷ places)) (drop max_articles (other ∷ places)) (places_where failed_above 0 nodes) (places_where is_unclosed 0 nodes) place is)
 
-top_has_article : (title : List ℕ) (logs : List Log) (verdict : Verdict) (title_is heading : List ℕ) (nodes : List Node) (place : ℕ) → is_among (articles nodes) place ≡ true → IsPartOf (article_parts logs nodes place) (top_parts_of title logs verdict title_is heading nodes)
+top_has_article : (title : List ℕ) (logs : List Log) (verdict : Verdict) (title_is heading : List ℕ) (nodes : List Node) (facts : Facts) (place : ℕ) → is_among (articles nodes) place ≡ true
+    → IsPartOf (article_parts logs nodes place) (top_parts_of title logs verdict title_is heading nodes facts)
 unfolding top_parts_of
-top_has_article title logs verdict title_is heading nodes place among =
-    part_later (head_parts title_is verdict) (part_later (header_parts title logs verdict heading nodes) (failed_has_article logs nodes place among))
+top_has_article title logs verdict title_is heading nodes facts place among =
+    part_later (head_parts title_is verdict) (part_later (header_parts title logs verdict heading nodes facts) (part_earlier (summary_parts logs nodes facts) (failed_has_article logs nodes place among)))
 
 module _ (request : Request) (logs : List Log) (requested : List (List ℕ)) where
   abbrev footer : List Part
@@ -77,10 +80,10 @@ module _ (request : Request) (logs : List Log) (requested : List (List ℕ)) whe
 
   pub page_has_tree : IsPartOf (page_tree request logs requested) (page_parts request logs requested)
   unfolding page_parts
-  page_has_tree = part_later (top_parts request.title logs (page_outline request logs requested)) (part_of_itself (page_tree request logs requested) footer)
+  page_has_tree = part_later (top_parts request.title logs (page_outline request logs requested) (page_facts request logs requested)) (part_of_itself (page_tree request logs requested) footer)
 
   pub page_has_article : (place : ℕ) → is_among (articles (page_outline request logs requested)) place ≡ true → IsPartOf (page_article request logs requested place) (page_parts request logs requested)
   unfolding page_parts
   page_has_article place among =
       let nodes = page_outline request logs requested in
-      part_earlier (page_tree request logs requested ++ footer) (top_has_article request.title logs (verdict_of nodes) (title_text request.title (verdict_of nodes) (heading_of nodes)) (heading_of nodes) nodes place among)
+      part_earlier (page_tree request logs requested ++ footer) (top_has_article request.title logs (verdict_of nodes) (title_text request.title (verdict_of nodes) (heading_of nodes)) (heading_of nodes) nodes (page_facts request logs requested) place among)

@@ -23,6 +23,8 @@ use Rattle.redo_html.specs.Parts.Part.{MarkupPart, LogPart, NamePart, NumberPart
 use Rattle.redo_page.specs.Excerpt.{in_tree_parts}
 use Rattle.redo_page.specs.Failed.{article_of, article_parts, failed_parts, list_parts, more_parts, output_parts, path_parts, section_parts, whole_parts}
 use Rattle.redo_page.specs.Frame.{footer_parts, is_safe}
+use Rattle.redo_page.specs.Summary.{summary_parts, tables_parts}
+use Rattle.redo_times.specs.declared.times.Times.{Times}
 use Rattle.redo_page.specs.Page.{Request, options_of, page_events, page_html, page_outline, page_parts, request_of, top_parts_of}
 
 abbrev tag : Markup → Part
@@ -40,14 +42,19 @@ log target entries = record { target = target; entries = entries; state = Ended 
 -- ---- what is asked
 
 abbrev request : List ℕ → Bool → Bool → Request
-request title unchanged locks = record { title = title; dir = codes "d"; unchanged = unchanged; debug_locks = locks; max_bytes = 5; times = [] }
+request title unchanged locks = record { title = title; dir = codes "d"; unchanged = unchanged; debug_locks = locks; max_bytes = 0; times = [] }
 
 abbrev at : {A : Type 0} → List A → Bor (List A)
 at items = record { ref_ptr = (0, 0); now = items }
 
+-- The times of a target that hasn't ended.
+abbrev begun : Times
+begun = record { began = Some 7; ended = None }
+
 requests_are :
-    (request_of (record { title = at (codes "t"); dir = at (codes "d"); unchanged = true; debug_locks = false; max_bytes = 5; times = at [] }) ≡ request (codes "t") true false)
-    × (request_of (record { title = at []; dir = at (codes "d"); unchanged = false; debug_locks = true; max_bytes = 5; times = at [] }) ≡ request [] false true)
+    (request_of (record { title = at (codes "t"); dir = at (codes "d"); unchanged = true; debug_locks = false; max_bytes = 0; times = at [] }) ≡ request (codes "t") true false)
+    × (request_of (record { title = at []; dir = at (codes "d"); unchanged = false; debug_locks = true; max_bytes = 5; times = at (begun ∷ []) })
+    ≡ record (request [] false true) { max_bytes = 5; times = begun ∷ [] })
 requests_are = (refl, refl)
 
 options_are :
@@ -100,19 +107,34 @@ abbrev footer : List Part → List Part
 footer rest =
     tag markup.EndUnordered ∷ tag markup.EndSection ∷ tag markup.EndMain ∷ tag markup.Footer ∷ tag markup.Paragraph ∷ words (codes "Made by ") ∷ tag markup.Code ∷ words (codes "redo-log-html") ∷ tag markup.EndCode ∷ words (codes " of ") ∷ rest
 
+abbrev tile : List ℕ → List Part → List Part
+tile term rest = tag markup.Div ∷ tag markup.Term ∷ words term ∷ tag markup.EndTerm ∷ tag markup.Description ∷ rest
+
+abbrev tile_end : List Part → List Part
+tile_end rest = tag markup.EndDescription ∷ tag markup.EndDiv ∷ rest
+
+-- The summary of a page without times and warnings.
+abbrev summary : ℕ → ℕ → ℕ → List Part → List Part
+summary targets failures bytes rest =
+    tag markup.SummarySection ∷ tag markup.SummaryHeading ∷ words (codes "Summary") ∷ tag markup.EndHeading ∷ tag markup.DescriptionList
+    ∷ tile (codes "Targets") (NumberPart targets ∷ tile_end (tile (codes "Failed") (NumberPart failures ∷ tile_end (tile (codes "Lines with warning:") (NumberPart 0 ∷ tile_end
+    (tile (codes "Logs") (NumberPart bytes ∷ words (codes " bytes") ∷ words [] ∷ words [] ∷ tile_end
+    (tag markup.EndDescriptionList ∷ tag markup.QuietParagraph ∷ words (codes "There is no timeline: the logs do not say when the targets ran.") ∷ tag markup.EndParagraph
+    ∷ tag markup.EndSection ∷ rest))))))))
+
 -- A build of two targets, with a title. `C2 B7` is a middle dot.
 made_page :
     page_parts (request (codes "t") false false) made (codes "a" ∷ [])
     ≡ head (0xE2 ∷ 0x9C ∷ 0x93 ∷ (codes " t " ++ 0xC2 ∷ 0xB7 ∷ codes " 2 targets made, none failed")) markup.BodyGood
     (tag markup.Header ∷ tag markup.Title1 ∷ tag markup.Sign ∷ words (0xE2 ∷ 0x9C ∷ 0x93 ∷ []) ∷ tag markup.EndSign ∷ words (codes " ") ∷ words (codes "2 targets made, none failed") ∷ tag markup.EndTitle1
     ∷ tag markup.Paragraph ∷ words (codes "t") ∷ tag markup.EndParagraph ∷ tag markup.Paragraph ∷ name (codes "a") (tag markup.EndParagraph
-    ∷ tag markup.EndHeader ∷ tag markup.Nav ∷ tag markup.Unordered ∷ item markup.TreeLink (codes "All logs") (tag markup.EndUnordered ∷ tag markup.EndNav ∷ tag markup.Main
-    ∷ tree (tag markup.Item ∷ tag (markup.OpenDetails 0) ∷ tag markup.Summary ∷ name (codes "a")
+    ∷ tag markup.EndHeader ∷ tag markup.Nav ∷ tag markup.Unordered ∷ item markup.SummaryLink (codes "Summary") (item markup.TreeLink (codes "All logs") (tag markup.EndUnordered ∷ tag markup.EndNav ∷ tag markup.Main
+    ∷ summary 2 0 2 (tree (tag markup.Item ∷ tag (markup.OpenDetails 0) ∷ tag markup.Summary ∷ name (codes "a")
     (words (codes " ") ∷ tag markup.Small ∷ NumberPart 1 ∷ words (codes " line") ∷ tag markup.EndSmall ∷ words (codes " ") ∷ tag markup.Small ∷ NumberPart 1 ∷ words (codes " below") ∷ tag markup.EndSmall
     ∷ tag markup.EndSummary ∷ tag markup.Unordered ∷ tag markup.Item ∷ tag markup.Pre ∷ LogPart plain_style (codes "x\n") ∷ tag markup.EndPre ∷ tag markup.EndItem
     ∷ tag (markup.TargetItem 1) ∷ name (codes "b") (tag markup.EndItem ∷ tag markup.EndUnordered ∷ tag markup.EndDetails ∷ tag markup.EndItem
-    ∷ footer (NumberPart 2 ∷ words (codes " logs in ") ∷ end (codes "redo-log -r --dir=d a"))))))))
-unfolding page_parts top_parts_of footer_parts failed_parts is_safe number_text digits show_log show_log_within
+    ∷ footer (NumberPart 2 ∷ words (codes " logs in ") ∷ end (codes "redo-log -r --dir=d a"))))))))))
+unfolding page_parts top_parts_of summary_parts tables_parts footer_parts failed_parts is_safe number_text digits show_log show_log_within
 made_page = refl
 
 abbrev badge : List Part → List Part
@@ -127,15 +149,15 @@ failed_page :
     ≡ head (0xE2 ∷ 0x9C ∷ 0x97 ∷ codes " 1 of 1 target failed") markup.BodyBad
     (tag markup.Header ∷ tag markup.Title1 ∷ tag markup.Sign ∷ words (0xE2 ∷ 0x9C ∷ 0x97 ∷ []) ∷ tag markup.EndSign ∷ words (codes " ") ∷ words (codes "1 of 1 target failed") ∷ tag markup.EndTitle1
     ∷ tag markup.Paragraph ∷ name (codes "a") (badge (tag markup.EndParagraph
-    ∷ tag markup.EndHeader ∷ tag markup.Nav ∷ tag markup.Unordered ∷ item markup.FailedLink (codes "What failed") (item markup.TreeLink (codes "All logs") (tag markup.EndUnordered ∷ tag markup.EndNav ∷ tag markup.Main
+    ∷ tag markup.EndHeader ∷ tag markup.Nav ∷ tag markup.Unordered ∷ item markup.FailedLink (codes "What failed") (item markup.SummaryLink (codes "Summary") (item markup.TreeLink (codes "All logs") (tag markup.EndUnordered ∷ tag markup.EndNav ∷ tag markup.Main
     ∷ tag markup.FailedSection ∷ tag markup.FailedHeading ∷ words (codes "What failed") ∷ tag markup.EndHeading
     ∷ tag (markup.Article 0) ∷ tag markup.Title3 ∷ name (codes "a") (badge (tag markup.EndTitle3 ∷ tag markup.MetaParagraph ∷ tag (markup.TargetLink 0) ∷ words (codes "its place in the tree") ∷ tag markup.EndLink ∷ tag markup.EndParagraph
     ∷ tag markup.Pre ∷ LogPart plain_style (codes "x\n") ∷ tag markup.EndPre ∷ tag markup.EndArticle ∷ tag markup.EndSection
-    ∷ tree (tag markup.Item ∷ tag (markup.OpenDetails 0) ∷ tag markup.Summary ∷ name (codes "a") (badge
+    ∷ summary 1 1 2 (tree (tag markup.Item ∷ tag (markup.OpenDetails 0) ∷ tag markup.Summary ∷ name (codes "a") (badge
     (words (codes " ") ∷ tag markup.Small ∷ NumberPart 1 ∷ words (codes " line") ∷ tag markup.EndSmall ∷ tag markup.EndSummary ∷ tag markup.Unordered
     ∷ tag markup.NoteItem ∷ tag (markup.OutputLink 0) ∷ words (codes "What it printed is shown above") ∷ tag markup.EndLink ∷ tag markup.EndItem ∷ tag markup.EndUnordered ∷ tag markup.EndDetails ∷ tag markup.EndItem
-    ∷ footer (NumberPart 1 ∷ words (codes " log in ") ∷ end (codes "redo-log -r -u --debug-locks --dir=d a"))))))))))))
-unfolding page_parts top_parts_of footer_parts failed_parts section_parts list_parts more_parts article_parts article_of path_parts in_tree_parts output_parts whole_parts is_safe number_text digits show_log show_log_within
+    ∷ footer (NumberPart 1 ∷ words (codes " log in ") ∷ end (codes "redo-log -r -u --debug-locks --dir=d a"))))))))))))))
+unfolding page_parts top_parts_of summary_parts tables_parts footer_parts failed_parts section_parts list_parts more_parts article_parts article_of path_parts in_tree_parts output_parts whole_parts is_safe number_text digits show_log show_log_within
 failed_page = refl
 
 -- The parts of these pages in short: where what begins, the title, the first words, and the command.
@@ -145,6 +167,7 @@ milestone (MarkupPart markup.Header) = markup.Header ∷ []
 milestone (MarkupPart markup.Nav) = markup.Nav ∷ []
 milestone (MarkupPart markup.Main) = markup.Main ∷ []
 milestone (MarkupPart markup.FailedSection) = markup.FailedSection ∷ []
+milestone (MarkupPart markup.SummarySection) = markup.SummarySection ∷ []
 milestone (MarkupPart markup.TreeSection) = markup.TreeSection ∷ []
 milestone (MarkupPart markup.Footer) = markup.Footer ∷ []
 milestone (MarkupPart markup.EndHtml) = markup.EndHtml ∷ []
@@ -152,14 +175,14 @@ milestone part = []
 
 made_milestones :
     flat_map milestone (page_parts (request (codes "t") false false) made (codes "a" ∷ []))
-    ≡ markup.Head ∷ markup.Header ∷ markup.Nav ∷ markup.Main ∷ markup.TreeSection ∷ markup.Footer ∷ markup.EndHtml ∷ []
-unfolding page_parts top_parts_of footer_parts failed_parts is_safe number_text digits show_log show_log_within
+    ≡ markup.Head ∷ markup.Header ∷ markup.Nav ∷ markup.Main ∷ markup.SummarySection ∷ markup.TreeSection ∷ markup.Footer ∷ markup.EndHtml ∷ []
+unfolding page_parts top_parts_of summary_parts tables_parts footer_parts failed_parts is_safe number_text digits show_log show_log_within
 made_milestones = refl
 
 failed_milestones :
     flat_map milestone (page_parts (request [] true true) failed (codes "a" ∷ []))
-    ≡ markup.Head ∷ markup.Header ∷ markup.Nav ∷ markup.Main ∷ markup.FailedSection ∷ markup.TreeSection ∷ markup.Footer ∷ markup.EndHtml ∷ []
-unfolding page_parts top_parts_of footer_parts failed_parts section_parts list_parts more_parts article_parts article_of path_parts in_tree_parts output_parts whole_parts is_safe number_text digits show_log show_log_within
+    ≡ markup.Head ∷ markup.Header ∷ markup.Nav ∷ markup.Main ∷ markup.FailedSection ∷ markup.SummarySection ∷ markup.TreeSection ∷ markup.Footer ∷ markup.EndHtml ∷ []
+unfolding page_parts top_parts_of summary_parts tables_parts footer_parts failed_parts section_parts list_parts more_parts article_parts article_of path_parts in_tree_parts output_parts whole_parts is_safe number_text digits show_log show_log_within
 failed_milestones = refl
 
 abbrev title_of : Part → List (List ℕ)
@@ -171,23 +194,23 @@ words_of (NamePart text) = text ∷ []
 words_of part = []
 
 title_is : flat_map title_of (page_parts (request (codes "t") false false) made (codes "a" ∷ [])) ≡ (0xE2 ∷ 0x9C ∷ 0x93 ∷ (codes " t " ++ 0xC2 ∷ 0xB7 ∷ codes " 2 targets made, none failed")) ∷ []
-unfolding page_parts top_parts_of footer_parts failed_parts is_safe number_text digits show_log show_log_within
+unfolding page_parts top_parts_of summary_parts tables_parts footer_parts failed_parts is_safe number_text digits show_log show_log_within
 title_is = refl
 
 made_words :
     take 6 (flat_map words_of (page_parts (request (codes "t") false false) made (codes "a" ∷ [])))
-    ≡ (0xE2 ∷ 0x9C ∷ 0x93 ∷ []) ∷ codes " " ∷ codes "2 targets made, none failed" ∷ codes "t" ∷ codes "a" ∷ codes "All logs" ∷ []
-unfolding page_parts top_parts_of footer_parts failed_parts is_safe number_text digits show_log show_log_within
+    ≡ (0xE2 ∷ 0x9C ∷ 0x93 ∷ []) ∷ codes " " ∷ codes "2 targets made, none failed" ∷ codes "t" ∷ codes "a" ∷ codes "Summary" ∷ []
+unfolding page_parts top_parts_of summary_parts tables_parts footer_parts failed_parts is_safe number_text digits show_log show_log_within
 made_words = refl
 
 failed_words :
     take 3 (flat_map words_of (page_parts (request [] true true) failed (codes "a" ∷ []))) ≡ (0xE2 ∷ 0x9C ∷ 0x97 ∷ []) ∷ codes " " ∷ codes "1 of 1 target failed" ∷ []
-unfolding page_parts top_parts_of footer_parts failed_parts section_parts list_parts more_parts article_parts article_of path_parts in_tree_parts output_parts whole_parts is_safe number_text digits show_log show_log_within
+unfolding page_parts top_parts_of summary_parts tables_parts footer_parts failed_parts section_parts list_parts more_parts article_parts article_of path_parts in_tree_parts output_parts whole_parts is_safe number_text digits show_log show_log_within
 failed_words = refl
 
 command_is :
     filter (λ text. starts_with nat_eq text (codes "redo-log -r")) (flat_map words_of (page_parts (request [] true true) failed (codes "a" ∷ []))) ≡ codes "redo-log -r -u --debug-locks --dir=d a" ∷ []
-unfolding page_parts top_parts_of footer_parts failed_parts section_parts list_parts more_parts article_parts article_of path_parts in_tree_parts output_parts whole_parts is_safe number_text digits show_log show_log_within
+unfolding page_parts top_parts_of summary_parts tables_parts footer_parts failed_parts section_parts list_parts more_parts article_parts article_of path_parts in_tree_parts output_parts whole_parts is_safe number_text digits show_log show_log_within
 command_is = refl
 
 -- A page has the bytes of its parts.
@@ -195,5 +218,5 @@ page_begins :
     bytes_eq (take 42 (page_html (request [] false false) [] []))
     (codes "<!doctype html><html lang=\"en\"><head><meta")
     ≡ true
-unfolding page_parts top_parts_of footer_parts failed_parts is_safe style_sheet symbols_after first_symbol symbol_len is_sequence sequence_len sequence_numbers first_letter letter_len is_odd picture odd_text number_text digits html_from show_log show_log_within
+unfolding page_parts top_parts_of summary_parts tables_parts footer_parts failed_parts is_safe style_sheet symbols_after first_symbol symbol_len is_sequence sequence_len sequence_numbers first_letter letter_len is_odd picture odd_text number_text digits html_from show_log show_log_within
 page_begins = refl

@@ -2,14 +2,12 @@
 use Rattle.std.proofs.Common.{◌≡◌, ℕ, true, false, List, [], ◌∷◌, None, Some, pos, negsuc, refl}
 use Rattle.std.specs.Prelude.{codes}
 use Rattle.redo_line.specs.declared.entry.How.TheVariants.{Made, Waiting, Locked, Unlocked, Unchanged}
-use Rattle.redo_logs.specs.declared.log_state.LogState.TheVariants.{Ended}
-use Rattle.redo_logs.specs.Logs.{Log}
 use Rattle.redo_html.specs.declared.markup.Markup.{Markup}
 use Rattle.redo_html.specs.declared.markup.Markup.TheVariants as markup
 use Rattle.redo_html.specs.Parts.{Part}
 use Rattle.redo_html.specs.Parts.Part.{MarkupPart, NamePart, NumberPart}
 use Rattle.redo_outline.specs.declared.node.Node.{Node}
-use Rattle.redo_page.specs.Targets.{badge_parts, below_parts, exit_parts, facts_parts, how_parts, lines_parts, linked_parts, name_or_empty, name_parts, parts_if, target_at, warnings_below_parts, warnings_parts}
+use Rattle.redo_page.specs.Targets.{badge_parts, below_parts, exit_parts, facts_parts, how_parts, lines_parts, linked_parts, name_parts, parts_if, warnings_below_parts, warnings_parts}
 
 abbrev tag : Markup → Part
 tag markup = MarkupPart markup
@@ -32,15 +30,6 @@ links_are :
     (linked_parts None (codes "a") ≡ tag markup.Bdi ∷ words (codes "a") ∷ tag markup.EndBdi ∷ [])
     × (linked_parts (Some 3) (codes "a") ≡ tag (markup.TargetLink 3) ∷ tag markup.Bdi ∷ words (codes "a") ∷ tag markup.EndBdi ∷ tag markup.EndLink ∷ [])
 links_are = (refl, refl)
-
-abbrev log : List ℕ → Log
-log target = record { target = target; entries = []; state = Ended }
-
-abbrev two : List Log
-two = log (codes "a") ∷ log (codes "b") ∷ []
-
-targets_are : (target_at two 0 ≡ codes "a") × (target_at two 1 ≡ codes "b") × (target_at two 2 ≡ []) × (name_or_empty None ≡ []) × (name_or_empty (Some (codes "c")) ≡ codes "c")
-targets_are = (refl, refl, refl, refl, refl)
 
 -- ---- statuses
 

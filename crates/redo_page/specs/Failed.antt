@@ -13,7 +13,10 @@ use Rattle.redo_outline.specs.Facts.{entries_at, texts_of}
 use Rattle.redo_page.specs.declared.failed.Failures.{Failures}
 use Rattle.redo_page.specs.Errors.{cause_of}
 use Rattle.redo_page.specs.Excerpt.{cut_to, excerpt_parts, in_tree_parts}
-use Rattle.redo_page.specs.Targets.{parts_if, name_parts, badge_parts, target_at}
+use Rattle.redo_page.specs.Targets.{parts_if, name_parts, badge_parts}
+use Rattle.redo_outline.specs.Facts.{target_at}
+use Rattle.redo_page.specs.Words.{words_parts}
+use Rattle.redo_units.specs.Durations.{duration_words}
 use Rattle.redo_page.specs.Tree.{first_failures, has_failed, is_short, max_articles, node_at}
 
 -- ---- which targets failed
@@ -107,6 +110,11 @@ module _ (logs : List Log) where
       MarkupPart markup.Item ∷ MarkupPart link
       ∷ (name_parts (name_of node) ++ (MarkupPart markup.EndLink ∷ (badge_parts node.status ++ (cause_if causes node ++ MarkupPart markup.EndItem ∷ []))))
 
+-- How long a target took, before its path.
+abbrev pub article_took : Option ℕ → List Part
+article_took None = []
+article_took (Some ms) = words_parts (duration_words ms) ++ (NamePart (32 ∷ 0xC2 ∷ 0xB7 ∷ 32 ∷ []) ∷ [])
+
 module _ (logs : List Log) (nodes : List Node) where
   -- ---- articles
 
@@ -126,9 +134,10 @@ module _ (logs : List Log) (nodes : List Node) where
       ∷ (name_parts (name_of logs node)
       ++ (badge_parts node.status
       ++ (MarkupPart markup.EndTitle3 ∷ MarkupPart markup.MetaParagraph
-      ∷ (path_parts max_path node.parent
+      ∷ (article_took node.took
+      ++ (path_parts max_path node.parent
       ++ (in_tree_parts place (codes "its place in the tree")
-      ++ (MarkupPart markup.EndParagraph ∷ (output_parts logs place node ++ MarkupPart markup.EndArticle ∷ [])))))))
+      ++ (MarkupPart markup.EndParagraph ∷ (output_parts logs place node ++ MarkupPart markup.EndArticle ∷ []))))))))
 
   -- Where a target that failed is, and what it printed.
   unfoldable pub article_parts : ℕ → List Part

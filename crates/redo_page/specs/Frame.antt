@@ -1,5 +1,5 @@
 -- The frame of a page: its head, its heading and its end.
-use Rattle.std.specs.Prelude.{ℕ, ◌==◌, ◌||◌, ◌&&◌, not, nat_eq, nat_le, nat_lt, Bool, ℤ, List, [], ◌∷◌, ◌++◌, Option, is_none, length, codes, if◌then◌else◌}
+use Rattle.std.specs.Prelude.{ℕ, ◌==◌, ◌||◌, ◌/◌, ◌&&◌, not, nat_eq, nat_le, nat_lt, Bool, ℤ, List, [], ◌∷◌, ◌++◌, Option, None, Some, is_none, length, codes, if◌then◌else◌}
 use Rattle.std.specs.List.{flat_map, list_all, list_any, starts_with}
 use Rattle.redo_logs.specs.Logs.{Log}
 use Rattle.redo_options.specs.declared.options.Options.{Options}
@@ -11,8 +11,14 @@ use Rattle.redo_html.specs.Shown.{number_text}
 use Rattle.redo_outline.specs.declared.node.Node.{Node}
 use Rattle.redo_page.specs.declared.frame.Verdict.{Verdict}
 use Rattle.redo_page.specs.declared.frame.Verdict.TheVariants.{Failed, Unfinished, Made}
-use Rattle.redo_page.specs.Targets.{parts_if, badge_parts, name_parts, plural, target_at}
+use Rattle.redo_page.specs.Targets.{parts_if, badge_parts, name_parts, plural}
+use Rattle.redo_outline.specs.Facts.{target_at}
 use Rattle.redo_page.specs.Tree.{first_failures}
+use Rattle.redo_page.specs.Words.{words_parts}
+use Rattle.redo_summary.specs.Summary.{Facts, is_timed}
+use Rattle.redo_timeline.specs.declared.span.Window.{Window}
+use Rattle.redo_units.specs.Dates.{date_text_of}
+use Rattle.redo_units.specs.Durations.{duration_words}
 
 -- ---- the heading
 
@@ -69,6 +75,17 @@ root_parts logs node = parts_if (is_none node.parent) (requested_parts (target_a
 abbrev pub title_parts : List ℕ → List Part
 title_parts title = parts_if (not (length title == 0)) (MarkupPart markup.Paragraph ∷ NamePart title ∷ MarkupPart markup.EndParagraph ∷ [])
 
+-- When a build began, if this has a date.
+abbrev pub date_parts : Option (List ℕ) → List Part
+date_parts None = []
+date_parts (Some date) = NamePart date ∷ NamePart (32 ∷ 0xC2 ∷ 0xB7 ∷ 32 ∷ []) ∷ []
+
+-- When a build began, and how long it took, if any time is known.
+abbrev pub began_parts : Option Window → ℕ → List Part
+began_parts None took = []
+began_parts (Some window) took =
+    MarkupPart markup.MetaParagraph ∷ (date_parts (date_text_of (window.began / 1000)) ++ (NamePart (codes "took ") ∷ (words_parts (duration_words took) ++ MarkupPart markup.EndParagraph ∷ [])))
+
 abbrev pub nav_item : Markup → List ℕ → List Part
 nav_item link text = MarkupPart markup.Item ∷ MarkupPart link ∷ NamePart text ∷ MarkupPart markup.EndLink ∷ MarkupPart markup.EndItem ∷ []
 
@@ -77,17 +94,27 @@ failed_nav Failed = nav_item markup.FailedLink (codes "What failed")
 failed_nav Unfinished = []
 failed_nav Made = []
 
+-- A page has a timeline only if most times are known.
+abbrev pub timeline_nav : Bool → List Part
+timeline_nav timed = parts_if timed (nav_item markup.TimelineLink (codes "Timeline"))
+
+-- Links to the sections of the page.
+abbrev pub nav_parts : Verdict → Bool → List Part
+nav_parts verdict timed =
+    MarkupPart markup.Nav ∷ MarkupPart markup.Unordered
+    ∷ (failed_nav verdict
+    ++ (nav_item markup.SummaryLink (codes "Summary")
+    ++ (timeline_nav timed ++ (nav_item markup.TreeLink (codes "All logs") ++ (MarkupPart markup.EndUnordered ∷ MarkupPart markup.EndNav ∷ MarkupPart markup.Main ∷ [])))))
+
 abbrev pub top_heading_parts : Verdict → List ℕ → List Part
 top_heading_parts verdict heading =
     MarkupPart markup.Header ∷ MarkupPart markup.Title1 ∷ MarkupPart markup.Sign ∷ NamePart (sign_text verdict) ∷ MarkupPart markup.EndSign ∷ NamePart (codes " ") ∷ NamePart heading ∷ MarkupPart markup.EndTitle1 ∷ []
 
-abbrev pub header_parts : List ℕ → List Log → Verdict → List ℕ → List Node → List Part
-header_parts title logs verdict heading nodes =
+abbrev pub header_parts : List ℕ → List Log → Verdict → List ℕ → List Node → Facts → List Part
+header_parts title logs verdict heading nodes facts =
     top_heading_parts verdict heading
     ++ (title_parts title
-    ++ (flat_map (root_parts logs) nodes
-    ++ (MarkupPart markup.EndHeader ∷ MarkupPart markup.Nav ∷ MarkupPart markup.Unordered
-    ∷ (failed_nav verdict ++ (nav_item markup.TreeLink (codes "All logs") ++ (MarkupPart markup.EndUnordered ∷ MarkupPart markup.EndNav ∷ MarkupPart markup.Main ∷ []))))))
+    ++ (flat_map (root_parts logs) nodes ++ (began_parts facts.window facts.took ++ (MarkupPart markup.EndHeader ∷ nav_parts verdict (is_timed facts)))))
 
 -- ---- the end
 

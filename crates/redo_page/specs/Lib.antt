@@ -6,5 +6,7 @@ pub mod Frame
 pub mod Laws
 pub mod Page
 pub mod Private
+pub mod Summary
 pub mod Targets
 pub mod Tree
+pub mod Words

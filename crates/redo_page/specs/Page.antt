@@ -1,5 +1,5 @@
 -- The page of a build.
-use Rattle.std.specs.Prelude.{ℕ, Bool, true, false, List, ◌++◌, length}
+use Rattle.std.specs.Prelude.{ℕ, Bool, true, false, List, ◌++◌, Option, length, map}
 use Rattle.std.specs.List.{flat_map}
 use Rattle.redo_logs.specs.Logs.{Log}
 use Rattle.redo_options.specs.declared.options.Options.{Options}
@@ -8,12 +8,15 @@ use Rattle.redo_view.specs.Expansion.{shown_events}
 use Rattle.redo_html.specs.Parts.{Part, part_html}
 use Rattle.redo_outline.specs.declared.node.Node.{Node}
 use Rattle.redo_outline.specs.Contents.{contents_of}
-use Rattle.redo_outline.specs.Outline.{outline_of}
+use Rattle.redo_outline.specs.Outline.{outline_of, with_duration}
 use Rattle.redo_page.specs.Failed.{failed_parts}
 use Rattle.redo_page.specs.Frame.{command, head_parts, header_parts, footer_parts, title_text, verdict_of, verdict_text}
 use Rattle.redo_page.specs.declared.frame.Verdict.{Verdict}
 use Rattle.redo_page.specs.declared.page.PageRequest.{PageRequest}
+use Rattle.redo_page.specs.Summary.{summary_parts}
 use Rattle.redo_page.specs.Tree.{tree_parts}
+use Rattle.redo_summary.specs.Summary.{Facts, summary_of}
+use Rattle.redo_summary.specs.Targets.{time_between}
 use Rattle.redo_times.specs.declared.times.Times.{Times}
 
 -- What a page is asked: a title, or none if it is empty; the capture directory as it was given; whether unchanged targets are shown, and
@@ -40,27 +43,36 @@ request_of request = record {
 abbrev pub options_of : Request → Options
 options_of request = record { recursive = true; unchanged = request.unchanged; details = true; debug_locks = request.debug_locks; debug_pids = false }
 
--- Everything before the tree: the head of the page, its header, and what failed.
-unfoldable pub top_parts_of : List ℕ → List Log → Verdict → List ℕ → List ℕ → List Node → List Part
-top_parts_of title logs verdict title_text heading nodes = head_parts title_text verdict ++ (header_parts title logs verdict heading nodes ++ failed_parts logs nodes)
+-- The head of the page, its header, what failed, and the summary.
+unfoldable pub top_parts_of : List ℕ → List Log → Verdict → List ℕ → List ℕ → List Node → Facts → List Part
+top_parts_of title logs verdict title_text heading nodes facts =
+    head_parts title_text verdict ++ (header_parts title logs verdict heading nodes facts ++ (failed_parts logs nodes ++ summary_parts logs nodes facts))
 
 abbrev pub heading_of : List Node → List ℕ
 heading_of nodes = verdict_text (verdict_of nodes) nodes
 
-abbrev pub top_parts : List ℕ → List Log → List Node → List Part
-top_parts title logs nodes = top_parts_of title logs (verdict_of nodes) (title_text title (verdict_of nodes) (heading_of nodes)) (heading_of nodes) nodes
+abbrev pub top_parts : List ℕ → List Log → List Node → Facts → List Part
+top_parts title logs nodes facts = top_parts_of title logs (verdict_of nodes) (title_text title (verdict_of nodes) (heading_of nodes)) (heading_of nodes) nodes facts
+
+-- How long each target took, by the number of its log.
+abbrev pub durations_of : List Times → List (Option ℕ)
+durations_of times = map (λ (t : Times). time_between t.began t.ended) times
 
 module _ (request : Request) (logs : List Log) (requested : List (List ℕ)) where
   abbrev pub page_events : List Event
   page_events = shown_events logs (options_of request) requested
 
   abbrev pub page_outline : List Node
-  page_outline = outline_of logs page_events
+  page_outline = map (with_duration (durations_of request.times)) (outline_of logs page_events)
+
+  -- What the times of the shown targets say.
+  abbrev pub page_facts : Facts
+  page_facts = summary_of page_outline request.times
 
   -- The parts of the page.
   unfoldable pub page_parts : List Part
   page_parts =
-      top_parts request.title logs page_outline
+      top_parts request.title logs page_outline page_facts
       ++ (tree_parts logs (options_of request) page_outline (contents_of page_events) ++ footer_parts request.dir (command request.dir (options_of request) requested) (length page_outline))
 
   -- The bytes of the page.

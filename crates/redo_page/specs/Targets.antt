@@ -1,13 +1,14 @@
 -- How targets are shown: names, statuses and counts.
-use Rattle.std.specs.Prelude.{ℕ, suc, ◌==◌, Bool, not, ℤ, pos, negsuc, List, [], ◌∷◌, ◌++◌, Option, None, Some, codes, slice_get, if◌then◌else◌}
+use Rattle.std.specs.Prelude.{ℕ, suc, ◌==◌, Bool, not, ℤ, pos, negsuc, List, [], ◌∷◌, ◌++◌, Option, None, Some, codes, if◌then◌else◌}
 use Rattle.redo_line.specs.declared.entry.How.{How}
 use Rattle.redo_line.specs.declared.entry.How.TheVariants.{Made, Waiting, Locked, Unlocked, Unchanged}
-use Rattle.redo_logs.specs.Logs.{Log, targets_of}
 use Rattle.redo_html.specs.declared.markup.Markup.TheVariants.{Bdi, EndBdi, ExitBadge, OpenBadge, EndBadge, Small, EndSmall, Warnings, EndWarnings, TargetLink, EndLink}
 use Rattle.redo_html.specs.Parts.{Part}
 use Rattle.redo_html.specs.Parts.Part.{MarkupPart, NamePart, NumberPart}
 use Rattle.redo_outline.specs.declared.node.Node.{Node}
 use Rattle.redo_outline.specs.Facts.{is_failure}
+use Rattle.redo_page.specs.Words.{words_parts}
+use Rattle.redo_units.specs.Durations.{duration_words}
 
 abbrev pub parts_if : Bool → List Part → List Part
 parts_if condition parts = if condition then parts else []
@@ -55,9 +56,16 @@ warnings_below_parts warnings =
     parts_if (not (warnings == 0))
     (NamePart (codes " ") ∷ MarkupPart Small ∷ NamePart (codes "with ") ∷ MarkupPart Warnings ∷ NumberPart warnings ∷ NamePart (plural warnings (codes " warning") (codes " warnings")) ∷ MarkupPart EndWarnings ∷ MarkupPart EndSmall ∷ [])
 
+-- How long a target took, if this is known.
+abbrev pub took_parts : Option ℕ → List Part
+took_parts None = []
+took_parts (Some ms) = NamePart (codes " ") ∷ MarkupPart Small ∷ (words_parts (duration_words ms) ++ MarkupPart EndSmall ∷ [])
+
 -- The facts that follow the name of a target.
 abbrev pub facts_parts : Node → List Part
-facts_parts node = badge_parts node.status ++ (lines_parts node.lines ++ (warnings_parts node.warnings ++ (below_parts node.below ++ warnings_below_parts node.warnings_below)))
+facts_parts node =
+    badge_parts node.status
+    ++ (took_parts node.took ++ (lines_parts node.lines ++ (warnings_parts node.warnings ++ (below_parts node.below ++ warnings_below_parts node.warnings_below))))
 
 -- What was done about a target's lock, as a word.
 abbrev pub how_word : How → List ℕ
@@ -69,14 +77,6 @@ how_word Unchanged = codes "unchanged"
 
 abbrev pub how_parts : Bool → How → List Part
 how_parts shown how = parts_if shown (NamePart (codes " ") ∷ MarkupPart Small ∷ NamePart (how_word how) ∷ MarkupPart EndSmall ∷ [])
-
--- The target of the log with this number; the empty name if there is no such log.
-abbrev pub name_or_empty : Option (List ℕ) → List ℕ
-name_or_empty None = []
-name_or_empty (Some name) = name
-
-abbrev pub target_at : List Log → ℕ → List ℕ
-target_at logs number = name_or_empty (slice_get (targets_of logs) number)
 
 -- A name that leads to the place of a target in the tree, if it is there.
 abbrev pub linked_parts : Option ℕ → List ℕ → List Part

@@ -23,7 +23,8 @@ use Rattle.redo_page.specs.declared.block.Pending.{Pending}
 use Rattle.redo_page.specs.declared.block.Pending.TheVariants as pending
 use Rattle.redo_page.specs.declared.level.Level.{Level}
 use Rattle.redo_page.specs.Blocks.{after_line, end_parts, line_parts, nested_end}
-use Rattle.redo_page.specs.Targets.{parts_if, name_parts, linked_parts, exit_parts, facts_parts, how_parts, target_at}
+use Rattle.redo_page.specs.Targets.{parts_if, name_parts, linked_parts, exit_parts, facts_parts, how_parts}
+use Rattle.redo_outline.specs.Facts.{target_at}
 
 abbrev pub no_node : Node
 no_node = record { number = 0; parent = None; status = None; lines = 0; bytes = 0; warnings = 0; below = 0; children = 0; others = false; warnings_below = 0; fails_below = false; silent = 0; took = None }

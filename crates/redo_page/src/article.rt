@@ -4,20 +4,24 @@ ghost use Rattle.std.specs.Option.{option_copied};
 ghost use Rattle.redo_html.specs.Lines.{line_parts};
 ghost use Rattle.redo_html.specs.Style.{plain_style};
 ghost use Rattle.redo_outline.specs.Facts.{entries_at, texts_of};
-ghost use Rattle.redo_page.specs.Failed.{article_of, article_parts, cause_of_node, cause_parts, no_failure_below, nothing_parts, output_parts, path_parts, whole_parts};
-ghost use Rattle.redo_page.specs.Targets.{name_parts, target_at};
+ghost use Rattle.redo_page.specs.Failed.{article_of, article_parts, article_took, cause_of_node, cause_parts, no_failure_below, nothing_parts, output_parts, path_parts, whole_parts};
+ghost use Rattle.redo_page.specs.Targets.{name_parts};
+ghost use Rattle.redo_outline.specs.Facts.{target_at};
 ghost use Rattle.redo_page.specs.Private.Writing.{WroteParts};
 
 use crate::cause::find_cause;
 use crate::excerpt::{cut_to, write_excerpt, write_in_tree};
 use crate::nodes::{is_short, node_at};
 use crate::printed::Printed;
-use crate::targets::{target_at, write_badge, write_name};
+use crate::targets::{write_badge, write_name};
+use redo_outline::target_at;
+use crate::words::write_words;
 use crate::writer::PageWriter;
 use redo_device::Sink;
 use redo_html::{Markup, Piece, Style};
 use redo_logs::LogTable;
 use redo_outline::Node;
+use redo_units::duration;
 
 const MAX_CAUSE: usize = 160;
 
@@ -144,6 +148,17 @@ fn write_path<W: Sink>(
     page.put(&[Piece::Name(b" \xe2\x80\xba ")]);
 }
 
+// Writes how long a target took, if this is known.
+fn write_took<W: Sink>(took: Option<u64>, page: &mut PageWriter<'_, W>)
+    ensures { WroteParts W.written page.old page.new (article_took took) }
+{
+    let Some(ms) = took else {
+        return;
+    };
+    write_words(&duration(ms), page);
+    page.put(&[Piece::Name(b" \xc2\xb7 ")]);
+}
+
 fn write_article_of<W: Sink>(
     table: &LogTable,
     nodes: &[Node],
@@ -163,6 +178,7 @@ fn write_article_of<W: Sink>(
         Piece::Markup(Markup::EndTitle3),
         Piece::Markup(Markup::MetaParagraph),
     ]);
+    write_took(node.took, page);
     write_path(table, nodes, MAX_PATH, node.parent, page);
     write_in_tree(place, b"its place in the tree", page);
     page.put(&[Piece::Markup(Markup::EndParagraph)]);

@@ -1,12 +1,12 @@
 //! A build, as the tree of its page shows it.
 ghost use Rattle.std.specs.Prelude.{◌≡◌};
 ghost use Rattle.redo_page.specs.Private.Referring.{build_value};
-ghost use Rattle.redo_page.specs.Targets.{target_at};
+ghost use Rattle.redo_outline.specs.Facts.{target_at};
 ghost use Rattle.redo_page.specs.Tree.{has_article, has_one_child, is_empty, is_expanded, is_moved, is_moved_if, is_same_place, is_silent, node_at, node_if, opening_place, place_of_name, is_in_level};
 
 use crate::level::Level;
 use crate::nodes::{has_failed, is_short, node_at};
-use crate::targets::target_at;
+use redo_outline::target_at;
 use redo_line::TargetName;
 use redo_logs::LogTable;
 use redo_outline::{Node, Outline};

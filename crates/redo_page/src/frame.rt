@@ -3,10 +3,13 @@ ghost use Rattle.std.specs.Prelude.{◌≡◌, ◌++◌, IfOk, OnOk, length};
 ghost use Rattle.std.specs.List.{flat_map, list_all, list_any};
 ghost use Rattle.redo_html.specs.Shown.{number_text};
 ghost use Rattle.redo_page.specs.Private.Writing.{WroteParts};
-ghost use Rattle.redo_page.specs.Frame.{argument, body_markup, command, counted_text, failed_nav, failed_text, flag, footer_parts, head_parts, header_parts, in_quotes, is_safe, is_safe_word, is_unfinished, log_count_parts, nav_item, quoted, quoted_byte, requested_parts, root_parts, sign_text, title_parts, title_text, titled, top_heading_parts, verdict_of, verdict_text};
+ghost use Rattle.redo_page.specs.Frame.{argument, began_parts, body_markup, command, counted_text, date_parts, failed_nav, failed_text, flag, footer_parts, head_parts, header_parts, in_quotes, is_safe, is_safe_word, is_unfinished, log_count_parts, nav_item, nav_parts, quoted, quoted_byte, requested_parts, root_parts, sign_text, timeline_nav, title_parts, title_text, titled, top_heading_parts, verdict_of, verdict_text};
 ghost use Rattle.redo_page.specs.Tree.{first_failures};
+ghost use Rattle.redo_units.specs.Dates.{date_text_of};
 
-use crate::targets::{plural, target_at, write_badge, write_name};
+use crate::targets::{plural, write_badge, write_name};
+use redo_outline::target_at;
+use crate::words::write_words;
 use crate::writer::PageWriter;
 use itoa::Buffer;
 use redo_device::Sink;
@@ -14,6 +17,9 @@ use redo_html::{Markup, Piece};
 use redo_line::TargetName;
 use redo_logs::LogTable;
 use redo_outline::Node;
+use redo_summary::Summary;
+use redo_timeline::Window;
+use redo_units::{date, duration};
 use redo_view::Options;
 use std::alloc::{AllocError, Global};
 
@@ -217,6 +223,55 @@ fn write_nav_item<W: Sink>(link: Markup, text: &[u8], page: &mut PageWriter<'_, 
     ])
 }
 
+fn write_date<W: Sink>(secs: u64, page: &mut PageWriter<'_, W>)
+    ensures { WroteParts W.written page.old page.new (date_parts (date_text_of secs)) }
+{
+    if let Some(text) = date(secs) {
+        page.put(&[Piece::Name(&text), Piece::Name(b" \xc2\xb7 ")]);
+    }
+}
+
+// Writes when a build began, and how long it took, if any time is known.
+fn write_began<W: Sink>(window: Option<Window>, took: u64, page: &mut PageWriter<'_, W>)
+    ensures { WroteParts W.written page.old page.new (began_parts window took) }
+{
+    let Some(window) = window else {
+        return;
+    };
+    page.put(&[Piece::Markup(Markup::MetaParagraph)]);
+    write_date(window.began / 1000, page);
+    page.put(&[Piece::Name(b"took ")]);
+    write_words(&duration(took), page);
+    page.put(&[Piece::Markup(Markup::EndParagraph)]);
+}
+
+fn write_timeline_nav<W: Sink>(timed: bool, page: &mut PageWriter<'_, W>)
+    ensures { WroteParts W.written page.old page.new (timeline_nav timed) }
+{
+    if timed {
+        write_nav_item(Markup::TimelineLink, b"Timeline", page);
+    }
+}
+
+// Writes links to the sections of the page.
+fn write_nav<W: Sink>(verdict: Verdict, timed: bool, page: &mut PageWriter<'_, W>)
+    ensures { WroteParts W.written page.old page.new (nav_parts verdict timed) }
+{
+    page.put(&[
+        Piece::Markup(Markup::Nav),
+        Piece::Markup(Markup::Unordered),
+    ]);
+    write_failed_nav(verdict, page);
+    write_nav_item(Markup::SummaryLink, b"Summary", page);
+    write_timeline_nav(timed, page);
+    write_nav_item(Markup::TreeLink, b"All logs", page);
+    page.put(&[
+        Piece::Markup(Markup::EndUnordered),
+        Piece::Markup(Markup::EndNav),
+        Piece::Markup(Markup::Main),
+    ]);
+}
+
 fn write_failed_nav<W: Sink>(verdict: Verdict, page: &mut PageWriter<'_, W>)
     ensures { WroteParts W.written page.old page.new (failed_nav verdict) }
 {
@@ -249,25 +304,17 @@ pub fn write_header<W: Sink>(
     verdict: Verdict,
     heading: &[u8],
     nodes: &[Node],
+    summary: &Summary,
     page: &mut PageWriter<'_, W>,
 )
-    ensures { WroteParts W.written page.old page.new (header_parts title.now table.now verdict heading.now nodes.now) }
+    ensures { WroteParts W.written page.old page.new (header_parts title.now table.now verdict heading.now nodes.now summary.now) }
 {
     write_heading(verdict, heading, page);
     write_title(title, page);
     write_roots(table, nodes, page);
-    page.put(&[
-        Piece::Markup(Markup::EndHeader),
-        Piece::Markup(Markup::Nav),
-        Piece::Markup(Markup::Unordered),
-    ]);
-    write_failed_nav(verdict, page);
-    write_nav_item(Markup::TreeLink, b"All logs", page);
-    page.put(&[
-        Piece::Markup(Markup::EndUnordered),
-        Piece::Markup(Markup::EndNav),
-        Piece::Markup(Markup::Main),
-    ]);
+    write_began(summary.window(), summary.took(), page);
+    page.put(&[Piece::Markup(Markup::EndHeader)]);
+    write_nav(verdict, summary.is_timed(), page);
 }
 
 fn write_log_count<W: Sink>(logs: usize, page: &mut PageWriter<'_, W>)

@@ -17,6 +17,7 @@ use redo_html::{
     parts_show_their_text, passages_are_read_as_shown,
 };
 use redo_outline::events_are_in_contents;
+use redo_summary::places_are_of_nodes;
 use redo_view::logs_show_their_lines;
 
 /// A browser reads a page as its parts: each tag as itself, and everything else as text, in order.
@@ -53,7 +54,9 @@ pub fn links_lead_to_ids()
         list_all (is_among (article_ids (page_parts request logs requested))) (article_links (page_parts request logs requested)) ≡ true }
     ensures section_links { (request : Request) (logs : List Log) (requested : List (List ℕ)) →
         section_links (page_parts request logs requested) ≡ section_ids (page_parts request logs requested) }
-{}
+{
+    places_are_of_nodes();
+}
 
 /// No text line is lost, added, changed or moved out of order, if each requested target has a log. A page has the
 /// text lines of the events. The tree shows them, except the lines of a log whose output is in its article. This article shows exactly the

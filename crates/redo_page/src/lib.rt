@@ -16,9 +16,11 @@ mod nodes;
 mod page;
 mod printed;
 mod step;
+mod summary;
 mod targets;
 mod texts;
 mod tree;
+mod words;
 mod writer;
 
 pub use laws::{lines_are_shown, links_lead_to_ids, page_is_read, tags_are_its_own, tags_nest};

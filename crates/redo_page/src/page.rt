@@ -8,18 +8,21 @@ ghost use Rattle.redo_view.specs.Form.{FormWrites};
 ghost use Rattle.redo_view.specs.View.{find_unknown};
 ghost use Rattle.redo_page.specs.Frame.{footer_parts};
 ghost use Rattle.redo_page.specs.Failed.{AreFailures};
-ghost use Rattle.redo_page.specs.Page.{options_of, page_html, page_outline, request_of, top_parts_of};
+ghost use Rattle.redo_page.specs.Page.{durations_of, options_of, page_html, page_outline, request_of, top_parts_of};
+ghost use Rattle.redo_summary.specs.Targets.{time_between};
 ghost use Rattle.redo_page.specs.Private.PageTexts.{AreTexts};
 ghost use Rattle.redo_page.specs.Private.Writing.{WroteParts};
 
 use crate::failed::{Failures, MAX_ARTICLES, find_failures, first_of, write_failed};
 use crate::frame::{Verdict, command, title_text, write_footer, write_head, write_header};
+use crate::summary::write_summary;
 use crate::tree::write_tree;
 use crate::writer::PageWriter;
 use redo_device::{Broken, Sink};
 use redo_line::TargetName;
 use redo_logs::LogTable;
 use redo_outline::{Node, Outline};
+use redo_summary::Summary;
 use redo_times::Times;
 use redo_view::{FormFault, Options, Render};
 use std::alloc::{AllocError, Global};
@@ -57,7 +60,7 @@ pub fn write_page<W: Sink>(
     ensures { FormWrites (W.written out.old) (W.written out.new) (page_html (request_of request.now) table.now requested.now) result }
 {
     let options = options_of(request);
-    let outline = Outline::new(alloc, table, &options, requested)?;
+    let outline = outline_of(alloc, table, request, &options, requested)?;
     write_outlined(alloc, table, request, &options, requested, &outline, out)
 }
 
@@ -72,6 +75,41 @@ impl Render for PageRequest<'_> {
         out: &mut W,
     ) -> Result<(), FormFault> {
         write_page(alloc, table, self, requested, out)
+    }
+}
+
+// Makes the outline of what is shown, with how long each target took.
+fn outline_of(
+    alloc: Global,
+    table: &LogTable,
+    request: &PageRequest<'_>,
+    options: &Options,
+    requested: &[TargetName],
+) -> Result<Outline, AllocError>
+    requires ended { list_all has_ended table.now ≡ true }
+    requires known { find_unknown table.now requested.now ≡ None }
+    requires options { options.now ≡ options_of (request_of request.now) }
+    ensures { IfOk result (λ outline. outline ≡ page_outline (request_of request.now) table.now requested.now) }
+{
+    let durations = durations_of(alloc, request.times)?;
+    let mut outline = Outline::new(alloc, table, options, requested)?;
+    outline.set_durations(&durations);
+    Ok(outline)
+}
+
+// Returns how long each target took, by the number of its log.
+fn durations_of(alloc: Global, times: &[Times]) -> Result<Vec<Option<u64>>, AllocError>
+    ensures { IfOk result (λ durations. durations.items ≡ durations_of times.now) }
+{
+    times.iter().map(|times| time_between(times)).collect(alloc)
+}
+
+fn time_between(times: &Times) -> Option<u64>
+    ensures { result ≡ time_between times.now.began times.now.ended }
+{
+    match (times.began, times.ended) {
+        (Some(began), Some(ended)) => Some(ended.saturating_sub(began)),
+        _ => None,
     }
 }
 
@@ -94,7 +132,8 @@ fn write_outlined<W: Sink>(
     let nodes = outline.nodes();
     let failures = find_failures(alloc, nodes)?;
     let texts = Texts::new(alloc, request, options, requested, nodes, &failures)?;
-    write_top(table, request, &texts, nodes, &failures, out)?;
+    let summary = Summary::new(alloc, nodes, request.times)?;
+    write_top(table, request, &texts, nodes, &failures, &summary, out)?;
     let articles = first_of(MAX_ARTICLES, failures.first.as_slice());
     write_tree(alloc, table, options, requested, outline, articles, out)?;
     write_bottom(request, &texts, nodes.len(), out)?;
@@ -156,15 +195,16 @@ fn write_top<W: Sink>(
     texts: &Texts,
     nodes: &[Node],
     failures: &Failures,
+    summary: &Summary,
     out: &mut W,
 ) -> Result<(), Broken>
     requires { AreFailures nodes.now failures.now }
     ensures { Writes (W.written out.old) (W.written out.new)
         (flat_map part_html (top_parts_of request.now.title.now table.now texts.now.verdict
-        texts.now.title.items texts.now.heading.items nodes.now)) result }
+        texts.now.title.items texts.now.heading.items nodes.now summary.now)) result }
 {
     let mut page = PageWriter::new(out);
-    write_top_parts(table, request, texts, nodes, failures, &mut page);
+    write_top_parts(table, request, texts, nodes, failures, summary, &mut page);
     page.result()
 }
 
@@ -174,11 +214,13 @@ fn write_top_parts<W: Sink>(
     texts: &Texts,
     nodes: &[Node],
     failures: &Failures,
+    summary: &Summary,
     page: &mut PageWriter<'_, W>,
 )
     requires { AreFailures nodes.now failures.now }
     ensures { WroteParts W.written page.old page.new
-        (top_parts_of request.now.title.now table.now texts.now.verdict texts.now.title.items texts.now.heading.items nodes.now) }
+        (top_parts_of request.now.title.now table.now texts.now.verdict
+        texts.now.title.items texts.now.heading.items nodes.now summary.now) }
 {
     write_head(&texts.title, texts.verdict, page);
     write_header(
@@ -187,9 +229,11 @@ fn write_top_parts<W: Sink>(
         texts.verdict,
         &texts.heading,
         nodes,
+        summary,
         page,
     );
     write_failed(table, nodes, failures, page);
+    write_summary(table, nodes, failures, summary, page);
 }
 
 // Writes everything after the tree.

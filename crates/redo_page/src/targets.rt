@@ -1,14 +1,15 @@
 //! How targets are shown: names, statuses and counts.
 ghost use Rattle.std.specs.Prelude.{◌≡◌, codes};
 ghost use Rattle.redo_page.specs.Private.Writing.{WroteParts};
-ghost use Rattle.redo_page.specs.Targets.{name_parts, sign, magnitude, exit_parts, badge_parts, plural, lines_parts, warnings_parts, below_parts, warnings_below_parts, facts_parts, how_word, how_parts, linked_parts, target_at};
+ghost use Rattle.redo_page.specs.Targets.{name_parts, sign, magnitude, exit_parts, badge_parts, plural, lines_parts, warnings_parts, below_parts, warnings_below_parts, facts_parts, how_word, how_parts, linked_parts, took_parts};
 
+use crate::words::write_words;
 use crate::writer::PageWriter;
 use redo_device::Sink;
 use redo_html::{Markup, Piece};
 use redo_line::How;
-use redo_logs::LogTable;
 use redo_outline::Node;
+use redo_units::duration;
 
 /// Writes a name.
 pub fn write_name<W: Sink>(name: &[u8], page: &mut PageWriter<'_, W>)
@@ -153,11 +154,23 @@ fn write_warnings_below<W: Sink>(warnings: u64, page: &mut PageWriter<'_, W>)
     ])
 }
 
+fn write_took<W: Sink>(took: Option<u64>, page: &mut PageWriter<'_, W>)
+    ensures { WroteParts W.written page.old page.new (took_parts took) }
+{
+    let Some(ms) = took else {
+        return;
+    };
+    page.put(&[Piece::Name(b" "), Piece::Markup(Markup::Small)]);
+    write_words(&duration(ms), page);
+    page.put(&[Piece::Markup(Markup::EndSmall)]);
+}
+
 /// Writes the facts that follow the name of a target.
 pub fn write_facts<W: Sink>(node: &Node, page: &mut PageWriter<'_, W>)
     ensures { WroteParts W.written page.old page.new (facts_parts node.now) }
 {
     write_badge(node.status, page);
+    write_took(node.took, page);
     write_lines(node.lines, page);
     write_warnings(node.warnings, page);
     write_below(node.below, page);
@@ -189,15 +202,4 @@ pub fn write_how<W: Sink>(shown: bool, how: How, page: &mut PageWriter<'_, W>)
         Piece::Name(word_of(how)),
         Piece::Markup(Markup::EndSmall),
     ])
-}
-
-/// Returns the target of the log with this number, or the empty name if there is no such log.
-pub fn target_at(table: &LogTable, number: u32) -> &[u8]
-    ensures { result.now ≡ target_at table.now number }
-{
-    if number < table.len() {
-        table.name(number).bytes()
-    } else {
-        b""
-    }
 }

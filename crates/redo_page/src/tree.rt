@@ -1,12 +1,12 @@
 //! The tree of a page, in one pass over the events.
-ghost use Rattle.std.specs.Prelude.{◌≡◌, ◌++◌, true, None, [], OnOk, reverse};
+ghost use Rattle.std.specs.Prelude.{◌≡◌, ◌++◌, true, None, [], OnOk, length, reverse};
 ghost use Rattle.std.specs.List.{flat_map, list_all};
 ghost use Rattle.redo_device.specs.Sink.{Writes};
 ghost use Rattle.redo_html.specs.Parts.{part_html};
 ghost use Rattle.redo_line.specs.Lines.{ended, rest};
 ghost use Rattle.redo_logs.specs.Logs.{has_ended};
 ghost use Rattle.redo_outline.specs.Contents.{contents_of};
-ghost use Rattle.redo_outline.specs.Outline.{outline_of};
+ghost use Rattle.redo_outline.specs.Outline.{log_count};
 ghost use Rattle.redo_view.specs.Expansion.{shown_events};
 ghost use Rattle.redo_view.specs.Form.{FormWrites, bytes_of, state_after};
 ghost use Rattle.redo_view.specs.View.{find_unknown};
@@ -324,7 +324,7 @@ fn write_all<W: Sink>(
 }
 
 /// Writes the tree of everything that is shown. Each requested target must have a log, all logs must have ended, the outline must
-/// be made of the same targets and options, and `articles` must be the places of the targets that have an article.
+/// have a node for each log that is opened, and `articles` must be the places of the targets that have an article.
 pub fn write_tree<W: Sink>(
     alloc: Global,
     table: &LogTable,
@@ -336,7 +336,7 @@ pub fn write_tree<W: Sink>(
 ) -> Result<(), FormFault>
     requires ended { list_all has_ended table.now ≡ true }
     requires known { find_unknown table.now requested.now ≡ None }
-    requires outline { outline.now ≡ outline_of table.now (shown_events table.now options.now requested.now) }
+    requires outline { length outline.now ≡ log_count (contents_of (shown_events table.now options.now requested.now)) }
     requires articles { places.now ≡ articles outline.now }
     ensures { FormWrites (W.written out.old) (W.written out.new) (flat_map part_html
         (tree_parts table.now options.now outline.now (contents_of (shown_events table.now options.now requested.now)))) result }

@@ -1,13 +1,16 @@
-use Rattle.std.proofs.Common.{◌≡◌, ℕ, true, List, [], None, Some, length, ◌∙◌, ap}
+use Rattle.std.proofs.Common.{◌≡◌, ℕ, zero, suc, ◌<◌, true, List, [], ◌∷◌, Option, None, Some, length, map, refl, ◌∙◌, ap, subst}
+use Rattle.std.proofs.lemmas.List.{length-map}
+use Rattle.redo_outline.specs.Outline.{outline_of, with_duration}
 use Rattle.std.specs.List.{flat_map}
 use Rattle.std.proofs.lemmas.Bool.{and_parts}
 use Rattle.redo_line.specs.Lines.{with_line_feed}
 use Rattle.redo_logs.specs.Logs.{Log}
 use Rattle.redo_outline.specs.Contents.{contents_of}
-use Rattle.redo_outline.specs.Facts.{target_status}
+use Rattle.redo_outline.specs.declared.node.Node.{Node}
+use Rattle.redo_outline.specs.Facts.{entries_at, target_status, texts_of}
 use Rattle.redo_view.specs.LogLines.{lines_left_after}
 use Rattle.redo_page.specs.Laws.{event_lines, lines_at, log_bytes, page_article, page_build, page_lines, placed_bytes}
-use Rattle.redo_page.specs.Page.{Request, options_of, page_events, page_outline}
+use Rattle.redo_page.specs.Page.{Request, durations_of, options_of, page_events, page_outline}
 use Rattle.redo_page.specs.Tree.{articles, has_article, is_moved, is_short, node_at}
 use Rattle.redo_page.proofs.FailedIds.{articles_below}
 use Rattle.redo_page.proofs.TreeLines.{tree_text}
@@ -25,6 +28,12 @@ returns-clause-complete c = λ request logs requested known.
 pub returns-clause-tree : goal.returns-clause-tree
 returns-clause-tree c = λ request logs requested. tree_text logs (options_of request) (page_outline request logs requested) (contents_of (page_events request logs requested))
 
+-- A node keeps its number.
+same_number : (durations : List (Option ℕ)) (nodes : List Node) (place : ℕ) → (node_at (map (with_duration durations) nodes) place).number ≡ (node_at nodes place).number
+same_number durations [] place = refl
+same_number durations (node ∷ nodes) zero = refl
+same_number durations (node ∷ nodes) (suc place) = same_number durations nodes place
+
 -- An article shows the lines of its log, if these are moved to it.
 moved_text : (request : Request) (logs : List Log) (requested : List (List ℕ)) → lines_left_after logs [] (page_events request logs requested) ≡ Some []
     → (place : ℕ) → is_moved (page_build request logs requested) place ≡ true → log_bytes (page_article request logs requested place) ≡ placed_bytes (lines_at place (page_lines request logs requested))
@@ -33,7 +42,8 @@ moved_text request logs requested shown place moved =
     let nodes = page_outline request logs requested in
     let parts = and_parts (has_article (page_build request logs requested) place) (is_short (node_at nodes place)) moved in
     article_text logs nodes place parts.1
-    ∙ ap (flat_map with_line_feed) (lines_of_place logs (target_status logs events) (contents_of events) place (contents_have_lines logs events shown) (among_below (length nodes) (articles nodes) place (articles_below nodes) parts.0))
+    ∙ ap (λ (number : ℕ). flat_map with_line_feed (texts_of (entries_at number logs))) (same_number (durations_of request.times) (outline_of logs events) place)
+    ∙ ap (flat_map with_line_feed) (lines_of_place logs (target_status logs events) (contents_of events) place (contents_have_lines logs events shown) (subst (λ (n : ℕ). place < n) (length-map (outline_of logs events) (with_duration (durations_of request.times))) (among_below (length nodes) (articles nodes) place (articles_below nodes) parts.0)))
 
 pub returns-clause-articles : goal.returns-clause-articles
 returns-clause-articles c = λ request logs requested known place moved. moved_text request logs requested (c.logs_show_their_lines.ensures logs (options_of request) requested known) place moved

@@ -9,11 +9,13 @@ use Rattle.redo_outline.specs.Contents.{contents_of}
 use Rattle.redo_page.specs.Frame.{command, title_text, verdict_of}
 use Rattle.redo_outline.specs.declared.node.Node.{Node}
 use Rattle.redo_page.specs.declared.frame.Verdict.{Verdict}
-use Rattle.redo_page.specs.Page.{Request, heading_of, options_of, page_events, page_outline, page_parts, top_parts_of}
+use Rattle.redo_page.specs.Page.{Request, heading_of, options_of, page_events, page_facts, page_outline, page_parts, top_parts_of}
 use Rattle.redo_page.proofs.Nesting.{Leads, Nest, lead_around, lead_in, then_lead}
 use Rattle.redo_page.proofs.FrameNesting.{head_leads, header_leads, footer_leads}
 use Rattle.redo_page.proofs.FailedNesting.{failed_nests}
+use Rattle.redo_page.proofs.SummaryNesting.{summary_nests}
 use Rattle.redo_page.proofs.TreeNesting.{tree_nests}
+use Rattle.redo_summary.specs.Summary.{Facts}
 use Rattle.redo_page.proofs.laws.tags_nest.Goals as goal
 
 -- The elements around the content of a page.
@@ -22,14 +24,15 @@ body = codes "body" ∷ codes "html" ∷ []
 
 top_leads : (title : List ℕ) (logs : List Log) (verdict : Verdict) (title_is heading : List ℕ) (nodes : List Node) → Leads [] (top_parts_of title logs verdict title_is heading nodes) (codes "main" ∷ body)
 unfolding top_parts_of
-top_leads title logs verdict title_is heading nodes =
-    then_lead (head_leads title_is verdict) (then_lead (lead_around body (header_leads title logs verdict heading nodes)) (lead_in (codes "main" ∷ body) (failed_nests logs nodes)))
+top_leads title logs verdict title_is heading nodes facts =
+    then_lead (head_leads title_is verdict) (then_lead (lead_around body (header_leads title logs verdict heading nodes facts))
+    (then_lead (lead_in (codes "main" ∷ body) (failed_nests logs nodes)) (lead_in (codes "main" ∷ body) (summary_nests logs nodes facts))))
 
 page_nests : (request : Request) (logs : List Log) (requested : List (List ℕ)) → Nest (page_parts request logs requested)
 unfolding page_parts
 page_nests request logs requested =
     let nodes = page_outline request logs requested in
-    then_lead (top_leads request.title logs (verdict_of nodes) (title_text request.title (verdict_of nodes) (heading_of nodes)) (heading_of nodes) nodes)
+    then_lead (top_leads request.title logs (verdict_of nodes) (title_text request.title (verdict_of nodes) (heading_of nodes)) (heading_of nodes) nodes (page_facts request logs requested))
     (then_lead (lead_in (codes "main" ∷ body) (tree_nests logs (options_of request) nodes (contents_of (page_events request logs requested))))
     (footer_leads request.dir (command request.dir (options_of request) requested) (length nodes)))
 

@@ -13,9 +13,10 @@ returns-in_err-write_top g c =
     let requested = c.args.requested.now in
     let texts = c.in_ok-texts.texts in
     let nodes = c.nodes-nodes.result.now in
-    let splits = page_splits request logs requested texts c.args.options.now c.args.outline.now nodes c.requires.options c.requires.outline c.nodes-nodes.ensures c.in_ok-texts.ensures in
+    let summary = c.in_ok-summary.summary in
+    let splits = page_splits request logs requested texts c.args.options.now c.args.outline.now nodes summary c.in_ok-summary.ensures c.requires.options c.requires.outline c.nodes-nodes.ensures c.in_ok-texts.ensures in
     let given = err_from_is_err_and c.from_residual-in_err-write_top.result c.from_residual-in_err-write_top.ensures.1 in
-    rw (given.1, given.2) (first_failed _ _ (top_html request logs requested texts nodes) _ _ c.in_err-write_top.field-0.0 splits c.in_err-write_top.ensures)
+    rw (given.1, given.2) (first_failed _ _ (top_html request logs requested texts nodes summary) _ _ c.in_err-write_top.field-0.0 splits c.in_err-write_top.ensures)
 
 pub returns-in_err-write_tree : goal.returns-in_err-write_tree
 returns-in_err-write_tree g c =
@@ -24,11 +25,12 @@ returns-in_err-write_tree g c =
     let requested = c.args.requested.now in
     let texts = c.in_ok-texts.texts in
     let nodes = c.nodes-nodes.result.now in
+    let summary = c.in_ok-summary.summary in
     let fault = c.in_err-write_tree.field-0.0 in
-    let top = top_html request logs requested texts nodes in
+    let top = top_html request logs requested texts nodes summary in
     let tree = tree_html request logs requested texts c.args.options.now c.args.outline.now in
     let bottom = bottom_html request logs requested texts (length nodes) in
-    let splits = page_splits request logs requested texts c.args.options.now c.args.outline.now nodes c.requires.options c.requires.outline c.nodes-nodes.ensures c.in_ok-texts.ensures in
+    let splits = page_splits request logs requested texts c.args.options.now c.args.outline.now nodes summary c.in_ok-summary.ensures c.requires.options c.requires.outline c.nodes-nodes.ensures c.in_ok-texts.ensures in
     let given = err_from_is_err_and c.from_residual-in_err-write_tree.result c.from_residual-in_err-write_tree.ensures.1 in
     rw (given.1, given.2) (subst (λ text. FormWrites (g.W.Sink.written c.args.out.now) (g.W.Sink.written c.write_tree.new.out) text (Err fault)) splits
     (after_stage (g.W.Sink.written c.args.out.now) (g.W.Sink.written c.write_top.new.out) (g.W.Sink.written c.write_tree.new.out) top (tree ++ bottom) (Err fault) c.in_ok-write_top.ensures (stage_stops (g.W.Sink.written c.write_top.new.out) (g.W.Sink.written c.write_tree.new.out) tree bottom fault c.in_err-write_tree.ensures)))
@@ -40,10 +42,11 @@ returns-in_err-write_bottom g c =
     let requested = c.args.requested.now in
     let texts = c.in_ok-texts.texts in
     let nodes = c.nodes-nodes.result.now in
-    let top = top_html request logs requested texts nodes in
+    let summary = c.in_ok-summary.summary in
+    let top = top_html request logs requested texts nodes summary in
     let tree = tree_html request logs requested texts c.args.options.now c.args.outline.now in
     let bottom = bottom_html request logs requested texts (length nodes) in
-    let splits = page_splits request logs requested texts c.args.options.now c.args.outline.now nodes c.requires.options c.requires.outline c.nodes-nodes.ensures c.in_ok-texts.ensures in
+    let splits = page_splits request logs requested texts c.args.options.now c.args.outline.now nodes summary c.in_ok-summary.ensures c.requires.options c.requires.outline c.nodes-nodes.ensures c.in_ok-texts.ensures in
     let given = err_from_is_err_and c.from_residual-in_err-write_bottom.result c.from_residual-in_err-write_bottom.ensures.1 in
     rw (given.1, given.2) (subst (λ text. FormWrites (g.W.Sink.written c.args.out.now) (g.W.Sink.written c.write_bottom.new.out) text (Err Write)) splits
     (after_stage (g.W.Sink.written c.args.out.now) (g.W.Sink.written c.write_top.new.out) (g.W.Sink.written c.write_bottom.new.out) top (tree ++ bottom) (Err Write) c.in_ok-write_top.ensures (after_stage (g.W.Sink.written c.write_top.new.out) (g.W.Sink.written c.write_tree.new.out) (g.W.Sink.written c.write_bottom.new.out) tree bottom (Err Write) c.in_ok-write_tree.ensures c.in_err-write_bottom.ensures)))
@@ -55,9 +58,10 @@ returns g c =
     let requested = c.args.requested.now in
     let texts = c.in_ok-texts.texts in
     let nodes = c.nodes-nodes.result.now in
-    let top = top_html request logs requested texts nodes in
+    let summary = c.in_ok-summary.summary in
+    let top = top_html request logs requested texts nodes summary in
     let tree = tree_html request logs requested texts c.args.options.now c.args.outline.now in
     let bottom = bottom_html request logs requested texts (length nodes) in
-    let splits = page_splits request logs requested texts c.args.options.now c.args.outline.now nodes c.requires.options c.requires.outline c.nodes-nodes.ensures c.in_ok-texts.ensures in
+    let splits = page_splits request logs requested texts c.args.options.now c.args.outline.now nodes summary c.in_ok-summary.ensures c.requires.options c.requires.outline c.nodes-nodes.ensures c.in_ok-texts.ensures in
     subst (λ text. FormWrites (g.W.Sink.written c.args.out.now) (g.W.Sink.written c.write_bottom.new.out) text (Ok tt)) splits
     (after_stage (g.W.Sink.written c.args.out.now) (g.W.Sink.written c.write_top.new.out) (g.W.Sink.written c.write_bottom.new.out) top (tree ++ bottom) (Ok tt) c.in_ok-write_top.ensures (after_stage (g.W.Sink.written c.write_top.new.out) (g.W.Sink.written c.write_tree.new.out) (g.W.Sink.written c.write_bottom.new.out) tree bottom (Ok tt) c.in_ok-write_tree.ensures c.in_ok-write_bottom.ensures))

@@ -1,0 +1,95 @@
+-- The elements of the summary nest.
+use Rattle.std.proofs.Common.{ℕ, Bool, List, [], ◌∷◌, ◌++◌, Some, refl}
+use Rattle.std.specs.Prelude.{◌==◌, ◌&&◌, true, false, codes, is_some, length, not, if◌then◌else◌}
+use Rattle.redo_logs.specs.Logs.{Log}
+use Rattle.redo_html.specs.declared.markup.Markup.TheVariants as markup
+use Rattle.redo_html.specs.Parts.{Part}
+use Rattle.redo_html.specs.Parts.Part.{MarkupPart, NamePart, NumberPart}
+use Rattle.redo_outline.specs.declared.node.Node.{Node}
+use Rattle.redo_outline.specs.Facts.{target_at}
+use Rattle.redo_page.specs.declared.summary.Measure.{Measure}
+use Rattle.redo_page.specs.declared.summary.Measure.TheVariants.{Milliseconds, Count}
+use Rattle.redo_page.specs.Failed.{failed_above, places_where}
+use Rattle.redo_page.specs.Summary.{above_parts, at_once_parts, failed_parts, known_count, largest_of, measure_parts, row_parts, shown_longest, summary_parts, table_parts, table_start, tables_parts, tile, tile_end, tile_start, tiles, timed_tiles, took_tile, unknown_parts, why_parts}
+use Rattle.redo_page.specs.Tree.{first_failures, node_at}
+use Rattle.redo_page.specs.Words.{word_part, words_parts}
+use Rattle.redo_summary.specs.declared.rank.Rank.{Rank}
+use Rattle.redo_summary.specs.Summary.{Facts, is_timed}
+use Rattle.redo_units.specs.Durations.{duration_words}
+use Rattle.redo_units.specs.Sizes.{size_words, tenths_words}
+use Rattle.redo_units.specs.Words.{WordValue}
+use Rattle.redo_page.proofs.Nesting.{Leads, Nest, joined, lead_in, nest_each, nest_if, then_lead}
+use Rattle.redo_page.proofs.TargetNesting.{badge_nests, linked_nests, word_nests}
+
+plain_nests : (words : List WordValue) → Nest (words_parts words)
+plain_nests words = nest_each word_part word_nests words
+
+tile_nests : (term : List ℕ) (description : List Part) → Nest description → Nest (tile term description)
+tile_nests term description nests =
+    then_lead {middle = codes "dd" ∷ codes "div" ∷ []} {parts = tile_start term} (record { leads = λ around tags. refl })
+    (then_lead (lead_in (codes "dd" ∷ codes "div" ∷ []) nests) (record { leads = λ around tags. refl }))
+
+failed_nest : (first above : ℕ) → Nest (failed_parts first above)
+failed_nest first above = then_lead {middle = []} {parts = NumberPart first ∷ []} (record { leads = λ around tags. refl }) (nest_if (not (above == 0)) (record { leads = λ around tags. refl }))
+
+number_nests : (number : ℕ) → Nest (NumberPart number ∷ [])
+number_nests number = record { leads = λ around tags. refl }
+
+tiles_nest : (facts : Facts) (targets first above : ℕ) → Nest (tiles facts targets first above)
+tiles_nest facts targets first above =
+    then_lead (tile_nests (codes "Targets") (NumberPart targets ∷ []) (number_nests targets))
+    (then_lead (tile_nests (codes "Failed") (failed_parts first above) (failed_nest first above))
+    (then_lead (tile_nests (codes "Lines with warning:") (NumberPart facts.warnings ∷ []) (number_nests facts.warnings))
+    (then_lead (tile_nests (codes "Logs") (words_parts (size_words facts.bytes)) (plain_nests (size_words facts.bytes)))
+    (then_lead (nest_if (is_some facts.window) (tile_nests (codes "Took") (words_parts (duration_words facts.took)) (plain_nests (duration_words facts.took))))
+    (nest_if (is_timed facts)
+    (then_lead (tile_nests (codes "Sum of times") (words_parts (duration_words facts.sum)) (plain_nests (duration_words facts.sum)))
+    (tile_nests (codes "At once") (at_once_parts facts) (then_lead (plain_nests (tenths_words facts.sum facts.took)) (record { leads = λ around tags. refl })))))))))
+
+measure_nests : (measure : Measure) (value : ℕ) → Nest (measure_parts measure value)
+measure_nests Milliseconds value = plain_nests (duration_words value)
+measure_nests Count value = number_nests value
+
+why_nests : (facts : Facts) → Nest (why_parts facts)
+why_nests facts =
+    nest_if (not (is_timed facts))
+    (then_lead {middle = codes "p" ∷ []} {parts = MarkupPart markup.QuietParagraph ∷ []} (record { leads = λ around tags. refl })
+    (then_lead (lead_in (codes "p" ∷ []) (unknown_nests (known_count facts == 0))) (record { leads = λ around tags. refl })))
+  where
+    unknown_nests : (none : Bool) → Nest (if none then NamePart (codes "There is no timeline: the logs do not say when the targets ran.") ∷ []
+        else NamePart (codes "There is no timeline: the logs of ") ∷ NumberPart (length facts.marks) ∷ NamePart (codes " of ") ∷ NumberPart (known_count facts)
+        ∷ NamePart (codes " targets do not say when they began, or when they ended.") ∷ [])
+    unknown_nests true = record { leads = λ around tags. refl }
+    unknown_nests false = record { leads = λ around tags. refl }
+
+module _ (logs : List Log) (nodes : List Node) where
+  row_nests : (measure : Measure) (largest : ℕ) (rank : Rank) → Nest (row_parts logs nodes measure largest rank)
+  unfolding row_parts
+  row_nests measure largest rank = record {
+    leads = λ around tags.
+        simp (joined, (linked_nests (Some rank.place) (target_at logs (node_at nodes rank.place).number)).leads, (badge_nests (node_at nodes rank.place).status).leads, (measure_nests measure rank.value).leads);
+  }
+
+  table_nests : (measure : Measure) (heading : List ℕ) (ranks : List Rank) → Nest (table_parts logs nodes measure heading ranks)
+  unfolding table_parts
+  table_nests measure heading ranks =
+      nest_if (not (length ranks == 0))
+      (then_lead {middle = codes "tbody" ∷ codes "table" ∷ codes "div" ∷ []} {parts = table_start heading} (record { leads = λ around tags. refl })
+      (then_lead (lead_in (codes "tbody" ∷ codes "table" ∷ codes "div" ∷ []) (nest_each (row_parts logs nodes measure (largest_of ranks)) (row_nests measure (largest_of ranks)) ranks)) (record { leads = λ around tags. refl })))
+
+  tables_nest : (longest warned : List Rank) → Nest (tables_parts logs nodes longest warned)
+  unfolding tables_parts
+  tables_nest longest warned =
+      nest_if (not (length longest == 0 && length warned == 0))
+      (then_lead {middle = codes "div" ∷ []} {parts = MarkupPart markup.Columns ∷ []} (record { leads = λ around tags. refl })
+      (then_lead (lead_in (codes "div" ∷ []) (table_nests Milliseconds (codes "Longest") longest))
+      (then_lead (lead_in (codes "div" ∷ []) (table_nests Count (codes "Most warnings") warned)) (record { leads = λ around tags. refl }))))
+
+  pub summary_nests : (facts : Facts) → Nest (summary_parts logs nodes facts)
+  unfolding summary_parts
+  summary_nests facts =
+      then_lead {middle = codes "dl" ∷ codes "section" ∷ []} {parts = MarkupPart markup.SummarySection ∷ MarkupPart markup.SummaryHeading ∷ NamePart (codes "Summary") ∷ MarkupPart markup.EndHeading ∷ MarkupPart markup.DescriptionList ∷ []} (record { leads = λ around tags. refl })
+      (then_lead (lead_in (codes "dl" ∷ codes "section" ∷ []) (tiles_nest facts (length nodes) (length (first_failures nodes)) (length (places_where failed_above 0 nodes))))
+      (then_lead {middle = codes "section" ∷ []} {parts = MarkupPart markup.EndDescriptionList ∷ []} (record { leads = λ around tags. refl })
+      (then_lead (lead_in (codes "section" ∷ []) (tables_nest (shown_longest facts) facts.warned))
+      (then_lead (lead_in (codes "section" ∷ []) (why_nests facts)) (record { leads = λ around tags. refl })))))

@@ -1,0 +1,127 @@
+-- The summary of a build: the section that says how much there was, and what took long.
+use Rattle.std.specs.Prelude.{ℕ, ◌+◌, ◌*◌, ◌/◌, max, min, ◌==◌, ◌&&◌, not, Bool, List, [], ◌∷◌, ◌++◌, Option, None, Some, is_some, length, codes, if◌then◌else◌}
+use Rattle.std.specs.List.{flat_map}
+use Rattle.redo_logs.specs.Logs.{Log}
+use Rattle.redo_html.specs.declared.markup.Markup.TheVariants as markup
+use Rattle.redo_html.specs.Parts.{Part}
+use Rattle.redo_html.specs.Parts.Part.{MarkupPart, MeterPart, NamePart, NumberPart}
+use Rattle.redo_outline.specs.declared.node.Node.{Node}
+use Rattle.redo_outline.specs.Facts.{saturated, target_at}
+use Rattle.redo_page.specs.declared.summary.Measure.{Measure}
+use Rattle.redo_page.specs.declared.summary.Measure.TheVariants.{Milliseconds, Count}
+use Rattle.redo_page.specs.Failed.{failed_above, places_where}
+use Rattle.redo_page.specs.Targets.{badge_parts, linked_parts, parts_if}
+use Rattle.redo_page.specs.Tree.{first_failures, node_at}
+use Rattle.redo_page.specs.Words.{words_parts}
+use Rattle.redo_summary.specs.declared.rank.Rank.{Rank}
+use Rattle.redo_summary.specs.Summary.{Facts, is_timed}
+use Rattle.redo_units.specs.Durations.{duration_words}
+use Rattle.redo_units.specs.Sizes.{size_words, tenths_words}
+
+-- ---- tiles
+
+abbrev pub tile_start : List ℕ → List Part
+tile_start term = MarkupPart markup.Div ∷ MarkupPart markup.Term ∷ NamePart term ∷ MarkupPart markup.EndTerm ∷ MarkupPart markup.Description ∷ []
+
+abbrev pub tile_end : List Part
+tile_end = MarkupPart markup.EndDescription ∷ MarkupPart markup.EndDiv ∷ []
+
+-- A term and its description.
+abbrev pub tile : List ℕ → List Part → List Part
+tile term description = tile_start term ++ (description ++ tile_end)
+
+abbrev pub above_parts : ℕ → List Part
+above_parts above = parts_if (not (above == 0)) (NamePart (codes ", and ") ∷ NumberPart above ∷ NamePart (codes " above") ∷ [])
+
+-- How many targets failed, and how many of those above them.
+abbrev pub failed_parts : ℕ → ℕ → List Part
+failed_parts first above = (NumberPart first ∷ []) ++ above_parts above
+
+-- How many recipes ran at once, on average and at most.
+abbrev pub at_once_parts : Facts → List Part
+at_once_parts facts = words_parts (tenths_words facts.sum facts.took) ++ (NamePart (codes ", at most ") ∷ NumberPart facts.most ∷ [])
+
+abbrev pub took_tile : Facts → List Part
+took_tile facts = parts_if (is_some facts.window) (tile (codes "Took") (words_parts (duration_words facts.took)))
+
+-- What needs most times.
+abbrev pub timed_tiles : Facts → List Part
+timed_tiles facts =
+    parts_if (is_timed facts) (tile (codes "Sum of times") (words_parts (duration_words facts.sum)) ++ tile (codes "At once") (at_once_parts facts))
+
+abbrev pub tiles : Facts → ℕ → ℕ → ℕ → List Part
+tiles facts targets first above =
+    tile (codes "Targets") (NumberPart targets ∷ [])
+    ++ (tile (codes "Failed") (failed_parts first above)
+    ++ (tile (codes "Lines with warning:") (NumberPart facts.warnings ∷ [])
+    ++ (tile (codes "Logs") (words_parts (size_words facts.bytes))
+    ++ (took_tile facts ++ timed_tiles facts))))
+
+-- ---- tables
+
+abbrev pub measure_parts : Measure → ℕ → List Part
+measure_parts Milliseconds value = words_parts (duration_words value)
+measure_parts Count value = NumberPart value ∷ []
+
+-- How much of the largest value a value is, in hundredths of a percent.
+abbrev pub meter_width : ℕ → ℕ → ℕ
+meter_width value largest = saturated (value * 10000) / max 1 largest
+
+-- The recipes that took longest, unless too little is known.
+abbrev pub shown_longest : Facts → List Rank
+shown_longest facts = if is_timed facts then facts.longest else []
+
+-- The number of targets of which at least one time is known.
+abbrev pub known_count : Facts → ℕ
+known_count facts = saturated (length facts.parents + length facts.recipes + length facts.marks)
+
+abbrev pub unknown_parts : ℕ → ℕ → List Part
+unknown_parts unknown targets =
+    if targets == 0 then NamePart (codes "There is no timeline: the logs do not say when the targets ran.") ∷ []
+    else NamePart (codes "There is no timeline: the logs of ") ∷ NumberPart unknown ∷ NamePart (codes " of ") ∷ NumberPart targets
+    ∷ NamePart (codes " targets do not say when they began, or when they ended.") ∷ []
+
+-- Why there is no timeline, unless there is one.
+abbrev pub why_parts : Facts → List Part
+why_parts facts =
+    parts_if (not (is_timed facts))
+    ((MarkupPart markup.QuietParagraph ∷ []) ++ (unknown_parts (length facts.marks) (known_count facts) ++ (MarkupPart markup.EndParagraph ∷ [])))
+
+abbrev pub table_start : List ℕ → List Part
+table_start heading =
+    MarkupPart markup.Div ∷ MarkupPart markup.Title3 ∷ NamePart heading ∷ MarkupPart markup.EndTitle3 ∷ MarkupPart markup.Table ∷ MarkupPart markup.TableBody ∷ []
+
+-- The value of the first rank.
+abbrev pub largest_of : List Rank → ℕ
+largest_of [] = 0
+largest_of (rank ∷ ranks) = rank.value
+
+module _ (logs : List Log) (nodes : List Node) where
+  -- A target, its value, and a meter that shows how large the value is.
+  unfoldable pub row_parts : Measure → ℕ → Rank → List Part
+  row_parts measure largest rank =
+      MarkupPart markup.TableRow ∷ MarkupPart markup.RowHeading
+      ∷ (linked_parts (Some rank.place) (target_at logs (node_at nodes rank.place).number)
+      ++ (badge_parts (node_at nodes rank.place).status
+      ++ (MarkupPart markup.EndRowHeading ∷ MarkupPart markup.NumberCell
+      ∷ (measure_parts measure rank.value
+      ++ (MarkupPart markup.EndCell ∷ MarkupPart markup.MeterCell ∷ MeterPart (meter_width rank.value largest) ∷ MarkupPart markup.EndCell ∷ MarkupPart markup.EndTableRow ∷ [])))))
+
+  -- A table, unless it has no rows.
+  unfoldable pub table_parts : Measure → List ℕ → List Rank → List Part
+  table_parts measure heading ranks =
+      parts_if (not (length ranks == 0))
+      (table_start heading ++ (flat_map (row_parts measure (largest_of ranks)) ranks ++ MarkupPart markup.EndTableBody ∷ MarkupPart markup.EndTable ∷ MarkupPart markup.EndDiv ∷ []))
+
+  unfoldable pub tables_parts : List Rank → List Rank → List Part
+  tables_parts longest warned =
+      parts_if (not (length longest == 0 && length warned == 0))
+      (MarkupPart markup.Columns ∷ (table_parts Milliseconds (codes "Longest") longest ++ (table_parts Count (codes "Most warnings") warned ++ MarkupPart markup.EndDiv ∷ [])))
+
+  unfoldable pub summary_parts : Facts → List Part
+  summary_parts facts =
+      MarkupPart markup.SummarySection ∷ MarkupPart markup.SummaryHeading ∷ NamePart (codes "Summary") ∷ MarkupPart markup.EndHeading ∷ MarkupPart markup.DescriptionList
+      ∷ (tiles facts (length nodes) (length (first_failures nodes)) (length (places_where failed_above 0 nodes))
+      ++ (MarkupPart markup.EndDescriptionList
+      ∷ (tables_parts (shown_longest facts) facts.warned
+      ++ (why_parts facts ++ MarkupPart markup.EndSection ∷ []))))
