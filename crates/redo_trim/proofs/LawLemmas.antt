@@ -17,7 +17,7 @@ use Rattle.redo_trim.specs.declared.limit.Gauge.{Gauge}
 use Rattle.redo_trim.specs.declared.limit.Limit.{Limit}
 use Rattle.redo_trim.specs.declared.limit.Showing.{Showing}
 use Rattle.redo_trim.specs.declared.limit.Showing.TheVariants as showing
-use Rattle.redo_trim.specs.Laws.{AreWhole, FitsInto64Bits, HasThreeParts, KeepsHeadAndTail, ShowsHeadAndTail, after_head, head_lines, left_out, lines_before, lines_from, lines_in, marker_for, tail_lines}
+use Rattle.redo_trim.specs.Laws.{AreWhole, FitsInto64Bits, HasThreeParts, KeepsHeadAndTail, KeepsOthers, ShowsHeadAndTail, after_head, head_lines, left_out, lines_before, lines_from, lines_in, marker_for, other_events, tail_lines}
 use Rattle.redo_trim.specs.Trim.{after_end, gauge_of, gauges_after, innermost, kept, limit_of, line_shown, line_size, marker, showing_in, showing_of, trim, trimmed, with_opened, with_shown_all, with_text}
 use Rattle.redo_trim.specs.Private.Writing.{keeps_all}
 use Rattle.redo_trim.proofs.LineLemmas.{keeps_whole}
@@ -231,6 +231,28 @@ keeps_head_and_tail limits number contents outer fits =
     kept_among limits limit fits outer contents 0 ∙ ap lines_among (whole_log limit 0 lines)
     ∙ texts_then 0 first (marker_for 0 (left_out limit lines) ++ text_events 0 last)
     ∙ ap (λ ls. first ++ ls) (marker_then 0 (left_out limit lines) (text_events 0 last) ∙ among_texts 0 last)
+
+-- ---- what is no text line
+
+line_no_other : (s : Showing) (depth : ℕ) (line : List ℕ) (events : List Event) → other_events (line_shown s depth line ++ events) ≡ other_events events
+line_no_other showing.Whole depth line events = refl
+line_no_other showing.Marker depth line events = refl
+line_no_other showing.Nothing depth line events = refl
+
+pub keeps_others : (limits : List Limit) (gauges : List Gauge) (events : List Event) → KeepsOthers limits gauges events
+keeps_others limits gauges [] = refl
+keeps_others limits gauges (Requested name opening ∷ events) = ap (λ es. Requested name opening ∷ es) (keeps_others limits (gauges_after limits gauges (Requested name opening)) events)
+keeps_others limits gauges (Mentioned depth pid how name opening ∷ events) =
+    ap (λ es. Mentioned depth pid how name opening ∷ es) (keeps_others limits (gauges_after limits gauges (Mentioned depth pid how name opening)) events)
+keeps_others limits gauges (EntryShown depth (Text line) ∷ events) =
+    let next = with_text (line_size line) gauges in
+    line_no_other (showing_in (innermost gauges) (line_size line)) depth line (trimmed limits next events) ∙ keeps_others limits next events
+keeps_others limits gauges (EntryShown depth (Mention pid how name) ∷ events) = ap (λ es. EntryShown depth (Mention pid how name) ∷ es) (keeps_others limits gauges events)
+keeps_others limits gauges (EntryShown depth (Done pid status name) ∷ events) = ap (λ es. EntryShown depth (Done pid status name) ∷ es) (keeps_others limits gauges events)
+keeps_others limits gauges (EntryShown depth (Closing pid status) ∷ events) = ap (λ es. EntryShown depth (Closing pid status) ∷ es) (keeps_others limits gauges events)
+keeps_others limits gauges (EntryShown depth (Note pid [] text) ∷ events) = keeps_others limits gauges events
+keeps_others limits gauges (EntryShown depth (Note pid (byte ∷ kind) text) ∷ events) = ap (λ es. EntryShown depth (Note pid (byte ∷ kind) text) ∷ es) (keeps_others limits gauges events)
+keeps_others limits gauges (LogEnds depth ∷ events) = ap (λ es. LogEnds depth ∷ es) (keeps_others limits (gauges_after limits gauges (LogEnds depth)) events)
 
 -- ---- logs without a limit
 

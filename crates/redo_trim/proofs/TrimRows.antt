@@ -12,7 +12,7 @@ use Rattle.redo_trim.specs.declared.limit.Gauge.{Gauge}
 use Rattle.redo_trim.specs.declared.limit.Limit.{Limit}
 use Rattle.redo_trim.specs.declared.limit.Showing.TheVariants as showing
 use Rattle.redo_trim.specs.declared.trimmed.Trimmed.{Trimmed}
-use Rattle.redo_trim.specs.Laws.{after_head, head_lines, left_out, lines_before, lines_from, lines_in, marker_for, tail_lines}
+use Rattle.redo_trim.specs.Laws.{after_head, head_lines, left_out, lines_before, lines_from, lines_in, other_events, tail_lines}
 use Rattle.redo_trim.specs.Trim.{after_end, after_shown, gauges_after, kept, limit_of, line_size, marker, showing_in, showing_of, trim, trimmed}
 use Rattle.redo_trim.specs.TrimmedForm.{form_after, form_bytes}
 
@@ -117,6 +117,21 @@ tree :
     (Shown (marker 2) (Shown (EntryShown 2 (Note 9 (codes "check") (codes "n"))) (Shown (lines (codes "b three")) (Shown (lines (codes "b four")) Nothing))))
     (Shown (marker 1) (Shown (text (codes "a four")) Nothing)))) Nothing
 tree = refl
+
+-- The log that is opened in `a` has no limit.
+other_tree :
+    trim (limit 6 20 ∷ []) [] (contents_of events)
+    ≡ Opened (Requested (codes "a") (OpensHere 0)) 0
+    (Shown (text (codes "a one")) (Opened (Mentioned 1 9 Made (codes "b") (OpensHere 1)) 1
+    (Shown (lines (codes "b one")) (Shown (lines (codes "b two")) (Shown (EntryShown 2 (Note 9 (codes "check") (codes "n"))) (Shown (lines (codes "b three")) (Shown (lines (codes "b four")) Nothing)))))
+    (Shown (marker 1) (Shown (text (codes "a four")) Nothing)))) Nothing
+other_tree = refl
+
+-- ---- what is no text line
+
+others : other_events (text (codes "a") ∷ marker 1 ∷ EntryShown 1 (Note 9 (codes "hint") []) ∷ Mentioned 1 9 Made [] NotOpened ∷ EntryShown 1 (Closing 9 (pos 0)) ∷ LogEnds 1 ∷ [])
+    ≡ EntryShown 1 (Note 9 (codes "hint") []) ∷ Mentioned 1 9 Made [] NotOpened ∷ EntryShown 1 (Closing 9 (pos 0)) ∷ LogEnds 1 ∷ []
+others = refl
 
 -- ---- the lines of one log
 

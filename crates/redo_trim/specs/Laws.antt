@@ -1,7 +1,9 @@
 -- What the laws state.
-use Rattle.std.specs.Prelude.{◌≡◌, ℕ, ◌+◌, ◌-◌, ◌<◌, ◌^◌, List, [], ◌∷◌, ◌++◌, nat_le, if◌then◌else◌}
+use Rattle.std.specs.Prelude.{◌≡◌, ℕ, ◌+◌, ◌-◌, ◌<◌, ◌^◌, Bool, List, [], ◌∷◌, ◌++◌, nat_le, if◌then◌else◌}
 use Rattle.std.specs.List.{AllByRecursion}
-use Rattle.redo_line.specs.declared.entry.Entry.TheVariants.{Text}
+use Rattle.redo_line.specs.declared.entry.Entry.{Entry}
+use Rattle.redo_line.specs.declared.entry.Entry.TheVariants.{Text, Note}
+use Rattle.redo_line.specs.Entry.{IsEntry}
 use Rattle.redo_view.specs.Event.{Event}
 use Rattle.redo_view.specs.Event.Event.{EntryShown}
 use Rattle.redo_view.specs.Form.{text_events}
@@ -35,6 +37,23 @@ KeepsLogs limits events = AreInTree events → log_count (contents_of (trimmed l
 -- Nothing is left out if each limit lets the tail begin at once.
 abbrev pub AreWhole : List Limit → List Event → Type 0
 AreWhole limits events = AllByRecursion (λ limit. limit.tail ≡ 0) limits → trimmed limits [] events ≡ events
+
+-- ---- what is no text line
+
+-- The events that are neither text lines nor notes of an empty kind, as the marker is one.
+abbrev pub other_events : List Event → List Event
+other_events [] = []
+other_events (EntryShown depth (Text line) ∷ events) = other_events events
+other_events (EntryShown depth (Note pid [] text) ∷ events) = other_events events
+other_events (event ∷ events) = event ∷ other_events events
+
+-- Whether they are shown unchanged, and in order.
+abbrev pub KeepsOthers : List Limit → List Gauge → List Event → Type 0
+KeepsOthers limits gauges events = other_events (trimmed limits gauges events) ≡ other_events events
+
+-- Whether no line of any log has this entry.
+abbrev pub IsInNoLog : Entry → Type 0
+IsInNoLog entry = (target line : List ℕ) (ended : Bool) → IsEntry target line ended entry → ⊥
 
 -- ---- the lines of one log
 

@@ -16,7 +16,8 @@ module _ {F : Type 0} (after : F → Event → F) where
 
   -- Whether the inner form has the state after what is shown of these events.
   abbrev pub HasShown : Trimmed F → List Event → Type 0
-  HasShown form events = (state_after form_after form events).form ≡ state_after after form.form (trimmed form.limits.now form.gauges events)
+  HasShown form events =
+      (state_after form_after form events).form ≡ state_after after form.form (trimmed form.limits.now form.gauges events)
 
 module _ {F : Type 0} (bytes : F → Event → List ℕ) (after : F → Event → F) where
   -- What the inner form writes in place of an event.

@@ -1,10 +1,13 @@
 //! Laws about the definitions alone: their contracts are theorems, and their bodies are empty.
-ghost use Rattle.std.specs.Prelude.{ℕ, List};
+ghost use Rattle.std.specs.Prelude.{ℕ, List, []};
+ghost use Rattle.redo_line.specs.declared.entry.Entry.TheVariants.{Note};
 ghost use Rattle.redo_view.specs.Event.{Event};
 ghost use Rattle.redo_outline.specs.Contents.{Contents};
+ghost use Rattle.redo_trim.specs.declared.limit.Gauge.{Gauge};
 ghost use Rattle.redo_trim.specs.declared.limit.Limit.{Limit};
 ghost use Rattle.redo_trim.specs.declared.trimmed.Trimmed.{Trimmed};
-ghost use Rattle.redo_trim.specs.Laws.{AreWhole, HasThreeParts, KeepsHeadAndTail, KeepsLogs, ShowsHeadAndTail, StayInTree, TreeIsTrimmed};
+ghost use Rattle.redo_trim.specs.Laws.{AreWhole, HasThreeParts, IsInNoLog, KeepsHeadAndTail, KeepsLogs, KeepsOthers};
+ghost use Rattle.redo_trim.specs.Laws.{ShowsHeadAndTail, StayInTree, TreeIsTrimmed};
 ghost use Rattle.redo_trim.specs.TrimmedForm.{HasShown, WritesShown};
 
 use redo_view::Form;
@@ -14,6 +17,16 @@ pub fn trimmed_events_are_in_tree()
     ensures in_tree { (limits : List Limit) (events : List Event) → StayInTree limits events }
     ensures tree { (limits : List Limit) (events : List Event) → TreeIsTrimmed limits events }
     ensures logs { (limits : List Limit) (events : List Event) → KeepsLogs limits events }
+{}
+
+/// Everything that is no text line is shown, unchanged and in order.
+pub fn only_text_is_left_out()
+    ensures { (limits : List Limit) (gauges : List Gauge) (events : List Event) → KeepsOthers limits gauges events }
+{}
+
+/// No log has the marker, because no line is read as a note of an empty kind.
+pub fn no_log_has_markers()
+    ensures { (pid : ℕ) (text : List ℕ) → IsInNoLog (Note pid [] text) }
 {}
 
 /// Without limits nothing is left out: a limit whose tail begins at once is none.

@@ -1,15 +1,19 @@
 //! Plain text without the middle of long logs.
-ghost use Rattle.std.specs.Prelude.{◌≡◌, true, IfOk};
+ghost use Rattle.std.specs.Prelude.{◌≡◌, true, [], IfOk, OnOk};
 ghost use Rattle.std.specs.List.{list_all};
 ghost use Rattle.redo_logs.specs.Logs.{has_ended};
+ghost use Rattle.redo_view.specs.Expansion.{shown_events};
+ghost use Rattle.redo_view.specs.Form.{bytes_of, state_after};
+ghost use Rattle.redo_view.specs.Written.{WroteAll};
+ghost use Rattle.redo_trim.specs.Trim.{trimmed};
 
 use crate::cases::{CASES, Case};
 use redo_gather::gather_plain;
-use redo_line::{Taker, TargetName};
+use redo_line::{Sink, Taker, TargetName};
 use redo_logs::LogTable;
 use redo_test_support::{Cut, captured, names_of, whole};
-use redo_trim::{Limit, Trimmed};
-use redo_view::{Options, PlainText, view_as};
+use redo_trim::{Limit, Trimmed, trimmed_form_writes};
+use redo_view::{Form, Options, PlainText, ViewFault, view_as};
 use std::alloc::Global;
 use std::process::Abort;
 use std::test::Fail;
@@ -71,10 +75,32 @@ fn text_of(
     for name in requested {
         names.push(TargetName::resolve(alloc, None, name.as_bytes())?)?;
     }
-    let mut form = Trimmed::new(alloc, PlainText { options: OPTIONS }, limits);
+    let form = PlainText { options: OPTIONS };
     let mut out = Taker::new(alloc, 1000, 7)?;
-    match view_as(alloc, table, &OPTIONS, &mut form, &names, &mut out) {
-        Ok(()) => Ok(out.bytes().to_vec(alloc)?),
+    match view_trimmed(alloc, table, &OPTIONS, limits, form, &names, &mut out) {
+        Ok(_) => Ok(out.bytes().to_vec(alloc)?),
         Err(_) => Err("nothing was written, or not all".into()),
     }
+}
+
+/// Views the requested targets in a form through the adapter, and returns the form. Its clauses follow from those of the adapter.
+fn view_trimmed<F: Form + Drop, W: Sink>(
+    alloc: Global,
+    table: &LogTable,
+    options: &Options,
+    limits: &[Limit],
+    form: F,
+    requested: &[TargetName],
+    out: &mut W,
+) -> Result<F, ViewFault>
+    requires { list_all has_ended table.now ≡ true }
+    ensures wrote { OnOk result (WroteAll (W.written out.old) (W.written out.new)
+        (bytes_of F.bytes F.after form (trimmed limits.now [] (shown_events table.now options.now requested.now)))) }
+    ensures state { IfOk result (λ after. after ≡
+        state_after F.after form (trimmed limits.now [] (shown_events table.now options.now requested.now))) }
+{
+    trimmed_form_writes::<F>();
+    let mut adapter = Trimmed::new(alloc, form, limits);
+    view_as(alloc, table, options, &mut adapter, requested, out)?;
+    Ok(adapter.into_form())
 }
