@@ -19,7 +19,7 @@ use Rattle.redo_view.specs.Form.{FormWrites, bytes_of, state_after}
 use Rattle.redo_view.specs.Written.{WroteAll, WrotePrefix}
 use Rattle.redo_trim.specs.declared.limit.Gauge.{Gauge}
 use Rattle.redo_trim.specs.declared.trimmed.Trimmed.{Trimmed}
-use Rattle.redo_trim.specs.Trim.{gauges_after, kept, trimmed}
+use Rattle.redo_trim.specs.Trim.{kept, trimmed}
 use Rattle.redo_trim.specs.TrimmedForm.{HasShown, WritesShown, form_after, form_bytes}
 
 -- ---- parts of a text, one after the other

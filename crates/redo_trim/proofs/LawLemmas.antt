@@ -1,12 +1,10 @@
 -- Which lines of a log are shown.
-use Rattle.std.proofs.Common.{◌≡◌, ℕ, zero, suc, ◌+◌, ◌-◌, ◌<◌, ◌≤◌, ◌^◌, min, Bool, true, false, List, [], ◌∷◌, ◌++◌, Option, None, Some, length, refl, sym, ◌∙◌, ap, subst, arith}
+use Rattle.std.proofs.Common.{◌≡◌, ℕ, zero, suc, ◌+◌, ◌-◌, ◌<◌, ◌≤◌, Bool, true, false, List, [], ◌∷◌, ◌++◌, Option, None, Some, length, refl, sym, ◌∙◌, ap, arith}
 use Rattle.std.specs.Prelude.{◌||◌, nat_le, if◌then◌else◌}
 use Rattle.std.specs.List.{AllByRecursion}
 use Rattle.std.proofs.lemmas.Bool.{le-leb, leb-true, leb-false, lt-leb}
 use Rattle.std.proofs.lemmas.List.Sums.{sum_by-cons}
-use Rattle.redo_line.specs.declared.entry.Entry.{Entry}
 use Rattle.redo_line.specs.declared.entry.Entry.TheVariants.{Text, Mention, Done, Closing, Note}
-use Rattle.redo_view.specs.declared.event.Opening.{Opening}
 use Rattle.redo_view.specs.Event.{Event}
 use Rattle.redo_view.specs.Event.Event.{Requested, Mentioned, EntryShown, LogEnds}
 use Rattle.redo_view.specs.Form.{text_events}
@@ -18,7 +16,7 @@ use Rattle.redo_trim.specs.declared.limit.Limit.{Limit}
 use Rattle.redo_trim.specs.declared.limit.Showing.{Showing}
 use Rattle.redo_trim.specs.declared.limit.Showing.TheVariants as showing
 use Rattle.redo_trim.specs.Laws.{AreWhole, FitsInto64Bits, HasThreeParts, KeepsHeadAndTail, KeepsOthers, ShowsHeadAndTail, after_head, head_lines, left_out, lines_before, lines_from, lines_in, marker_for, other_events, tail_lines}
-use Rattle.redo_trim.specs.Trim.{after_end, gauge_of, gauges_after, innermost, kept, limit_of, line_shown, line_size, marker, showing_in, showing_of, trim, trimmed, with_opened, with_shown_all, with_text}
+use Rattle.redo_trim.specs.Trim.{after_end, gauges_after, innermost, kept, limit_of, line_shown, line_size, marker, showing_in, showing_of, trim, trimmed, with_opened, with_shown_all, with_text}
 use Rattle.redo_trim.specs.Private.Writing.{keeps_all}
 use Rattle.redo_trim.proofs.LineLemmas.{keeps_whole}
 

@@ -1,5 +1,5 @@
 -- Text lines, one by one and many at once.
-use Rattle.std.proofs.Common.{◌≡◌, ℕ, ◌+◌, ◌<◌, ◌≤◌, ◌^◌, min, Bool, true, List, [], ◌∷◌, ◌++◌, Option, None, Some, Result, Ok, Err, length, take, drop, refl, sym, ◌∙◌, ap, subst, arith}
+use Rattle.std.proofs.Common.{◌≡◌, ℕ, ◌+◌, ◌<◌, Bool, true, List, [], ◌∷◌, ◌++◌, Option, None, Some, Result, Ok, Err, length, take, drop, refl, sym, ◌∙◌, ap, subst, arith}
 use Rattle.std.specs.Prelude.{◌||◌, nat_le, if◌then◌else◌}
 use Rattle.std.specs.List.{flat_map}
 use Rattle.std.proofs.lemmas.Bool.{le-leb, leb-true}
@@ -21,7 +21,7 @@ use Rattle.redo_trim.specs.declared.limit.Limit.{Limit}
 use Rattle.redo_trim.specs.declared.limit.Showing.{Showing}
 use Rattle.redo_trim.specs.declared.limit.Showing.TheVariants as showing
 use Rattle.redo_trim.specs.declared.trimmed.Trimmed.{Trimmed}
-use Rattle.redo_trim.specs.Trim.{gauges_after, innermost, kept, line_shown, line_size, showing_in, showing_of, trimmed, with_bytes, with_text}
+use Rattle.redo_trim.specs.Trim.{innermost, kept, line_shown, line_size, showing_in, trimmed, with_text}
 use Rattle.redo_trim.specs.TrimmedForm.{form_after, form_bytes}
 use Rattle.redo_trim.specs.Private.Writing.{IsFirstLine, IsOneLine, TailFits, WroteUpTo, keeps_all, lines_shown}
 use Rattle.redo_trim.proofs.FormLemmas.{bytes-append, form_stops, form_then, state-append, trimmed_bytes}

@@ -2,11 +2,10 @@
 use Rattle.std.proofs.Common.{◌≡◌, ◌≢◌, ℕ, Bool, true, false, inl, inr, List, [], ℤ, sym}
 use Rattle.std.specs.Prelude.{if◌then◌else◌}
 use Rattle.std.specs.Str.{bytes_eq}
-use Rattle.redo_line.specs.declared.entry.Entry.{Entry}
-use Rattle.redo_line.specs.declared.entry.Entry.TheVariants.{Text, Mention, Done, Closing, Note}
+use Rattle.redo_line.specs.declared.entry.Entry.TheVariants.{Done, Closing, Note}
 use Rattle.redo_line.specs.declared.record.Kind.{Kind}
 use Rattle.redo_line.specs.declared.record.Kind.TheVariants as kind
-use Rattle.redo_line.specs.Entry.{IsEntry, IsEntryOfFields, done_or_closing}
+use Rattle.redo_line.specs.Entry.{IsEntryOfFields}
 use Rattle.redo_line.specs.Record.{kind_of}
 use Rattle.redo_line.specs.Decimal.{number}
 use Rattle.redo_trim.specs.Laws.{IsInNoLog}

@@ -1,7 +1,7 @@
 -- Rows of what is shown of logs, of their gauges, and of the form that writes it.
-use Rattle.std.proofs.Common.{◌≡◌, ℕ, ◌+◌, List, [], ◌∷◌, ◌++◌, Option, None, Some, Bor, pos, refl}
+use Rattle.std.proofs.Common.{◌≡◌, ℕ, ◌+◌, List, [], ◌∷◌, None, Some, Bor, pos, refl}
 use Rattle.std.specs.Prelude.{codes}
-use Rattle.redo_line.specs.declared.entry.Entry.TheVariants.{Text, Mention, Done, Closing, Note}
+use Rattle.redo_line.specs.declared.entry.Entry.TheVariants.{Text, Closing, Note}
 use Rattle.redo_line.specs.declared.entry.How.TheVariants.{Made}
 use Rattle.redo_view.specs.declared.event.Opening.TheVariants.{NotOpened, OpenedBefore, OpensHere}
 use Rattle.redo_view.specs.Event.{Event}
@@ -12,8 +12,8 @@ use Rattle.redo_trim.specs.declared.limit.Gauge.{Gauge}
 use Rattle.redo_trim.specs.declared.limit.Limit.{Limit}
 use Rattle.redo_trim.specs.declared.limit.Showing.TheVariants as showing
 use Rattle.redo_trim.specs.declared.trimmed.Trimmed.{Trimmed}
-use Rattle.redo_trim.specs.Laws.{after_head, head_lines, left_out, lines_before, lines_from, lines_in, other_events, tail_lines}
-use Rattle.redo_trim.specs.Trim.{after_end, after_shown, gauges_after, kept, limit_of, line_size, marker, showing_in, showing_of, trim, trimmed}
+use Rattle.redo_trim.specs.Laws.{head_lines, left_out, lines_in, other_events, tail_lines}
+use Rattle.redo_trim.specs.Trim.{after_shown, gauges_after, kept, limit_of, line_size, marker, showing_in, showing_of, trim, trimmed}
 use Rattle.redo_trim.specs.TrimmedForm.{form_after, form_bytes}
 
 abbrev limit : ℕ → ℕ → Limit

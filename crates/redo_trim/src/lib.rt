@@ -16,8 +16,8 @@ mod limit;
 mod trimmed;
 
 pub use laws::{
-    head_and_tail_are_kept, no_log_has_markers, only_text_is_left_out,
-    trimmed_events_are_in_tree, trimmed_form_writes, unlimited_logs_are_whole,
+    head_and_tail_are_kept, no_log_has_markers, only_text_is_left_out, trimmed_events_are_in_tree,
+    trimmed_form_writes, unlimited_logs_are_whole,
 };
 pub use limit::{Gauge, Limit};
 pub use trimmed::Trimmed;

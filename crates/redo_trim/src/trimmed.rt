@@ -55,12 +55,7 @@ impl<'a, F: Form> Trimmed<'a, F> {
     }
 
     // Passes on text lines, at least one, of which none is left out.
-    fn pass_on<W: Sink>(
-        &mut self,
-        depth: usize,
-        lines: &[u8],
-        out: &mut W,
-    ) -> Result<(), FormFault>
+    fn pass_on<W: Sink>(&mut self, depth: usize, lines: &[u8], out: &mut W) -> Result<(), FormFault>
         requires depth { depth < 2 ^ 60 }
         requires complete { rest lines.now ≡ [] }
         requires some { 0 < length lines.now }

@@ -1,7 +1,6 @@
-use Rattle.std.proofs.Common.{[], ◌∷◌, sym, ap, ◌∙◌, subst}
+use Rattle.std.proofs.Common.{sym, ap, ◌∙◌, subst}
 use Rattle.std.proofs.lemmas.List.{append-nil}
 use Rattle.redo_line.specs.Lines.{ended}
-use Rattle.redo_view.specs.Event.{Event}
 use Rattle.redo_view.specs.Form.{FormWrites, bytes_of}
 use Rattle.redo_trim.specs.Private.Writing.{lines_shown}
 use Rattle.redo_trim.specs.Trim.{marker}

@@ -1,6 +1,6 @@
 use Rattle.std.proofs.Common.{rules, sym, subst, ◌∙◌, ap}
 use Rattle.redo_line.specs.Lines.{ended}
-use Rattle.redo_view.specs.Form.{FormWrites, bytes_of, state_after}
+use Rattle.redo_view.specs.Form.{FormWrites, bytes_of}
 use Rattle.redo_view.specs.Written.{WroteAll}
 use Rattle.redo_trim.specs.Private.Writing.{lines_shown}
 use Rattle.redo_trim.proofs.LineLemmas.{one_bytes, one_state}
