@@ -21,6 +21,9 @@ const MARKER_TEXT: &[u8] =
 /// A form that passes events on to another form, without the middle of long logs.
 ///
 /// The limit of a log is at the log's number. A log whose number is past the end is shown whole.
+///
+/// Each log that is open takes the memory of a [`Gauge`](crate::Gauge). If that memory can't be allocated, the event that opens the
+/// log was already passed on. Lines that are passed together are passed on together from the tail on, and one by one before it.
 #[derive(Drop)]
 pub struct Trimmed<'a, F> {
     form: F,
@@ -29,7 +32,7 @@ pub struct Trimmed<'a, F> {
 }
 
 impl<'a, F: Form> Trimmed<'a, F> {
-    /// Creates the adapter before all events: no log is open. It allocates when a log is opened.
+    /// Creates the adapter before all events: no log is open. It allocates nothing yet.
     pub fn new(alloc: Global, form: F, limits: &'a [Limit]) -> Trimmed<'a, F>
         ensures form { result.form ≡ form }
         ensures gauges { result.gauges ≡ [] }
