@@ -31,15 +31,20 @@ pub record Facts : Type 0 where
   pub longest : List Rank
   pub warned : List Rank
 
+-- The sum of what is counted of each item, as it fits into 64 bits.
+abbrev pub total : {X : Type 0} → (X → ℕ) → List X → ℕ
+total count items = saturated (sum_by count items)
+
 -- How long some recipes took, one after another.
 abbrev pub sum_of : List Span → ℕ
-sum_of recipes = saturated (sum_by duration recipes)
+sum_of recipes = total duration recipes
 
+-- The numbers of warnings, and of bytes of text.
 abbrev pub warnings_of : List Node → ℕ
-warnings_of nodes = saturated (sum_by (λ (node : Node). node.warnings) nodes)
+warnings_of nodes = total (λ (node : Node). node.warnings) nodes
 
 abbrev pub bytes_of : List Node → ℕ
-bytes_of nodes = saturated (sum_by (λ (node : Node). node.bytes) nodes)
+bytes_of nodes = total (λ (node : Node). node.bytes) nodes
 
 -- What some nodes and the targets of them say.
 abbrev pub facts_of : List Node → List Target → Facts
