@@ -47,8 +47,8 @@ def libraries_of(program):
 
 
 def libraries():
-    """Returns the libraries of all programs, each after its own dependencies, and the libraries that no program uses yet."""
-    return list(dict.fromkeys(libraries_of("redo_log") + libraries_of("redo_log_html") + ["redo_trim", "redo_timeline", "redo_times"]))
+    """Returns the libraries of all programs, each after its own dependencies."""
+    return list(dict.fromkeys(libraries_of("redo_log") + libraries_of("redo_log_html")))
 
 
 def title_of(line):

@@ -115,6 +115,13 @@ gap = target 0 None (ran 0 100) ∷ target 1 (Some 0) no_times ∷ target 2 (Som
 split_gap : (parents_of gap ≡ []) × (recipes_of gap ≡ span 0 0 100 ∷ span 2 10 20 ∷ [])
 split_gap = (refl, refl)
 
+-- Two requested targets: the log of none contains the log of the other.
+abbrev requested : List Target
+requested = target 0 None (ran 0 100) ∷ target 1 None (ran 10 20) ∷ []
+
+split_requested : (parents_of requested ≡ []) × (recipes_of requested ≡ span 0 0 100 ∷ span 1 10 20 ∷ [])
+split_requested = (refl, refl)
+
 -- ---- the window
 
 windows :
@@ -187,7 +194,7 @@ small_build = record {
 }
 
 whole :
-    summary_of (node 3 None (Some (pos 1)) 10 0 ∷ []) [] ≡ record {
+    (summary_of (node 3 None (Some (pos 1)) 10 0 ∷ []) [] ≡ record {
       window = None;
       took = 0;
       parents = [];
@@ -199,7 +206,7 @@ whole :
       bytes = 10;
       longest = [];
       warned = [];
-    }
+    })
     × (summary_of (node 3 None (Some (pos 0)) 10 0 ∷ node 0 (Some 0) (Some (pos 1)) 20 0 ∷ node 2 (Some 0) (Some (pos 2)) 30 4 ∷ node 1 (Some 0) None 40 2 ∷ []) (ran 1020 1050 ∷ ended_at 1095 ∷ ran 1050 1090 ∷ ran 1010 1100 ∷ ran 1 9999 ∷ []) ≡ small_build)
 whole = (refl, refl)
 
