@@ -1,9 +1,8 @@
 -- What the laws reject.
-use Rattle.std.proofs.Common.{◌≡◌, ℕ, ◌<◌, [], ◌∷◌, None, Some, inl, inr, refl, arith}
+use Rattle.std.proofs.Common.{◌≡◌, ◌<◌, [], ◌∷◌, None, inl, inr, arith}
 use Rattle.std.proofs.lemmas.List.Sorted.{length_permutation}
 use Rattle.redo_summary.specs.Laws.{AreInOrder, AreOfNodes, AreSplit, IsTable}
-use Rattle.redo_summary.specs.Summary.{Facts}
-use Rattle.redo_summary.proofs.SummaryRows.{failed, node, ran, rank, small_build, span}
+use Rattle.redo_summary.proofs.SummaryRows.{node, ran, rank, small_build, span}
 
 -- A larger value comes later; then a lower place with an equal value; then eleven ranks.
 rejected_tables :

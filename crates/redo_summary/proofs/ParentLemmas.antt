@@ -1,14 +1,13 @@
 -- Which targets ran others.
-use Rattle.std.proofs.Common.{◌≡◌, ℕ, ◌+◌, ◌<◌, Bool, true, false, ◌||◌, cond, List, [], ◌∷◌, ◌++◌, Option, None, Some, get_or, length, take, refl, sym, ap, ◌∙◌, arith}
-use Rattle.std.specs.Prelude.{not, filter, filter_map}
-use Rattle.std.specs.List.{cons_option, list_any}
+use Rattle.std.proofs.Common.{◌≡◌, ℕ, ◌+◌, ◌<◌, Bool, true, false, cond, List, [], ◌∷◌, ◌++◌, Option, None, Some, get_or, length, take, refl, sym, ap, ◌∙◌}
+use Rattle.std.specs.Prelude.{not, filter}
+use Rattle.std.specs.List.{cons_option}
 use Rattle.std.proofs.lemmas.List.{take_more}
 use Rattle.std.proofs.lemmas.List.Elements.{filter-append, filter_map-append}
-use Rattle.std.proofs.lemmas.List.Folds.{list_any-append}
 use Rattle.redo_timeline.specs.declared.span.Span.{Span}
 use Rattle.redo_summary.specs.declared.target.Target.{Target}
-use Rattle.redo_summary.specs.Parents.{is_run_by, ran_others, spans_of}
-use Rattle.redo_summary.specs.Private.Marking.{AreMarked, IsMarked, ran_any}
+use Rattle.redo_summary.specs.Parents.{ran_others, spans_of}
+use Rattle.redo_summary.specs.Private.Marking.{AreMarked, ran_any}
 use Rattle.redo_summary.specs.Targets.{span_of}
 
 -- ---- parents and recipes

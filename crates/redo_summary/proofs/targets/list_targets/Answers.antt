@@ -1,6 +1,6 @@
-use Rattle.std.proofs.Common.{◌≡◌, ◌+◌, ◌<◌, ◌++◌, ◌∷◌, [], List, length, get_or, take, ap, ◌∙◌, subst, sym, arith}
+use Rattle.std.proofs.Common.{◌++◌, ◌∷◌, [], take, ap, ◌∙◌, subst, sym}
 use Rattle.redo_summary.specs.Private.Marking.{ArePlaced}
-use Rattle.redo_summary.specs.Targets.{target_of, targets_of}
+use Rattle.redo_summary.specs.Targets.{targets_of}
 use Rattle.redo_summary.proofs.TargetLemmas.{no_node, placed, targets_more}
 use Rattle.redo_summary.proofs.targets.list_targets.Goals as goal
 

@@ -1,0 +1,180 @@
+//! Summaries of small and larger builds. The values are worked out by hand.
+use redo_outline::Node;
+use redo_summary::{Rank, Summary, duration_of};
+use redo_timeline::{Span, Window};
+use redo_times::Times;
+use std::alloc::{AllocError, Global};
+use std::test::Fail;
+
+#[test]
+fn summary_of_nothing(rt: HostRuntime) -> Result<(), Fail> {
+    let summary = Summary::new(rt.alloc(), &[], &[])?;
+    assert_eq!(rt; summary.window(), None);
+    assert_eq!(rt; summary.took(), 0);
+    assert_eq!(rt; summary.parents(), [].as_slice());
+    assert_eq!(rt; summary.recipes(), [].as_slice());
+    assert_eq!(rt; summary.marks(), [].as_slice());
+    assert_eq!(rt; summary.sum(), 0);
+    assert_eq!(rt; summary.most(), 0);
+    assert_eq!(rt; summary.warnings(), 0);
+    assert_eq!(rt; summary.bytes(), 0);
+    assert_eq!(rt; summary.longest(), [].as_slice());
+    assert_eq!(rt; summary.warned(), [].as_slice());
+    assert_eq!(rt; summary.is_timed(), false);
+    Ok(())
+}
+
+// A requested target ran two others at the same time, of which one failed. Of a third one only the end is known, and of a fourth one
+// nothing. Their logs are not numbered in order of place.
+#[test]
+fn summary_of_small_build(rt: HostRuntime) -> Result<(), Fail> {
+    let nodes = [
+        node(3, None, Some(1), 10, 0),
+        node(0, Some(0), Some(0), 20, 0),
+        node(2, Some(0), Some(2), 30, 4),
+        node(1, Some(0), None, 40, 2),
+        node(9, Some(2), None, 50, 0),
+    ];
+    let times = [
+        ran(1020, 1070),
+        ended(1095),
+        ran(1050, 1090),
+        ran(1010, 1100),
+        ran(1, 9999),
+    ];
+    let summary = Summary::new(rt.alloc(), &nodes, &times)?;
+    let window = Window {
+        began: 1010,
+        width: 90,
+    };
+    assert_eq!(rt; summary.window(), Some(window));
+    assert_eq!(rt; summary.took(), 90);
+    assert_eq!(rt; summary.parents(), [span(0, 1010, 1100, true)].as_slice());
+    let recipes = [span(1, 1020, 1070, false), span(2, 1050, 1090, true)];
+    assert_eq!(rt; summary.recipes(), recipes.as_slice());
+    assert_eq!(rt; summary.marks(), [span(3, 1095, 1095, false)].as_slice());
+    assert_eq!(rt; summary.sum(), 90);
+    assert_eq!(rt; summary.most(), 2);
+    assert_eq!(rt; summary.warnings(), 6);
+    assert_eq!(rt; summary.bytes(), 150);
+    assert_eq!(rt; summary.longest(), [rank(50, 1), rank(40, 2)].as_slice());
+    assert_eq!(rt; summary.warned(), [rank(4, 2), rank(2, 3)].as_slice());
+    // One mark beside three spans is more than a tenth.
+    assert_eq!(rt; summary.is_timed(), false);
+    Ok(())
+}
+
+// A requested target, of which only the end is known, and 30 others one after another: the one at place i took 100 + i milliseconds, and
+// has i % 3 warnings.
+#[test]
+fn summary_of_larger_build(rt: HostRuntime) -> Result<(), Fail> {
+    let mut nodes = Vec::new(rt.alloc());
+    let mut times = Vec::new(rt.alloc());
+    nodes.push(node(0, None, Some(0), 1, 0))?;
+    times.push(ended(99_000))?;
+    for i in 1u32..31 {
+        let began = u64::from(i) * 1000;
+        nodes.push(node(i, Some(0), Some(0), 1, u64::from(i % 3)))?;
+        times.push(ran(began, began + 100 + u64::from(i)))?;
+    }
+    let summary = Summary::new(rt.alloc(), &nodes, &times)?;
+    let window = Window {
+        began: 1000,
+        width: 98_000,
+    };
+    assert_eq!(rt; summary.window(), Some(window));
+    assert_eq!(rt; summary.parents(), [].as_slice());
+    assert_eq!(rt; summary.recipes().len(), 30);
+    assert_eq!(rt; summary.marks(), [].as_slice());
+    assert_eq!(rt; summary.sum(), 3465);
+    assert_eq!(rt; summary.most(), 1);
+    assert_eq!(rt; summary.warnings(), 30);
+    assert_eq!(rt; summary.bytes(), 31);
+    assert_eq!(rt;
+        summary.longest(),
+        falling_ranks(rt.alloc(), 130, 30)?.as_slice()
+    );
+    let warned = [
+        rank(2, 2),
+        rank(2, 5),
+        rank(2, 8),
+        rank(2, 11),
+        rank(2, 14),
+        rank(2, 17),
+        rank(2, 20),
+        rank(2, 23),
+        rank(2, 26),
+        rank(2, 29),
+    ];
+    assert_eq!(rt; summary.warned(), warned.as_slice());
+    assert_eq!(rt; summary.is_timed(), true);
+    Ok(())
+}
+
+#[test]
+fn durations_of_targets(rt: HostRuntime) {
+    let times = [ran(1000, 5500), ended(7)];
+    assert_eq!(rt; duration_of(&times, 0), Some(4500));
+    assert_eq!(rt; duration_of(&times, 1), None);
+    assert_eq!(rt; duration_of(&times, 2), None);
+}
+
+// Returns ten ranks, each with a value and a place that are lower by one than those of the one before.
+fn falling_ranks(alloc: Global, value: u64, place: usize) -> Result<Vec<Rank>, AllocError> {
+    let mut ranks = Vec::new(alloc);
+    for i in 0u32..10 {
+        let value = value.saturating_sub(u64::from(i));
+        ranks.push(rank(value, place.saturating_sub(i as usize)))?;
+    }
+    Ok(ranks)
+}
+
+fn node(
+    number: u32,
+    parent: Option<usize>,
+    status: Option<i32>,
+    bytes: u64,
+    warnings: u64,
+) -> Node {
+    Node {
+        number,
+        parent,
+        status,
+        lines: 1,
+        bytes,
+        warnings,
+        below: 0,
+        children: 0,
+        others: false,
+        warnings_below: 0,
+        fails_below: false,
+        silent: 0,
+    }
+}
+
+fn ran(began: u64, ended: u64) -> Times {
+    Times {
+        began: Some(began),
+        ended: Some(ended),
+    }
+}
+
+fn ended(time: u64) -> Times {
+    Times {
+        began: None,
+        ended: Some(time),
+    }
+}
+
+fn span(place: usize, began: u64, ended: u64, failed: bool) -> Span {
+    Span {
+        began,
+        place,
+        ended,
+        failed,
+    }
+}
+
+fn rank(value: u64, place: usize) -> Rank {
+    Rank { value, place }
+}
