@@ -47,7 +47,6 @@ def libraries_of(program):
 
 
 def libraries():
-    """Returns the libraries of all programs, each after its own dependencies."""
     return list(dict.fromkeys(libraries_of("redo_log") + libraries_of("redo_log_html")))
 
 

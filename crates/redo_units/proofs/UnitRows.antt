@@ -5,7 +5,8 @@ use Rattle.std.specs.Fmt.{digits}
 use Rattle.std.specs.List.{AllByRecursion}
 use Rattle.redo_units.specs.Durations.{duration_text, duration_words}
 use Rattle.redo_units.specs.Sizes.{size_text, size_words, tenths_text, tenths_words}
-use Rattle.redo_units.specs.Words.{decimal_text, words_text}
+use Rattle.redo_units.specs.declared.words.Word.TheVariants.{Number, Text}
+use Rattle.redo_units.specs.Words.{decimal_text, word_of, words_text}
 use Rattle.redo_units.specs.Words.WordValue.{NumberWord, TextWord}
 
 record Row : Type 0 where
@@ -14,6 +15,9 @@ record Row : Type 0 where
 
 abbrev shows : ℕ → List ℕ → Row
 shows number text = record { number = number; text = text }
+
+words_of : (word_of (Number 5) ≡ NumberWord 5) × (word_of (Text (record { ref_ptr = (0, 0); now = codes " s" })) ≡ TextWord (codes " s"))
+words_of = (refl, refl)
 
 -- The largest number is 2^64 - 1.
 words :
