@@ -138,7 +138,7 @@ def of_items(text, where, names, is_public, block, is_out):
     """Yields the contracts of items. `block` is the trait of the impl that contains them, `trait`, `own`, or None."""
     head = at = 0
     while at < len(text):
-        if text[at] == ";":
+        if text[at] == ";" and text.count("[", head, at) == text.count("]", head, at):  # not that of [u8; 4]
             head = at + 1
         elif text[at] == "{":
             before, end = text[head:at], closing(text, at)

@@ -46,7 +46,7 @@ ticks =
     []
 
 these_ticks : AllByRecursion (λ row. tick_text row.ms row.step ≡ row.text) ticks
-unfolding decimal_text digits
+unfolding tick_words decimal_text digits
 these_ticks = (refl, (refl, (refl, (refl, (refl, (refl, (refl, (refl, (refl, (refl, (refl, (refl, (refl, (refl, (refl, (refl, (refl, (refl, (refl, (refl, (refl, (refl, (refl, (refl, (refl, (refl, tt))))))))))))))))))))))))))
 
 -- Each tick has six words, and some are empty.
@@ -55,6 +55,7 @@ words :
     × (tick_words 1230 10 ≡ NumberWord 1 ∷ TextWord (codes ".") ∷ NumberWord 2 ∷ NumberWord 3 ∷ TextWord [] ∷ TextWord (codes " s") ∷ [])
     × (tick_words 125000 5000 ≡ NumberWord 2 ∷ TextWord (codes ":") ∷ NumberWord 0 ∷ NumberWord 5 ∷ TextWord [] ∷ TextWord [] ∷ [])
     × (tick_words 3725000 300000 ≡ NumberWord 1 ∷ TextWord (codes ":") ∷ NumberWord 0 ∷ NumberWord 2 ∷ TextWord (codes " h") ∷ TextWord [] ∷ [])
+unfolding tick_words
 words = (refl, refl, refl, refl)
 
 record StepRow : Type 0 where

@@ -4,13 +4,14 @@ use Rattle.httpdate.specs.declared.parts.Parts.{Parts}
 use Rattle.httpdate.specs.Calendar.{days_in_month, days_in_year, weekday}
 use Rattle.httpdate.specs.Text.{imf_fixdate}
 
--- Periods, such as years, follow each other. This is the period in which a day is, and how many days of it are before that day, if so many
--- days are between the day and the beginning of the period `first`. At most `more` later periods are tried. (An `if` would try all of them.)
+-- Periods, such as years, have consecutive numbers, and `days_in` is the length of each. The period in which a day is, and how many days of the
+-- period are before that day, if `days` days are between the beginning of the period `first` and that day. At most `more` later periods are
+-- tried; `elim` computes only one case, so the search ends at the right one.
 unfoldable pub period_of : (ℕ → ℕ) → ℕ → ℕ → ℕ → ℕ × ℕ
 period_of days_in zero first days = (first, days)
 period_of days_in (suc more) first days = elim (nat_lt days (days_in first)) [ true ↦ (first, days) | false ↦ period_of days_in more (suc first) (days - days_in first) ]
 
--- The year in which a day is, and how many days of the year are before it, from the days since 1970.
+-- The year in which a day is, and how many days of the year are before it, from the days since 1970. The last year is 9999.
 abbrev pub year_of : ℕ → ℕ × ℕ
 year_of days = period_of days_in_year 8029 1970 days
 

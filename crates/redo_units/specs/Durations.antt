@@ -4,7 +4,7 @@ use Rattle.redo_units.specs.Words.{WordValue, no_word, two_digits, words_text}
 use Rattle.redo_units.specs.Words.WordValue.{NumberWord, TextWord}
 
 -- A duration of this many milliseconds.
-abbrev pub duration_words : ℕ → List WordValue
+unfoldable pub duration_words : ℕ → List WordValue
 duration_words ms =
     if nat_lt ms 10000 then NumberWord (ms / 1000) ∷ TextWord (codes ".") ∷ two_digits (ms / 10 % 100) ++ TextWord (codes " s") ∷ []
     else if nat_lt ms 60000 then NumberWord (ms / 1000) ∷ TextWord (codes ".") ∷ NumberWord (ms / 100 % 10) ∷ TextWord (codes " s") ∷ no_word ∷ []

@@ -8,7 +8,7 @@ abbrev pub size_in : ℕ → List ℕ → ℕ → List WordValue
 size_in unit name bytes = NumberWord (bytes / unit) ∷ TextWord (codes ".") ∷ NumberWord (bytes * 10 / unit % 10) ∷ TextWord name ∷ []
 
 -- A number of bytes.
-abbrev pub size_words : ℕ → List WordValue
+unfoldable pub size_words : ℕ → List WordValue
 size_words bytes =
     if bytes == 1 then NumberWord 1 ∷ TextWord (codes " byte") ∷ no_word ∷ no_word ∷ []
     else if nat_lt bytes 1000 then NumberWord bytes ∷ TextWord (codes " bytes") ∷ no_word ∷ no_word ∷ []
@@ -24,7 +24,7 @@ abbrev pub quotient_in_tenths : ℕ → ℕ → ℕ
 quotient_in_tenths amount per = min (amount * 10) 0xFFFFFFFFFFFFFFFF / max per 1
 
 -- A quotient with one decimal.
-abbrev pub tenths_words : ℕ → ℕ → List WordValue
+unfoldable pub tenths_words : ℕ → ℕ → List WordValue
 tenths_words amount per = let tenths = quotient_in_tenths amount per in NumberWord (tenths / 10) ∷ TextWord (codes ".") ∷ NumberWord (tenths % 10) ∷ []
 
 abbrev pub tenths_text : ℕ → ℕ → List ℕ

@@ -1,4 +1,4 @@
--- The ticks of a time axis. All times are in milliseconds.
+-- The ticks of a time axis, in milliseconds.
 use Rattle.std.specs.Prelude.{ℕ, ◌*◌, ◌/◌, ◌%◌, Bool, ◌==◌, nat_le, nat_lt, List, [], ◌∷◌, ◌++◌, codes, if◌then◌else◌}
 use Rattle.std.specs.List.{find}
 use Rattle.std.specs.Option.{unwrap_or}
@@ -23,7 +23,7 @@ abbrev pub decimal_if : Bool → ℕ → WordValue
 decimal_if shown number = if shown then NumberWord (number % 10) else no_word
 
 -- A time since the axis begins. Seconds have the decimals that this step needs.
-abbrev pub tick_words : ℕ → ℕ → List WordValue
+unfoldable pub tick_words : ℕ → ℕ → List WordValue
 tick_words ms step =
     if ms == 0 then NumberWord 0 ∷ no_word ∷ no_word ∷ no_word ∷ no_word ∷ no_word ∷ []
     else if nat_lt ms 60000 then

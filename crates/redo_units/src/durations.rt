@@ -4,6 +4,7 @@ ghost use Rattle.redo_units.specs.Words.{word_of};
 
 use crate::words::{NO_WORD, Word};
 
+// A second in milliseconds. The next two are in milliseconds, too.
 pub const SECOND: u64 = 1000;
 
 pub const MINUTE: u64 = 60 * SECOND;
@@ -12,6 +13,7 @@ pub const HOUR: u64 = 60 * MINUTE;
 
 /// Returns how a duration in milliseconds is written: `1.23 s`, `12.3 s`, `2 min 05 s`, `1 h 02 min`. What the last unit
 /// doesn't show is cut off. All milliseconds are allowed.
+#[tactic(auto, unfolding(crate::specs::Durations::duration_words))]
 pub fn duration(ms: u64) -> [Word; 5]
     ensures { map word_of result ≡ duration_words ms }
 {

@@ -54,6 +54,7 @@ pub fn tick_step(width: u64) -> u64
 
 /// Returns how the time of a tick is written, in milliseconds since the axis begins: `0`, `0.05 s`, `12 s`, `2:05` for minutes
 /// and seconds, `1:02 h` for hours and minutes. Seconds below a minute have the decimals that this step needs.
+#[tactic(auto, unfolding(crate::specs::Ticks::tick_words))]
 pub fn tick(ms: u64, step: u64) -> [Word; 6]
     ensures { map word_of result ≡ tick_words ms step }
 {

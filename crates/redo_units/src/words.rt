@@ -14,10 +14,10 @@ pub enum Word {
     Text(&'static [u8]),
 }
 
-// What an array has at places that are not used.
+// What an array has at places that it doesn't need.
 pub const NO_WORD: Word = Word::Text(b"");
 
-/// Appends the text of words. After a failed allocation, the text may have the first of them, and the caller drops it.
+/// Appends the text of words. The only error is that an allocation failed. The text may then end with a part of theirs.
 pub fn push_words(words: &[Word], text: &mut Vec<u8>) -> Result<(), AllocError>
     ensures { OnOk result (text.new.items ≡ text.old.items ++ words_text (map word_of words.now)) }
 {

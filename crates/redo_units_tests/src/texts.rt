@@ -1,4 +1,4 @@
-//! The texts of a few words, in memory.
+//! The text of a few words, and a date.
 use redo_units::{Word, date, duration, push_words, size, tenths, tick, tick_step};
 use std::alloc::{AllocError, Global};
 use std::process::Abort;
@@ -6,17 +6,16 @@ use std::test::Fail;
 
 #[test]
 fn words_are_appended(rt: HostRuntime) -> Result<(), Fail> {
-    let alloc = rt.alloc();
-    expect_text(&rt, &[], "")?;
+    expect_text(&rt, &[], "= ")?;
     expect_text(
         &rt,
         &[Word::Number(u64::MAX), Word::Text(b" x")],
-        "18446744073709551615 x",
+        "= 18446744073709551615 x",
     )?;
-    expect_text(&rt, &duration(3_725_000), "1 h 02 min")?;
-    expect_text(&rt, &size(46_099), "46.0 kB")?;
-    expect_text(&rt, &tenths(5, 2), "2.5")?;
-    expect_text(&rt, &tick(20, tick_step(100)), "0.02 s")
+    expect_text(&rt, &duration(3_725_000), "= 1 h 02 min")?;
+    expect_text(&rt, &size(46_099), "= 46.0 kB")?;
+    expect_text(&rt, &tenths(5, 2), "= 2.5")?;
+    expect_text(&rt, &tick(20, tick_step(100)), "= 0.02 s")
 }
 
 #[test]
@@ -33,7 +32,7 @@ fn date_has_time_of_day(rt: HostRuntime) -> Result<(), Fail> {
     }
 }
 
-// Appends the words to a text that isn't empty.
+// The text begins with `= `, and the words are appended.
 fn expect_text(rt: &(impl Abort + AllocGlobal), words: &[Word], want: &str) -> Result<(), Fail> {
     let text = text_of(rt.alloc(), words)?;
     assert_eq!(rt; text.as_slice(), want.as_bytes());
@@ -41,7 +40,7 @@ fn expect_text(rt: &(impl Abort + AllocGlobal), words: &[Word], want: &str) -> R
 }
 
 fn text_of(alloc: Global, words: &[Word]) -> Result<Vec<u8>, AllocError> {
-    let mut text = Vec::new(alloc);
+    let mut text = Vec::from_slice(alloc, b"= ")?;
     push_words(words, &mut text)?;
     Ok(text)
 }
