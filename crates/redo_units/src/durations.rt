@@ -11,8 +11,8 @@ pub const MINUTE: u64 = 60 * SECOND;
 
 pub const HOUR: u64 = 60 * MINUTE;
 
-/// Returns how a duration in milliseconds is written: `1.23 s`, `12.3 s`, `2 min 05 s`, `1 h 02 min`. What the last unit
-/// doesn't show is cut off. All milliseconds are allowed.
+/// Returns how a duration in milliseconds is written: `1.23 s`, `12.3 s`, `2 min 05 s`, `1 h 02 min`. The rest
+/// is cut off.
 #[tactic(auto, unfolding(crate::specs::Durations::duration_words))]
 pub fn duration(ms: u64) -> [Word; 5]
     ensures { map word_of result ≡ duration_words ms }

@@ -10,7 +10,7 @@ const MEGABYTE: u64 = 1000 * KILOBYTE;
 
 const GIGABYTE: u64 = 1000 * MEGABYTE;
 
-/// Returns how a number of bytes is written: `1 byte`, `999 bytes`, `46.0 kB`, `1.2 MB`, `3.4 GB`. A kB is 1,000 bytes. All
+/// Returns how a number of bytes is written: `1 byte`, `999 bytes`, `46.0 kB`, `1.2 MB`, `3.4 GB`. A kB is 1,000 bytes. The
 /// decimals after the first are cut off.
 #[tactic(auto, unfolding(crate::specs::Sizes::size_words))]
 pub fn size(bytes: u64) -> [Word; 4]
@@ -44,8 +44,8 @@ pub fn size(bytes: u64) -> [Word; 4]
     }
 }
 
-/// Returns a quotient with one decimal, as `2.5`. The decimals after it are cut off. The divisor 0 counts as 1. Ten times
-/// the amount is at most `u64::MAX` here; so a greater amount gives a smaller quotient.
+/// Returns a quotient with one decimal, such as `2.5`. The decimals after it are cut off. The divisor 0 counts as 1. Ten
+/// times the amount saturates at `u64::MAX`.
 #[tactic(auto, unfolding(crate::specs::Sizes::tenths_words))]
 pub fn tenths(amount: u64, per: u64) -> [Word; 3]
     ensures { map word_of result ≡ tenths_words amount per }
