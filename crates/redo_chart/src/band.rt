@@ -1,0 +1,78 @@
+//! Where the groups of bars are in the chart.
+ghost use Rattle.std.specs.Prelude.{◌≡◌, ◌<◌, ◌≤◌, ◌^◌};
+ghost use Rattle.redo_chart.specs.Bands as spec;
+
+use redo_html::GroupKind;
+
+// The height of a lane of parents or of marks.
+const LANE_HEIGHT: u64 = 14;
+
+// Between two groups.
+const GAP: u64 = 6;
+
+/// Where the lanes of a group of bars are. Lengths are in pixels.
+#[derive(Clone, Copy)]
+pub struct Band {
+    pub kind: GroupKind,
+    /// Where the first lane begins.
+    pub top: u64,
+    pub lane_height: u64,
+}
+
+impl Band {
+    /// Returns the band of the recipes that ran others.
+    pub fn parents() -> Band
+        ensures { result ≡ spec.parents_band }
+    {
+        Band {
+            kind: GroupKind::Parents,
+            top: 20,
+            lane_height: LANE_HEIGHT,
+        }
+    }
+
+    /// Returns the band of the recipes, which follows that of the parents.
+    pub fn recipes(parent_lanes: usize, lanes: usize) -> Band
+        requires { parent_lanes ≤ spec.max_parent_lanes }
+        ensures { result ≡ spec.recipes_band parent_lanes lanes }
+    {
+        Band {
+            kind: GroupKind::Recipes,
+            top: Band::parents().below(parent_lanes),
+            lane_height: recipe_lane_height(lanes),
+        }
+    }
+
+    /// Returns the band of the marks, which follows that of the recipes.
+    pub fn marks(parent_lanes: usize, recipe_lanes: usize) -> Band
+        requires parents { parent_lanes ≤ spec.max_parent_lanes }
+        requires recipes { recipe_lanes ≤ spec.max_recipe_lanes }
+        ensures { result ≡ spec.marks_band parent_lanes recipe_lanes }
+    {
+        Band {
+            kind: GroupKind::Untimed,
+            top: Band::recipes(parent_lanes, recipe_lanes).below(recipe_lanes),
+            lane_height: LANE_HEIGHT,
+        }
+    }
+
+    /// Returns where follows what is below this band, if it has this number of lanes.
+    pub fn below(&self, lanes: usize) -> u64
+        requires { spec.below self.now lanes < 2 ^ 64 }
+        ensures { result ≡ spec.below self.now lanes }
+    {
+        GAP + self.top + self.lane_height * lanes as u64
+    }
+}
+
+fn recipe_lane_height(lanes: usize) -> u64
+    ensures { result ≡ spec.recipe_lane_height lanes }
+{
+    if lanes <= 16 {
+        18
+    } else if lanes <= 40 {
+        12
+    } else {
+        8
+    }
+}

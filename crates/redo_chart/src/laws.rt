@@ -1,0 +1,34 @@
+//! Laws, which are theorems about the definitions alone: each contract is a theorem, and the bodies are empty.
+ghost use Rattle.std.specs.Prelude.{◌≡◌, ◌++◌, ℕ, true, nat_lt, List};
+ghost use Rattle.std.specs.List.{list_all};
+ghost use Rattle.redo_html.specs.declared.chart.GroupKind.TheVariants.{Parents, Recipes, Untimed};
+ghost use Rattle.redo_html.specs.Chart.{drawing_links};
+ghost use Rattle.redo_logs.specs.Logs.{Log};
+ghost use Rattle.redo_outline.specs.declared.node.Node.{Node};
+ghost use Rattle.redo_timeline.specs.declared.span.Span.{Span};
+ghost use Rattle.redo_timeline.specs.declared.span.Window.{Window};
+ghost use Rattle.redo_chart.specs.Bands.{max_mark_lanes, max_parent_lanes, max_recipe_lanes};
+ghost use Rattle.redo_chart.specs.Laws.{DrawsAll, are_below, shapes_of};
+ghost use Rattle.redo_chart.specs.Timeline.{timeline_drawing};
+
+/// The bars lead to shown targets only: if the places of all spans are below a number, those to which the bars lead are, too.
+pub fn bars_lead_to_places()
+    ensures { (logs : List Log) (nodes : List Node) (window : Window) (parents recipes marks : List Span) (count : ℕ) →
+        are_below count (parents ++ (recipes ++ marks)) ≡ true
+        → list_all (λ link. nat_lt link count) (drawing_links (timeline_drawing logs nodes window parents recipes marks)) ≡ true }
+{}
+
+/// Each span is in exactly one bar, and the bar says where it is: it leads to the target of its first span, begins when this one began,
+/// is as wide as the time until its last span ended, is red if its target failed, and its tooltip says so in words. Several spans have one
+/// bar only if they are too narrow to be seen apart.
+pub fn bars_say_when_targets_ran()
+    ensures parents { (logs : List Log) (nodes : List Node) (window : Window) (parents recipes marks : List Span) →
+        DrawsAll logs nodes window Parents max_parent_lanes parents
+        (shapes_of Parents (timeline_drawing logs nodes window parents recipes marks)) }
+    ensures recipes { (logs : List Log) (nodes : List Node) (window : Window) (parents recipes marks : List Span) →
+        DrawsAll logs nodes window Recipes max_recipe_lanes recipes
+        (shapes_of Recipes (timeline_drawing logs nodes window parents recipes marks)) }
+    ensures marks { (logs : List Log) (nodes : List Node) (window : Window) (parents recipes marks : List Span) →
+        DrawsAll logs nodes window Untimed max_mark_lanes marks
+        (shapes_of Untimed (timeline_drawing logs nodes window parents recipes marks)) }
+{}
