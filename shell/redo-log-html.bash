@@ -5,7 +5,7 @@
 source "${BASH_SOURCE[0]%-html*}${BASH_SOURCE[0]##*-html}"
 
 _redo_log_html() {
-  local options='-u --unchanged --debug-locks --dir --output --title --senders -h --help -V --version'
+  local options='-u --unchanged --debug-locks --dir --output --title --max-bytes --senders -h --help -V --version'
   _redo_log_complete "$@"
 }
 

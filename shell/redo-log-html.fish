@@ -10,6 +10,8 @@ complete -c redo-log-html -l dir -x -a '(__fish_complete_directories (commandlin
     -d 'The capture directory: `names`, and a `log.NUMBER` for each line of it'
 complete -c redo-log-html -l output -r -F -d 'Write the page to FILE, which it replaces once it is complete'
 complete -c redo-log-html -l title -x -d 'The title of the page'
+complete -c redo-log-html -l max-bytes -x \
+    -d 'Shorten the longest logs if all together have more than N bytes of text; 0 shows everything'
 complete -c redo-log-html -l senders -x -d 'The number of threads that read logs, 1 to 64'
 complete -c redo-log-html -s h -l help -d 'Print help'
 complete -c redo-log-html -s V -l version -d 'Print version'

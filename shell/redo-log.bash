@@ -66,11 +66,11 @@ _redo_log_complete() {
     case $option in
       --) ;;
       --dir) dir=${word/#~\//~/} option= ;;
-      --senders | --capacity | --output | --title) option= ;;
+      --senders | --capacity | --output | --title | --max-bytes) option= ;;
       *)
         case $word in
           --dir=*) dir=${word#*=} ;;
-          -- | --dir | --senders | --capacity | --output | --title) option=$word ;;
+          -- | --dir | --senders | --capacity | --output | --title | --max-bytes) option=$word ;;
         esac
         ;;
     esac
@@ -87,7 +87,7 @@ _redo_log_complete() {
     # A capture directory contains no directory except a hidden one.
     --dir:* | :--dir=*) [[ $typed == */ && -d ${typed#--dir=}.capture ]] || compopt -o dirnames ;;
     --output:* | :--output=*) compopt -o default ;;
-    --senders:* | --capacity:* | --title:*) ;;
+    --senders:* | --capacity:* | --title:* | --max-bytes:*) ;;
     :-*) mapfile -t COMPREPLY < <(compgen -W "$options" -- "$typed") ;;
     *) mapfile -t COMPREPLY < <(_redo_log_names) ;;
   esac

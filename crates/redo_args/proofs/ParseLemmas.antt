@@ -14,7 +14,7 @@ use Rattle.clap.specs.Kinds.{FailsBy, HasKind, IsAmong, Kinds}
 use Rattle.clap.specs.Matches.{found_of, has_subcommand, matched_of, one_text, raw_values}
 use Rattle.clap.specs.Simple.{App, app_of, built, is_buildable}
 use Rattle.clap.specs.Values.{Accepts, kind_of, read_as, reading_of}
-use Rattle.clap.specs.Walk.{Row, Rule, Text, is_empty, rows_of, rule_of}
+use Rattle.clap.specs.Walk.{Row, Rule, Text, is_empty, one_of, rows_of, rule_of}
 use Rattle.clap.specs.declared.builder.action.ArgAction.TheVariants.{Append, Count, Set}
 use Rattle.clap.specs.declared.builder.arg.Arg.{Arg}
 use Rattle.clap.specs.declared.builder.command.Command.{Command}
@@ -106,7 +106,7 @@ abbrev pub TakesWords : Text → Rule → Type 0
 TakesWords id rule = bytes_eq rule.id id ≡ true → (unwrap_or rule.action Set ≡ Append) × ((unwrap_or_range rule.range).start_inclusive ≡ 1) × (rule.is_simple ≡ true)
 
 -- Whether `text` was read from a text that `parser` accepts.
-abbrev IsAccepted : ValueParser → Text → Type 0
+abbrev pub IsAccepted : ValueParser → Text → Type 0
 IsAccepted parser text = (written : Text) × (text ≡ read_as (reading_of parser) written) × (ignore_case : Bool) × Accepts ignore_case parser written
 
 module _ (c : Command) (id : Text) (no_groups : groups_of c ≡ []) (named : id ≡ [] → ⊥) where
@@ -238,13 +238,16 @@ module _ (app : App) (settings : IsPlainApp app) (old new : Command) (m : ArgMat
   groups : groups_of new ≡ []
   groups = (parse.builds.plain plain).1
 
+  -- The text of an option was accepted by its parser.
+  pub sound_text : (parser : ValueParser) (id : Text) → (id ≡ [] → ⊥) → HoldsOfBoth app (IsParsedBy id parser) → IfSome (one_of id (rows_of (found_of m))) (IsAccepted parser)
+  sound_text parser id named rules =
+      subst (λ (o : Option Text). IfSome o (IsAccepted parser)) (one_text-rows (found_of m) id) (text_accepted new id groups named parser (holds _ rules) (found_of m) values)
+
   pub sound_flag : (id : Text) → (id ≡ [] → ⊥) → HoldsOfBoth app (IsParsedBy id vp.Bool) → IsFlag id (rows_of (found_of m))
-  sound_flag id named rules =
-      subst (λ (o : Option Text). IfSome o IsFlagText) (one_text-rows (found_of m) id) (weaker _ _ _ flag_text (text_accepted new id groups named vp.Bool (holds _ rules) (found_of m) values))
+  sound_flag id named rules = weaker _ _ _ flag_text (sound_text vp.Bool id named rules)
 
   pub sound_number : (max : ℕ) (id : Text) → (id ≡ [] → ⊥) → HoldsOfBoth app (IsParsedBy id (vp.Signed (pos 1) (pos max))) → IsNumber max id (rows_of (found_of m))
-  sound_number max id named rules =
-      subst (λ (o : Option Text). IfSome o (IsNumberTo max)) (one_text-rows (found_of m) id) (weaker _ _ _ (number_text max) (text_accepted new id groups named _ (holds _ rules) (found_of m) values))
+  sound_number max id named rules = weaker _ _ _ (number_text max) (sound_text _ id named rules)
 
   pub sound_words : (id : Text) → (id ≡ [] → ⊥) → HoldsOfBoth app (TakesWords id) → is_some (matched_of (found_of m) id) ≡ true
       → 0 < length (unwrap_or (option_map raw_values (matched_of (found_of m) id)) [])

@@ -1,2 +1,3 @@
+mod Getters
 mod Sound
 mod WordsRows

@@ -1,10 +1,11 @@
 -- The rows of a parse are sound: each has values that its rule allows.
-use Rattle.std.proofs.Common.{◌≡◌, ◌<◌, ◌≤◌, true, List, [], ◌∷◌, length, is_some, Option, Some, None, refl, subst, arith, codes}
+use Rattle.std.proofs.Common.{◌≡◌, ◌<◌, ◌≤◌, true, List, [], ◌∷◌, length, is_some, Option, Some, None, refl, subst, sym, arith, codes}
 use Rattle.std.specs.Prelude.{option_map, pos, unwrap_or}
 use Rattle.std.specs.List.{AllByRecursion}
 use Rattle.clap.specs.Faults.{fault_of, is_simple_and_free}
 use Rattle.clap.specs.Matches.{found_of, matched_of, raw_values}
 use Rattle.clap.specs.Simple.{built, is_buildable, is_simple}
+use Rattle.clap.specs.Values.{IsUnsignedIn}
 use Rattle.clap.specs.Walk.{Text, rows_of}
 use Rattle.clap.specs.declared.builder.command.Command.{Command}
 use Rattle.clap.specs.declared.builder.value_parser.ValueParser.TheVariants as vp
@@ -12,7 +13,7 @@ use Rattle.clap.specs.declared.parser.matches.ArgMatches.{ArgMatches}
 use Rattle.clap.specs.declared.parser.matches.MatchedArg.{MatchedArg}
 use Rattle.clap.proofs.WalkLemmas.{raw_values-rows}
 use Rattle.redo_args.proofs.OneKind.{one_kind_of}
-use Rattle.redo_args.proofs.ParseLemmas.{HoldsOfBoth, IsParse, IsParsedBy, IsPlainApp, IsPlainRule, TakesWords, other, sound_flag, sound_number, sound_words}
+use Rattle.redo_args.proofs.ParseLemmas.{HoldsOfBoth, IsAccepted, IsParse, IsParsedBy, IsPlainApp, IsPlainRule, TakesWords, other, sound_flag, sound_number, sound_text, sound_words, weaker}
 use Rattle.redo_html_args.specs.CommandLine.{redo_log_html}
 use Rattle.redo_html_args.specs.Private.Matches.{AreSound}
 
@@ -20,24 +21,28 @@ use Rattle.redo_html_args.specs.Private.Matches.{AreSound}
 
 unchanged-parsed : HoldsOfBoth redo_log_html (IsParsedBy (codes "unchanged") vp.Bool)
 unfolding redo_log_html
-unchanged-parsed = ((other, (other, (other, (λ _. refl, (other, (other, (other, tt))))))), (other, (other, (other, (λ _. refl, (other, (other, (other, (other, tt)))))))))
+unchanged-parsed = ((other, (other, (other, (λ _. refl, (other, (other, (other, (other, tt)))))))), (other, (other, (other, (λ _. refl, (other, (other, (other, (other, (other, tt))))))))))
 
 debug_locks-parsed : HoldsOfBoth redo_log_html (IsParsedBy (codes "debug_locks") vp.Bool)
 unfolding redo_log_html
-debug_locks-parsed = ((other, (other, (other, (other, (λ _. refl, (other, (other, tt))))))), (other, (other, (other, (other, (λ _. refl, (other, (other, (other, tt)))))))))
+debug_locks-parsed = ((other, (other, (other, (other, (λ _. refl, (other, (other, (other, tt)))))))), (other, (other, (other, (other, (λ _. refl, (other, (other, (other, (other, tt))))))))))
+
+max_bytes-parsed : HoldsOfBoth redo_log_html (IsParsedBy (codes "max-bytes") (vp.Unsigned 0 18446744073709551615))
+unfolding redo_log_html
+max_bytes-parsed = ((other, (other, (other, (other, (other, (λ _. refl, (other, (other, tt)))))))), (other, (other, (other, (other, (other, (λ _. refl, (other, (other, (other, tt))))))))))
 
 senders-parsed : HoldsOfBoth redo_log_html (IsParsedBy (codes "senders") (vp.Signed (pos 1) (pos 64)))
 unfolding redo_log_html
-senders-parsed = ((other, (other, (other, (other, (other, (λ _. refl, (other, tt))))))), (other, (other, (other, (other, (other, (λ _. refl, (other, (other, tt)))))))))
+senders-parsed = ((other, (other, (other, (other, (other, (other, (λ _. refl, (other, tt)))))))), (other, (other, (other, (other, (other, (other, (λ _. refl, (other, (other, tt))))))))))
 
 target-filled : HoldsOfBoth redo_log_html (TakesWords (codes "target"))
 unfolding redo_log_html
 target-filled =
-    ((other, (other, (other, (other, (other, (other, (λ _. (refl, refl, refl), tt))))))), (other, (other, (other, (other, (other, (other, (λ _. (refl, refl, refl), (other, tt)))))))))
+    ((other, (other, (other, (other, (other, (other, (other, (λ _. (refl, refl, refl), tt)))))))), (other, (other, (other, (other, (other, (other, (other, (λ _. (refl, refl, refl), (other, tt))))))))))
 
 all_plain : AllByRecursion IsPlainRule redo_log_html.top.rules
 unfolding redo_log_html
-all_plain = ((refl, refl), ((refl, refl), ((refl, refl), ((refl, refl), ((refl, refl), ((refl, refl), ((refl, refl), tt)))))))
+all_plain = ((refl, refl), ((refl, refl), ((refl, refl), ((refl, refl), ((refl, refl), ((refl, refl), ((refl, refl), ((refl, refl), tt))))))))
 
 settings : (redo_log_html.top.is_plain ≡ true) × (is_buildable redo_log_html ≡ true)
 unfolding redo_log_html
@@ -63,6 +68,10 @@ is_exact = (refl, refl)
 
 -- ---- a parse
 
+-- A text that the rule of an unsigned number accepts is such a number.
+unsigned_text : (text : Text) → IsAccepted (vp.Unsigned 0 18446744073709551615) text → IsUnsignedIn 0 18446744073709551615 text
+unsigned_text text (written, is, ignore_case, accepted) = subst (IsUnsignedIn 0 18446744073709551615) (sym is) accepted
+
 -- Arguments that are given, or the default, are not empty.
 some_words : (matched : Option MatchedArg) → (is_some matched ≡ true → 0 < length (unwrap_or (option_map raw_values matched) [])) → 0 < length (unwrap_or (option_map raw_values matched) (codes "all" ∷ []))
 some_words None filled = omega arith
@@ -74,6 +83,7 @@ sound old new m parse =
     record {
       unchanged_is = sound_flag redo_log_html plain_app old new m parse (codes "unchanged") (λ e. cc) unchanged-parsed;
       debug_locks_are = sound_flag redo_log_html plain_app old new m parse (codes "debug_locks") (λ e. cc) debug_locks-parsed;
+      max_bytes_are = weaker _ _ _ unsigned_text (sound_text redo_log_html plain_app old new m parse (vp.Unsigned 0 18446744073709551615) (codes "max-bytes") (λ e. cc) max_bytes-parsed);
       senders_are = sound_number redo_log_html plain_app old new m parse 64 (codes "senders") (λ e. cc) senders-parsed;
       some_target =
           subst (λ (o : Option (List Text)). 0 < length (unwrap_or o (codes "all" ∷ []))) (raw_values-rows (found_of m) (codes "target"))

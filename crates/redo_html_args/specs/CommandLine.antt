@@ -1,17 +1,22 @@
--- The definition of the command line of `redo-log-html` for `clap`: seven arguments, each with a rule.
+-- The definition of the command line of `redo-log-html` for `clap`: eight arguments, each with a rule.
 --
 -- `redo_args` defines the kinds of rules and says what their fields mean.
 use Rattle.std.specs.Prelude.{true, List, [], ◌∷◌, Some, codes}
 use Rattle.clap.specs.Simple.{App, new_app, new_rule, on_top}
 use Rattle.clap.specs.Walk.{Rule, Text}
 use Rattle.clap.specs.declared.builder.action.ArgAction.TheVariants.{Append, SetTrue}
-use Rattle.redo_args.specs.CommandLine.{flag_rule, letter_rule, number_rule, text_rule, with_rules}
+use Rattle.clap.specs.declared.builder.value_parser.ValueParser.TheVariants as parser
+use Rattle.redo_args.specs.CommandLine.{checked_rule, flag_rule, letter_rule, number_rule, text_rule, with_rules}
 
 -- The arguments that are not options: any number of them.
 abbrev pub optional_words_rule : Text → Rule
 optional_words_rule id = record (new_rule id) { value_names = 1; action = Some Append }
 
--- `--dir DIR`, `--output FILE`, `--title TEXT`, `-u` and `--unchanged`, `--debug-locks`, `--senders N`, `TARGET..`
+-- An option with a number that `u64` can hold.
+abbrev pub unsigned_rule : Text → Rule
+unsigned_rule id = checked_rule id (parser.Unsigned 0 18446744073709551615)
+
+-- `--dir DIR`, `--output FILE`, `--title TEXT`, `-u` and `--unchanged`, `--debug-locks`, `--max-bytes N`, `--senders N`, `TARGET..`
 abbrev pub rules : List Rule
 rules =
     text_rule (codes "dir") ∷
@@ -19,6 +24,7 @@ rules =
     text_rule (codes "title") ∷
     letter_rule (codes "unchanged") 117 ∷
     flag_rule (codes "debug_locks") (codes "debug-locks") SetTrue ∷
+    unsigned_rule (codes "max-bytes") ∷
     number_rule (codes "senders") 64 ∷
     optional_words_rule (codes "target") ∷
     []

@@ -6,14 +6,15 @@ use Rattle.std.specs.Prelude.{ℕ, Bool, List, [], ◌∷◌, Option, codes, unw
 use Rattle.clap.specs.Walk.{Row, Text, all_of, first_of}
 use Rattle.redo_args.specs.Job.{dir_of, is_on, number_or}
 
--- The capture directory, the output file and the title of the page, what is shown, the number of senders, and the arguments that
--- name the requested targets.
+-- The capture directory, the output file and the title of the page, what is shown, the number of bytes of text lines that may be
+-- shown, the number of senders, and the arguments that name the requested targets.
 pub record PageParts : Type 0 where
   pub dir : List ℕ
   pub output : Option (List ℕ)
   pub title : Option (List ℕ)
   pub unchanged : Bool
   pub debug_locks : Bool
+  pub max_bytes : ℕ
   pub senders : ℕ
   pub targets : List (List ℕ)
 
@@ -28,6 +29,7 @@ parts_of rows = record {
   title = first_of (codes "title") rows;
   unchanged = is_on (codes "unchanged") rows;
   debug_locks = is_on (codes "debug_locks") rows;
+  max_bytes = number_or 16000000 (codes "max-bytes") rows;
   senders = number_or 4 (codes "senders") rows;
   targets = targets_or_all rows;
 }

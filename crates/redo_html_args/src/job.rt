@@ -15,6 +15,8 @@ use std::marker::Model;
 // The values of options that are not given, and the target that is requested if none is named.
 const DEFAULT_DIR: &str = ".";
 
+const DEFAULT_MAX_BYTES: u64 = 16_000_000;
+
 const DEFAULT_SENDERS: u32 = 4;
 
 const DEFAULT_TARGETS: &[&str] = &["all"];
@@ -27,6 +29,7 @@ pub struct PageJob {
     title: Option<String>,
     unchanged: bool,
     debug_locks: bool,
+    max_bytes: u64,
     senders: u32,
     targets: Vec<Vec<u8>>,
 }
@@ -40,10 +43,10 @@ impl Model for PageJob {
     ghost Value = { PageParts };
 
     ghost view = { λ job. parts_with (string_bytes job.dir) (option_map string_bytes job.output) (option_map string_bytes job.title)
-        job.unchanged job.debug_locks job.senders job.targets.items };
+        job.unchanged job.debug_locks job.max_bytes job.senders job.targets.items };
 
     ghost invariant = { λ job. IsPageJob (parts_with (string_bytes job.dir) (option_map string_bytes job.output)
-        (option_map string_bytes job.title) job.unchanged job.debug_locks job.senders job.targets.items) };
+        (option_map string_bytes job.title) job.unchanged job.debug_locks job.max_bytes job.senders job.targets.items) };
 }
 
 impl PageJob {
@@ -84,6 +87,13 @@ impl PageJob {
         self.debug_locks
     }
 
+    /// Returns the number of bytes of text lines that the page may show; 0 if it shows all.
+    pub fn max_bytes(&self) -> u64
+        ensures { result ≡ self.now.max_bytes }
+    {
+        self.max_bytes
+    }
+
     /// Returns the number of senders: 1 to 64.
     pub fn senders(&self) -> u32
         ensures value { result ≡ self.now.senders }
@@ -115,6 +125,7 @@ pub(crate) fn job_from_matches(
     let title = matches.get_str("title");
     let unchanged = matches.get_flag("unchanged");
     let debug_locks = matches.get_flag("debug_locks");
+    let max_bytes = matches.get_one("max-bytes").unwrap_or(DEFAULT_MAX_BYTES);
     let senders = matches.get_one("senders").unwrap_or(DEFAULT_SENDERS);
     let targets = matches.get_strs("target").unwrap_or(DEFAULT_TARGETS);
     Ok(PageJob {
@@ -123,6 +134,7 @@ pub(crate) fn job_from_matches(
         title: copy_of(alloc, title)?,
         unchanged,
         debug_locks,
+        max_bytes,
         senders,
         targets: bytes_of(alloc, targets)?,
     })

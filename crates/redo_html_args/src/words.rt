@@ -5,12 +5,12 @@ ghost use Rattle.clap.specs.Simple.{app_of, matches_of};
 ghost use Rattle.clap.specs.Walk.{rows_of, rule_of};
 ghost use Rattle.redo_args.specs.declared.words_fault.WordsFault.TheVariants.{OutOfMemory};
 ghost use Rattle.redo_args.specs.Private.Arguments.{AreArguments};
-ghost use Rattle.redo_html_args.specs.CommandLine.{optional_words_rule, redo_log_html, rules};
+ghost use Rattle.redo_html_args.specs.CommandLine.{optional_words_rule, redo_log_html, rules, unsigned_rule};
 ghost use Rattle.redo_html_args.specs.Private.Matches.{AreSound};
 ghost use Rattle.redo_html_args.specs.Words.{fault_of_words, parse_parts};
 
 use crate::job::{PageJob, job_from_matches};
-use clap::{Arg, ArgAction, ArgMatches, Command};
+use clap::{Arg, ArgAction, ArgMatches, Command, value_parser};
 use redo_args::WordsFault;
 use redo_args::arguments::{flag, letter_flag, number, text_option};
 use std::alloc::{AllocError, Global};
@@ -33,10 +33,11 @@ Exit status:
 
 /// Parses the command-line arguments, without the name of the program:
 ///
-/// `[--dir DIR] [--output FILE] [--title TEXT] [-u|--unchanged] [--debug-locks] [--senders N] [TARGET..]`
+/// `[--dir DIR] [--output FILE] [--title TEXT] [-u|--unchanged] [--debug-locks] [--max-bytes N] [--senders N] [TARGET..]`
 ///
-/// By default, the directory is `.`, the number of senders is 4, and the target is `all`. The rules are the same
-/// as for `redo-log` ([`redo_args::read_words`]), except that no target need be named.
+/// By default, the directory is `.`, the number of bytes is 16,000,000, the number of senders is 4, and the target is
+/// `all`. A number of bytes is at most 18,446,744,073,709,551,615. The rules are the same as for `redo-log`
+/// ([`redo_args::read_words`]), except that no target need be named.
 pub fn read_words(alloc: Global, words: Vec<String>) -> Result<PageJob, WordsFault>
     // The arguments are valid, and the job is the one that they describe.
     ensures no_fault { IfOk result (λ _. fault_of_words (map string_bytes words.items) ≡ None) }
@@ -101,6 +102,11 @@ fn arguments<'a>(alloc: Global) -> Result<Vec<Arg<'a>>, AllocError>
             ArgAction::SetTrue,
             "Show messages about waiting and locking",
         ),
+        unsigned(
+            alloc,
+            "max-bytes",
+            "Shorten the longest logs if all together have more than N bytes of text; 0 shows everything [default: 16000000]",
+        ),
         number(
             alloc,
             "senders",
@@ -110,6 +116,14 @@ fn arguments<'a>(alloc: Global) -> Result<Vec<Arg<'a>>, AllocError>
         targets(alloc),
     ]
     .map_err(AllocError::from)
+}
+
+// An option with a number that `u64` can hold.
+fn unsigned<'a>(alloc: Global, id: &'a str, help: &'a str) -> Arg<'a>
+    ensures rule { rule_of result ≡ unsigned_rule id.entry.now }
+    ensures local { result.global ≡ false }
+{
+    text_option(alloc, id, "N", help).value_parser(value_parser!(u64))
 }
 
 // The arguments that are not options.
