@@ -1,17 +1,11 @@
-ghost use Rattle.std.specs.Prelude.{◌≡◌, ◌≢◌, ◌⊎◌, IfErr, length};
+ghost use Rattle.std.specs.Prelude.{◌≡◌, ◌⊎◌};
 ghost use Rattle.redo_log_cli.specs.declared.failure.Failure.TheVariants.{Memory};
-ghost use Rattle.redo_log_cli.specs.Failure.{IsBeforeRun, IsReportable, IsStatus, status_of};
-ghost use Rattle.redo_log_cli.specs.Shown.{IsShowResult, directory_call};
-ghost use Rattle.redo_page.specs.Page.{page_html, request_of};
-ghost use Rattle.redo_html_cli.specs.Private.Request.{request_for, title_for};
+ghost use Rattle.redo_log_cli.specs.Failure.{IsBeforeRun, IsStatus, status_of};
 
+use crate::job::{show_job, show_job_in_file};
 use redo_html_args::{PageJob, WordsFault, help_text, read_words};
 pub use redo_log_cli::process_arguments;
-use redo_log_cli::{
-    Failure, Output, Shown, create_output, exit_status, print, report_before_run_as,
-    show_directory, show_directory_in_file,
-};
-use redo_page::PageRequest;
+use redo_log_cli::{Failure, create_output, exit_status, print, report_before_run_as};
 use std::alloc::{AllocError, Global};
 use std::io::Write;
 use std::random::RandomSource;
@@ -21,9 +15,6 @@ use std::thread::Threads;
 
 /// The name with which error messages begin.
 const PROGRAM: &str = "redo-log-html";
-
-/// The capacity of the mailbox. It isn't an option: it changes nothing that a page shows.
-const CAPACITY: u32 = 64;
 
 /// Writes the error message of `redo-log-html` for a failure that is neither the fault of a stream nor an unknown
 /// argument, and returns its exit status. If an allocation fails, it returns the status of `Failure::Memory` instead.
@@ -78,71 +69,6 @@ fn perform<
             ),
             Err(failure) => report_before_run(rt.alloc(), &failure, err),
         },
-    }
-}
-
-// Writes the page of a job.
-fn show_job<R: Files<File: Send> + RandomSource + Threads + Wait + Sync + AllocGlobal, W: Write>(
-    rt: &R,
-    job: &PageJob,
-    out: &mut W,
-) -> Shown
-    ensures shown { IsShowResult (directory_call (page_html (request_for job.now)) result.index job.now.targets) result.outcome }
-    ensures reportable { IfErr result.outcome (IsReportable (length result.index) (length job.now.targets)) }
-    ensures nonzero_status { IfErr result.outcome (λ failure. status_of failure ≢ 0) }
-{
-    show_directory(
-        rt,
-        job.dir(),
-        job.senders(),
-        CAPACITY,
-        &request_for(job),
-        job.targets(),
-        out,
-    )
-}
-
-// Writes the page of a job to an output file, and closes it.
-fn show_job_in_file<R: Files<File: Send> + RandomSource + Threads + Wait + Sync + AllocGlobal>(
-    rt: &R,
-    job: &PageJob,
-    output: Output<'_, R::File>,
-) -> Shown
-    ensures shown { IsShowResult (directory_call (page_html (request_for job.now)) result.index job.now.targets) result.outcome }
-    ensures reportable { IfErr result.outcome (IsReportable (length result.index) (length job.now.targets)) }
-    ensures nonzero_status { IfErr result.outcome (λ failure. status_of failure ≢ 0) }
-{
-    show_directory_in_file(
-        rt,
-        job.dir(),
-        job.senders(),
-        CAPACITY,
-        &request_for(job),
-        job.targets(),
-        output,
-    )
-}
-
-// Returns what the page of a job is asked.
-fn request_for(job: &PageJob) -> PageRequest<'_>
-    ensures { request_of result ≡ request_for job.now }
-{
-    PageRequest {
-        title: title_of(job),
-        dir: job.dir().as_bytes(),
-        unchanged: job.unchanged(),
-        debug_locks: job.debug_locks(),
-        max_bytes: 0,
-        times: &[],
-    }
-}
-
-fn title_of(job: &PageJob) -> &[u8]
-    ensures { result.now ≡ title_for job.now.title }
-{
-    match job.title() {
-        Some(title) => title.as_bytes(),
-        None => b"",
     }
 }
 

@@ -1,2 +1,2 @@
 mod FileLemmas
-mod Results
+pub mod Results

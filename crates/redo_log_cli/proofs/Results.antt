@@ -18,10 +18,10 @@ use Rattle.redo_run.specs.RunFault.{IfNoText}
 use Rattle.redo_log_cli.specs.declared.failure.Failure.{Failure}
 use Rattle.redo_log_cli.specs.declared.failure.Failure.TheVariants.{NamesRead, Index, Memory, Words, Run}
 use Rattle.redo_index.specs.declared.index_fault.IndexFault.TheVariants as index
-use Rattle.redo_log_cli.specs.Failure.{IsReportable, status_of}
+use Rattle.redo_log_cli.specs.Failure.{IsIndexFailure, IsReportable, status_of}
 use Rattle.redo_log_cli.specs.NamesFile.{CannotBeRead, byte_limit}
 use Rattle.redo_log_cli.specs.Shown.{HasText, IsRunResult, IsShowResult, directory_call}
-use Rattle.redo_log_cli.specs.Private.Program.{IsFlushedAfter, IsIndexFailure, IsIndexResult}
+use Rattle.redo_log_cli.specs.Private.Program.{IsFlushedAfter, IsIndexResult}
 
 module _ (call : RenderCall) where
   a_text : (P : List ℕ → Type 0) → SomeRenderedText call P → HasText call

@@ -99,6 +99,13 @@ IsReportable targets arguments failure =
 abbrev pub IsBeforeRun : Failure → Type 0
 IsBeforeRun failure = IfStreamFailure failure (λ _. ⊥) × IfUnknownFailure failure (λ _. ⊥)
 
+-- Whether the failure is one of reading the file `names`, or an allocation failed.
+abbrev pub IsIndexFailure : Failure → Type 0
+IsIndexFailure NamesRead = Unit {0}
+IsIndexFailure (Index fault) = Unit {0}
+IsIndexFailure Memory = Unit {0}
+IsIndexFailure other = ⊥
+
 -- Whether the program may exit with this status.
 abbrev pub IsStatus : ℕ → Type 0
 IsStatus status = list_any (nat_eq status) (0 ∷ 2 ∷ 3 ∷ 4 ∷ 5 ∷ 6 ∷ 7 ∷ 24 ∷ []) ≡ true

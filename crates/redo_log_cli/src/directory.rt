@@ -8,16 +8,15 @@ ghost use Rattle.redo_options.specs.Arguments.{argument_bytes};
 ghost use Rattle.redo_options.specs.Limits.{IsCapacity, IsSenderCount};
 ghost use Rattle.redo_run.specs.Rendered.{render_call};
 ghost use Rattle.redo_run.specs.RunFault.{IfStreamFault, IfUnknown};
-ghost use Rattle.redo_log_cli.specs.Failure.{IsReportable, status_of};
+ghost use Rattle.redo_log_cli.specs.Failure.{IsIndexFailure, IsReportable, status_of};
 ghost use Rattle.redo_log_cli.specs.NamesFile.{byte_limit};
 ghost use Rattle.redo_log_cli.specs.Shown.{IsRunResult, IsShowResult, directory_call};
 ghost use Rattle.redo_log_cli.specs.Private.Opening.{failure_after, names_path};
-ghost use Rattle.redo_log_cli.specs.Private.Program.{IsFlushedAfter, IsIndexFailure, IsIndexResult};
+ghost use Rattle.redo_log_cli.specs.Private.Program.{IsFlushedAfter, IsIndexResult};
 
 use crate::failure::Failure;
 use crate::log_file::{LogFile, open_log};
 use crate::names_file::{MAX_BYTES, read_names};
-use crate::output::{Output, close_output};
 use redo_gather::{Free, Plan};
 use redo_index::{Index, read_index_with_keys};
 use redo_line::{Feed, HashKeys, Reading, Writing};
@@ -67,8 +66,7 @@ pub fn show_directory<
 {
     match find_index(rt, dir) {
         Ok(index) => {
-            let plan = plan_of(senders, capacity);
-            let outcome = show_logs(rt, dir, &index, &plan, renderer, arguments, out);
+            let outcome = show_logs(rt, dir, &index, senders, capacity, renderer, arguments, out);
             Shown { index, outcome }
         }
         Err(failure) => Shown {
@@ -78,64 +76,42 @@ pub fn show_directory<
     }
 }
 
-/// Writes any text of the logs in a directory to an output file, and closes it. A regular file is replaced only if the
-/// whole text was written. The rest is as for [`show_directory`].
-pub fn show_directory_in_file<
-    R: Files<File: Send> + RandomSource + Threads + Wait + Sync + AllocGlobal,
-    V: Render,
->(
+/// Reads the index of a directory: its file `names`, once.
+pub fn find_index<R: Files + RandomSource + AllocGlobal>(
     rt: &R,
     dir: &str,
-    senders: u32,
-    capacity: u32,
-    renderer: &V,
-    arguments: &[Vec<u8>],
-    output: Output<'_, R::File>,
-) -> Shown
-    requires senders { IsSenderCount senders }
-    requires capacity { IsCapacity capacity }
-    ensures shown { IsShowResult (directory_call (V.text renderer.now) result.index (argument_bytes arguments.now)) result.outcome }
-    ensures reportable { IfErr result.outcome (IsReportable (length result.index) (length arguments.now)) }
-    ensures nonzero_status { IfErr result.outcome (λ failure. status_of failure ≢ 0) }
-{
-    let mut output = output;
-    let shown = show_directory(rt, dir, senders, capacity, renderer, arguments, &mut output);
-    Shown {
-        index: shown.index,
-        outcome: close_output(rt, output, shown.outcome),
-    }
-}
-
-// Shows the logs of the requested targets, from the log files that an index lists.
-fn show_logs<R: Files<File: Send> + Threads + Wait + Sync + AllocGlobal, V: Render, W: Write>(
-    rt: &R,
-    dir: &str,
-    index: &Index,
-    plan: &Plan,
-    renderer: &V,
-    arguments: &[Vec<u8>],
-    out: &mut W,
-) -> Result<(), Failure>
-    requires { plan.now.max_bytes ≡ byte_limit }
-    ensures shown { IsShowResult (directory_call (V.text renderer.now) index.now (argument_bytes arguments.now)) result }
-    ensures reportable { IfErr result (IsReportable (length index.now) (length arguments.now)) }
-    ensures nonzero_status { IfErr result (λ failure. status_of failure ≢ 0) }
-{
-    let readers = open_logs(rt, dir, index)?;
-    match show(rt, index, readers, plan, renderer, arguments, out) {
-        Ok(()) => Ok(()),
-        Err(fault) => Err(Failure::Run(fault)),
-    }
-}
-
-// Reads the index of a directory.
-fn find_index<R: Files + RandomSource + AllocGlobal>(rt: &R, dir: &str) -> Result<Index, Failure>
+) -> Result<Index, Failure>
     ensures { IfErr result IsIndexFailure }
 {
     let alloc = rt.alloc();
     let path = names_path(alloc, dir)?;
     let keys = HashKeys::random(rt);
     index_of(alloc, keys, fs::open(rt, path).map(Reading))
+}
+
+/// Writes any text of the logs that the index of a directory lists. The rest is as for [`show_directory`].
+pub fn show_logs<R: Files<File: Send> + Threads + Wait + Sync + AllocGlobal, V: Render, W: Write>(
+    rt: &R,
+    dir: &str,
+    index: &Index,
+    senders: u32,
+    capacity: u32,
+    renderer: &V,
+    arguments: &[Vec<u8>],
+    out: &mut W,
+) -> Result<(), Failure>
+    requires senders { IsSenderCount senders }
+    requires capacity { IsCapacity capacity }
+    ensures shown { IsShowResult (directory_call (V.text renderer.now) index.now (argument_bytes arguments.now)) result }
+    ensures reportable { IfErr result (IsReportable (length index.now) (length arguments.now)) }
+    ensures nonzero_status { IfErr result (λ failure. status_of failure ≢ 0) }
+{
+    let readers = open_logs(rt, dir, index)?;
+    let plan = plan_of(senders, capacity);
+    match show(rt, index, readers, &plan, renderer, arguments, out) {
+        Ok(()) => Ok(()),
+        Err(fault) => Err(Failure::Run(fault)),
+    }
 }
 
 // Returns the path of the file `names`.

@@ -4,7 +4,8 @@
 //! the text. [`fault_line`] and [`status`] return the error message and the exit status of a failure.
 //! The crate re-exports the index, the run and the arguments, which it builds on.
 //!
-//! Another program can write another text of the logs by [`show_directory`], and report by [`exit_status`].
+//! Another program can write another text of the logs by [`show_directory`], and report by [`exit_status`]. To read the
+//! logs first, it calls [`find_index`], [`open_regular_log`] and [`show_logs`].
 #![tactic(auto)]
 
 mod directory;
@@ -16,11 +17,11 @@ mod output;
 mod program;
 mod reports;
 
-pub use directory::{Shown, show_directory, show_directory_in_file};
+pub use directory::{Shown, find_index, show_directory, show_logs};
 pub use failure::{Failure, status};
-pub use log_file::{LogFile, open_log};
+pub use log_file::{LogFile, open_log, open_regular_log};
 pub use message::{fault_line, fault_line_as};
-pub use names_file::read_names;
+pub use names_file::{MAX_BYTES, read_names};
 pub use output::{Output, close_output, create_output};
 pub use program::{command, process_arguments, report_before_run};
 pub use redo_args::{Job, WordsFault, help_text, read_words};

@@ -1,10 +1,12 @@
-ghost use Rattle.std.specs.Prelude.{◌≡◌, IfOk, IfErr};
+ghost use Rattle.std.specs.Prelude.{◌≡◌, ◌↔◌, true, false, IfOk, IfErr, IsOkAnd};
+ghost use Rattle.std.specs.Fs.{IsFile, file_type};
 ghost use Rattle.std.specs.String.{string_bytes};
 ghost use Rattle.redo_log_cli.specs.Private.Opening.{IsLogFileOf, IsOutOfMemory, log_path};
 
 use itoa::Buffer;
 use redo_line::{Broken, Feed, Reading};
 use std::alloc::{AllocError, Global};
+use std::fs::Metadata;
 use std::io::{ErrorKind, Read};
 use std::rt::Files;
 use std::{fs, io};
@@ -14,7 +16,7 @@ use std::{fs, io};
 pub enum LogFile<F: Read + Drop> {
     /// The file is open.
     Open(Reading<F>),
-    /// There is no file: the stream is empty.
+    /// There is no file, or only a regular one was to be opened: the stream is empty.
     Missing,
     /// The file can't be opened: the first read fails.
     Unreadable,
@@ -42,6 +44,36 @@ pub fn open_log<R: Files + AllocGlobal>(
 ) -> Result<LogFile<R::File>, AllocError> {
     let path = log_path(rt.alloc(), dir, fid)?;
     log_file_of(fs::open(rt, path))
+}
+
+/// Opens the log file with this number if it is a regular file, or a symbolic link to one. Any other file is taken as
+/// missing and isn't opened, because a pipe can be read only once.
+pub fn open_regular_log<R: Files + AllocGlobal>(
+    rt: &R,
+    dir: &str,
+    fid: u32,
+) -> Result<LogFile<R::File>, AllocError> {
+    let path = log_path(rt.alloc(), dir, fid)?;
+    if is_regular(fs::metadata(rt, path.as_str()))? {
+        log_file_of(fs::open(rt, path))
+    } else {
+        Ok(LogFile::Missing)
+    }
+}
+
+// Returns whether a file is a regular file, from what was found at its path.
+fn is_regular(found: io::Result<Metadata>) -> Result<bool, AllocError>
+    ensures file { IfOk found (λ metadata. IsOkAnd result (λ is. (is ≡ true) ↔ IsFile (file_type metadata))) }
+    ensures other { IfErr found (λ _. IfOk result (λ is. is ≡ false)) }
+    ensures memory { IfErr result (λ _. IsOutOfMemory found) }
+{
+    match found {
+        Ok(metadata) => Ok(metadata.is_file()),
+        Err(error) => match error.kind() {
+            ErrorKind::OutOfMemory => Err(AllocError),
+            _ => Ok(false),
+        },
+    }
 }
 
 // Returns the path of the log file with this number.

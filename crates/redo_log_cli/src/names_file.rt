@@ -8,7 +8,7 @@ use redo_line::{Broken, Feed};
 use std::alloc::Global;
 
 /// The maximum number of bytes of a log, and of the file `names`.
-pub(crate) const MAX_BYTES: u64 = 1_073_741_824;
+pub const MAX_BYTES: u64 = 1_073_741_824;
 
 // The size of the buffer for one read.
 const READ_BYTES: usize = 64 * 1024;

@@ -21,13 +21,6 @@ IsIndexResult (Err (Index fault)) stream = (end_fault byte_limit stream ≡ None
 IsIndexResult (Err Memory) stream = Unit {0}
 IsIndexResult (Err other) stream = ⊥
 
--- Whether the failure is one of reading the file `names`, or an allocation failed.
-abbrev pub IsIndexFailure : Failure → Type 0
-IsIndexFailure NamesRead = Unit {0}
-IsIndexFailure (Index fault) = Unit {0}
-IsIndexFailure Memory = Unit {0}
-IsIndexFailure other = ⊥
-
 -- Whether `result` is a result of flushing the writer if the run succeeded, or the fault of the run.
 abbrev pub IsFlushedAfter : Result (Unit {0}) RunFault → Result (Unit {0}) RunFault → Type 0
 IsFlushedAfter (Ok done) result = (result ≡ Ok tt) ⊎ (result ≡ Err Write)

@@ -1,0 +1,107 @@
+//! Performs a job: writes its page.
+ghost use Rattle.std.specs.Prelude.{◌≡◌, ◌≢◌, IfErr, length};
+ghost use Rattle.redo_log_cli.specs.Failure.{IsReportable, status_of};
+ghost use Rattle.redo_page.specs.Page.{request_of};
+ghost use Rattle.redo_html_cli.specs.Private.Request.{request_for, title_for};
+ghost use Rattle.redo_html_cli.specs.Private.Result.{IsPageResult};
+
+use crate::times::read_log_times;
+use redo_html_args::PageJob;
+use redo_log_cli::{Failure, Index, Output, Shown, close_output, find_index, show_logs};
+use redo_page::PageRequest;
+use redo_times::Times;
+use std::io::Write;
+use std::random::RandomSource;
+use std::rt::Files;
+use std::sync::Wait;
+use std::thread::Threads;
+
+/// The capacity of the mailbox. It isn't an option: it changes nothing that a page shows.
+const CAPACITY: u32 = 64;
+
+/// Writes the page of a job. It reads the index, then when the targets began and ended, and then all logs. Nothing is
+/// written before that.
+pub fn show_job<
+    R: Files<File: Send> + RandomSource + Threads + Wait + Sync + AllocGlobal,
+    W: Write,
+>(rt: &R, job: &PageJob, out: &mut W) -> Shown
+    ensures shown { IsPageResult job.now result.index result.outcome }
+    ensures reportable { IfErr result.outcome (IsReportable (length result.index) (length job.now.targets)) }
+    ensures nonzero_status { IfErr result.outcome (λ failure. status_of failure ≢ 0) }
+{
+    match find_index(rt, job.dir()) {
+        Ok(index) => {
+            let outcome = show_page(rt, job, &index, out);
+            Shown { index, outcome }
+        }
+        Err(failure) => Shown {
+            index: Index::new(rt.alloc()),
+            outcome: Err(failure),
+        },
+    }
+}
+
+/// Writes the page of a job to an output file, and closes it. The rest is as for [`show_job`].
+pub fn show_job_in_file<R: Files<File: Send> + RandomSource + Threads + Wait + Sync + AllocGlobal>(
+    rt: &R,
+    job: &PageJob,
+    output: Output<'_, R::File>,
+) -> Shown
+    ensures shown { IsPageResult job.now result.index result.outcome }
+    ensures reportable { IfErr result.outcome (IsReportable (length result.index) (length job.now.targets)) }
+    ensures nonzero_status { IfErr result.outcome (λ failure. status_of failure ≢ 0) }
+{
+    let mut output = output;
+    let shown = show_job(rt, job, &mut output);
+    Shown {
+        index: shown.index,
+        outcome: close_output(rt, output, shown.outcome),
+    }
+}
+
+// Writes the page of a job, from the log files that an index lists.
+fn show_page<R: Files<File: Send> + Threads + Wait + Sync + AllocGlobal, W: Write>(
+    rt: &R,
+    job: &PageJob,
+    index: &Index,
+    out: &mut W,
+) -> Result<(), Failure>
+    ensures shown { IsPageResult job.now index.now result }
+    ensures reportable { IfErr result (IsReportable (length index.now) (length job.now.targets)) }
+    ensures nonzero_status { IfErr result (λ failure. status_of failure ≢ 0) }
+{
+    let times = read_log_times(rt, job.dir(), index)?;
+    show_logs(
+        rt,
+        job.dir(),
+        index,
+        job.senders(),
+        CAPACITY,
+        &request_for(job, &times),
+        job.targets(),
+        out,
+    )
+}
+
+// Returns what the page of a job is asked. `times` are the times of all targets.
+fn request_for<'a>(job: &'a PageJob, times: &'a [Times]) -> PageRequest<'a>
+    ensures { request_of result ≡ request_for job.entry.now times.entry.now }
+{
+    PageRequest {
+        title: title_of(job),
+        dir: job.dir().as_bytes(),
+        unchanged: job.unchanged(),
+        debug_locks: job.debug_locks(),
+        max_bytes: job.max_bytes(),
+        times,
+    }
+}
+
+fn title_of(job: &PageJob) -> &[u8]
+    ensures { result.now ≡ title_for job.now.title }
+{
+    match job.title() {
+        Some(title) => title.as_bytes(),
+        None => b"",
+    }
+}
