@@ -1,17 +1,16 @@
 -- What the times of logs and the results of showing them say about the page of a job.
-use Rattle.std.proofs.Common.{◌≡◌, ◌⊎◌, inl, inr, false, List, [], ◌∷◌, length, map, Option, None, Some, Result, Ok, Err, IsErrAnd, arith, refl, sym, subst}
+use Rattle.std.proofs.Common.{◌≡◌, inl, inr, false, List, [], ◌∷◌, length, map, Option, None, Some, Result, Ok, Err, IsErrAnd, arith, refl, sym, subst}
 use Rattle.redo_device.specs.Feed.{Stream, SomeStream}
 use Rattle.redo_html_args.specs.Job.{PageParts}
 use Rattle.redo_index.specs.declared.index_entry.IndexEntry.{IndexEntry}
 use Rattle.redo_index.specs.Index.{listed_targets}
 use Rattle.redo_log_cli.specs.declared.failure.Failure.{Failure}
-use Rattle.redo_log_cli.specs.declared.failure.Failure.TheVariants.{Memory, Run}
+use Rattle.redo_log_cli.specs.declared.failure.Failure.TheVariants.{Memory}
 use Rattle.redo_log_cli.specs.Failure.{IsIndexFailure}
 use Rattle.redo_log_cli.specs.NamesFile.{byte_limit}
 use Rattle.redo_log_cli.specs.Output.{IsClosedAfter}
 use Rattle.redo_log_cli.specs.Shown.{IsShowResult, directory_call}
 use Rattle.redo_log_cli.proofs.Results.{is_shown_failure}
-use Rattle.redo_run.specs.declared.run_fault.RunFault.TheVariants.{Write}
 use Rattle.redo_run.specs.Rendered.{RenderCall}
 use Rattle.redo_times.specs.declared.times.Times.{Times}
 use Rattle.redo_times.specs.Readers.{AreTimesOfReaders, SomeStreams, times_of_all}
