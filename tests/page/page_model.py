@@ -1,130 +1,17 @@
 """A slow, simple model of the page that `redo-log-html` writes. It reads captures with the model of `redo-log`.
 
-`page_of(logs, requested, title, directory, unchanged, debug_locks)` returns the bytes of the page. `text_of(page)` in read.py
-returns what a browser reads of it.
+`page_of(logs, requested, title, directory, unchanged, debug_locks, times, max_bytes)` returns the bytes of the page. `read(page)` in
+reading.py returns what a browser reads of it.
 """
 
+import itertools
 import os
 import re
-import sys
 
-sys.path.insert(0, os.path.join(os.path.dirname(os.path.abspath(__file__)), "..", "differential"))
-import model as logs_model  # noqa: E402
-from model import Closed, Done, Mention, Note, Text  # noqa: E402
-
-# ---- text ------------------------------------------------------------------------------------------------------------
-
-UNSEEN = [(0x80, 0x9F), (0xAD, 0xAD), (0x34F, 0x34F), (0x61C, 0x61C), (0x115F, 0x1160), (0x17B4, 0x17B5), (0x180B, 0x180F), (0x200B, 0x200B),
-          (0x200E, 0x200F), (0x2028, 0x202E), (0x2060, 0x206F), (0x3164, 0x3164), (0xD800, 0xDFFF), (0xFE00, 0xFE0E), (0xFEFF, 0xFEFF),
-          (0xFFA0, 0xFFA0), (0xFFF0, 0xFFFB), (0xE0000, 0xE0FFF)]
-HUES = "-rgybmc"
-SEQUENCE = re.compile(r"\x1b\[([0-9;]*)([mK])")
-PLAIN = (False, "-")
-
-
-def is_odd(letter):
-    code = ord(letter)
-    return code < 32 and letter not in "\t\n" or code == 127 or any(first <= code <= last for first, last in UNSEEN)
-
-
-def picture(letter):
-    code = ord(letter)
-    if code < 32 or code == 127:
-        return "^" + chr(code ^ 64)
-    return "\\x%02x" % (code - 0xDC00) if 0xDC00 <= code <= 0xDCFF else "[U+%04X]" % code
-
-
-def restyled(style, numbers):
-    bold, hue = style
-    values = [min(999, int(number or 0)) for number in numbers.split(";")]
-    while values:
-        value = values.pop(0)
-        if value == 0:
-            bold, hue = PLAIN
-        elif value in (1, 22):
-            bold = value == 1
-        elif value == 39:
-            hue = "-"
-        elif 30 <= value <= 37 or 90 <= value <= 97:
-            hue = (HUES + "-")[value % 10]
-        elif value in (38, 48, 58) and values:  # a colour of 256 or of 2^24
-            del values[: 2 if values[0] == 5 else 4]
-    return bold, hue
-
-
-def runs_of(raw, colours):
-    """What the bytes show: runs of a letter, and the sequences between them."""
-    text, at, runs = raw.decode("utf-8", "surrogateescape"), 0, []
-    while at < len(text):
-        found = SEQUENCE.match(text, at) if colours else None
-        if found:
-            runs.append((found[1] if found[2] == "m" else None, 0))
-            at = found.end()
-            continue
-        count = 1
-        while is_odd(text[at]) and text[at + count : at + count + 1] == text[at] and not (colours and SEQUENCE.match(text, at + count)):
-            count += 1
-        runs.append((text[at], count))
-        at += count
-    return runs
-
-
-def tag_of(style):
-    bold, hue = style
-    return ("b" if bold else "span") + ("" if hue == "-" else f' class="{hue}"')
-
-
-def passage(raw, style=PLAIN, colours=False, marks=True):
-    """Returns bytes as HTML, and the style at their end."""
-    wanted, current, odd, out = style, PLAIN, False, []
-
-    def end_style():
-        if current != PLAIN:
-            out.append("</%s>" % tag_of(current).split(" ")[0])
-
-    for letter, count in runs_of(raw, colours):
-        if count == 0:
-            wanted = restyled(wanted, letter) if letter is not None else wanted
-            continue
-        now_odd = is_odd(letter)
-        if odd and not (wanted == current and now_odd):
-            out.append("</i>")
-            odd = False
-        if wanted != current:
-            end_style()
-            current = wanted
-            if current != PLAIN:
-                out.append("<%s>" % tag_of(current))
-        if now_odd and not odd:
-            out.append("<i>")
-        odd = now_odd
-        if now_odd:
-            out.append(picture(letter) * count if count < 5 else "%s\u00d7%d " % (picture(letter), count))
-        else:
-            out.append({"&": "&amp;", "<": "&lt;", ">": "&gt;"}.get(letter, letter))
-    if odd:
-        out.append("</i>")
-    end_style()
-    html = "".join(out)
-    return (html if marks else re.sub("</?[ib][^>]*>|</?span[^>]*>", "", html)).encode(), wanted
-
-
-def name_html(raw):
-    return passage(raw)[0]
-
-
-def bdi(raw):
-    return b"<bdi>" + name_html(raw) + b"</bdi>"
-
-
-def lines_html(lines):
-    """Lines of one block: the style of a line goes on in the next one."""
-    out, style = [], PLAIN
-    for line in lines:
-        html, style = passage(line + b"\n", style, colours=True)
-        out.append(html)
-    return b"".join(out)
-
+from chart_model import DrawnBar, Span, Window, chart_html, layout, meter_html, most_at_once
+from text_model import bdi, lines_html, name_html, passage
+from times_model import MOST, WIDEST, date, duration, size, tenths
+from model import Closed, Done, Mention, Note, Text  # found by times_model
 
 # ---- what is shown ---------------------------------------------------------------------------------------------------
 
@@ -135,7 +22,7 @@ class Shown:
     def __init__(self, target, parent, place):
         self.target, self.parent, self.place = target, parent, place
         self.items, self.status, self.lines = [], None, []
-        self.how = None
+        self.how, self.began, self.ended = None, None, None
 
     @property
     def children(self):
@@ -157,6 +44,28 @@ class Shown:
     def size(self):
         return sum(len(line) + 1 for line in self.lines)
 
+    @property
+    def has_times(self):
+        return self.began is not None and self.ended is not None
+
+    @property
+    def span(self):
+        return Span(self.began, self.place, self.ended, self.failed)
+
+    @property
+    def mark(self):
+        """A span without length, if only one of the times is known. The log of a run by make says only when the run ended."""
+        if (self.began is None) == (self.ended is None) or self.parent.target is None and self.began is None:
+            return None
+        time = self.ended if self.began is None else self.began
+        return Span(time, self.place, time, self.failed)
+
+    @property
+    def ran_others(self):
+        """Whether a log that is opened directly in this one is of a target that ran meanwhile."""
+        return self.has_times and any(
+            child.has_times and self.began <= child.began and self.began < child.ended <= self.ended for child in self.children)
+
     def under(self):
         for child in self.children:
             yield child
@@ -170,7 +79,7 @@ class Shown:
 class Build:
     """What is shown of the requested targets, each log where its target is mentioned first."""
 
-    def __init__(self, logs, requested, unchanged, debug_locks):
+    def __init__(self, logs, requested, unchanged, debug_locks, times):
         self.logs, self.unchanged, self.debug_locks = {log.target: log for log in logs}, unchanged, debug_locks
         self.named, self.targets, self.done = set(), {}, {}
         self.top = Shown(None, None, None)
@@ -180,6 +89,7 @@ class Build:
         for shown in self.order:
             closed = [entry.status for entry in self.logs[shown.target].entries if isinstance(entry, Closed)]
             shown.status = closed[0] if closed else self.done.get(shown.target)
+            shown.began, shown.ended = times.get(shown.target, (None, None))
         self.first = [shown for shown in self.order if shown.failed and not any(under.failed for under in shown.under())]
 
     @property
@@ -239,6 +149,8 @@ def facts(shown):
     below = list(shown.under())
     warned = sum(target.warnings for target in below)
     out = badge(shown.status)
+    if shown.has_times:
+        out += small(duration(shown.ended - shown.began))
     if shown.lines:
         out += small(many(len(shown.lines), b" line", b" lines"))
     if shown.warnings:
@@ -251,13 +163,45 @@ def facts(shown):
 
 
 HOW = {b"do": b"made"}
+LEAST_LEVEL = 4096
+
+
+def level_of(sizes, budget):
+    """How many bytes of a log are shown at most, or None if all are."""
+    if budget == 0 or sum(sizes) <= budget:
+        return None
+    fits, most = 0, budget  # The largest level that fits is between these.
+    while fits < most:
+        middle = (fits + most + 1) // 2
+        if sum(min(size, middle) for size in sizes) <= budget:
+            fits = middle
+        else:
+            most = middle - 1
+    return max(fits, LEAST_LEVEL)
+
+
+class Timing:
+    """The times of the shown targets."""
+
+    def __init__(self, order):
+        known = [time for shown in order for time in (shown.began, shown.ended) if time is not None]
+        self.took = min(max(known) - min(known), WIDEST) if known else None
+        self.window = Window(min(known), max(self.took, 1)) if known else None
+        self.parents = [shown.span for shown in order if shown.ran_others]
+        self.recipes = [shown.span for shown in order if shown.has_times and not shown.ran_others]
+        self.marks = [shown.mark for shown in order if shown.mark]
+        self.spans = len(self.parents) + len(self.recipes)
+        self.timed = self.spans > 0 and len(self.marks) * 10 <= self.spans + len(self.marks)
+        self.total = min(MOST, sum(min(span.ended - span.began, WIDEST) for span in self.recipes))
 
 
 class Page:
-    def __init__(self, build, title, directory, requested):
+    def __init__(self, build, title, directory, requested, max_bytes):
         self.build, self.title, self.directory, self.requested = build, title, directory, requested
         self.out = []
         self.articles = build.first[:10]
+        self.level = level_of([shown.size for shown in build.order], max_bytes)
+        self.timing = Timing(build.order)
 
     def put(self, *html):
         self.out += html
@@ -276,6 +220,22 @@ class Page:
     def is_moved(self, shown):
         return shown in self.articles and self.is_short(shown)
 
+    def is_cut(self, shown):
+        return self.level is not None and shown.size > self.level and not self.is_moved(shown)
+
+    def kept(self, shown):
+        """Whether each text line of a log is shown in the tree, unless the log is moved."""
+        if not self.is_cut(shown):
+            return [True] * len(shown.lines)
+        first = self.level // 4
+        last = self.level - first
+        kept, begin = [], 0
+        for line in shown.lines:
+            end = begin + len(line) + 1
+            kept.append(end <= first or begin >= shown.size - last)
+            begin = end
+        return kept
+
     # ---- the tree ----
 
     def tree(self):
@@ -287,6 +247,7 @@ class Page:
     def contents(self, around, expanded, depth):
         """Writes what a log contains. A row of five silent logs or more is a group; lines in a row are blocks."""
         items = [item for item in around.items if self.is_seen(item, around)]
+        kept = iter(self.kept(around))
         at = 0
         while at < len(items):
             item = items[at]
@@ -295,7 +256,7 @@ class Page:
                 while end < len(items) and isinstance(items[end], Text):
                     end += 1
                 if not self.is_moved(around):
-                    self.blocks([text.line for text in items[at:end]])
+                    self.stretches([(next(kept), text.line) for text in items[at:end]])
                 at = end
             elif isinstance(item, Shown) and item.silent and not (around.target is not None and around.silent):
                 end = at
@@ -317,6 +278,15 @@ class Page:
             shown = self.build.targets.get(item.target)
             return shown is None or shown.parent is not around
         return True
+
+    def stretches(self, lines):
+        """Lines in a row, each with whether it is shown."""
+        for is_kept, stretch in itertools.groupby(lines, lambda pair: pair[0]):
+            stretch = [line for _, line in stretch]
+            if is_kept:
+                self.blocks(stretch)
+            else:
+                self.put(b'<li class="note">', many(len(stretch), b" line left out", b" lines left out"), b"</li>")
 
     def blocks(self, lines):
         blocks, size = [], 0
@@ -342,16 +312,21 @@ class Page:
         heading = bdi(shown.target) + self.how(shown.how) + facts(shown)
         only = around.target is None or len(around.items) == 1
         is_open = shown.failed or any(under.failed for under in shown.under()) or expanded and only
-        moved = b'<li class="note"><a href="#f%d">What it printed is shown above</a></li>' % shown.place if self.is_moved(shown) else b""
+        note = b""
+        if self.is_moved(shown):
+            note = b'<li class="note"><a href="#f%d">What it printed is shown above</a></li>' % shown.place
+        elif self.is_cut(shown):
+            command = b"redo-log --dir=" + quoted(self.directory) + b" " + as_target(shown.target)
+            note = b'<li class="note">Its first and last lines are shown. To see all: <code>' + name_html(command) + b"</code></li>"
         if not shown.items:
             self.put(b'<li id="t%d">' % shown.place, heading, b"</li>")
         elif depth >= 60:
-            self.put(b'<li id="t%d">' % shown.place, heading, small(b"level %d" % depth), b"</li>", moved)
+            self.put(b'<li id="t%d">' % shown.place, heading, small(b"level %d" % depth), b"</li>", note)
             self.contents(shown, is_open, depth + 1)
             self.put(b'<li class="note">end of ', bdi(shown.target), b"</li>")
         else:
             self.put(b'<li><details open id="t%d"><summary>' % shown.place if is_open else b'<li><details id="t%d"><summary>' % shown.place,
-                     heading, b"</summary><ul>", moved)
+                     heading, b"</summary><ul>", note)
             self.contents(shown, is_open, depth + 1)
             self.put(b"</ul></details></li>")
 
@@ -398,7 +373,8 @@ class Page:
             path.insert(0, around.target)
             around = around.parent
         links = b"".join(bdi(target) + b" \xe2\x80\xba " for target in path[-4:])
-        self.put(b'<article id="f%d"><h3>' % shown.place, bdi(shown.target), badge(shown.status), b'</h3><p class="meta">',
+        took = duration(shown.ended - shown.began) + b" \xc2\xb7 " if shown.has_times else b""
+        self.put(b'<article id="f%d"><h3>' % shown.place, bdi(shown.target), badge(shown.status), b'</h3><p class="meta">', took,
                  b"\xe2\x80\xa6 \xe2\x80\xba " if len(path) > 4 else b"", links, b'<a href="#t%d">its place in the tree</a></p>' % shown.place)
         if not shown.lines:
             below = b" No target below it failed: make or redo reported the cause on the terminal." if shown.children else b""
@@ -423,6 +399,109 @@ class Page:
             self.put(passage(cut_to(1000, lines[at]), colours=True)[0], b"\n" if len(lines[at]) <= 1000 else b" ...\n")
             last = at
         self.put(b"</pre>")
+
+    # ---- summary ----
+
+    def summary(self):
+        self.put(b'<section id="summary" aria-labelledby="h-summary"><h2 id="h-summary">Summary</h2><dl>')
+        for term, value in self.tiles():
+            self.put(b"<div><dt>", term, b"</dt><dd>", value, b"</dd></div>")
+        self.put(b"</dl>")
+        tables = self.longest() + self.most_warnings()
+        if tables:
+            self.put(b'<div class="cols">', tables, b"</div>")
+        timing = self.timing
+        if not timing.timed and timing.spans == 0 and not timing.marks:
+            self.put(b'<p class="quiet">There is no timeline: the logs do not say when the targets ran.</p>')
+        elif not timing.timed:
+            self.put(b'<p class="quiet">There is no timeline: ', self.untimed(), b"</p>")
+        self.put(b"</section>")
+
+    def untimed(self):
+        marks = len(self.timing.marks)
+        return b"the logs of %d of %d targets do not say when they began, or when they ended." % (marks, self.timing.spans + marks)
+
+    def tiles(self):
+        order, first, timing = self.build.order, self.build.first, self.timing
+        above = sum(shown.failed for shown in order) - len(first)
+        yield b"Targets", b"%d" % len(order)
+        yield b"Failed", b"%d" % len(first) + (b", and %d above" % above if above else b"")
+        yield b"Lines with warning:", b"%d" % min(MOST, sum(shown.warnings for shown in order))
+        yield b"Logs", size(min(MOST, sum(shown.size for shown in order)))
+        if timing.window:
+            yield b"Took", duration(timing.took)
+        if timing.timed:
+            yield b"Sum of times", duration(timing.total)
+            yield b"At once", b"%s, at most %d" % (tenths(timing.total, timing.window.width), most_at_once(timing.recipes))
+
+    def longest(self):
+        """The table of the targets that took longest."""
+        if not self.timing.timed:
+            return b""
+        times = {shown: min(shown.ended - shown.began, WIDEST) for shown in self.build.order if shown.has_times}
+        return self.table(b"Longest", times, duration)
+
+    def most_warnings(self):
+        warnings = {shown: shown.warnings for shown in self.build.order if shown.warnings}
+        return self.table(b"Most warnings", warnings, lambda number: b"%d" % number)
+
+    def table(self, heading, values, text):
+        """A table of the ten targets with the largest values; of equal ones, the first is first. It is empty if there is no target."""
+        rows = sorted(values, key=lambda shown: (-values[shown], shown.place))[:10]
+        if not rows:
+            return b""
+        out = [b"<div><h3>", heading, b"</h3><table><tbody>"]
+        for shown in rows:
+            filled = min(MOST, values[shown] * 10_000) // max(1, values[rows[0]])
+            out += [b'<tr><th scope="row"><a href="#t%d">' % shown.place, bdi(shown.target), b"</a>", badge(shown.status), b"</th>",
+                    b'<td class="n">', text(values[shown]), b'</td><td class="m">', meter_html(filled), b"</td></tr>"]
+        return b"".join([*out, b"</tbody></table></div>"])
+
+    # ---- timeline ----
+
+    def timeline(self):
+        timing = self.timing
+        if not timing.timed:
+            return
+        self.put(b'<section id="timeline" aria-labelledby="h-timeline"><h2 id="h-timeline">Timeline</h2>')
+        if timing.marks:
+            self.put(b'<p class="quiet">The', self.untimed()[3:], b" These are marks in the last row.</p>")
+        self.put(b'<div class="scroll" tabindex="0" role="region" aria-labelledby="h-timeline">', self.chart(),
+                 b'</div><p class="quiet">A bar leads to its log.')
+        if timing.parents:
+            self.put(b" Pale bars are recipes that ran others. They don't count in the sum of times.")
+        self.put(b"</p></section>")
+
+    def chart(self):
+        timing = self.timing
+        parents, parent_lanes = layout(timing.window, 24, timing.parents)
+        recipes, recipe_lanes = layout(timing.window, 96, timing.recipes)
+        marks, mark_lanes = layout(timing.window, 1, timing.marks)
+        lane_height = 18 if recipe_lanes <= 16 else 12 if recipe_lanes <= 40 else 8
+        parents_y = 20
+        recipes_y = 26 + 14 * parent_lanes
+        marks_y = 6 + recipes_y + lane_height * recipe_lanes
+        drawn = {
+            "parents": [self.drawn(bar, parents_y, 14, True) for bar in parents],
+            "recipes": [self.drawn(bar, recipes_y, lane_height, True) for bar in recipes],
+            "untimed": [self.drawn(bar, marks_y, 14, False) for bar in marks],
+        }
+        return chart_html(timing.window.width, 6 + marks_y + 14 * mark_lanes, recipe_lanes, drawn)
+
+    def drawn(self, bar, y, lane_height, has_length):
+        shown = self.build.order[bar.place]
+        name, took = shown.target, duration(bar.ended - bar.began)
+        if bar.count > 1:
+            title = b"%d targets" % bar.count + (b" in " + took if has_length else b"") + b", from " + name
+        else:
+            title = name + (b", " + took if has_length else b"")
+            if shown.status is None:
+                title += b", not closed"
+            elif shown.status != 0:
+                title += b", exit %d" % shown.status
+        last = name.rpartition(b"/")[2]
+        label = last if bar.width >= 350 and lane_height > 12 and last else None
+        return DrawnBar(bar, y + bar.lane * lane_height, lane_height - 2, title, label)
 
     # ---- the frame ----
 
@@ -449,25 +528,41 @@ class Page:
             self.put(b"<p>", name_html(self.title), b"</p>")
         for shown in build.top.children:
             self.put(b"<p>", bdi(shown.target), badge(shown.status), b"</p>")
+        self.when()
         self.put(b'</header><nav aria-label="Parts of this page"><ul>')
         if failures:
             self.put(b'<li><a href="#failed">What failed</a></li>')
+        self.put(b'<li><a href="#summary">Summary</a></li>')
+        if self.timing.timed:
+            self.put(b'<li><a href="#timeline">Timeline</a></li>')
         self.put(b'<li><a href="#tree">All logs</a></li></ul></nav><main>')
         self.failed()
+        self.summary()
+        self.timeline()
         self.tree()
         self.put(b"</main><footer><p>Made by <code>redo-log-html</code> of ", many(targets, b" log in ", b" logs in "), b"<code>",
                  name_html(self.directory), b"</code>. As one text: <code>", name_html(self.command()), b"</code></p></footer></body></html>\n")
         return b"".join(self.out)
 
+    def when(self):
+        """When the build began, and how long it took."""
+        window = self.timing.window
+        if window:
+            began = date(window.began // 1000)
+            self.put(b'<p class="meta">', began + b" \xc2\xb7 " if began else b"", b"took ", duration(self.timing.took), b"</p>")
+
     def command(self):
         flags = b" -u" * self.build.unchanged + b" --debug-locks" * self.build.debug_locks
-        # A name with a dash at its start would be an option. A shell joins `./` to the quoted name.
-        words = [(b"./" if name.startswith(b"-") else b"") + quoted(name) for name in self.requested]
-        return b"redo-log -r" + flags + b" --dir=" + quoted(self.directory) + b"".join(b" " + word for word in words)
+        return b"redo-log -r" + flags + b" --dir=" + quoted(self.directory) + b"".join(b" " + as_target(name) for name in self.requested)
 
 
 def quoted(word):
     return word if re.fullmatch(rb"[a-zA-Z0-9@%+,./:=_-]+", word) else b"'" + word.replace(b"'", b"'\\''") + b"'"
+
+
+def as_target(name):
+    """A name as an argument. With a dash at its start it would be an option. A shell joins `./` to the quoted name."""
+    return (b"./" if name.startswith(b"-") else b"") + quoted(name)
 
 
 def cut_to(limit, line):
@@ -505,5 +600,9 @@ with open(os.path.join(os.path.dirname(os.path.abspath(__file__)), "style.css"),
     STYLE_SHEET = file.read()
 
 
-def page_of(logs, requested, title=b"", directory=b".", unchanged=False, debug_locks=False):
-    return Page(Build(logs, requested, unchanged, debug_locks), title, directory, requested).whole()
+MAX_BYTES = 16_000_000
+
+
+def page_of(logs, requested, title=b"", directory=b".", unchanged=False, debug_locks=False, times=None, max_bytes=MAX_BYTES):
+    """`times` has when each target began and ended, as `times_of` in times_model.py returns it."""
+    return Page(Build(logs, requested, unchanged, debug_locks, times or {}), title, directory, requested, max_bytes).whole()
