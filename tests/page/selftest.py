@@ -1,0 +1,353 @@
+"""Checks the model of a page with examples that were worked out by hand, from the rules alone."""
+import re
+
+import page_model
+from chart_model import Bar, Span, Window, axis, lanes_of, layout, meter_html, most_at_once, percent, step_of, units
+from page_model import level_of, page_of
+from times_model import date, duration, logs_model, size, tenths, tick, time_value, times_of
+
+checks = 0
+failures = 0
+
+
+def check(what, found, wanted):
+    global checks, failures
+    checks += 1
+    if found != wanted:
+        failures += 1
+        print(f"{what!r}\n  is       {found!r}\n  not      {wanted!r}")
+
+
+# ---- texts -----------------------------------------------------------------------------------------------------------
+
+for ms, wanted in [
+    (0, b"0.00 s"), (1, b"0.00 s"), (9, b"0.00 s"), (10, b"0.01 s"), (999, b"0.99 s"), (1000, b"1.00 s"), (1234, b"1.23 s"), (1239, b"1.23 s"),
+    (9999, b"9.99 s"), (10_000, b"10.0 s"), (12_345, b"12.3 s"), (59_999, b"59.9 s"), (60_000, b"1 min 00 s"), (125_000, b"2 min 05 s"),
+    (125_999, b"2 min 05 s"), (3_599_999, b"59 min 59 s"), (3_600_000, b"1 h 00 min"), (3_725_000, b"1 h 02 min"),
+    (86_400_000, b"24 h 00 min"), (604_800_000 + 59_999, b"168 h 00 min"), (2**44 - 1, b"4886718 h 20 min"),
+]:
+    check(("duration", ms), duration(ms), wanted)
+
+for count, wanted in [
+    (0, b"0 bytes"), (1, b"1 byte"), (2, b"2 bytes"), (999, b"999 bytes"), (1000, b"1.0 kB"), (1099, b"1.0 kB"), (1100, b"1.1 kB"),
+    (46_099, b"46.0 kB"), (46_100, b"46.1 kB"), (999_999, b"999.9 kB"), (1_000_000, b"1.0 MB"), (64_000_000, b"64.0 MB"),
+    (999_999_999, b"999.9 MB"), (10**9, b"1.0 GB"), (1_073_741_824, b"1.0 GB"), (123_456_789_012, b"123.4 GB"),
+    (2**64 - 1, b"18446744073.7 GB"),
+]:
+    check(("size", count), size(count), wanted)
+
+for a, b, wanted in [(0, 1, b"0.0"), (7000, 2000, b"3.5"), (2999, 1000, b"2.9"), (1, 3, b"0.3"), (1000, 1, b"1000.0"),
+                     (2**64 - 1, 1, b"1844674407370955161.5"), (2**63, 2, b"922337203685477580.7")]:
+    check(("tenths", a, b), tenths(a, b), wanted)
+
+for seconds, wanted in [
+    (0, b"Thu, 01 Jan 1970 00:00:00 GMT"), (1_000_000_000, b"Sun, 09 Sep 2001 01:46:40 GMT"), (951_782_400, b"Tue, 29 Feb 2000 00:00:00 GMT"),
+    (1_795_829_211, b"Sat, 28 Nov 2026 01:26:51 GMT"), (4_107_542_399, b"Sun, 28 Feb 2100 23:59:59 GMT"),
+    (4_107_542_400, b"Mon, 01 Mar 2100 00:00:00 GMT"), (9_999_999_999, b"Sat, 20 Nov 2286 17:46:39 GMT"),
+    (253_402_300_799, b"Fri, 31 Dec 9999 23:59:59 GMT"), (253_402_300_800, None), (2**64, None),
+]:
+    check(("date", seconds), date(seconds), wanted)
+
+for ms, step, wanted in [
+    (0, 1, b"0"), (0, 86_400_000, b"0"), (1, 1, b"0.001 s"), (5, 5, b"0.005 s"), (20, 10, b"0.02 s"), (20, 20, b"0.02 s"), (150, 50, b"0.15 s"),
+    (100, 100, b"0.1 s"), (500, 500, b"0.5 s"), (1500, 500, b"1.5 s"), (1000, 1000, b"1 s"), (45_000, 15_000, b"45 s"), (60_000, 15_000, b"1:00"),
+    (90_000, 30_000, b"1:30"), (65_000, 5000, b"1:05"), (3_540_000, 60_000, b"59:00"), (3_600_000, 600_000, b"1:00 h"),
+    (4_500_000, 900_000, b"1:15 h"), (86_400_000, 43_200_000, b"24:00 h"), (864_000_000, 86_400_000, b"240:00 h"),
+]:
+    check(("tick", ms, step), tick(ms, step), wanted)
+
+# ---- times of logs ---------------------------------------------------------------------------------------------------
+
+for time, wanted in [
+    (b"1600000000", 1_600_000_000_000), (b"1600000000.5", 1_600_000_000_500), (b"1600000000.06", 1_600_000_000_060),
+    (b"1600000000.123456789", 1_600_000_000_123), (b"1600000000.9999", 1_600_000_000_999), (b"0001600000000.1", 1_600_000_000_100),
+    (b"999999999.999", None), (b"1000000000", 1_000_000_000_000), (b"9999999999.999", 9_999_999_999_999), (b"10000000000", None), (b"1", None),
+    (b"99999999999999999999.9", None),
+]:
+    check(("time", time), time_value(time), wanted)
+
+
+def record(kind, seconds, text):
+    return b"@@REDO:%s:7:%s@@ %s\n" % (kind, seconds if isinstance(seconds, bytes) else b"%d" % (1_600_000_000 + seconds), text)
+
+
+def after(*ms):
+    return tuple(None if time is None else 1_600_000_000_000 + time for time in ms)
+
+
+for what, logs, wanted in [
+    ("no record", {b"all": b"x\n"}, {b"all": (None, None)}),
+    ("a log of its own", {b"a": record(b"do", 1, b"a") + record(b"done", 3, b"0 a")}, {b"a": after(1000, 3000)}),
+    ("the first beginning, in any log, and the end in its own log",
+     {b"all": record(b"do", 5, b"d/a") + record(b"done", 90, b"1 d/a"), b"d/a": record(b"do", 4, b"../d/a") + record(b"do", 6, b"a") + record(b"done", 8, b"1 a"),
+      b"z": record(b"done", 99, b"0 d/a")}, {b"all": (None, None), b"d/a": after(4000, 8000), b"z": (None, None)}),
+    ("the last end in other logs", {b"all": record(b"done", 3, b"0 a") + record(b"done", 5, b"0 a") + record(b"done", 4, b"0 a"), b"a": b""},
+     {b"all": (None, None), b"a": after(None, 5000)}),
+    ("the clock was set back", {b"a": record(b"do", 9, b"a") + record(b"done", 3, b"0 a")}, {b"a": after(None, 3000)}),
+    ("an earlier beginning that counts", {b"all": record(b"do", 2, b"a"), b"a": record(b"do", 9, b"a") + record(b"done", 3, b"0 a")},
+     {b"all": (None, None), b"a": after(2000, 3000)}),
+    ("no length", {b"a": record(b"do", 3, b"a") + record(b"done", 3, b"0 a")}, {b"a": after(3000, 3000)}),
+    ("no end", {b"a": record(b"do", 3, b"a") + b"x\n"}, {b"a": after(3000, None)}),
+    ("other kinds", {b"a": b"".join(record(kind, 3, b"a") for kind in (b"waiting", b"locked", b"unlocked", b"unchanged", b"check", b"dos"))},
+     {b"a": (None, None)}),
+    ("text, and an unended line", {b"a": b" " + record(b"do", 3, b"a") + record(b"done", 4, b"0 a")[:-1]}, {b"a": (None, None)}),
+    ("an end in its own log that doesn't count", {b"all": record(b"done", 5, b"0 a"), b"a": record(b"done", b"1", b"0 a")},
+     {b"all": (None, None), b"a": after(None, 5000)}),
+    ("targets that are not listed", {b"a": record(b"do", 3, b"b") + record(b"done", 4, b"0 b")}, {b"a": (None, None)}),
+]:
+    check(what, times_of(list(logs.items())), wanted)
+
+# ---- layout ----------------------------------------------------------------------------------------------------------
+
+WHOLE = Window(1000, 10_000)  # A unit is a millisecond.
+
+for time, window, wanted in [(0, WHOLE, 0), (1000, WHOLE, 0), (1001, WHOLE, 1), (11_000, WHOLE, 10_000), (99_000, WHOLE, 10_000),
+                             (2, Window(1, 3), 3333), (3, Window(1, 3), 6666), (4, Window(1, 3), 10_000), (5, Window(5, 1), 0)]:
+    check(("units", time, window), units(window, time), wanted)
+
+
+def spans(*rows):
+    return [Span(*row, False) for row in rows]
+
+
+def places(lanes):
+    return [[span.place for span in lane] for lane in lanes]
+
+
+for what, rows, most, wanted in [
+    ("none", [], 4, []),
+    ("one after another", [(0, 1, 5), (5, 2, 9)], 4, [[1, 2]]),
+    ("at once", [(0, 1, 5), (4, 2, 9)], 4, [[1], [2]]),
+    ("the lowest free lane", [(0, 1, 9), (0, 2, 3), (1, 3, 3), (4, 4, 5), (9, 5, 9)], 9, [[1, 5], [2, 4], [3]]),
+    ("in order of their beginnings, then of places", [(5, 1, 6), (0, 3, 6), (0, 2, 6)], 9, [[2], [3], [1]]),
+    ("equal times take one lane", [(3, 1, 3), (3, 2, 3)], 9, [[1, 2]]),
+    ("the last lane allowed", [(0, 1, 9), (0, 2, 9), (0, 3, 2), (2, 4, 3), (9, 5, 9)], 2, [[1, 5], [2, 3, 4]]),
+    ("one lane", [(0, 1, 9), (0, 2, 9)], 1, [[1, 2]]),
+    ("no lane", [(0, 1, 9), (0, 2, 9)], 0, [[1, 2]]),
+]:
+    check(what, places(lanes_of(spans(*rows), most)), wanted)
+
+for what, rows, wanted in [
+    ("none", [], 0), ("one without length", [(3, 1, 3)], 1), ("two without length", [(3, 1, 3), (3, 2, 3)], 1),
+    ("one in another", [(0, 1, 9), (3, 2, 3)], 2), ("one after another", [(0, 1, 3), (3, 2, 5)], 1), ("three", [(0, 1, 4), (1, 2, 4), (3, 3, 9), (4, 4, 9)], 3),
+]:
+    check(("at once", what), most_at_once(spans(*rows)), wanted)
+
+for what, rows, wanted in [
+    ("a wide one", spans((1000, 1, 2000)), [Bar(0, 0, 1000, 1, 1, 1000, 2000, False)]),
+    ("a narrow one", spans((1000, 1, 1001)), [Bar(0, 0, 10, 1, 1, 1000, 1001, False)]),
+    ("one that failed", [Span(1000, 1, 1001, True)], [Bar(0, 0, 30, 1, 1, 1000, 1001, True)]),
+    ("two narrow ones", spans((1000, 1, 1019), (1028, 2, 1047)), [Bar(0, 0, 47, 1, 2, 1000, 1047, False)]),
+    ("too far apart", spans((1000, 1, 1019), (1029, 2, 1030)), [Bar(0, 0, 19, 1, 1, 1000, 1019, False), Bar(0, 29, 10, 2, 1, 1029, 1030, False)]),
+    ("the second isn't narrow", spans((1000, 1, 1010), (1010, 2, 1030)), [Bar(0, 0, 10, 1, 1, 1000, 1010, False), Bar(0, 10, 20, 2, 1, 1010, 1030, False)]),
+    ("the first isn't narrow", spans((1000, 1, 1020), (1020, 2, 1021)), [Bar(0, 0, 20, 1, 1, 1000, 1020, False), Bar(0, 20, 10, 2, 1, 1020, 1021, False)]),
+    ("49 wide", spans((1000, 1, 1019), (1019, 2, 1038), (1038, 3, 1049)), [Bar(0, 0, 49, 1, 3, 1000, 1049, False)]),
+    ("50 wide", spans((1000, 1, 1019), (1019, 2, 1038), (1038, 3, 1050)), [Bar(0, 0, 38, 1, 2, 1000, 1038, False), Bar(0, 38, 12, 3, 1, 1038, 1050, False)]),
+    ("one that failed stays alone", [Span(1000, 1, 1001, False), Span(1001, 2, 1002, True), Span(1002, 3, 1003, False)],
+     [Bar(0, 0, 10, 1, 1, 1000, 1001, False), Bar(0, 1, 30, 2, 1, 1001, 1002, True), Bar(0, 2, 10, 3, 1, 1002, 1003, False)]),
+]:
+    check(("bars", what), layout(WHOLE, 9, rows), (wanted, 1))
+check("bars in one lane, over each other", layout(WHOLE, 1, spans((1000, 1, 1019), (1001, 2, 1003), (1004, 3, 1004), (5000, 4, 9000), (6000, 5, 7000))),
+      ([Bar(0, 0, 19, 1, 3, 1000, 1019, False), Bar(0, 4000, 4000, 4, 1, 5000, 9000, False), Bar(0, 5000, 1000, 5, 1, 6000, 7000, False)], 1))
+check("two lanes", layout(WHOLE, 9, spans((1000, 1, 3000), (2000, 2, 4000), (3000, 3, 3001))),
+      ([Bar(0, 0, 2000, 1, 1, 1000, 3000, False), Bar(0, 2000, 10, 3, 1, 3000, 3001, False), Bar(1, 1000, 2000, 2, 1, 2000, 4000, False)], 2))
+
+# ---- charts ----------------------------------------------------------------------------------------------------------
+
+for hundredths, wanted in [(0, b"0.00%"), (7, b"0.07%"), (30, b"0.30%"), (1234, b"12.34%"), (10_000, b"100.00%"), (10_030, b"100.30%")]:
+    check(("percent", hundredths), percent(hundredths), wanted)
+check("a meter", meter_html(1234), b'<svg width="100%" height="10" aria-hidden="true"><rect width="12.34%" height="10" fill="#3a6ea5"></rect></svg>')
+
+for width, wanted in [(1, 1), (10, 1), (11, 2), (20, 2), (21, 5), (10_000, 1000), (10_001, 2000), (100_000, 10_000), (100_001, 15_000),
+                      (9_000_000, 900_000), (36_000_000, 3_600_000), (864_000_000, 86_400_000), (864_000_001, 864_000_001)]:
+    check(("step", width), step_of(width), wanted)
+
+
+def line(x, bottom):
+    return b'<line x1="%s" x2="%s" y1="15" y2="%d"></line>' % (x, x, bottom)
+
+
+check("an axis of 1 ms", axis(1, 60), line(b"0.00%", 56) + b'<text x="0.00%" y="11">0</text>' + line(b"100.00%", 56)
+      + b'<text x="100.00%" y="11" text-anchor="end">0.001 s</text>')
+check("an axis of 2.5 s", axis(2500, 64).count(b"<line"), 6)  # steps of 500 ms
+check("its ticks", re.findall(rb">([^<]+)</text>", axis(2500, 64)), [b"0", b"0.5 s", b"1.0 s", b"1.5 s", b"2.0 s", b"2.5 s"])
+check("ticks between", axis(3, 64)[len(line(b"0.00%", 60)) + len(b'<text x="0.00%" y="11">0</text>'):],
+      line(b"33.33%", 60) + b'<text x="33.33%" y="11" text-anchor="middle">0.001 s</text>'
+      + line(b"66.66%", 60) + b'<text x="66.66%" y="11" text-anchor="middle">0.002 s</text>'
+      + line(b"100.00%", 60) + b'<text x="100.00%" y="11" text-anchor="end">0.003 s</text>')
+check("an axis of weeks", axis(864_000_001, 64).count(b"<line"), 2)
+check("a tick that ends at the edge", axis(8200, 64).count(b'"end"'), 1)  # The last tick is at 8000 of 8200 ms, 97.56 %.
+check("a tick that doesn't", axis(8300, 64).count(b'"end"'), 0)  # 96.38 %
+
+# ---- long logs -------------------------------------------------------------------------------------------------------
+
+for sizes, budget, wanted in [
+    ([], 1, None), ([5000, 9000], 0, None), ([5000, 9000], 14_000, None), ([5000, 9000], 13_999, 8999), ([5000, 9000], 10_001, 5001),
+    ([5000, 9000], 10_000, 5000), ([5000, 9000], 9999, 4999), ([5000, 9000], 8192, 4096), ([5000, 9000], 1, 4096), ([100, 20_000], 10_000, 9900),
+    ([10_000] * 3, 29_999, 9999), ([20_000_000, 1], 16_000_000, 15_999_999),
+]:
+    check(("level", sizes, budget), level_of(sizes, budget), wanted)
+
+
+def made_page(logs, requested=(b"all",), **other):
+    read = [logs_model.log_of(target, data) for target, data in logs.items()]
+    assert all(log.fault is None for log in read)
+    return page_of(read, list(requested), times=times_of(list(logs.items())), **other)
+
+
+def part(page, begin, end):
+    """What is between the first `begin` and the first `end` after it."""
+    found = page.partition(begin)[2]
+    return found.partition(end)[0] if end in found else None
+
+
+# 100 lines of 100 bytes, of which 4,096 bytes are shown: lines 1 to 10 end within the first 1,024, and the last 3,072 have 30 lines.
+LONG = {b"all": record(b"do", 1, b"a") + b"".join(b"%099d\n" % number for number in range(1, 101)) + record(b"done", 2, b"0 all"), b"a": b""}
+tree = part(made_page(LONG, max_bytes=5, directory=b"my dir"), b"</p><ul class=\"tree\">", b"</section>")
+lines = [b"%099d\n" % number for number in range(1, 101)]
+check("a long log", part(tree, b"</summary><ul>", b"</ul>"),
+      b"<li class=\"note\">Its first and last lines are shown. To see all: <code>redo-log --dir='my dir' all</code></li><li id=\"t1\"><bdi>a</bdi> "
+      b"<strong class=\"o\">not closed</strong></li><li><pre>\n" + b"".join(lines[:10]) + b"</pre></li><li class=\"note\">60 lines left out</li><li><pre>\n"
+      + b"".join(lines[70:]) + b"</pre></li>")
+check("a long log, shown", b"left out" in made_page(LONG, max_bytes=10_000) or b"left out" in made_page(LONG, max_bytes=0), False)
+# 10,000 bytes but for one: the level is 9,999. The first 2,499 bytes have 24 lines, the last 7,500 have 75, and line 25 is left out.
+check("one line is left out", part(made_page(LONG, max_bytes=9_999), b"To see all", b"</ul>").count(b'<li class="note">1 line left out</li>'), 1)
+APART = {b"all": b"".join(lines[:50]) + record(b"do", 1, b"a") + b"".join(lines[50:]), b"a": b"x\n"}
+check("stretches in parts", re.findall(rb">(\d+) lines left out<", made_page(APART, max_bytes=1)), [b"40", b"20"])
+
+# ---- pages -----------------------------------------------------------------------------------------------------------
+
+
+def bare(page):
+    """The parts between the header and the tree that depend on times, and the nav."""
+    return part(page, b"</h1>", b"</header>"), part(page, b"<dl>", b"</section>"), part(page, b'<section id="timeline"', b"</section>"), part(page, b"<nav", b"</nav>")
+
+
+def tile(term, value):
+    return b"<div><dt>" + term + b"</dt><dd>" + value + b"</dd></div>"
+
+
+header, summary, timeline, nav = bare(made_page({b"all": b"warning: x\n"}))
+check("no times: header", header, b'<p><bdi>all</bdi> <strong class="o">not closed</strong></p>')
+check("no times: summary", summary, tile(b"Targets", b"1") + tile(b"Failed", b"0") + tile(b"Lines with warning:", b"1") + tile(b"Logs", b"11 bytes")
+      + b'</dl><div class="cols"><div><h3>Most warnings</h3><table><tbody><tr><th scope="row"><a href="#t0"><bdi>all</bdi></a> <strong class="o">not closed</strong></th>'
+      b'<td class="n">1</td><td class="m">' + meter_html(10_000) + b'</td></tr></tbody></table></div></div>'
+      b'<p class="quiet">There is no timeline: the logs do not say when the targets ran.</p>')
+check("no times: timeline", (timeline, b"#timeline" in nav), (None, False))
+
+header, summary, timeline, nav = bare(made_page({b"all": record(b"done", 3, b"0 all")}))
+check("one time: header", header, '<p><bdi>all</bdi></p><p class="meta">Sun, 13 Sep 2020 12:26:43 GMT \u00b7 took 0.00 s</p>'.encode())
+check("one time: summary", (part(summary, b"<dt>Took</dt>", b"</div>"), summary.rpartition(b"<p")[2], timeline),
+      (b"<dd>0.00 s</dd>", b' class="quiet">There is no timeline: the logs do not say when the targets ran.</p>', None))
+header, summary, timeline, nav = bare(made_page({b"all": record(b"do", 3, b"all") + record(b"done", 3, b"0 all")}))
+check("no length: summary", (part(summary, b"<dt>Took</dt>", b"</div>"), part(summary, b"At once</dt>", b"</div>"), part(summary, b"<rect", b">")),
+      (b"<dd>0.00 s</dd>", b"<dd>0.0, at most 1</dd>", b' width="0.00%" height="10" fill="#3a6ea5"'))
+check("no length: bar", part(timeline, b'<g class="k" fill="#3a6ea5">', b"</g>"),
+      b'<a href="#t0" tabindex="-1"><rect x="0.00%" y="26" width="0.10%" height="16"><title>all, 0.00 s</title></rect></a>')
+
+# A run of make: all ended at 9 s, d/x ran from 1 s to 9 s and ran sub/y from 2 s to 5 s and sub/z, which failed, from 2.5 s to 8.5 s.
+MAKE = {
+    b"all": record(b"do", 1, b"d/x") + record(b"done", 9, b"2 d/x") + record(b"done", 9, b"2 all"),
+    b"d/x": record(b"do", 1, b"x") + record(b"do", 2, b"../sub/y") + record(b"do", b"1600000002.5", b"../sub/z") + record(b"done", 9, b"2 x"),
+    b"sub/y": record(b"do", 2, b"y") + b"1\n" + record(b"done", 5, b"0 y"),
+    b"sub/z": record(b"do", b"1600000002.5", b"z") + b"error\n" + record(b"done", b"1600000008.5", b"1 z"),
+}
+page = made_page(MAKE)
+header, summary, timeline, nav = bare(page)
+check("make: header", header, '<p><bdi>all</bdi> <strong class="x">exit 2</strong></p><p class="meta">Sun, 13 Sep 2020 12:26:41 GMT \u00b7 took 8.00 s</p>'.encode())
+check("make: nav", [part(item, b"#", b"\"") for item in nav.split(b"<li>")[1:]], [b"failed", b"summary", b"timeline", b"tree"])
+check("make: tiles", summary.partition(b"</dl>")[0], b"".join(tile(*pair) for pair in [
+    (b"Targets", b"4"), (b"Failed", b"1, and 2 above"), (b"Lines with warning:", b"0"), (b"Logs", b"8 bytes"), (b"Took", b"8.00 s"),
+    (b"Sum of times", b"9.00 s"), (b"At once", b"1.1, at most 2")]))
+
+
+def row(place, name, status, value, hundredths):
+    badge = b' <strong class="x">exit %d</strong>' % status if status else b""
+    return (b'<tr><th scope="row"><a href="#t%d"><bdi>%s</bdi></a>%s</th><td class="n">%s</td><td class="m">' % (place, name, badge, value)
+            + meter_html(hundredths) + b"</td></tr>")
+
+
+check("make: tables", summary.partition(b"</dl>")[2],
+      b'<div class="cols"><div><h3>Longest</h3><table><tbody>' + row(1, b"d/x", 2, b"8.00 s", 10_000) + row(3, b"sub/z", 1, b"6.00 s", 7500)
+      + row(2, b"sub/y", 0, b"3.00 s", 3750) + b"</tbody></table></div></div>")
+
+
+def labelled(place, x, y, width, height, title, fill, label, failed=False):
+    of_failed = b' class="f" fill="#c62828"' if failed else b""
+    return (b'<a href="#t%d" tabindex="-1"><svg x="%s" y="%d" width="%s" height="%d"><title>%s</title><rect width="100%%" height="%d"%s></rect>'
+            b'<text x="4" y="%d" fill="%s">%s</text></svg></a>' % (place, x, y, width, height, title, height, of_failed, height - 5, fill, label))
+
+
+# One lane of parents at 20, two of recipes from 40 on, marks at 6 + 40 + 2 * 18 = 82: the height is 88.
+check("make: timeline", timeline, b' aria-labelledby="h-timeline"><h2 id="h-timeline">Timeline</h2>'
+      b'<div class="scroll" tabindex="0" role="region" aria-labelledby="h-timeline">'
+      b'<svg role="img" aria-label="A bar for each target, from its start to its end, in 2 lanes" width="100%" height="88" font-size="11">'
+      b'<g class="axis" stroke="#8886" fill="currentColor" stroke-width=".5">' + axis(8000, 88) + b'</g><g class="w" fill="#8886">'
+      + labelled(1, b"0.00%", 20, b"100.00%", 12, b"d/x, 8.00 s, exit 2", b"#fff", b"x", True) + b'</g><g class="k" fill="#3a6ea5">'
+      + labelled(2, b"12.50%", 40, b"37.50%", 16, b"sub/y, 3.00 s", b"#fff", b"y")
+      + labelled(3, b"18.75%", 58, b"75.00%", 16, b"sub/z, 6.00 s, exit 1", b"#fff", b"z", True)
+      + b'</g><g class="e" fill="#8a6d3b"></g></svg></div><p class="quiet">A bar leads to its log. Pale bars are recipes that ran others. '
+      b"They don't count in the sum of times.</p>")
+check("make: an article", part(page, b'<p class="meta">6.00 s', b"</p>"), ' \u00b7 <bdi>all</bdi> \u203a <bdi>d/x</bdi> \u203a <a href="#t3">its place in the tree</a>'.encode())
+check("make: facts", part(page, b"<bdi>sub/y</bdi> <small>3.00", b"</summary>"), b" s</small> <small>1 line</small>")
+
+# Of eleven targets, one has no beginning: 1 of 11 is more than a tenth. Of ten others and this one, 1 of 10 isn't.
+for count, wanted in ((8, False), (9, True)):
+    logs = {b"all": b"".join(record(b"do", 1, b"t%d" % place) for place in range(count)) + record(b"done", 3, b"0 m") + record(b"do", b"1", b"m"), b"m": b"",
+            **{b"t%d" % place: record(b"done", 2, b"0 t%d" % place) for place in range(count)}}
+    header, summary, timeline, nav = bare(made_page(logs))
+    words = b"1 of %d targets do not say when they began, or when they ended." % (count + 1)
+    check(("marks", count), (timeline is not None, b"#timeline" in nav), (wanted, wanted))
+    if wanted:
+        check("a mark", part(timeline, b"</h2>", b"<div"), b'<p class="quiet">The logs of ' + words + b" These are marks in the last row.</p>")
+        # Nine lanes of recipes from 26 on, marks at 6 + 26 + 9 * 18 = 194.
+        check("its bar", part(timeline, b'<g class="e" fill="#8a6d3b">', b"</g>"),
+              b'<a href="#t10" tabindex="-1"><rect x="100.00%" y="194" width="0.10%" height="12"><title>m</title></rect></a>')
+        check("its chart", part(timeline, b'width="100%" height="', b'"'), b"214")
+    else:
+        check("no timeline", summary.rpartition(b'<p class="quiet">')[2], b"There is no timeline: the logs of " + words + b"</p>")
+
+# Requested targets without a beginning are no marks, others are, and so is a requested one without an end.
+for what, logs, requested, wanted in [
+    ("the end of a requested one", {b"all": record(b"done", 3, b"0 all")}, [b"all"], (0, True)),
+    ("the end of another", {b"all": record(b"do", b"1", b"a"), b"a": record(b"done", 3, b"0 a")}, [b"all"], (1, True)),
+    ("the end of two requested ones", {b"all": b"", b"a": record(b"done", 3, b"0 a")}, [b"all", b"a"], (0, True)),
+    ("the beginning of a requested one", {b"all": record(b"do", 3, b"all")}, [b"all"], (1, True)),
+    ("no time", {b"all": b""}, [b"all"], (0, False)),
+]:
+    build = page_model.Build([logs_model.log_of(target, data) for target, data in logs.items()], requested, False, False, times_of(list(logs.items())))
+    timing = page_model.Timing(build.order)
+    check(what, (len(timing.marks), timing.window is not None), wanted)
+
+# Who ran others: whose child began and ended meanwhile, and not only at the end.
+for what, child, wanted in [
+    ("meanwhile", (2, 3), True), ("from begin to end", (1, 5), True), ("until it began", (0, 1), False), ("begun before", (0, 3), False),
+    ("it ends at the beginning", (1, 1), False), ("at the end", (5, 5), True), ("longer", (2, 6), False), ("no end", (2, None), False),
+]:
+    logs = {b"p": record(b"do", 1, b"p") + (record(b"do", child[0], b"c")) + record(b"done", 5, b"0 p"),
+            b"c": record(b"done", child[1], b"0 c") if child[1] is not None else b""}
+    build = page_model.Build([logs_model.log_of(target, data) for target, data in logs.items()], [b"p"], False, False, times_of(list(logs.items())))
+    check(("ran others", what), build.order[0].ran_others, wanted)
+
+# Titles of bars, and labels.
+many = {b"all": b"".join(record(b"do", b"1600000000.%03d" % (2 * place), b"a/%d" % place) + record(b"done", b"1600000000.%03d" % (2 * place + 2), b"0 a/%d" % place)
+                         for place in range(3)) + record(b"do", 0, b"b") + record(b"done", 3, b"0 b"), **{b"a/%d" % place: b"" for place in range(3)}, b"b": b""}
+timeline = bare(made_page(many))[2]
+# The three of 2 ms take less than 0.5 % of 3 s, so they are one bar. It is 6 ms long: 20 hundredths of a percent. Then b is in the second lane.
+check("a bar of three", part(timeline, b'<g class="k" fill="#3a6ea5">', b"</g>"),
+      b'<a href="#t1" tabindex="-1"><rect x="0.00%" y="26" width="0.20%" height="16"><title>3 targets in 0.00 s, from a/0</title></rect></a>'
+      + labelled(4, b"0.00%", 44, b"100.00%", 16, b"b, 3.00 s", b"#fff", b"b"))
+
+for name, wanted in [(b"/", None), (b"a/b.o", b"b.o"), (b"..", b".."), (b"<&>", b"&lt;&amp;&gt;"), (b"a\x1bb", b"a^[b")]:
+    timeline = bare(made_page({name: record(b"do", 1, b"/../" if name == b"/" else name.rpartition(b"/")[2] if b"/" in name else name)
+                               + record(b"done", 2, b"0 " + (b"/" if name == b"/" else name.rpartition(b"/")[2] if b"/" in name else name))}, [name]))[2]
+    check(("label", name), part(timeline, b'fill="#fff">', b"</text>"), wanted)
+
+
+def main():
+    print(f"the model of a page: {checks} checks, {failures} differ")
+    return failures
+
+
+if __name__ == "__main__":
+    raise SystemExit(main() > 0)
