@@ -1,4 +1,5 @@
 """How bytes of logs and names are written as HTML: a part of the model of a page."""
+import functools
 import re
 
 UNSEEN = [(0x80, 0x9F), (0xAD, 0xAD), (0x34F, 0x34F), (0x61C, 0x61C), (0x115F, 0x1160), (0x17B4, 0x17B5), (0x180B, 0x180F), (0x200B, 0x200B),
@@ -9,6 +10,7 @@ SEQUENCE = re.compile(r"\x1b\[([0-9;]*)([mK])")
 PLAIN = (False, "-")
 
 
+@functools.cache
 def is_odd(letter):
     code = ord(letter)
     return code < 32 and letter not in "\t\n" or code == 127 or any(first <= code <= last for first, last in UNSEEN)
