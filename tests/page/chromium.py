@@ -108,6 +108,11 @@ class Chromium:
             raise ValueError(answer["exceptionDetails"]["exception"].get("description", answer))
         return answer["result"].get("value")
 
+    def click(self, x, y):
+        """Clicks at this place of the window."""
+        for kind in ("mousePressed", "mouseReleased"):
+            self.call("Input.dispatchMouseEvent", type=kind, x=x, y=y, button="left", clickCount=1)
+
     def screenshot(self, path, whole=False):
         import base64
         with open(path, "wb") as file:

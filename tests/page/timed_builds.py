@@ -121,6 +121,18 @@ class Build:
         return lines
 
 
+    def write(self, directory):
+        """Runs the targets, and writes their logs. Returns the targets."""
+        self.run(self.all, 0)
+        every = list(self.all.each())
+        with open(os.path.join(directory, "names"), "wb") as file:
+            file.write(b"".join(b"%d %s\n" % (number, target.name) for number, target in enumerate(every, 1)))
+        for number, target in enumerate(every, 1):
+            with open(os.path.join(directory, "log.%d" % number), "wb") as file:
+                file.write(b"".join(line + b"\n" for line in self.log(target)))
+        return every
+
+
 def spelled(target, own):
     """How the log of `own` spells the name of a target."""
     return b"../" * own.name.count(b"/") + target.name
@@ -132,13 +144,7 @@ def case(seed, directory):
     is_large = seed % 20 == 0
     build = Build(rng, is_large)
     build.targets(rng.choice([300, 600]) if is_large else rng.choice([0, 1, 2, 5, 12, 12, 30, 30, 80]))
-    build.run(build.all, 0)
-    every = list(build.all.each())
-    with open(os.path.join(directory, "names"), "wb") as file:
-        file.write(b"".join(b"%d %s\n" % (number, target.name) for number, target in enumerate(every, 1)))
-    for number, target in enumerate(every, 1):
-        with open(os.path.join(directory, "log.%d" % number), "wb") as file:
-            file.write(b"".join(line + b"\n" for line in build.log(target)))
+    every = build.write(directory)
     words = [b"--max-bytes=" + rng.choice([*BUDGETS, b"%d" % rng.randrange(1, 200_000)])] * (rng.random() < .6)
     words += [b"-u"] * (rng.random() < .1) + [b"--debug-locks"] * (rng.random() < .1)
     requested = [b"all"] if rng.random() < .8 else [rng.choice(every).name for _ in range(2)]
