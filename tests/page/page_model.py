@@ -414,12 +414,12 @@ class Page:
         if not timing.timed and timing.spans == 0 and not timing.marks:
             self.put(b'<p class="quiet">There is no timeline: the logs do not say when the targets ran.</p>')
         elif not timing.timed:
-            self.put(b'<p class="quiet">There is no timeline: ', self.untimed(), b"</p>")
+            self.put(b'<p class="quiet">There is no timeline: the', self.untimed(), b"</p>")
         self.put(b"</section>")
 
     def untimed(self):
         marks = len(self.timing.marks)
-        return b"the logs of %d of %d targets do not say when they began, or when they ended." % (marks, self.timing.spans + marks)
+        return b" logs of %d of %d targets do not say when they began, or when they ended." % (marks, self.timing.spans + marks)
 
     def tiles(self):
         order, first, timing = self.build.order, self.build.first, self.timing
@@ -465,7 +465,7 @@ class Page:
             return
         self.put(b'<section id="timeline" aria-labelledby="h-timeline"><h2 id="h-timeline">Timeline</h2>')
         if timing.marks:
-            self.put(b'<p class="quiet">The', self.untimed()[3:], b" These are marks in the last row.</p>")
+            self.put(b'<p class="quiet">The', self.untimed(), b" These are marks in the last row.</p>")
         self.put(b'<div class="scroll" tabindex="0" role="region" aria-labelledby="h-timeline">', self.chart(),
                  b'</div><p class="quiet">A bar leads to its log.')
         if timing.parents:
