@@ -228,11 +228,11 @@ class Page:
         if not self.is_cut(shown):
             return [True] * len(shown.lines)
         first = self.level // 4
-        last = self.level - first
+        last = shown.size - (self.level - first)
         kept, begin = [], 0
         for line in shown.lines:
             end = begin + len(line) + 1
-            kept.append(end <= first or begin >= shown.size - last)
+            kept.append(end <= first or begin >= last)
             begin = end
         return kept
 
