@@ -212,6 +212,15 @@ check("a long log", part(tree, b"</summary><ul>", b"</ul>"),
 check("a long log, shown", b"left out" in made_page(LONG, max_bytes=10_000) or b"left out" in made_page(LONG, max_bytes=0), False)
 # 10,000 bytes but for one: the level is 9,999. The first 2,499 bytes have 24 lines, the last 7,500 have 75, and line 25 is left out.
 check("one line is left out", part(made_page(LONG, max_bytes=9_999), b"To see all", b"</ul>").count(b'<li class="note">1 line left out</li>'), 1)
+# Ten lines of 1,024 bytes: the first one ends with the first 1,024 bytes, and the eighth one begins with the last 3,072.
+EQUAL = [b"%01023d\n" % number for number in range(1, 11)]
+for what, first, wanted in [("at the limits", EQUAL[0], [b"6"]), ("a byte more", b"0" + EQUAL[0], [b"7"]), ("a byte less", EQUAL[0][1:], [b"6"])]:
+    text = b"".join([first, *EQUAL[1:]])
+    check(what, re.findall(rb">(\d+) lines left out<", made_page({b"all": text}, max_bytes=4096)), wanted)
+check("one long line", part(made_page({b"all": b"x" * 9000}, max_bytes=8999), b"</code></li>", b"</ul>"), b'<li class="note">1 line left out</li>')
+FAILED = {b"all": record(b"do", 1, b"a") + b"y" * 20_000 + b"\n" + record(b"done", 1, b"2 all"), b"a": b"x" * 9000 + b"\n" + record(b"done", 2, b"1 a")}
+check("an output in an article isn't cut", (b"<pre>\n" + b"x" * 9000 + b"\n</pre></article>" in made_page(FAILED, max_bytes=1),
+                                            made_page(FAILED, max_bytes=1).count(b"left out")), (True, 1))
 APART = {b"all": b"".join(lines[:50]) + record(b"do", 1, b"a") + b"".join(lines[50:]), b"a": b"x\n"}
 check("stretches in parts", re.findall(rb">(\d+) lines left out<", made_page(APART, max_bytes=1)), [b"40", b"20"])
 
