@@ -5,6 +5,10 @@ import random
 # The seconds at which a build begins: the first and the last ones that count, one before, and usual ones.
 BEGINNINGS = [1_000_000_000, 999_999_990, 1_600_000_000, *[1_795_829_211] * 6, 4_107_542_390, 9_999_999_990]
 BUDGETS = [b"0", b"1", b"4096", b"5000", b"20000", b"100000", b"16000000"]
+# Builds at the limits of rules: how long they take, and the lengths of recipes and the pauses between them in ten thousandths of that.
+WIDTHS = [*[10_000] * 6, 1, 10, 11, 9278, 9999, 20_000, 59_999, 60_000, 100_000, 3_599_999, 3_600_000, 864_000_000]
+LENGTHS = [0, 1, 9, 10, 10, 10, 11, 19, 20, 21, 29, 30, 49, 50, 340, 349, 350, 351]
+PAUSES = [0, 0, 0, 9, 10, 11]
 
 
 class Target:
@@ -21,8 +25,8 @@ class Target:
 class Build:
     """A build with some style: how its records are written, and what they don't say."""
 
-    def __init__(self, rng, is_large):
-        self.rng = rng
+    def __init__(self, rng, is_large, is_limit=False):
+        self.rng, self.is_limit, self.bytes = rng, is_limit, 0
         # The length of the longest recipes is from 1 ms to some weeks.
         self.longest = int(10 ** rng.uniform(0, 9.2))
         self.equal = rng.random() < .05
@@ -44,6 +48,9 @@ class Build:
         if is_large:  # So that lanes run out, and bars and marks are joined.
             self.shape, self.unknown, self.missing, self.equal = rng.choice(["flat", "flat", "runs others"]), rng.choice([0, .01, .04]), 0, False
             self.slots, self.lines = [0] * rng.choice([4, 41, 97, 250, 600]), 1
+        if is_limit:
+            self.shape, self.longest, self.unknown, self.missing, self.decimals = rng.choice(["flat", "mixed"]), rng.choice(WIDTHS), 0, 0, 3
+            self.slots, self.set_back, self.equal = [0] * rng.choice([1, 1, 2, 3]), None, False
 
     def targets(self, count):
         """Makes targets below `all`."""
@@ -66,6 +73,9 @@ class Build:
     def run(self, target, ready):
         """Runs a target once it may: as soon as a slot is free, if it runs no others. A recipe that does takes the time of those."""
         length = int(self.longest * 10 ** self.rng.uniform(-4, 0))
+        if self.is_limit:
+            length = self.longest * self.rng.choice(LENGTHS) // 10_000
+            ready += self.longest * self.rng.choice(PAUSES) // 10_000
         if target.below and target.runs_below:
             target.began = ready
             target.ended = max([self.run(other, ready + length // 9) for other in target.below]) + self.rng.choice([0, 0, length // 9])
@@ -95,8 +105,10 @@ class Build:
         return [b"@@REDO:%s:%d:%s@@ %s" % (kind, self.rng.randrange(1, 99999), self.time(ms), text)]
 
     def text(self):
-        """Some lines of text. One log in twenty is long."""
+        """Some lines of text. One log in twenty is long; some have lines of 1,024 bytes."""
         rng = self.rng
+        if self.is_limit and rng.random() < .1:
+            return [b"x" * 1023] * rng.choice([3, 4, 5, 9])
         count, length = rng.randrange(self.lines + 1), 40
         if rng.random() < .05:
             count, length = rng.choice([(1, 9000), (90, 200), (250, 100), (700, 20), (3, 30_000), (20, 4096)])
@@ -113,6 +125,7 @@ class Build:
             parts.append([b"@@REDO:do:7:%s@@ %s" % (self.time(other.began), name)])
             parts.append(self.record(b"done", other.ended, b"%d %s" % (other.status, name)))
         text = self.text()
+        self.bytes += sum(len(line) + 1 for line in text)
         for place in sorted(rng.choice([len(parts)] * 4 + [0, rng.randrange(len(parts) + 1)]) for _ in text) if rng.random() < .3 else []:
             parts[min(place, len(parts) - 1) if parts else 0 : 0] = [[text.pop()]]
         lines += [line for part in parts for line in part] + text
@@ -124,6 +137,8 @@ class Build:
     def write(self, directory):
         """Runs the targets, and writes their logs. Returns the targets."""
         self.run(self.all, 0)
+        if self.is_limit and self.all.ended < self.longest:
+            self.all.ended = self.longest
         every = list(self.all.each())
         with open(os.path.join(directory, "names"), "wb") as file:
             file.write(b"".join(b"%d %s\n" % (number, target.name) for number, target in enumerate(every, 1)))
@@ -142,10 +157,11 @@ def case(seed, directory):
     """Writes a capture directory, and returns words of a command line."""
     rng = random.Random(f"timed {seed}")
     is_large = seed % 20 == 0
-    build = Build(rng, is_large)
+    build = Build(rng, is_large, seed % 5 == 1)
     build.targets(rng.choice([300, 600]) if is_large else rng.choice([0, 1, 2, 5, 12, 12, 30, 30, 80]))
     every = build.write(directory)
-    words = [b"--max-bytes=" + rng.choice([*BUDGETS, b"%d" % rng.randrange(1, 200_000)])] * (rng.random() < .6)
+    budgets = [*BUDGETS, *[b"%d" % number for number in (build.bytes, max(1, build.bytes - 1), rng.randrange(1, 200_000))]]
+    words = [b"--max-bytes=" + rng.choice(budgets)] * (rng.random() < .6)
     words += [b"-u"] * (rng.random() < .1) + [b"--debug-locks"] * (rng.random() < .1)
     requested = [b"all"] if rng.random() < .8 else [rng.choice(every).name for _ in range(2)]
     return [*words, b"--", *dict.fromkeys(requested)]
