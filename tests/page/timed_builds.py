@@ -27,6 +27,8 @@ class Build:
 
     def __init__(self, rng, is_large, is_limit=False):
         self.rng, self.is_limit, self.bytes = rng, is_limit, 0
+        # Whether each log has nine lines of 1,024 bytes.
+        self.is_even = is_limit and rng.random() < .2
         # The length of the longest recipes is from 1 ms to some weeks.
         self.longest = int(10 ** rng.uniform(0, 9.2))
         self.equal = rng.random() < .05
@@ -107,6 +109,8 @@ class Build:
     def text(self):
         """Some lines of text. One log in twenty is long; some have lines of 1,024 bytes."""
         rng = self.rng
+        if self.is_even:
+            return [b"x" * 1023] * 9
         if self.is_limit and rng.random() < .1:
             return [b"x" * 1023] * rng.choice([3, 4, 5, 9])
         count, length = rng.randrange(self.lines + 1), 40
@@ -161,7 +165,9 @@ def case(seed, directory):
     build.targets(rng.choice([300, 600]) if is_large else rng.choice([0, 1, 2, 5, 12, 12, 30, 30, 80]))
     every = build.write(directory)
     budgets = [*BUDGETS, *[b"%d" % number for number in (build.bytes, max(1, build.bytes - 1), rng.randrange(1, 200_000))]]
-    words = [b"--max-bytes=" + rng.choice(budgets)] * (rng.random() < .6)
+    if build.is_even:  # So that exactly 8,192 bytes of each log are shown, or one byte less or more.
+        budgets = [b"%d" % number for number in (8192 * len(every) - 1, 8192 * len(every), 8193 * len(every))]
+    words = [b"--max-bytes=" + rng.choice(budgets)] * (rng.random() < (1 if build.is_even else .6))
     words += [b"-u"] * (rng.random() < .1) + [b"--debug-locks"] * (rng.random() < .1)
     requested = [b"all"] if rng.random() < .8 else [rng.choice(every).name for _ in range(2)]
     return [*words, b"--", *dict.fromkeys(requested)]
