@@ -1,0 +1,3 @@
+mod ChartLemmas
+mod ChartRows
+mod LawLemmas

@@ -1,6 +1,5 @@
 //! The chart of the timeline of a build.
 ghost use Rattle.std.specs.Prelude.{◌≡◌, ◌<◌, ◌^◌, map};
-ghost use Rattle.redo_device.specs.Sink.{Writes};
 ghost use Rattle.redo_html.specs.Chart.{layer_of, shape_of};
 ghost use Rattle.redo_html.specs.Parts.{part_html};
 ghost use Rattle.redo_html.specs.Parts.Part.{ChartPart};
@@ -15,11 +14,11 @@ use crate::axis::{axis_items, tick_texts};
 use crate::band::Band;
 use crate::bars::bar_items;
 use crate::titles::titles;
-use redo_device::{Broken, Sink};
+use redo_device::Sink;
 use redo_html::{Chart, ChartGroup, ChartItem, GroupKind, write_chart};
 use redo_logs::LogTable;
 use redo_outline::Node;
-use redo_timeline::{Span, Timeline, Window, bars_are_in_lanes, layout};
+use redo_timeline::{Span, Timeline, Window, layout};
 use redo_view::FormFault;
 use std::alloc::Global;
 
@@ -54,7 +53,6 @@ pub fn write_timeline<W: Sink>(
     ensures { FormWrites (W.written out.old) (W.written out.new)
         (part_html (ChartPart (timeline_drawing table.now nodes.now window parents.now recipes.now marks.now))) result }
 {
-    bars_are_in_lanes();
     let parents = layout(alloc, window, MAX_PARENT_LANES, parents)?;
     let recipes = layout(alloc, window, MAX_RECIPE_LANES, recipes)?;
     let marks = layout(alloc, window, MAX_MARK_LANES, marks)?;
@@ -108,8 +106,7 @@ fn write_laid_out<W: Sink>(
         &recipe_items,
         &mark_items,
         out,
-    )?;
-    Ok(())
+    )
 }
 
 // Writes a chart of these items.
@@ -121,8 +118,8 @@ fn write_groups<'a, W: Sink>(
     recipes: &'a [ChartItem<'a>],
     marks: &'a [ChartItem<'a>],
     out: &mut W,
-) -> Result<(), Broken>
-    ensures { Writes (W.written out.old) (W.written out.new) (part_html (ChartPart (drawing_with height lanes
+) -> Result<(), FormFault>
+    ensures { FormWrites (W.written out.old) (W.written out.new) (part_html (ChartPart (drawing_with height lanes
         (map shape_of axis.now) (map shape_of parents.now) (map shape_of recipes.now) (map shape_of marks.now)))) result }
 {
     let groups = [
@@ -138,7 +135,8 @@ fn write_groups<'a, W: Sink>(
             groups: &groups,
         },
         out,
-    )
+    )?;
+    Ok(())
 }
 
 fn group<'a>(kind: GroupKind, items: &'a [ChartItem<'a>]) -> ChartGroup<'a>

@@ -58,10 +58,11 @@ take_lanes-permutation max_lanes lanes (span ∷ rest) =
     IsPermutation-trans _ _ _ (IsPermutation-middle (joined lanes) span rest)
     (IsPermutation-trans _ _ _ (IsPermutation-append_left rest _ _ (take_lane-permutation max_lanes span lanes)) (take_lanes-permutation max_lanes (take_lane max_lanes span lanes) rest))
 
+pub lanes-permutation : (max_lanes : ℕ) (spans : List Span) → IsPermutation spans (joined (lanes_of max_lanes spans))
+lanes-permutation max_lanes spans = IsPermutation-trans _ _ _ (in_order-permutation spans) (take_lanes-permutation max_lanes [] (in_order spans))
+
 pub drawn_once : (window : Window) (max_lanes : ℕ) (spans : List Span) → IsPermutation spans (spans_of (bars_of window max_lanes spans))
-drawn_once window max_lanes spans =
-    subst (λ (all : List Span). IsPermutation spans all) (sym (spans-bars_in window (lanes_of max_lanes spans)))
-    (IsPermutation-trans _ _ _ (in_order-permutation spans) (take_lanes-permutation max_lanes [] (in_order spans)))
+drawn_once window max_lanes spans = subst (λ (all : List Span). IsPermutation spans all) (sym (spans-bars_in window (lanes_of max_lanes spans))) (lanes-permutation max_lanes spans)
 
 -- ---- bars of one span, and of several
 

@@ -1,7 +1,7 @@
 mod BarLemmas
 mod CountLemmas
 mod LaneLemmas
-mod LawLemmas
+pub mod LawLemmas
 mod NeedLemmas
 mod OrderLemmas
 mod TimelineLemmas

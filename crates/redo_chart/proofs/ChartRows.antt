@@ -1,0 +1,168 @@
+-- Rows of the charts of timelines, and of their parts. The values are worked out by hand.
+use Rattle.std.proofs.Common.{◌≡◌, ℕ, Bool, true, false, List, [], ◌∷◌, ◌++◌, Option, None, Some, ℤ, pos, negsuc, refl}
+use Rattle.std.specs.Fmt.{digits}
+use Rattle.std.specs.Prelude.{codes}
+use Rattle.redo_html.specs.declared.chart.Anchor.{Anchor}
+use Rattle.redo_html.specs.declared.chart.Anchor.TheVariants.{Start, Middle, End}
+use Rattle.redo_html.specs.declared.chart.GroupKind.{GroupKind}
+use Rattle.redo_html.specs.declared.chart.GroupKind.TheVariants.{Axis, Parents, Recipes, Untimed}
+use Rattle.redo_html.specs.Chart.{DrawnBar, Drawing, Layer, Shape, drawing_links}
+use Rattle.redo_html.specs.Chart.Shape.{BarShape, LineShape, TickShape}
+use Rattle.redo_logs.specs.declared.log_state.LogState.TheVariants.{Ended}
+use Rattle.redo_logs.specs.Logs.{Log}
+use Rattle.redo_outline.specs.declared.node.Node.{Node}
+use Rattle.redo_timeline.specs.declared.bar.Bar.{Bar}
+use Rattle.redo_timeline.specs.declared.span.Span.{Span}
+use Rattle.redo_timeline.specs.declared.span.Window.{Window}
+use Rattle.redo_units.specs.Ticks.{tick_step_of}
+use Rattle.redo_units.specs.Words.{decimal_text}
+use Rattle.redo_chart.specs.declared.band.Band.{Band}
+use Rattle.redo_chart.specs.Axis.{anchor_of, axis_shapes}
+use Rattle.redo_chart.specs.Bands.{below, marks_band, max_mark_lanes, max_parent_lanes, max_recipe_lanes, parents_band, recipe_lane_height, recipes_band}
+use Rattle.redo_chart.specs.Bars.{bar_layer, drawn_bar, label_of}
+use Rattle.redo_chart.specs.Laws.{all_bars, are_below, shapes_of}
+use Rattle.redo_chart.specs.Targets.{after_last_slash, last_part, name_at, status_at}
+use Rattle.redo_chart.specs.Timeline.{height_of, timeline_drawing}
+use Rattle.redo_chart.specs.Titles.{duration_after, status_text, title_of}
+
+abbrev log : List ℕ → Log
+log target = record { target = target; entries = []; state = Ended }
+
+abbrev node : ℕ → Option ℤ → Node
+node number status = record {
+  number = number; parent = None; status = status; lines = 0; bytes = 0; warnings = 0; below = 0; children = 0; others = false; warnings_below = 0; fails_below = false; silent = 0;
+}
+
+abbrev logs : List Log
+logs = log (codes "all") ∷ log (codes "out/a.o") ∷ log (codes "out/b.o") ∷ log (codes "t") ∷ []
+
+-- The last one has no log.
+abbrev nodes : List Node
+nodes = node 2 (Some (negsuc 0)) ∷ node 0 None ∷ node 1 (Some (pos 0)) ∷ node 3 (Some (pos 12)) ∷ node 9 (Some (pos 1)) ∷ []
+
+-- ---- targets
+
+names :
+    (name_at logs nodes 0 ≡ codes "out/b.o") × (name_at logs nodes 1 ≡ codes "all") × (name_at logs nodes 4 ≡ []) × (name_at logs nodes 5 ≡ [])
+    × (status_at nodes 0 ≡ Some (negsuc 0)) × (status_at nodes 1 ≡ None) × (status_at nodes 3 ≡ Some (pos 12)) × (status_at nodes 5 ≡ None)
+names = (refl, refl, refl, refl, refl, refl, refl, refl)
+
+last_parts :
+    (last_part (codes "out/sub/a.o") ≡ Some (codes "a.o")) × (last_part (codes "all") ≡ Some (codes "all")) × (last_part (codes "dir/") ≡ None) × (last_part [] ≡ None)
+    × (after_last_slash (codes "a//") ≡ []) × (after_last_slash (codes "/b") ≡ codes "b")
+last_parts = (refl, refl, refl, refl, refl, refl)
+
+-- ---- tooltips
+
+statuses :
+    status_text None ∷ status_text (Some (pos 0)) ∷ status_text (Some (pos 1)) ∷ status_text (Some (pos 127)) ∷ status_text (Some (negsuc 0)) ∷ status_text (Some (negsuc 14)) ∷ []
+    ≡ codes ", not closed" ∷ [] ∷ codes ", exit 1" ∷ codes ", exit 127" ∷ codes ", exit -1" ∷ codes ", exit -15" ∷ []
+unfolding decimal_text digits
+statuses = refl
+
+durations :
+    duration_after (codes ", ") Parents 1234 ∷ duration_after (codes " in ") Recipes 125000 ∷ duration_after (codes ", ") Untimed 1234 ∷ duration_after (codes ", ") Axis 1234 ∷ []
+    ≡ codes ", 1.23 s" ∷ codes " in 2 min 05 s" ∷ [] ∷ [] ∷ []
+unfolding decimal_text digits
+durations = refl
+
+-- A bar of the target at this place, or of several of which it is the first.
+abbrev bar : ℕ → ℕ → ℕ → ℕ → Bar
+bar place count began ended = record { lane = 2; x = 7; width = 350; place = place; count = count; began = began; ended = ended; failed = true }
+
+titles :
+    title_of logs nodes Recipes (bar 0 1 1000 2500) ∷ title_of logs nodes Parents (bar 1 1 0 60000) ∷ title_of logs nodes Recipes (bar 2 1 9 5) ∷ title_of logs nodes Untimed (bar 3 1 5 5) ∷ title_of logs nodes Recipes (bar 2 3 10 30)
+    ∷ title_of logs nodes Untimed (bar 3 12 10 30) ∷ []
+    ≡ codes "out/b.o, 1.50 s, exit -1" ∷ codes "all, 1 min 00 s, not closed" ∷ codes "out/a.o, 0.00 s" ∷ codes "t, exit 12" ∷ codes "3 targets in 0.02 s, from out/a.o" ∷ codes "12 targets, from t" ∷ []
+unfolding decimal_text digits
+titles = refl
+
+-- ---- bands
+
+lane_heights : recipe_lane_height 0 ∷ recipe_lane_height 16 ∷ recipe_lane_height 17 ∷ recipe_lane_height 40 ∷ recipe_lane_height 41 ∷ recipe_lane_height 96 ∷ [] ≡ 18 ∷ 18 ∷ 12 ∷ 12 ∷ 8 ∷ 8 ∷ []
+lane_heights = refl
+
+bands :
+    (parents_band ≡ record { kind = Parents; top = 20; lane_height = 14 }) × (recipes_band 0 0 ≡ record { kind = Recipes; top = 26; lane_height = 18 })
+    × (recipes_band 2 20 ≡ record { kind = Recipes; top = 54; lane_height = 12 }) × (marks_band 2 20 ≡ record { kind = Untimed; top = 300; lane_height = 14 })
+    × (marks_band 24 96 ≡ record { kind = Untimed; top = 1136; lane_height = 14 }) × (height_of 2 20 1 ≡ 320) × (height_of 0 0 0 ≡ 38) × (below parents_band 3 ≡ 68)
+    × (max_parent_lanes ∷ max_recipe_lanes ∷ max_mark_lanes ∷ [] ≡ 24 ∷ 96 ∷ 1 ∷ [])
+bands = (refl, refl, refl, refl, refl, refl, refl, refl, refl)
+
+-- ---- bars
+
+abbrev wide : ℕ → Bar
+wide width = record { lane = 2; x = 7; width = width; place = 0; count = 1; began = 1000; ended = 2500; failed = true }
+
+labels :
+    (label_of (codes "out/b.o") 13 (wide 350) ≡ Some (codes "b.o")) × (label_of (codes "out/b.o") 13 (wide 349) ≡ None) × (label_of (codes "out/b.o") 12 (wide 350) ≡ None) × (label_of (codes "b/") 18 (wide 5000) ≡ None)
+labels = (refl, refl, refl, refl)
+
+drawn :
+    (drawn_bar logs nodes (recipes_band 1 3) (wide 400)
+    ≡ record { place = 0; x = 7; y = 76; width = 400; height = 16; failed = true; title = codes "out/b.o, 1.50 s, exit -1"; label = Some (codes "b.o") })
+    × (drawn_bar logs nodes (marks_band 1 3) (wide 30) ≡ record { place = 0; x = 7; y = 128; width = 30; height = 12; failed = true; title = codes "out/b.o, exit -1"; label = None })
+    × (bar_layer logs nodes parents_band [] ≡ record { kind = Parents; shapes = [] })
+unfolding decimal_text digits
+drawn = (refl, refl, refl)
+
+-- ---- the axis
+
+anchors : anchor_of 0 0 ∷ anchor_of 0 9999 ∷ anchor_of 1 9700 ∷ anchor_of 1 9701 ∷ [] ≡ Start ∷ Start ∷ Middle ∷ End ∷ []
+anchors = refl
+
+-- Steps of 1 ms, of 1 s, and one that is as wide as the axis.
+axes :
+    (axis_shapes 98 3
+    ≡ LineShape 0 98 ∷ TickShape 0 Start (codes "0") ∷ LineShape 3333 98 ∷ TickShape 3333 Middle (codes "0.001 s") ∷ LineShape 6666 98 ∷ TickShape 6666 Middle (codes "0.002 s") ∷ LineShape 10000 98 ∷ TickShape 10000 End (codes "0.003 s") ∷ [])
+    × (axis_shapes 7 5500
+    ≡ LineShape 0 7 ∷ TickShape 0 Start (codes "0") ∷ LineShape 1818 7 ∷ TickShape 1818 Middle (codes "1 s") ∷ LineShape 3636 7 ∷ TickShape 3636 Middle (codes "2 s") ∷ LineShape 5454 7 ∷ TickShape 5454 Middle (codes "3 s")
+    ∷ LineShape 7272 7 ∷ TickShape 7272 Middle (codes "4 s") ∷ LineShape 9090 7 ∷ TickShape 9090 Middle (codes "5 s") ∷ [])
+    × (axis_shapes 34 900000000 ≡ LineShape 0 34 ∷ TickShape 0 Start (codes "0") ∷ LineShape 10000 34 ∷ TickShape 10000 End (codes "250:00 h") ∷ [])
+unfolding tick_step_of decimal_text digits
+axes = (refl, refl, refl)
+
+-- ---- charts
+
+abbrev span : ℕ → ℕ → ℕ → Bool → Span
+span place began ended failed = record { began = began; place = place; ended = ended; failed = failed }
+
+-- A window in which a unit is a millisecond.
+abbrev window : Window
+window = record { began = 1000; width = 10000 }
+
+abbrev chart : Drawing
+chart =
+    timeline_drawing logs nodes window (span 1 1000 11000 false ∷ [])
+    (span 2 1000 5000 false ∷ span 0 3000 10500 true ∷ span 4 6000 6010 false ∷ span 3 6012 6020 false ∷ []) (span 3 11000 11000 true ∷ [])
+
+abbrev drawn_at : ℕ → ℕ → ℕ → ℕ → ℕ → Bool → List ℕ → Option (List ℕ) → Shape
+drawn_at place x y width height failed title label =
+    BarShape (record { place = place; x = x; y = y; width = width; height = height; failed = failed; title = title; label = label })
+
+whole : (chart.height ≡ 102) × (chart.lanes ≡ 2)
+    × (chart.layers
+    ≡ record { kind = Axis; shapes = axis_shapes 98 10000 }
+    ∷ record { kind = Parents; shapes = drawn_at 1 0 20 10000 12 false (codes "all, 10.0 s, not closed") (Some (codes "all")) ∷ [] }
+    ∷ record {
+      kind = Recipes;
+      shapes =
+        drawn_at 2 0 40 4000 16 false (codes "out/a.o, 4.00 s") (Some (codes "a.o")) ∷ drawn_at 4 5000 40 20 16 false (codes "2 targets in 0.02 s, from ") None
+        ∷ drawn_at 0 2000 58 7500 16 true (codes "out/b.o, 7.50 s, exit -1") (Some (codes "b.o")) ∷ [];
+    }
+    ∷ record { kind = Untimed; shapes = drawn_at 3 10000 82 30 12 true (codes "t, exit 12") None ∷ [] } ∷ [])
+unfolding tick_step_of decimal_text digits
+whole = (refl, refl, refl)
+
+links : drawing_links chart ≡ 1 ∷ 2 ∷ 4 ∷ 0 ∷ 3 ∷ []
+unfolding tick_step_of
+links = refl
+
+-- ---- laws
+
+tests :
+    (are_below 3 (span 2 0 9 false ∷ span 0 0 9 false ∷ []) ≡ true) × (are_below 2 (span 0 0 9 false ∷ span 2 0 9 false ∷ []) ≡ false) × (are_below 0 [] ≡ true)
+    × (shapes_of Recipes (record { height = 0; lanes = 0; layers = record { kind = Recipes; shapes = LineShape 1 2 ∷ [] } ∷ record { kind = Axis; shapes = LineShape 3 4 ∷ [] } ∷ record { kind = Recipes; shapes = LineShape 5 6 ∷ [] } ∷ [] })
+    ≡ LineShape 1 2 ∷ LineShape 5 6 ∷ [])
+    × (all_bars (((span 0 0 9 false ∷ []) ∷ []) ∷ [] ∷ ((span 1 0 9 false ∷ []) ∷ (span 2 0 9 false ∷ []) ∷ []) ∷ []) ≡ (span 0 0 9 false ∷ []) ∷ (span 1 0 9 false ∷ []) ∷ (span 2 0 9 false ∷ []) ∷ [])
+tests = (refl, refl, refl, refl, refl)

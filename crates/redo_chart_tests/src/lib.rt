@@ -1,0 +1,5 @@
+//! Tests of the chart of a timeline.
+#![tactic(auto)]
+
+#[cfg(test)]
+mod timeline;
