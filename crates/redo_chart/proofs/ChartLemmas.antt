@@ -16,7 +16,7 @@ use Rattle.redo_device.specs.declared.feed.Broken.{Broken}
 use Rattle.redo_device.specs.Sink.{Output, Writes, append_output}
 use Rattle.redo_html.specs.declared.chart.ChartItem.{ChartItem}
 use Rattle.redo_html.specs.declared.chart.GroupKind.TheVariants.{Axis, Parents, Recipes, Untimed}
-use Rattle.redo_html.specs.Chart.{Drawing, Layer, Shape, drawing_nodes, nodes_html, shape_of}
+use Rattle.redo_html.specs.Chart.{Layer, Shape, drawing_nodes, nodes_html, shape_of}
 use Rattle.redo_logs.specs.Logs.{Log}
 use Rattle.redo_outline.specs.declared.node.Node.{Node}
 use Rattle.redo_timeline.specs.declared.bar.Bar.{Bar}
@@ -42,8 +42,8 @@ pub after_slash : (name : List ℕ) (at : ℕ) → IsLastByte (is_byte 47) name 
 after_slash name at found =
     let inside = found.0.high in
     let count : suffix_len (λ (b : ℕ). not (b == 47)) name ≡ length name - (at + 1) =
-        suffix_len_is (λ (b : ℕ). not (b == 47)) name (at + 1) 0 (omega (arith, inside)) (λ k low below. others (get_or name k 0 == 47) (λ is. found.0.after k low below is))
-        (λ some. let same : at + 1 - 1 ≡ at = omega arith in ap not (ap (λ (n : ℕ). get_or name n 0 == 47) same ∙ found.1)) in
+    suffix_len_is (λ (b : ℕ). not (b == 47)) name (at + 1) 0 (omega (arith, inside)) (λ k low below. others (get_or name k 0 == 47) (λ is. found.0.after k low below is))
+    (λ some. let same : at + 1 - 1 ≡ at = omega arith in ap not (ap (λ (n : ℕ). get_or name n 0 == 47) same ∙ found.1)) in
     let same : length name - (length name - (at + 1)) ≡ at + 1 = omega (arith, inside) in
     ap (λ (n : ℕ). take n (drop (at + 1) name)) (sym (length-drop (at + 1) name)) ∙ take-length (drop (at + 1) name) ∙ ap (λ (n : ℕ). drop n name) (sym same ∙ ap (λ (n : ℕ). length name - n) (sym count))
   where
@@ -54,7 +54,7 @@ after_slash name at found =
 pub no_slash : (name : List ℕ) → IsLastByte (is_byte 47) name None → name ≡ after_last_slash name
 no_slash name none =
     let count : suffix_len (λ (b : ℕ). not (b == 47)) name ≡ length name - 0 =
-        suffix_len_is (λ (b : ℕ). not (b == 47)) name 0 0 (omega arith) (λ k low below. others (get_or name k 0 == 47) (λ is. none k low below is)) (λ some. absurd (omega (arith, some))) in
+    suffix_len_is (λ (b : ℕ). not (b == 47)) name 0 0 (omega arith) (λ k low below. others (get_or name k 0 == 47) (λ is. none k low below is)) (λ some. absurd (omega (arith, some))) in
     let same : length name - (length name - 0) ≡ 0 = omega arith in
     ap (λ (n : ℕ). drop n name) (sym same ∙ ap (λ (n : ℕ). length name - n) (sym count))
   where

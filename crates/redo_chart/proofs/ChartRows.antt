@@ -1,12 +1,10 @@
 -- Rows of the charts of timelines, and of their parts. The values are worked out by hand.
-use Rattle.std.proofs.Common.{◌≡◌, ℕ, Bool, true, false, List, [], ◌∷◌, ◌++◌, Option, None, Some, ℤ, pos, negsuc, refl}
+use Rattle.std.proofs.Common.{◌≡◌, ℕ, Bool, true, false, List, [], ◌∷◌, Option, None, Some, ℤ, pos, negsuc, refl}
 use Rattle.std.specs.Fmt.{digits}
 use Rattle.std.specs.Prelude.{codes}
-use Rattle.redo_html.specs.declared.chart.Anchor.{Anchor}
 use Rattle.redo_html.specs.declared.chart.Anchor.TheVariants.{Start, Middle, End}
-use Rattle.redo_html.specs.declared.chart.GroupKind.{GroupKind}
 use Rattle.redo_html.specs.declared.chart.GroupKind.TheVariants.{Axis, Parents, Recipes, Untimed}
-use Rattle.redo_html.specs.Chart.{DrawnBar, Drawing, Layer, Shape, drawing_links}
+use Rattle.redo_html.specs.Chart.{Drawing, Shape, drawing_links}
 use Rattle.redo_html.specs.Chart.Shape.{BarShape, LineShape, TickShape}
 use Rattle.redo_logs.specs.declared.log_state.LogState.TheVariants.{Ended}
 use Rattle.redo_logs.specs.Logs.{Log}
@@ -16,7 +14,6 @@ use Rattle.redo_timeline.specs.declared.span.Span.{Span}
 use Rattle.redo_timeline.specs.declared.span.Window.{Window}
 use Rattle.redo_units.specs.Ticks.{tick_step_of}
 use Rattle.redo_units.specs.Words.{decimal_text}
-use Rattle.redo_chart.specs.declared.band.Band.{Band}
 use Rattle.redo_chart.specs.Axis.{anchor_of, axis_shapes}
 use Rattle.redo_chart.specs.Bands.{below, marks_band, max_mark_lanes, max_parent_lanes, max_recipe_lanes, parents_band, recipe_lane_height, recipes_band}
 use Rattle.redo_chart.specs.Bars.{bar_layer, drawn_bar, label_of}
@@ -30,7 +27,18 @@ log target = record { target = target; entries = []; state = Ended }
 
 abbrev node : ℕ → Option ℤ → Node
 node number status = record {
-  number = number; parent = None; status = status; lines = 0; bytes = 0; warnings = 0; below = 0; children = 0; others = false; warnings_below = 0; fails_below = false; silent = 0;
+  number = number;
+  parent = None;
+  status = status;
+  lines = 0;
+  bytes = 0;
+  warnings = 0;
+  below = 0;
+  children = 0;
+  others = false;
+  warnings_below = 0;
+  fails_below = false;
+  silent = 0;
 }
 
 abbrev logs : List Log
@@ -147,8 +155,8 @@ whole : (chart.height ≡ 102) × (chart.lanes ≡ 2)
     ∷ record {
       kind = Recipes;
       shapes =
-        drawn_at 2 0 40 4000 16 false (codes "out/a.o, 4.00 s") (Some (codes "a.o")) ∷ drawn_at 4 5000 40 20 16 false (codes "2 targets in 0.02 s, from ") None
-        ∷ drawn_at 0 2000 58 7500 16 true (codes "out/b.o, 7.50 s, exit -1") (Some (codes "b.o")) ∷ [];
+          drawn_at 2 0 40 4000 16 false (codes "out/a.o, 4.00 s") (Some (codes "a.o")) ∷ drawn_at 4 5000 40 20 16 false (codes "2 targets in 0.02 s, from ") None
+          ∷ drawn_at 0 2000 58 7500 16 true (codes "out/b.o, 7.50 s, exit -1") (Some (codes "b.o")) ∷ [];
     }
     ∷ record { kind = Untimed; shapes = drawn_at 3 10000 82 30 12 true (codes "t, exit 12") None ∷ [] } ∷ [])
 unfolding tick_step_of decimal_text digits

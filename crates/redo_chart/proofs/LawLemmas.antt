@@ -2,13 +2,10 @@
 use Rattle.std.proofs.Common.{◌≡◌, ℕ, ◌+◌, ◌-◌, Bool, true, false, cond, nat_lt, List, [], ◌∷◌, ◌++◌, map, refl, sym, ap, ◌∙◌, subst}
 use Rattle.std.specs.Prelude.{◌&&◌}
 use Rattle.std.specs.List.{AllZip, flat_map, list_all, range_with_len}
-use Rattle.std.specs.List.Sorted.{IsPermutation}
 use Rattle.std.proofs.lemmas.List.{append-nil, map-append}
-use Rattle.std.proofs.lemmas.List.Concat.{flat_map-append}
 use Rattle.std.proofs.lemmas.List.Folds.{list_all-append}
 use Rattle.std.proofs.lemmas.List.Sorted.{All-permutation}
 use Rattle.std.proofs.lemmas.List.Sums.{AllPass-from_list_all, list_all-from_AllPass}
-use Rattle.redo_html.specs.declared.chart.GroupKind.{GroupKind}
 use Rattle.redo_html.specs.Chart.{Shape, drawing_links, shape_links}
 use Rattle.redo_logs.specs.Logs.{Log}
 use Rattle.redo_outline.specs.declared.node.Node.{Node}
@@ -20,7 +17,7 @@ use Rattle.redo_timeline.specs.Lanes.{lanes_of}
 use Rattle.redo_timeline.specs.Timeline.{bars_of, drawn_bars, timeline_of}
 use Rattle.redo_timeline.proofs.LawLemmas.{drawn_once, joined, lanes-permutation}
 use Rattle.redo_chart.specs.declared.band.Band.{Band}
-use Rattle.redo_chart.specs.Axis.{axis_shapes, last_tick, tick_shapes}
+use Rattle.redo_chart.specs.Axis.{last_tick, tick_shapes}
 use Rattle.redo_chart.specs.Bands.{marks_band, max_mark_lanes, max_parent_lanes, max_recipe_lanes, parents_band, recipes_band}
 use Rattle.redo_chart.specs.Bars.{bar_shapes}
 use Rattle.redo_chart.specs.Laws.{Draws, DrawsAll, all_bars, are_below}

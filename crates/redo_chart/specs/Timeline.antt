@@ -22,11 +22,11 @@ drawing_of logs nodes width parents recipes marks =
       height = height;
       lanes = recipes.lane_count;
       layers =
-        axis_layer (height - 4) width
-        ∷ bar_layer logs nodes parents_band parents.bars
-        ∷ bar_layer logs nodes (recipes_band parents.lane_count recipes.lane_count) recipes.bars
-        ∷ bar_layer logs nodes (marks_band parents.lane_count recipes.lane_count) marks.bars
-        ∷ [];
+          axis_layer (height - 4) width
+          ∷ bar_layer logs nodes parents_band parents.bars
+          ∷ bar_layer logs nodes (recipes_band parents.lane_count recipes.lane_count) recipes.bars
+          ∷ bar_layer logs nodes (marks_band parents.lane_count recipes.lane_count) marks.bars
+          ∷ [];
     }
 
 abbrev pub timeline_drawing : List Log → List Node → Window → List Span → List Span → List Span → Drawing

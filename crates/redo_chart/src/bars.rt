@@ -34,13 +34,7 @@ pub fn bar_items<'a>(
 {
     let mut items = Vec::new(alloc);
     for (i, bar) in bars.iter().enumerate() {
-        items.push(ChartItem::Bar(drawn_bar(
-            table,
-            nodes,
-            band,
-            bar,
-            &titles[i],
-        )))?;
+        items.push(ChartItem::Bar(drawn_bar(table, nodes, band, bar, &titles[i])))?;
     }
     Ok(items)
 }

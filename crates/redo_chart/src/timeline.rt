@@ -95,8 +95,22 @@ fn write_laid_out<W: Sink>(
     let recipe_titles = titles(alloc, table, nodes, GroupKind::Recipes, recipes.bars())?;
     let mark_titles = titles(alloc, table, nodes, GroupKind::Untimed, marks.bars())?;
     let axis = axis_items(alloc, height.saturating_sub(4), width, &ticks)?;
-    let parent_items = bar_items(alloc, table, nodes, parents_band, parents.bars(), &parent_titles)?;
-    let recipe_items = bar_items(alloc, table, nodes, recipes_band, recipes.bars(), &recipe_titles)?;
+    let parent_items = bar_items(
+        alloc,
+        table,
+        nodes,
+        parents_band,
+        parents.bars(),
+        &parent_titles,
+    )?;
+    let recipe_items = bar_items(
+        alloc,
+        table,
+        nodes,
+        recipes_band,
+        recipes.bars(),
+        &recipe_titles,
+    )?;
     let mark_items = bar_items(alloc, table, nodes, marks_band, marks.bars(), &mark_titles)?;
     write_groups(
         height,

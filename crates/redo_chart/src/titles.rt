@@ -116,9 +116,5 @@ fn push_status(status: Option<i32>, text: &mut Vec<u8>) -> Result<(), AllocError
 fn before_magnitude(status: i32) -> &'static [u8]
     ensures { result.now ≡ spec.before_magnitude status }
 {
-    if status < 0 {
-        b", exit -"
-    } else {
-        b", exit "
-    }
+    if status < 0 { b", exit -" } else { b", exit " }
 }

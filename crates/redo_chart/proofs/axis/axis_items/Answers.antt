@@ -1,5 +1,4 @@
-use Rattle.std.proofs.Common.{◌*◌, ◌/◌, ◌∷◌, [], map, ap, sym, ◌∙◌, arith}
-use Rattle.redo_html.specs.declared.chart.ChartItem.TheVariants as item
+use Rattle.std.proofs.Common.{◌*◌, ◌/◌, ◌∷◌, [], map, ap, ◌∙◌, arith}
 use Rattle.redo_html.specs.Chart.{shape_of}
 use Rattle.redo_html.specs.Chart.Shape.{LineShape, TickShape}
 use Rattle.redo_chart.proofs.ChartLemmas.{tick_drawn, tick_inside, tick_text_at, ticks_drawn}
