@@ -12,7 +12,8 @@ use Rattle.redo_outline.specs.declared.node.Node.{Node}
 use Rattle.redo_timeline.specs.declared.bar.Bar.{Bar}
 use Rattle.redo_timeline.specs.declared.span.Span.{Span}
 use Rattle.redo_timeline.specs.declared.span.Window.{Window}
-use Rattle.redo_units.specs.Ticks.{tick_step_of}
+use Rattle.redo_units.specs.Durations.{duration_words}
+use Rattle.redo_units.specs.Ticks.{tick_step_of, tick_words}
 use Rattle.redo_units.specs.Words.{decimal_text}
 use Rattle.redo_chart.specs.Axis.{anchor_of, axis_shapes}
 use Rattle.redo_chart.specs.Bands.{below, marks_band, max_mark_lanes, max_parent_lanes, max_recipe_lanes, parents_band, recipe_lane_height, recipes_band}
@@ -39,6 +40,7 @@ node number status = record {
   warnings_below = 0;
   fails_below = false;
   silent = 0;
+  took = None;
 }
 
 abbrev logs : List Log
@@ -65,13 +67,13 @@ last_parts = (refl, refl, refl, refl, refl, refl)
 statuses :
     status_text None ∷ status_text (Some (pos 0)) ∷ status_text (Some (pos 1)) ∷ status_text (Some (pos 127)) ∷ status_text (Some (negsuc 0)) ∷ status_text (Some (negsuc 14)) ∷ []
     ≡ codes ", not closed" ∷ [] ∷ codes ", exit 1" ∷ codes ", exit 127" ∷ codes ", exit -1" ∷ codes ", exit -15" ∷ []
-unfolding decimal_text digits
+unfolding duration_words decimal_text digits
 statuses = refl
 
 durations :
     duration_after (codes ", ") Parents 1234 ∷ duration_after (codes " in ") Recipes 125000 ∷ duration_after (codes ", ") Untimed 1234 ∷ duration_after (codes ", ") Axis 1234 ∷ []
     ≡ codes ", 1.23 s" ∷ codes " in 2 min 05 s" ∷ [] ∷ [] ∷ []
-unfolding decimal_text digits
+unfolding duration_words decimal_text digits
 durations = refl
 
 -- A bar of the target at this place, or of several of which it is the first.
@@ -82,7 +84,7 @@ titles :
     title_of logs nodes Recipes (bar 0 1 1000 2500) ∷ title_of logs nodes Parents (bar 1 1 0 60000) ∷ title_of logs nodes Recipes (bar 2 1 9 5) ∷ title_of logs nodes Untimed (bar 3 1 5 5) ∷ title_of logs nodes Recipes (bar 2 3 10 30)
     ∷ title_of logs nodes Untimed (bar 3 12 10 30) ∷ []
     ≡ codes "out/b.o, 1.50 s, exit -1" ∷ codes "all, 1 min 00 s, not closed" ∷ codes "out/a.o, 0.00 s" ∷ codes "t, exit 12" ∷ codes "3 targets in 0.02 s, from out/a.o" ∷ codes "12 targets, from t" ∷ []
-unfolding decimal_text digits
+unfolding duration_words decimal_text digits
 titles = refl
 
 -- ---- bands
@@ -111,7 +113,7 @@ drawn :
     ≡ record { place = 0; x = 7; y = 76; width = 400; height = 16; failed = true; title = codes "out/b.o, 1.50 s, exit -1"; label = Some (codes "b.o") })
     × (drawn_bar logs nodes (marks_band 1 3) (wide 30) ≡ record { place = 0; x = 7; y = 128; width = 30; height = 12; failed = true; title = codes "out/b.o, exit -1"; label = None })
     × (bar_layer logs nodes parents_band [] ≡ record { kind = Parents; shapes = [] })
-unfolding decimal_text digits
+unfolding duration_words decimal_text digits
 drawn = (refl, refl, refl)
 
 -- ---- the axis
@@ -127,7 +129,7 @@ axes :
     ≡ LineShape 0 7 ∷ TickShape 0 Start (codes "0") ∷ LineShape 1818 7 ∷ TickShape 1818 Middle (codes "1 s") ∷ LineShape 3636 7 ∷ TickShape 3636 Middle (codes "2 s") ∷ LineShape 5454 7 ∷ TickShape 5454 Middle (codes "3 s")
     ∷ LineShape 7272 7 ∷ TickShape 7272 Middle (codes "4 s") ∷ LineShape 9090 7 ∷ TickShape 9090 Middle (codes "5 s") ∷ [])
     × (axis_shapes 34 900000000 ≡ LineShape 0 34 ∷ TickShape 0 Start (codes "0") ∷ LineShape 10000 34 ∷ TickShape 10000 End (codes "250:00 h") ∷ [])
-unfolding tick_step_of decimal_text digits
+unfolding duration_words tick_step_of tick_words decimal_text digits
 axes = (refl, refl, refl)
 
 -- ---- charts
@@ -159,7 +161,7 @@ whole : (chart.height ≡ 102) × (chart.lanes ≡ 2)
           ∷ drawn_at 0 2000 58 7500 16 true (codes "out/b.o, 7.50 s, exit -1") (Some (codes "b.o")) ∷ [];
     }
     ∷ record { kind = Untimed; shapes = drawn_at 3 10000 82 30 12 true (codes "t, exit 12") None ∷ [] } ∷ [])
-unfolding tick_step_of decimal_text digits
+unfolding duration_words tick_step_of tick_words decimal_text digits
 whole = (refl, refl, refl)
 
 links : drawing_links chart ≡ 1 ∷ 2 ∷ 4 ∷ 0 ∷ 3 ∷ []

@@ -106,5 +106,6 @@ fn node(number: u32, status: Option<i32>) -> Node {
         warnings_below: 0,
         fails_below: false,
         silent: 0,
+        took: None,
     }
 }

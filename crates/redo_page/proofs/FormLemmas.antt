@@ -28,7 +28,7 @@ use Rattle.redo_page.specs.declared.block.Pending.TheVariants as pending
 use Rattle.redo_page.specs.Blocks.{after_line, end_parts, line_parts}
 use Rattle.redo_page.specs.Tree.{Build, articles, contents_parts, is_moved_if, section_end, section_start, top_level, tree_parts}
 use Rattle.redo_page.specs.Private.Texts.{after_lines, lines_parts}
-use Rattle.redo_page.specs.Private.Walking.{Walk, after_event, after_texts, level_in, start_of, texts_parts, tree_bytes}
+use Rattle.redo_page.specs.Private.Walking.{Walk, after_event, after_texts, level_in, start_of, texts_parts, tree_bytes, tree_text}
 use Rattle.redo_page.proofs.WalkLemmas.{node_count, parts_contents, pending_after, proper, state_contents, walked_html, walked_parts}
 
 -- All of a text is a prefix of it.
@@ -107,10 +107,6 @@ module _ (build : Build) (events : List Event) (same : events_of 0 (contents_of 
       ∙ ap (flat_map part_html) (sym (append_assoc inner (end_parts (pending_after build top_level 0 pending.Nothing (contents_of events))) section_end)
       ∙ ap (λ (es : List Event). (walked_parts (start_of build) es ++ end_parts (pending_after build top_level 0 pending.Nothing (contents_of events))) ++ section_end) (sym same)
       ∙ ap (λ (ps : List Part). ps ++ section_end) (parts_contents build (contents_of events) (proper events) 0 [] 0 pending.Nothing (omega (arith, within))))
-
--- The text of the tree after its heading.
-abbrev pub tree_text : Build → List Event → List ℕ
-tree_text build events = bytes_of tree_bytes after_event (start_of build) events ++ flat_map part_html (end_parts (state_after after_event (start_of build) events).before ++ section_end)
 
 module _ (logs : List Log) (options : Options) (nodes : List Node) (places : List ℕ) (events : List Event) (same : events_of 0 (contents_of events) ≡ events) (outline : length nodes ≡ log_count (contents_of events)) (are : places ≡ articles nodes) where
   within_outline : log_count (contents_of events) ≤ length nodes

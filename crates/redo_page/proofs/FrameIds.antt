@@ -12,7 +12,8 @@ use Rattle.redo_page.specs.declared.frame.Verdict.TheVariants.{Failed, Unfinishe
 use Rattle.redo_page.specs.Frame.{began_parts, date_parts, head_parts, requested_parts, root_parts, timeline_nav, title_parts, failed_nav, header_parts, footer_parts}
 use Rattle.redo_page.specs.Targets.{parts_if}
 use Rattle.redo_page.specs.Words.{words_parts}
-use Rattle.redo_summary.specs.Summary.{Facts, is_timed}
+use Rattle.redo_summary.specs.Summary.{Facts}
+use Rattle.redo_page.specs.Timeline.{has_timeline}
 use Rattle.redo_timeline.specs.declared.span.Window.{Window}
 use Rattle.redo_units.specs.Dates.{date_text_of}
 use Rattle.redo_units.specs.Durations.{duration_words}
@@ -81,13 +82,13 @@ began_bare (Some window) took =
     bare_then (MarkupPart MetaParagraph ∷ date_parts (date_text_of (window.began / 1000))) (NamePart (codes "took ") ∷ (words_parts (duration_words took) ++ MarkupPart EndParagraph ∷ [])) (date_bare (date_text_of (window.began / 1000)))
     (words_bare (NamePart (codes "took ") ∷ []) (MarkupPart EndParagraph ∷ []) (duration_words took) refl refl)
 
-header_same : (title : List ℕ) (logs : List Log) (verdict : Verdict) (heading : List ℕ) (nodes : List Node) (facts : Facts) → references (header_parts title logs verdict heading nodes facts) ≡ links verdict (is_timed facts)
+header_same : (title : List ℕ) (logs : List Log) (verdict : Verdict) (heading : List ℕ) (nodes : List Node) (facts : Facts) → references (header_parts title logs verdict heading nodes facts) ≡ links verdict (has_timeline facts)
 header_same title logs verdict heading nodes facts =
-    simp (flat_map-append, title_bare title, bare_each (root_parts logs) (root_bare logs) nodes, began_bare facts.window facts.took, failed_nav_same verdict, timeline_nav_same (is_timed facts))
+    simp (flat_map-append, title_bare title, bare_each (root_parts logs) (root_bare logs) nodes, began_bare facts.window facts.took, failed_nav_same verdict, timeline_nav_same (has_timeline facts))
 
 pub header_refers : {count : ℕ} {articles : List ℕ} (title : List ℕ) (logs : List Log) (verdict : Verdict) (heading : List ℕ) (nodes : List Node) (facts : Facts)
-    → Refers count articles (header_parts title logs verdict heading nodes facts) [] [] (links verdict (is_timed facts))
-header_refers title logs verdict heading nodes facts = same_refer (header_same title logs verdict heading nodes facts ∙ sym (links_same verdict (is_timed facts))) (links_refer verdict (is_timed facts))
+    → Refers count articles (header_parts title logs verdict heading nodes facts) [] [] (links verdict (has_timeline facts))
+header_refers title logs verdict heading nodes facts = same_refer (header_same title logs verdict heading nodes facts ∙ sym (links_same verdict (has_timeline facts))) (links_refer verdict (has_timeline facts))
 
 pub footer_bare : (dir command : List ℕ) (logs : ℕ) → Bare (footer_parts dir command logs)
 unfolding footer_parts

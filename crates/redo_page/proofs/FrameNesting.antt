@@ -8,7 +8,8 @@ use Rattle.redo_outline.specs.declared.node.Node.{Node}
 use Rattle.redo_page.specs.declared.frame.Verdict.{Verdict}
 use Rattle.redo_page.specs.declared.frame.Verdict.TheVariants.{Failed, Unfinished, Made}
 use Rattle.redo_page.specs.Frame.{began_parts, date_parts, head_parts, requested_parts, root_parts, timeline_nav, title_parts, failed_nav, header_parts, footer_parts}
-use Rattle.redo_summary.specs.Summary.{Facts, is_timed}
+use Rattle.redo_summary.specs.Summary.{Facts}
+use Rattle.redo_page.specs.Timeline.{has_timeline}
 use Rattle.redo_timeline.specs.declared.span.Window.{Window}
 use Rattle.redo_units.specs.Dates.{date_text_of}
 use Rattle.redo_units.specs.Durations.{duration_words}
@@ -52,7 +53,7 @@ timeline_nav_nests timed = nest_if timed (record { leads = λ around tags. refl 
 pub header_leads : (title : List ℕ) (logs : List Log) (verdict : Verdict) (heading : List ℕ) (nodes : List Node) (facts : Facts) → Leads [] (header_parts title logs verdict heading nodes facts) (codes "main" ∷ [])
 header_leads title logs verdict heading nodes facts = record {
   leads = λ around tags.
-      simp (joined, (title_nests title).leads, (nest_each (root_parts logs) (root_nests logs) nodes).leads, (began_nests facts.window facts.took).leads, (failed_nav_nests verdict).leads, (timeline_nav_nests (is_timed facts)).leads);
+      simp (joined, (title_nests title).leads, (nest_each (root_parts logs) (root_nests logs) nodes).leads, (began_nests facts.window facts.took).leads, (failed_nav_nests verdict).leads, (timeline_nav_nests (has_timeline facts)).leads);
 }
 
 pub footer_leads : (dir command : List ℕ) (logs : ℕ) → Leads (codes "main" ∷ codes "body" ∷ codes "html" ∷ []) (footer_parts dir command logs) []

@@ -17,6 +17,7 @@ use Rattle.redo_page.specs.declared.frame.Verdict.TheVariants.{Failed, Unfinishe
 use Rattle.redo_summary.specs.Summary.{Facts}
 use Rattle.redo_timeline.specs.declared.span.Window.{Window}
 use Rattle.redo_units.specs.Dates as dates
+use Rattle.redo_units.specs.Durations.{duration_words}
 use Rattle.redo_page.specs.Frame.{began_parts, timeline_nav, argument, body_markup, command, failed_nav, footer_parts, head_parts, header_parts, is_safe, log_count_parts, quoted, root_parts, sign_text, title_parts, title_text, titled, top_heading_parts, verdict_of, verdict_text}
 
 abbrev tag : Markup → Part
@@ -122,7 +123,7 @@ began_are :
     (began_parts None 5 ≡ [])
     × (began_parts (Some (record { began = 253402300800000; width = 1 })) 0
     ≡ tag markup.MetaParagraph ∷ words (codes "took ") ∷ number 0 ∷ words (codes ".") ∷ number 0 ∷ number 0 ∷ words (codes " s") ∷ tag markup.EndParagraph ∷ [])
-unfolding dates.date_text_of dates.date_parts dates.period_of
+unfolding duration_words dates.date_text_of dates.date_parts dates.period_of
 began_are = (refl, refl)
 
 timeline_navs_are :
@@ -142,7 +143,7 @@ header_is :
     ∷ tag markup.Item ∷ tag markup.SummaryLink ∷ words (codes "Summary") ∷ tag markup.EndLink ∷ tag markup.EndItem
     ∷ tag markup.Item ∷ tag markup.TreeLink ∷ words (codes "All logs") ∷ tag markup.EndLink ∷ tag markup.EndItem
     ∷ tag markup.EndUnordered ∷ tag markup.EndNav ∷ tag markup.Main ∷ []
-unfolding dates.date_text_of dates.date_parts dates.period_of
+unfolding duration_words dates.date_text_of dates.date_parts dates.period_of
 header_is = refl
 
 -- ---- the end

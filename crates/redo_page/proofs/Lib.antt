@@ -16,6 +16,7 @@ mod FrameRows
 mod Ids
 mod JoinLemmas
 mod LawRows
+mod LimitLemmas
 mod Nesting
 mod PageIds
 mod PageLemmas
@@ -33,6 +34,7 @@ mod SummaryNesting
 mod TargetNesting
 mod TargetRows
 mod TextLemmas
+mod TimelineLemmas
 mod TreeIds
 mod TreeLines
 mod TreeNesting

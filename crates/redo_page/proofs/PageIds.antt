@@ -12,7 +12,7 @@ use Rattle.redo_html.specs.Parts.Part.{MarkupPart}
 use Rattle.redo_page.specs.Targets.{parts_if}
 use Rattle.std.proofs.lemmas.Grind.{flat_map-append}
 use Rattle.redo_outline.specs.declared.node.Node.{Node}
-use Rattle.redo_outline.specs.Contents.{contents_of}
+use Rattle.redo_outline.specs.Contents.{Contents, contents_of}
 use Rattle.redo_outline.specs.Facts.{target_status}
 use Rattle.redo_outline.specs.Outline.{log_count, outline_of, with_duration}
 use Rattle.std.specs.Prelude.{None}
@@ -20,15 +20,20 @@ use Rattle.redo_page.specs.declared.frame.Verdict.TheVariants.{Failed, Unfinishe
 use Rattle.redo_page.specs.Frame.{command, footer_parts, head_parts, is_unfinished, title_text, verdict_of}
 use Rattle.redo_page.specs.Laws.{article_ids, article_links, is_among, numbers_from, section_id, section_ids, section_link, section_links, target_ids, target_links}
 use Rattle.redo_page.specs.declared.frame.Verdict.{Verdict}
-use Rattle.redo_page.specs.Page.{Request, durations_of, heading_of, options_of, page_events, page_facts, page_outline, page_parts, top_parts_of}
+use Rattle.redo_page.specs.Page.{Request, durations_of, heading_of, options_of, page_contents, page_events, page_facts, page_outline, page_parts, top_parts_of}
 use Rattle.redo_page.specs.Tree.{articles, first_failures}
 use Rattle.redo_page.proofs.Ids.{Refers, bare_refers, section, then_refer}
 use Rattle.redo_page.proofs.FrameIds.{footer_bare, head_bare, header_refers, links}
 use Rattle.redo_page.proofs.FailedIds.{failed_refers, failed_section}
 use Rattle.redo_page.proofs.SummaryIds.{summary_refers}
+use Rattle.redo_page.proofs.TimelineLemmas.{BarsLead, timeline_refers}
+use Rattle.redo_page.specs.Limits.{tree_limits}
+use Rattle.redo_trim.specs.declared.limit.Limit.{Limit}
+use Rattle.redo_trim.specs.Trim.{trim}
 use Rattle.redo_page.proofs.TreeIds.{nodes_counted, tree_refers}
 use Rattle.redo_summary.specs.Laws.{AreOfNodes}
-use Rattle.redo_summary.specs.Summary.{Facts, is_timed, summary_of}
+use Rattle.redo_page.specs.Timeline.{has_timeline}
+use Rattle.redo_summary.specs.Summary.{Facts, summary_of}
 use Rattle.redo_times.specs.declared.times.Times.{Times}
 use Rattle.redo_view.specs.Event.{Event}
 
@@ -78,7 +83,7 @@ page_sections verdict timed failed = top_sections verdict timed failed ++ (parts
 
 module _ (nodes : List Node) (facts : Facts) (places : AreOfNodes nodes facts) where
   top_refers : (title : List ℕ) (logs : List Log) (verdict : Verdict) (title_is heading : List ℕ)
-      → Refers (length nodes) (articles nodes) (top_parts_of title logs verdict title_is heading nodes facts) [] ((articles nodes ++ []) ++ []) (top_sections verdict (is_timed facts) (failed_section (first_failures nodes)))
+      → Refers (length nodes) (articles nodes) (top_parts_of title logs verdict title_is heading nodes facts) [] ((articles nodes ++ []) ++ []) (top_sections verdict (has_timeline facts) (failed_section (first_failures nodes)))
   unfolding top_parts_of
   top_refers title logs verdict title_is heading =
       then_refer (bare_refers (head_parts title_is verdict) (head_bare title_is verdict))
@@ -102,7 +107,11 @@ sections_linked nodes timed = by (nat_lt 0 (length (first_failures nodes))) (lis
 abbrev pub HavePlaces : Type 0
 HavePlaces = (nodes : List Node) (times : List Times) → AreOfNodes nodes (summary_of nodes times)
 
-module _ (have : HavePlaces) (request : Request) (logs : List Log) (requested : List (List ℕ)) where
+-- No log is left out of the tree.
+abbrev pub KeepLogs : Type 0
+KeepLogs = (limits : List Limit) (contents : Contents) → log_count (trim limits [] contents) ≡ log_count contents
+
+module _ (have : HavePlaces) (lead : BarsLead) (keep : KeepLogs) (request : Request) (logs : List Log) (requested : List (List ℕ)) where
   abbrev parts : List Part
   parts = page_parts request logs requested
 
@@ -115,23 +124,28 @@ module _ (have : HavePlaces) (request : Request) (logs : List Log) (requested : 
   abbrev events : List Event
   events = page_events request logs requested
 
+  -- What the tree contains.
+  abbrev shown : Contents
+  shown = page_contents request logs requested
+
   -- There is a node for each log that is opened.
   counted : length nodes ≡ log_count (contents_of events)
   counted =
       length-map (outline_of logs events) (with_duration (durations_of request.times)) ∙ nodes_counted logs (target_status logs events) None 0 (contents_of events)
 
-  page_refers : Refers (length nodes) (articles nodes) parts (numbers_from 0 (log_count (contents_of (page_events request logs requested))) ++ []) (((articles nodes ++ []) ++ []) ++ [])
-      (page_sections (verdict_of nodes) (is_timed facts) (failed_section (first_failures nodes)))
+  page_refers : Refers (length nodes) (articles nodes) parts (numbers_from 0 (log_count shown) ++ []) (((articles nodes ++ []) ++ []) ++ [])
+      (page_sections (verdict_of nodes) (has_timeline facts) (failed_section (first_failures nodes)))
   unfolding page_parts
   page_refers =
-      then_refer (top_refers nodes facts (have nodes request.times) request.title logs (verdict_of nodes) (title_text request.title (verdict_of nodes) (heading_of nodes)) (heading_of nodes))
-      (then_refer (tree_refers logs (options_of request) nodes (contents_of (page_events request logs requested)))
+      let places = have nodes request.times in
+      then_refer (top_refers nodes facts places request.title logs (verdict_of nodes) (title_text request.title (verdict_of nodes) (heading_of nodes)) (heading_of nodes))
+      (then_refer (then_refer (timeline_refers lead (length nodes) (articles nodes) logs nodes facts places.parents places.recipes places.marks) (tree_refers logs (options_of request) nodes shown))
       (bare_refers (footer_parts request.dir (command request.dir (options_of request) requested) (length nodes)) (footer_bare request.dir (command request.dir (options_of request) requested) (length nodes))))
 
   pub page_target_ids : target_ids parts ≡ numbers_from 0 (length nodes)
   page_target_ids =
-      page_refers.target_ids_are ∙ append-nil (numbers_from 0 (log_count (contents_of (page_events request logs requested))))
-      ∙ ap (numbers_from 0) (sym counted)
+      page_refers.target_ids_are ∙ append-nil (numbers_from 0 (log_count shown))
+      ∙ ap (numbers_from 0) (keep (tree_limits logs (options_of request) nodes request.max_bytes) (contents_of events) ∙ sym counted)
 
   pub page_article_ids : article_ids parts ≡ articles nodes
   page_article_ids = page_refers.article_ids_are ∙ append-nil ((articles nodes ++ []) ++ []) ∙ append-nil (articles nodes ++ []) ∙ append-nil (articles nodes)
@@ -146,4 +160,4 @@ module _ (have : HavePlaces) (request : Request) (logs : List Log) (requested : 
 
   pub page_section_links : section_links parts ≡ section_ids parts
   page_section_links =
-      in_sections section_link section_link_part parts ∙ ap section_links page_refers.sections_are ∙ sections_linked nodes (is_timed facts) ∙ sym (ap section_ids page_refers.sections_are) ∙ sym (in_sections section_id section_id_part parts)
+      in_sections section_link section_link_part parts ∙ ap section_links page_refers.sections_are ∙ sections_linked nodes (has_timeline facts) ∙ sym (ap section_ids page_refers.sections_are) ∙ sym (in_sections section_id section_id_part parts)

@@ -19,7 +19,7 @@ use Rattle.redo_outline.specs.Contents.{contents_of}
 use Rattle.redo_page.specs.declared.page.Texts.{Texts}
 use Rattle.redo_page.specs.Frame.{command, footer_parts, title_text, verdict_of}
 use Rattle.redo_summary.specs.Summary.{Facts, summary_of}
-use Rattle.redo_page.specs.Page.{Request, heading_of, options_of, page_facts, page_html, page_outline, page_parts, top_parts, top_parts_of}
+use Rattle.redo_page.specs.Page.{Request, body_parts, heading_of, options_of, page_facts, page_html, page_outline, page_parts, top_parts, top_parts_of}
 use Rattle.redo_page.specs.Private.PageTexts.{AreTexts}
 use Rattle.redo_page.specs.Tree.{tree_parts}
 
@@ -51,15 +51,15 @@ module _ (request : Request) (logs : List Log) (requested : List (List ℕ)) (te
   abbrev pub top_html : List Node → Facts → List ℕ
   top_html nodes facts = flat_map part_html (top_parts_of request.title logs texts.verdict texts.title.items texts.heading.items nodes facts)
 
-  abbrev pub tree_html : Options → List Node → List ℕ
-  tree_html options outline = flat_map part_html (tree_parts logs options outline (contents_of (shown_events logs options requested)))
+  abbrev pub body_html : Options → List Node → Facts → List ℕ
+  body_html options outline facts = flat_map part_html (body_parts logs options request.max_bytes requested outline facts)
 
   abbrev pub bottom_html : ℕ → List ℕ
   bottom_html count = flat_map part_html (footer_parts request.dir texts.command.items count)
 
   -- The page is its three stages.
   stages_of_page : AreTexts request (options_of request) requested (page_outline request logs requested) texts
-      → top_html (page_outline request logs requested) (page_facts request logs requested) ++ (tree_html (options_of request) (page_outline request logs requested) ++ bottom_html (length (page_outline request logs requested))) ≡ page_html request logs requested
+      → top_html (page_outline request logs requested) (page_facts request logs requested) ++ (body_html (options_of request) (page_outline request logs requested) (page_facts request logs requested) ++ bottom_html (length (page_outline request logs requested))) ≡ page_html request logs requested
   unfolding page_parts
   stages_of_page are =
       let nodes = page_outline request logs requested in
@@ -70,19 +70,19 @@ module _ (request : Request) (logs : List Log) (requested : List (List ℕ)) (te
       ∙ ap (λ h. top_parts_of request.title logs (verdict_of nodes) (title_text request.title (verdict_of nodes) (heading_of nodes)) h nodes facts) are.heading in
       let last = footer_parts request.dir (command request.dir (options_of request) requested) (length nodes) in
       let last_is : footer_parts request.dir texts.command.items (length nodes) ≡ last = ap (λ c. footer_parts request.dir c (length nodes)) are.command in
-      let tree = tree_parts logs (options_of request) nodes (contents_of (shown_events logs (options_of request) requested)) in
+      let tree = body_parts logs (options_of request) request.max_bytes requested nodes facts in
       ap (λ t. flat_map part_html t ++ (flat_map part_html tree ++ bottom_html (length nodes))) top_is
       ∙ ap (λ b. flat_map part_html (top_parts request.title logs nodes facts) ++ (flat_map part_html tree ++ flat_map part_html b)) last_is
       ∙ ap (λ r. flat_map part_html (top_parts request.title logs nodes facts) ++ r) (sym (flat_map-append part_html tree last))
       ∙ sym (flat_map-append part_html (top_parts request.title logs nodes facts) (tree ++ last))
 
   pub page_splits : (options : Options) (outline nodes : List Node) (facts : Facts) → facts ≡ summary_of nodes request.times → options ≡ options_of request → outline ≡ page_outline request logs requested → nodes ≡ outline → AreTexts request options requested nodes texts
-      → top_html nodes facts ++ (tree_html options outline ++ bottom_html (length nodes)) ≡ page_html request logs requested
+      → top_html nodes facts ++ (body_html options outline facts ++ bottom_html (length nodes)) ≡ page_html request logs requested
   page_splits options outline nodes facts facts_are options_are outline_is nodes_are are =
       let nodes_is = nodes_are ∙ outline_is in
       let texts_are = subst (λ n. AreTexts request (options_of request) requested n texts) nodes_is (subst (λ o. AreTexts request o requested nodes texts) options_are are) in
-      ap (λ f. top_html nodes f ++ (tree_html options outline ++ bottom_html (length nodes))) facts_are
-      ∙ ap (λ n. top_html n (summary_of n request.times) ++ (tree_html options outline ++ bottom_html (length n))) nodes_is
-      ∙ ap (λ o. top_html (page_outline request logs requested) (page_facts request logs requested) ++ (tree_html o outline ++ bottom_html (length (page_outline request logs requested)))) options_are
-      ∙ ap (λ n. top_html (page_outline request logs requested) (page_facts request logs requested) ++ (tree_html (options_of request) n ++ bottom_html (length (page_outline request logs requested)))) outline_is
+      ap (λ f. top_html nodes f ++ (body_html options outline f ++ bottom_html (length nodes))) facts_are
+      ∙ ap (λ n. top_html n (summary_of n request.times) ++ (body_html options outline (summary_of n request.times) ++ bottom_html (length n))) nodes_is
+      ∙ ap (λ o. top_html (page_outline request logs requested) (page_facts request logs requested) ++ (body_html o outline (page_facts request logs requested) ++ bottom_html (length (page_outline request logs requested)))) options_are
+      ∙ ap (λ n. top_html (page_outline request logs requested) (page_facts request logs requested) ++ (body_html (options_of request) n (page_facts request logs requested) ++ bottom_html (length (page_outline request logs requested)))) outline_is
       ∙ stages_of_page texts_are

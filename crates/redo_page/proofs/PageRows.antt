@@ -24,6 +24,7 @@ use Rattle.redo_page.specs.Excerpt.{in_tree_parts}
 use Rattle.redo_page.specs.Failed.{article_of, article_parts, failed_parts, list_parts, more_parts, output_parts, path_parts, section_parts, whole_parts}
 use Rattle.redo_page.specs.Frame.{footer_parts, is_safe}
 use Rattle.redo_page.specs.Summary.{summary_parts, tables_parts}
+use Rattle.redo_units.specs.Sizes.{size_words}
 use Rattle.redo_times.specs.declared.times.Times.{Times}
 use Rattle.redo_page.specs.Page.{Request, options_of, page_events, page_html, page_outline, page_parts, request_of, top_parts_of}
 
@@ -134,7 +135,7 @@ made_page :
     ∷ tag markup.EndSummary ∷ tag markup.Unordered ∷ tag markup.Item ∷ tag markup.Pre ∷ LogPart plain_style (codes "x\n") ∷ tag markup.EndPre ∷ tag markup.EndItem
     ∷ tag (markup.TargetItem 1) ∷ name (codes "b") (tag markup.EndItem ∷ tag markup.EndUnordered ∷ tag markup.EndDetails ∷ tag markup.EndItem
     ∷ footer (NumberPart 2 ∷ words (codes " logs in ") ∷ end (codes "redo-log -r --dir=d a"))))))))))
-unfolding page_parts top_parts_of summary_parts tables_parts footer_parts failed_parts is_safe number_text digits show_log show_log_within
+unfolding page_parts top_parts_of summary_parts tables_parts size_words footer_parts failed_parts is_safe number_text digits show_log show_log_within
 made_page = refl
 
 abbrev badge : List Part → List Part
@@ -157,7 +158,7 @@ failed_page :
     (words (codes " ") ∷ tag markup.Small ∷ NumberPart 1 ∷ words (codes " line") ∷ tag markup.EndSmall ∷ tag markup.EndSummary ∷ tag markup.Unordered
     ∷ tag markup.NoteItem ∷ tag (markup.OutputLink 0) ∷ words (codes "What it printed is shown above") ∷ tag markup.EndLink ∷ tag markup.EndItem ∷ tag markup.EndUnordered ∷ tag markup.EndDetails ∷ tag markup.EndItem
     ∷ footer (NumberPart 1 ∷ words (codes " log in ") ∷ end (codes "redo-log -r -u --debug-locks --dir=d a"))))))))))))))
-unfolding page_parts top_parts_of summary_parts tables_parts footer_parts failed_parts section_parts list_parts more_parts article_parts article_of path_parts in_tree_parts output_parts whole_parts is_safe number_text digits show_log show_log_within
+unfolding page_parts top_parts_of summary_parts tables_parts size_words footer_parts failed_parts section_parts list_parts more_parts article_parts article_of path_parts in_tree_parts output_parts whole_parts is_safe number_text digits show_log show_log_within
 failed_page = refl
 
 -- The parts of these pages in short: where what begins, the title, the first words, and the command.
@@ -176,13 +177,13 @@ milestone part = []
 made_milestones :
     flat_map milestone (page_parts (request (codes "t") false false) made (codes "a" ∷ []))
     ≡ markup.Head ∷ markup.Header ∷ markup.Nav ∷ markup.Main ∷ markup.SummarySection ∷ markup.TreeSection ∷ markup.Footer ∷ markup.EndHtml ∷ []
-unfolding page_parts top_parts_of summary_parts tables_parts footer_parts failed_parts is_safe number_text digits show_log show_log_within
+unfolding page_parts top_parts_of summary_parts tables_parts size_words footer_parts failed_parts is_safe number_text digits show_log show_log_within
 made_milestones = refl
 
 failed_milestones :
     flat_map milestone (page_parts (request [] true true) failed (codes "a" ∷ []))
     ≡ markup.Head ∷ markup.Header ∷ markup.Nav ∷ markup.Main ∷ markup.FailedSection ∷ markup.SummarySection ∷ markup.TreeSection ∷ markup.Footer ∷ markup.EndHtml ∷ []
-unfolding page_parts top_parts_of summary_parts tables_parts footer_parts failed_parts section_parts list_parts more_parts article_parts article_of path_parts in_tree_parts output_parts whole_parts is_safe number_text digits show_log show_log_within
+unfolding page_parts top_parts_of summary_parts tables_parts size_words footer_parts failed_parts section_parts list_parts more_parts article_parts article_of path_parts in_tree_parts output_parts whole_parts is_safe number_text digits show_log show_log_within
 failed_milestones = refl
 
 abbrev title_of : Part → List (List ℕ)
@@ -194,23 +195,23 @@ words_of (NamePart text) = text ∷ []
 words_of part = []
 
 title_is : flat_map title_of (page_parts (request (codes "t") false false) made (codes "a" ∷ [])) ≡ (0xE2 ∷ 0x9C ∷ 0x93 ∷ (codes " t " ++ 0xC2 ∷ 0xB7 ∷ codes " 2 targets made, none failed")) ∷ []
-unfolding page_parts top_parts_of summary_parts tables_parts footer_parts failed_parts is_safe number_text digits show_log show_log_within
+unfolding page_parts top_parts_of summary_parts tables_parts size_words footer_parts failed_parts is_safe number_text digits show_log show_log_within
 title_is = refl
 
 made_words :
     take 6 (flat_map words_of (page_parts (request (codes "t") false false) made (codes "a" ∷ [])))
     ≡ (0xE2 ∷ 0x9C ∷ 0x93 ∷ []) ∷ codes " " ∷ codes "2 targets made, none failed" ∷ codes "t" ∷ codes "a" ∷ codes "Summary" ∷ []
-unfolding page_parts top_parts_of summary_parts tables_parts footer_parts failed_parts is_safe number_text digits show_log show_log_within
+unfolding page_parts top_parts_of summary_parts tables_parts size_words footer_parts failed_parts is_safe number_text digits show_log show_log_within
 made_words = refl
 
 failed_words :
     take 3 (flat_map words_of (page_parts (request [] true true) failed (codes "a" ∷ []))) ≡ (0xE2 ∷ 0x9C ∷ 0x97 ∷ []) ∷ codes " " ∷ codes "1 of 1 target failed" ∷ []
-unfolding page_parts top_parts_of summary_parts tables_parts footer_parts failed_parts section_parts list_parts more_parts article_parts article_of path_parts in_tree_parts output_parts whole_parts is_safe number_text digits show_log show_log_within
+unfolding page_parts top_parts_of summary_parts tables_parts size_words footer_parts failed_parts section_parts list_parts more_parts article_parts article_of path_parts in_tree_parts output_parts whole_parts is_safe number_text digits show_log show_log_within
 failed_words = refl
 
 command_is :
     filter (λ text. starts_with nat_eq text (codes "redo-log -r")) (flat_map words_of (page_parts (request [] true true) failed (codes "a" ∷ []))) ≡ codes "redo-log -r -u --debug-locks --dir=d a" ∷ []
-unfolding page_parts top_parts_of summary_parts tables_parts footer_parts failed_parts section_parts list_parts more_parts article_parts article_of path_parts in_tree_parts output_parts whole_parts is_safe number_text digits show_log show_log_within
+unfolding page_parts top_parts_of summary_parts tables_parts size_words footer_parts failed_parts section_parts list_parts more_parts article_parts article_of path_parts in_tree_parts output_parts whole_parts is_safe number_text digits show_log show_log_within
 command_is = refl
 
 -- A page has the bytes of its parts.
@@ -218,5 +219,5 @@ page_begins :
     bytes_eq (take 42 (page_html (request [] false false) [] []))
     (codes "<!doctype html><html lang=\"en\"><head><meta")
     ≡ true
-unfolding page_parts top_parts_of summary_parts tables_parts footer_parts failed_parts is_safe style_sheet symbols_after first_symbol symbol_len is_sequence sequence_len sequence_numbers first_letter letter_len is_odd picture odd_text number_text digits html_from show_log show_log_within
+unfolding page_parts top_parts_of summary_parts tables_parts size_words footer_parts failed_parts is_safe style_sheet symbols_after first_symbol symbol_len is_sequence sequence_len sequence_numbers first_letter letter_len is_odd picture odd_text number_text digits html_from show_log show_log_within
 page_begins = refl

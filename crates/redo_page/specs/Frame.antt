@@ -15,7 +15,8 @@ use Rattle.redo_page.specs.Targets.{parts_if, badge_parts, name_parts, plural}
 use Rattle.redo_outline.specs.Facts.{target_at}
 use Rattle.redo_page.specs.Tree.{first_failures}
 use Rattle.redo_page.specs.Words.{words_parts}
-use Rattle.redo_summary.specs.Summary.{Facts, is_timed}
+use Rattle.redo_summary.specs.Summary.{Facts}
+use Rattle.redo_page.specs.Timeline.{has_timeline}
 use Rattle.redo_timeline.specs.declared.span.Window.{Window}
 use Rattle.redo_units.specs.Dates.{date_text_of}
 use Rattle.redo_units.specs.Durations.{duration_words}
@@ -114,7 +115,7 @@ abbrev pub header_parts : List ℕ → List Log → Verdict → List ℕ → Lis
 header_parts title logs verdict heading nodes facts =
     top_heading_parts verdict heading
     ++ (title_parts title
-    ++ (flat_map (root_parts logs) nodes ++ (began_parts facts.window facts.took ++ (MarkupPart markup.EndHeader ∷ nav_parts verdict (is_timed facts)))))
+    ++ (flat_map (root_parts logs) nodes ++ (began_parts facts.window facts.took ++ (MarkupPart markup.EndHeader ∷ nav_parts verdict (has_timeline facts)))))
 
 -- ---- the end
 

@@ -8,7 +8,7 @@ use Rattle.redo_view.specs.Event.{Event}
 use Rattle.redo_view.specs.Event.Event.{Requested, Mentioned, EntryShown}
 use Rattle.redo_html.specs.declared.markup.Markup.{Markup}
 use Rattle.redo_html.specs.declared.markup.Markup.TheVariants.{FailedSection, SummarySection, TimelineSection, TreeSection, FailedLink, SummaryLink, TimelineLink, TreeLink, TargetLink, OutputLink, Article, TargetItem, Details, OpenDetails}
-use Rattle.redo_html.specs.Chart.{drawing_links}
+use Rattle.redo_html.specs.Chart.{Drawing, drawing_links}
 use Rattle.redo_html.specs.Html.{is_one_of}
 use Rattle.redo_html.specs.Laws.{IsChartTag, is_mark}
 use Rattle.redo_html.specs.Parts.{Part}
@@ -18,7 +18,9 @@ use Rattle.redo_outline.specs.Contents.{Contents, contents_of}
 use Rattle.redo_outline.specs.Contents.Contents.{Nothing, Shown, Opened}
 use Rattle.redo_outline.specs.Outline.{log_count}
 use Rattle.redo_page.specs.Failed.{article_parts}
-use Rattle.redo_page.specs.Page.{Request, options_of, page_events, page_outline}
+use Rattle.redo_page.specs.Page.{Request, options_of, page_contents, page_events, page_facts, page_outline}
+use Rattle.redo_page.specs.Timeline.{facts_drawing}
+use Rattle.redo_timeline.specs.declared.span.Window.{Window}
 use Rattle.redo_page.specs.Tree.{Build, articles, is_moved_if, is_same_place, tree_parts}
 
 -- ---- ids and links
@@ -138,23 +140,22 @@ abbrev pub unmoved_lines : Build → List PlacedLine → List PlacedLine
 unmoved_lines build lines = filter (λ (placed : PlacedLine). not (is_moved_if build placed.place)) lines
 
 module _ (request : Request) (logs : List Log) (requested : List (List ℕ)) where
-  -- What the tree of a page shows.
-  abbrev pub page_build : Build
-  page_build = record {
-    logs = logs;
-    options = options_of request;
-    nodes = page_outline request logs requested;
-    articles = articles (page_outline request logs requested);
-  }
-
   abbrev pub page_lines : List PlacedLine
   page_lines = placed_lines None 0 (contents_of (page_events request logs requested))
 
+  -- Those that are left in the tree.
+  abbrev pub kept_lines : List PlacedLine
+  kept_lines = placed_lines None 0 (page_contents request logs requested)
+
   abbrev pub page_tree : List Part
-  page_tree = tree_parts logs (options_of request) (page_outline request logs requested) (contents_of (page_events request logs requested))
+  page_tree = tree_parts logs (options_of request) (page_outline request logs requested) (page_contents request logs requested)
 
   abbrev pub page_article : ℕ → List Part
   page_article place = article_parts logs (page_outline request logs requested) place
+
+  -- The chart of a page with this window.
+  abbrev pub page_chart : Window → Drawing
+  page_chart window = facts_drawing logs (page_outline request logs requested) (page_facts request logs requested) window
 
 -- Whether these parts are in others, next to each other.
 pub record IsPartOf (inner whole : List Part) : Type 0 where

@@ -4,9 +4,11 @@ pub mod Excerpt
 pub mod Failed
 pub mod Frame
 pub mod Laws
+pub mod Limits
 pub mod Page
 pub mod Private
 pub mod Summary
 pub mod Targets
+pub mod Timeline
 pub mod Tree
 pub mod Words

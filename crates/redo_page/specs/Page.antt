@@ -1,5 +1,5 @@
 -- The page of a build.
-use Rattle.std.specs.Prelude.{ℕ, Bool, true, false, List, ◌++◌, Option, length, map}
+use Rattle.std.specs.Prelude.{ℕ, Bool, true, false, List, [], ◌++◌, Option, length, map}
 use Rattle.std.specs.List.{flat_map}
 use Rattle.redo_logs.specs.Logs.{Log}
 use Rattle.redo_options.specs.declared.options.Options.{Options}
@@ -7,14 +7,17 @@ use Rattle.redo_view.specs.Event.{Event}
 use Rattle.redo_view.specs.Expansion.{shown_events}
 use Rattle.redo_html.specs.Parts.{Part, part_html}
 use Rattle.redo_outline.specs.declared.node.Node.{Node}
-use Rattle.redo_outline.specs.Contents.{contents_of}
+use Rattle.redo_outline.specs.Contents.{Contents, contents_of}
 use Rattle.redo_outline.specs.Outline.{outline_of, with_duration}
 use Rattle.redo_page.specs.Failed.{failed_parts}
 use Rattle.redo_page.specs.Frame.{command, head_parts, header_parts, footer_parts, title_text, verdict_of, verdict_text}
 use Rattle.redo_page.specs.declared.frame.Verdict.{Verdict}
 use Rattle.redo_page.specs.declared.page.PageRequest.{PageRequest}
+use Rattle.redo_page.specs.Limits.{tree_limits}
 use Rattle.redo_page.specs.Summary.{summary_parts}
-use Rattle.redo_page.specs.Tree.{tree_parts}
+use Rattle.redo_page.specs.Timeline.{timeline_parts}
+use Rattle.redo_page.specs.Tree.{Build, articles, tree_parts}
+use Rattle.redo_trim.specs.Trim.{trim}
 use Rattle.redo_summary.specs.Summary.{Facts, summary_of}
 use Rattle.redo_summary.specs.Targets.{time_between}
 use Rattle.redo_times.specs.declared.times.Times.{Times}
@@ -58,6 +61,14 @@ top_parts title logs nodes facts = top_parts_of title logs (verdict_of nodes) (t
 abbrev pub durations_of : List Times → List (Option ℕ)
 durations_of times = map (λ (t : Times). time_between t.began t.ended) times
 
+-- What the tree shows, without the middle of long logs, so that it has about `budget` bytes of text lines.
+abbrev pub tree_contents : List Log → Options → ℕ → List (List ℕ) → List Node → Contents
+tree_contents logs options budget requested nodes = trim (tree_limits logs options nodes budget) [] (contents_of (shown_events logs options requested))
+
+-- The timeline and the tree.
+abbrev pub body_parts : List Log → Options → ℕ → List (List ℕ) → List Node → Facts → List Part
+body_parts logs options budget requested nodes facts = timeline_parts logs nodes facts ++ tree_parts logs options nodes (tree_contents logs options budget requested nodes)
+
 module _ (request : Request) (logs : List Log) (requested : List (List ℕ)) where
   abbrev pub page_events : List Event
   page_events = shown_events logs (options_of request) requested
@@ -69,11 +80,20 @@ module _ (request : Request) (logs : List Log) (requested : List (List ℕ)) whe
   abbrev pub page_facts : Facts
   page_facts = summary_of page_outline request.times
 
+  -- What the tree of the page shows.
+  abbrev pub page_build : Build
+  page_build = record { logs = logs; options = options_of request; nodes = page_outline; articles = articles page_outline }
+
+  -- What is shown in the tree.
+  abbrev pub page_contents : Contents
+  page_contents = tree_contents logs (options_of request) request.max_bytes requested page_outline
+
   -- The parts of the page.
   unfoldable pub page_parts : List Part
   page_parts =
       top_parts request.title logs page_outline page_facts
-      ++ (tree_parts logs (options_of request) page_outline (contents_of page_events) ++ footer_parts request.dir (command request.dir (options_of request) requested) (length page_outline))
+      ++ (body_parts logs (options_of request) request.max_bytes requested page_outline page_facts
+      ++ footer_parts request.dir (command request.dir (options_of request) requested) (length page_outline))
 
   -- The bytes of the page.
   abbrev pub page_html : List ℕ

@@ -9,6 +9,7 @@ ghost use Rattle.redo_units.specs.Dates.{date_text_of};
 
 use crate::targets::{plural, write_badge, write_name};
 use redo_outline::target_at;
+use crate::timeline::has_timeline;
 use crate::words::write_words;
 use crate::writer::PageWriter;
 use itoa::Buffer;
@@ -314,7 +315,7 @@ pub fn write_header<W: Sink>(
     write_roots(table, nodes, page);
     write_began(summary.window(), summary.took(), page);
     page.put(&[Piece::Markup(Markup::EndHeader)]);
-    write_nav(verdict, summary.is_timed(), page);
+    write_nav(verdict, has_timeline(summary), page);
 }
 
 fn write_log_count<W: Sink>(logs: usize, page: &mut PageWriter<'_, W>)

@@ -1,5 +1,5 @@
 //! Laws about the definitions alone: their contracts are theorems, and their bodies are empty or cite laws of other crates.
-ghost use Rattle.std.specs.Prelude.{◌≡◌, ℕ, true, [], List, None, length};
+ghost use Rattle.std.specs.Prelude.{◌≡◌, ℕ, true, [], ◌∷◌, List, None, Some, length};
 ghost use Rattle.std.specs.List.{All, flat_map, list_all};
 ghost use Rattle.redo_html.specs.Html.{nests_in, read, tags_of, text_of};
 ghost use Rattle.redo_html.specs.Parts.{part_text, part_tokens};
@@ -8,16 +8,26 @@ ghost use Rattle.redo_options.specs.declared.options.Options.{Options};
 ghost use Rattle.redo_view.specs.View.{find_unknown};
 ghost use Rattle.redo_outline.specs.declared.node.Node.{Node};
 ghost use Rattle.redo_outline.specs.Contents.{Contents};
-ghost use Rattle.redo_page.specs.Laws.{HaveSameLogs, IsOwnTag, IsPartOf, article_ids, article_links, blanked, event_lines, is_among, is_increasing, lines_at, log_bytes, markups, numbers_from, page_article, page_build, page_lines, page_tree, placed_bytes, section_ids, section_links, target_ids, target_links, texts_of, unmoved_lines};
-ghost use Rattle.redo_page.specs.Page.{Request, page_events, page_html, page_outline, page_parts};
+ghost use Rattle.redo_page.specs.Laws.{HaveSameLogs, IsOwnTag, IsPartOf, article_ids, article_links, blanked, event_lines, is_among, is_increasing, kept_lines, lines_at, log_bytes, markups, numbers_from, page_article, page_chart, page_lines, page_tree, placed_bytes, section_ids, section_links, target_ids, target_links, texts_of, unmoved_lines};
+ghost use Rattle.redo_page.specs.Page.{Request, page_build, page_events, page_facts, page_html, page_outline, page_parts};
 ghost use Rattle.redo_page.specs.Tree.{articles, is_moved, tree_parts};
+ghost use Rattle.redo_chart.specs.Bands.{max_parent_lanes, max_recipe_lanes};
+ghost use Rattle.redo_chart.specs.Laws.{DrawsAll, shapes_of};
+ghost use Rattle.redo_html.specs.declared.chart.GroupKind.TheVariants.{Parents, Recipes};
+ghost use Rattle.redo_html.specs.Parts.Part.{ChartPart};
+ghost use Rattle.redo_summary.specs.Laws.{AreSplit};
+ghost use Rattle.redo_summary.specs.Summary.{is_timed};
+ghost use Rattle.redo_timeline.specs.declared.span.Window.{Window};
+ghost use Rattle.redo_page.specs.Timeline.{facts_drawing};
 
+use redo_chart::{bars_lead_to_places, bars_say_when_targets_ran};
 use redo_html::{
     charts_have_no_text_in_tags, only_markup_decides_nesting, parts_are_read,
     parts_show_their_text, passages_are_read_as_shown,
 };
 use redo_outline::events_are_in_contents;
-use redo_summary::places_are_of_nodes;
+use redo_summary::{places_are_of_nodes, spans_are_parents_or_recipes};
+use redo_trim::{trimmed_events_are_in_tree, unlimited_logs_are_whole};
 use redo_view::logs_show_their_lines;
 
 /// A browser reads a page as its parts: each tag as itself, and everything else as text, in order.
@@ -56,17 +66,22 @@ pub fn links_lead_to_ids()
         section_links (page_parts request logs requested) ≡ section_ids (page_parts request logs requested) }
 {
     places_are_of_nodes();
+    bars_lead_to_places();
+    trimmed_events_are_in_tree();
 }
 
-/// No text line is lost, added, changed or moved out of order, if each requested target has a log. A page has the
-/// text lines of the events. The tree shows them, except the lines of a log whose output is in its article. This article shows exactly the
-/// lines of this log.
+/// No text line is lost, added, changed or moved out of order, if each requested target has a log. A page has the text lines of the events.
+/// The tree shows them, except the lines of a log whose output is in its article, and the middle of long logs. This article shows exactly
+/// the lines of this log. If the number of bytes isn't limited, no log is long. [`redo_trim::head_and_tail_are_kept`] states which lines
+/// of a long log are left.
 pub fn lines_are_shown()
     ensures complete { (request : Request) (logs : List Log) (requested : List (List ℕ)) → find_unknown logs requested ≡ None →
         texts_of (page_lines request logs requested) ≡ flat_map event_lines (page_events request logs requested) }
     ensures tree { (request : Request) (logs : List Log) (requested : List (List ℕ)) →
         log_bytes (page_tree request logs requested)
-        ≡ placed_bytes (unmoved_lines (page_build request logs requested) (page_lines request logs requested)) }
+        ≡ placed_bytes (unmoved_lines (page_build request logs requested) (kept_lines request logs requested)) }
+    ensures whole { (request : Request) (logs : List Log) (requested : List (List ℕ)) → request.max_bytes ≡ 0 →
+        find_unknown logs requested ≡ None → kept_lines request logs requested ≡ page_lines request logs requested }
     ensures has_tree { (request : Request) (logs : List Log) (requested : List (List ℕ)) →
         IsPartOf (page_tree request logs requested) (page_parts request logs requested) }
     ensures articles { (request : Request) (logs : List Log) (requested : List (List ℕ)) → find_unknown logs requested ≡ None →
@@ -78,6 +93,8 @@ pub fn lines_are_shown()
 {
     events_are_in_contents();
     logs_show_their_lines();
+    trimmed_events_are_in_tree();
+    unlimited_logs_are_whole();
 }
 
 /// Each tag of a page is its own: none comes from a log or a name. The tags of the tree depend only on the outline, on which kind each event
@@ -92,4 +109,23 @@ pub fn tags_are_its_own()
     page_is_read();
     passages_are_read_as_shown();
     charts_have_no_text_in_tags();
+}
+
+/// If a page has a timeline, its chart shows when each target ran: the span of each shown target whose times are known is in exactly one
+/// bar, and this bar says where the span is.
+pub fn times_are_shown()
+    ensures chart { (request : Request) (logs : List Log) (requested : List (List ℕ)) (window : Window) →
+        (page_facts request logs requested).window ≡ Some window → is_timed (page_facts request logs requested) ≡ true →
+        IsPartOf (ChartPart (page_chart request logs requested window) ∷ []) (page_parts request logs requested) }
+    ensures spans { (request : Request) (logs : List Log) (requested : List (List ℕ)) →
+        AreSplit (page_outline request logs requested) request.times (page_facts request logs requested) }
+    ensures parents { (request : Request) (logs : List Log) (requested : List (List ℕ)) (window : Window) →
+        DrawsAll logs (page_outline request logs requested) window Parents max_parent_lanes (page_facts request logs requested).parents
+        (shapes_of Parents (page_chart request logs requested window)) }
+    ensures recipes { (request : Request) (logs : List Log) (requested : List (List ℕ)) (window : Window) →
+        DrawsAll logs (page_outline request logs requested) window Recipes max_recipe_lanes (page_facts request logs requested).recipes
+        (shapes_of Recipes (page_chart request logs requested window)) }
+{
+    spans_are_parents_or_recipes();
+    bars_say_when_targets_ran();
 }

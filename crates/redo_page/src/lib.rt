@@ -11,6 +11,7 @@ mod frame;
 mod items;
 mod laws;
 mod level;
+mod limits;
 mod logs;
 mod nodes;
 mod page;
@@ -19,10 +20,13 @@ mod step;
 mod summary;
 mod targets;
 mod texts;
+mod timeline;
 mod tree;
 mod words;
 mod writer;
 
-pub use laws::{lines_are_shown, links_lead_to_ids, page_is_read, tags_are_its_own, tags_nest};
+pub use laws::{
+    lines_are_shown, links_lead_to_ids, page_is_read, tags_are_its_own, tags_nest, times_are_shown,
+};
 pub use page::{PageRequest, write_page};
 pub use redo_view::FormFault;

@@ -1,14 +1,18 @@
 //! The page of a build.
-ghost use Rattle.std.specs.Prelude.{◌≡◌, true, None, IfOk};
+ghost use Rattle.std.specs.Prelude.{◌≡◌, true, None, IfOk, length};
 ghost use Rattle.std.specs.List.{flat_map, list_all};
 ghost use Rattle.redo_device.specs.Sink.{Writes};
 ghost use Rattle.redo_html.specs.Parts.{part_html};
 ghost use Rattle.redo_logs.specs.Logs.{has_ended};
 ghost use Rattle.redo_view.specs.Form.{FormWrites};
 ghost use Rattle.redo_view.specs.View.{find_unknown};
+ghost use Rattle.redo_outline.specs.Contents.{contents_of};
+ghost use Rattle.redo_outline.specs.Outline.{log_count};
+ghost use Rattle.redo_view.specs.Expansion.{shown_events};
 ghost use Rattle.redo_page.specs.Frame.{footer_parts};
+ghost use Rattle.redo_page.specs.Tree.{articles};
 ghost use Rattle.redo_page.specs.Failed.{AreFailures};
-ghost use Rattle.redo_page.specs.Page.{durations_of, options_of, page_html, page_outline, request_of, top_parts_of};
+ghost use Rattle.redo_page.specs.Page.{body_parts, durations_of, options_of, page_html, page_outline, request_of, top_parts_of};
 ghost use Rattle.redo_summary.specs.Targets.{time_between};
 ghost use Rattle.redo_page.specs.Private.PageTexts.{AreTexts};
 ghost use Rattle.redo_page.specs.Private.Writing.{WroteParts};
@@ -16,6 +20,7 @@ ghost use Rattle.redo_page.specs.Private.Writing.{WroteParts};
 use crate::failed::{Failures, MAX_ARTICLES, find_failures, first_of, write_failed};
 use crate::frame::{Verdict, command, title_text, write_footer, write_head, write_header};
 use crate::summary::write_summary;
+use crate::timeline::write_timeline;
 use crate::tree::write_tree;
 use crate::writer::PageWriter;
 use redo_device::{Broken, Sink};
@@ -135,9 +140,43 @@ fn write_outlined<W: Sink>(
     let summary = Summary::new(alloc, nodes, request.times)?;
     write_top(table, request, &texts, nodes, &failures, &summary, out)?;
     let articles = first_of(MAX_ARTICLES, failures.first.as_slice());
-    write_tree(alloc, table, options, requested, outline, articles, out)?;
+    write_body(
+        alloc, table, request, options, requested, outline, articles, &summary, out,
+    )?;
     write_bottom(request, &texts, nodes.len(), out)?;
     Ok(())
+}
+
+// Writes the timeline and the tree.
+fn write_body<W: Sink>(
+    alloc: Global,
+    table: &LogTable,
+    request: &PageRequest<'_>,
+    options: &Options,
+    requested: &[TargetName],
+    outline: &Outline,
+    articles: &[usize],
+    summary: &Summary,
+    out: &mut W,
+) -> Result<(), FormFault>
+    requires ended { list_all has_ended table.now ≡ true }
+    requires known { find_unknown table.now requested.now ≡ None }
+    requires outline { length outline.now ≡ log_count (contents_of (shown_events table.now options.now requested.now)) }
+    requires articles { articles.now ≡ articles outline.now }
+    ensures { FormWrites (W.written out.old) (W.written out.new) (flat_map part_html (body_parts table.now options.now
+        request.now.max_bytes requested.now outline.now summary.now)) result }
+{
+    write_timeline(alloc, table, outline.nodes(), summary, out)?;
+    write_tree(
+        alloc,
+        table,
+        options,
+        requested,
+        outline,
+        articles,
+        request.max_bytes,
+        out,
+    )
 }
 
 // The texts of a page that aren't in its logs.

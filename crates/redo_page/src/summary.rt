@@ -282,8 +282,8 @@ fn shown_longest(summary: &Summary) -> &[Rank]
     }
 }
 
-// Returns the number of targets of which at least one time is known.
-fn known_count(summary: &Summary) -> u64
+/// Returns the number of targets of which at least one time is known.
+pub fn known_count(summary: &Summary) -> u64
     ensures { result ≡ known_count summary.now }
 {
     let parents = summary.parents().len() as u64;

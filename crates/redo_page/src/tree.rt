@@ -12,7 +12,9 @@ ghost use Rattle.redo_view.specs.Form.{FormWrites, bytes_of, state_after};
 ghost use Rattle.redo_view.specs.View.{find_unknown};
 ghost use Rattle.redo_view.specs.EventRef.{IsWrittenAlone, event_value};
 ghost use Rattle.redo_page.specs.Private.Referring.{build_value};
-ghost use Rattle.redo_page.specs.Private.Walking.{after_ending, after_event, after_opening, after_texts, ending_parts, level_in, next_place, opened_log, start_of, texts_parts, tree_bytes, walk_parts};
+ghost use Rattle.redo_page.specs.Private.Walking.{after_ending, after_event, after_opening, after_texts, ending_parts, level_in, next_place, opened_log, start_of, texts_parts, tree_bytes, tree_text, walk_parts};
+ghost use Rattle.redo_page.specs.Limits.{tree_limits};
+ghost use Rattle.redo_trim.specs.Trim.{trim, trimmed};
 ghost use Rattle.redo_page.specs.Private.Writing.{WroteParts};
 ghost use Rattle.redo_page.specs.Blocks.{end_parts};
 ghost use Rattle.redo_page.specs.Tree.{after_shown, articles, log_start, section_end, section_start, shown_parts, tree_parts};
@@ -21,6 +23,7 @@ use crate::block::Pending;
 use crate::build::BuildRef;
 use crate::items::{after_shown, write_end, write_shown};
 use crate::level::{Level, OpenLog};
+use crate::limits::{level_for, limits_of};
 use crate::logs::{after_log, group_left, write_log_end, write_log_start};
 use crate::step::{Step, step_of};
 use crate::texts::write_lines;
@@ -30,6 +33,7 @@ use redo_html::{Markup, Piece, write_pieces};
 use redo_line::TargetName;
 use redo_logs::LogTable;
 use redo_outline::{Node, Outline, events_are_in_contents};
+use redo_trim::{Limit, Trimmed, trimmed_events_are_in_tree, trimmed_form_writes};
 use redo_view::{EventRef, Form, FormFault, Options, ViewFault, view_as};
 use std::alloc::{AllocError, Global};
 use std::marker::Model;
@@ -280,22 +284,25 @@ fn write_section_end<W: Sink>(pending: Pending, out: &mut W) -> Result<(), Broke
     page.result()
 }
 
-// Writes all events.
-fn write_events<W: Sink>(
+// Writes all events, without the middle of long logs.
+fn write_events<'a, W: Sink>(
     alloc: Global,
-    table: &LogTable,
-    options: &Options,
+    build: BuildRef<'a>,
     requested: &[TargetName],
-    form: &mut TreeForm<'_>,
+    form: &mut Trimmed<'_, TreeForm<'a>>,
     out: &mut W,
 ) -> Result<(), FormFault>
-    requires ended { list_all has_ended table.now ≡ true }
-    requires known { find_unknown table.now requested.now ≡ None }
+    requires ended { list_all has_ended build.entry.table.now ≡ true }
+    requires known { find_unknown build.entry.table.now requested.now ≡ None }
+    requires start { form.old.gauges ≡ [] }
     ensures wrote { FormWrites (W.written out.old) (W.written out.new)
-        (bytes_of tree_bytes after_event form.old (shown_events table.now options.now requested.now)) result }
-    ensures state { OnOk result (form.new ≡ state_after after_event form.old (shown_events table.now options.now requested.now)) }
+        (bytes_of tree_bytes after_event form.old.form (trimmed form.old.limits.now []
+        (shown_events build.entry.table.now build.entry.options.now requested.now))) result }
+    ensures state { OnOk result (form.new.form ≡ state_after after_event form.old.form (trimmed form.old.limits.now []
+        (shown_events build.entry.table.now build.entry.options.now requested.now))) }
 {
-    match view_as(alloc, table, options, form, requested, out) {
+    trimmed_form_writes::<TreeForm<'a>>();
+    match view_as(alloc, build.table, build.options, form, requested, out) {
         Ok(()) => Ok(()),
         Err(ViewFault::Write) => Err(FormFault::Write),
         Err(ViewFault::OutOfMemory) => Err(FormFault::OutOfMemory),
@@ -307,24 +314,24 @@ fn write_events<W: Sink>(
 fn write_all<W: Sink>(
     alloc: Global,
     build: BuildRef<'_>,
+    limits: &[Limit],
     requested: &[TargetName],
     out: &mut W,
 ) -> Result<(), FormFault>
     requires ended { list_all has_ended build.table.now ≡ true }
     requires known { find_unknown build.table.now requested.now ≡ None }
-    ensures { FormWrites (W.written out.old) (W.written out.new)
-        (bytes_of tree_bytes after_event (start_of (build_value build.entry))
-        (shown_events build.entry.table.now build.entry.options.now requested.now)
-        ++ flat_map part_html (end_parts (state_after after_event (start_of (build_value build.entry))
-        (shown_events build.entry.table.now build.entry.options.now requested.now)).before ++ section_end)) result }
+    ensures { FormWrites (W.written out.old) (W.written out.new) (tree_text (build_value build.entry)
+        (trimmed limits.now [] (shown_events build.entry.table.now build.entry.options.now requested.now))) result }
 {
-    let mut form = TreeForm::new(alloc, build);
-    write_events(alloc, build.table, build.options, requested, &mut form, out)?;
-    form.end(out)
+    let form = TreeForm::new(alloc, build);
+    let mut trimmed = Trimmed::new(alloc, form, limits);
+    write_events(alloc, build, requested, &mut trimmed, out)?;
+    trimmed.into_form().end(out)
 }
 
 /// Writes the tree of everything that is shown. Each requested target must have a log, all logs must have ended, the outline must
-/// have a node for each log that is opened, and `articles` must be the places of the targets that have an article.
+/// have a node for each log that is opened, and `places` must be the places of the targets that have an article. Long logs are cut, so
+/// that the tree has about `budget` bytes of text lines; 0 doesn't limit them.
 pub fn write_tree<W: Sink>(
     alloc: Global,
     table: &LogTable,
@@ -332,6 +339,7 @@ pub fn write_tree<W: Sink>(
     requested: &[TargetName],
     outline: &Outline,
     places: &[usize],
+    budget: u64,
     out: &mut W,
 ) -> Result<(), FormFault>
     requires ended { list_all has_ended table.now ≡ true }
@@ -339,15 +347,18 @@ pub fn write_tree<W: Sink>(
     requires outline { length outline.now ≡ log_count (contents_of (shown_events table.now options.now requested.now)) }
     requires articles { places.now ≡ articles outline.now }
     ensures { FormWrites (W.written out.old) (W.written out.new) (flat_map part_html
-        (tree_parts table.now options.now outline.now (contents_of (shown_events table.now options.now requested.now)))) result }
+        (tree_parts table.now options.now outline.now (trim (tree_limits table.now options.now outline.now budget) []
+        (contents_of (shown_events table.now options.now requested.now))))) result }
 {
     events_are_in_contents();
-    write_section_start(out)?;
+    trimmed_events_are_in_tree();
     let build = BuildRef {
         table,
         options,
         outline,
         articles: places,
     };
-    write_all(alloc, build, requested, out)
+    let limits = limits_of(alloc, &build, level_for(outline.nodes(), budget))?;
+    write_section_start(out)?;
+    write_all(alloc, build, &limits, requested, out)
 }

@@ -37,6 +37,7 @@ node number parent status bytes warnings = record {
   warnings_below = 9;
   fails_below = true;
   silent = 9;
+  took = None;
 }
 
 abbrev pub target : ℕ → Option ℕ → Times → Target

@@ -149,6 +149,7 @@ fn node(
         warnings_below: 0,
         fails_below: false,
         silent: 0,
+        took: None,
     }
 }
 

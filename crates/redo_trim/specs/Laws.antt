@@ -31,8 +31,8 @@ abbrev pub TreeIsTrimmed : List Limit → List Event → Type 0
 TreeIsTrimmed limits events = AreInTree events → contents_of (trimmed limits [] events) ≡ trim limits [] (contents_of events)
 
 -- No log is left out.
-abbrev pub KeepsLogs : List Limit → List Event → Type 0
-KeepsLogs limits events = AreInTree events → log_count (contents_of (trimmed limits [] events)) ≡ log_count (contents_of events)
+abbrev pub KeepsLogs : List Limit → Contents → Type 0
+KeepsLogs limits contents = log_count (trim limits [] contents) ≡ log_count contents
 
 -- Nothing is left out if each limit lets the tail begin at once.
 abbrev pub AreWhole : List Limit → List Event → Type 0

@@ -16,7 +16,7 @@ use redo_view::Form;
 pub fn trimmed_events_are_in_tree()
     ensures in_tree { (limits : List Limit) (events : List Event) → StayInTree limits events }
     ensures tree { (limits : List Limit) (events : List Event) → TreeIsTrimmed limits events }
-    ensures logs { (limits : List Limit) (events : List Event) → KeepsLogs limits events }
+    ensures logs { (limits : List Limit) (contents : Contents) → KeepsLogs limits contents }
 {}
 
 /// Everything that is no text line is shown, unchanged and in order.

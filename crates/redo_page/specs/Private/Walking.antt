@@ -2,6 +2,7 @@
 use Rattle.std.specs.Prelude.{ℕ, suc, nat_lt, List, [], ◌∷◌, ◌++◌, Some, length, if◌then◌else◌}
 use Rattle.redo_view.specs.declared.event.Opening.{Opening}
 use Rattle.redo_view.specs.Event.{Event, opens_here}
+use Rattle.redo_view.specs.Form.{bytes_of, state_after}
 use Rattle.redo_view.specs.Event.Event.{Requested, Mentioned, EntryShown, LogEnds}
 use Rattle.std.specs.List.{flat_map}
 use Rattle.redo_html.specs.Parts.{Part, part_html}
@@ -14,7 +15,7 @@ use Rattle.redo_page.specs.declared.step.Step.{Step}
 use Rattle.redo_page.specs.declared.step.Step.TheVariants.{Opens, Ends, Shows}
 use Rattle.redo_page.specs.Blocks.{end_parts}
 use Rattle.redo_page.specs.Private.Texts.{after_lines, lines_parts}
-use Rattle.redo_page.specs.Tree.{Build, after_log, after_shown, group_left, is_expanded, is_moved_if, log_end, log_start, node_at, shown_parts, top_level}
+use Rattle.redo_page.specs.Tree.{Build, after_log, after_shown, group_left, is_expanded, is_moved_if, log_end, log_start, node_at, section_end, shown_parts, top_level}
 
 -- What is known before an event: the logs that are open, the innermost first; the place of the next log; and what isn't ended.
 pub record Walk : Type 0 where
@@ -79,13 +80,17 @@ after_event walk event = after_step (step_of event) walk event
 abbrev pub tree_bytes : Walk → Event → List ℕ
 tree_bytes walk event = flat_map part_html (walk_parts walk event)
 
+-- Before all events.
+abbrev pub start_of : Build → Walk
+start_of build = record { build = build; logs = []; next = 0; before = pending.Nothing }
+
+-- The text of a tree after its heading.
+abbrev pub tree_text : Build → List Event → List ℕ
+tree_text build events = bytes_of tree_bytes after_event (start_of build) events ++ flat_map part_html (end_parts (state_after after_event (start_of build) events).before ++ section_end)
+
 -- Text lines, and what is known after them.
 abbrev pub texts_parts : Walk → List (List ℕ) → List Part
 texts_parts walk lines = if is_moved_if walk.build (level_in walk.logs).place then [] else lines_parts walk.before lines
 
 abbrev pub after_texts : Walk → List (List ℕ) → Walk
 after_texts walk lines = record walk { before = if is_moved_if walk.build (level_in walk.logs).place then walk.before else after_lines walk.before lines }
-
--- Before all events.
-abbrev pub start_of : Build → Walk
-start_of build = record { build = build; logs = []; next = 0; before = pending.Nothing }

@@ -1,4 +1,4 @@
-use Rattle.std.proofs.Common.{◌≡◌, ℕ, zero, suc, ◌<◌, true, List, [], ◌∷◌, Option, None, Some, length, map, refl, ◌∙◌, ap, subst}
+use Rattle.std.proofs.Common.{◌≡◌, ℕ, zero, suc, ◌<◌, true, List, [], ◌∷◌, Option, None, Some, length, map, refl, ◌∙◌, ap, sym, subst}
 use Rattle.std.proofs.lemmas.List.{length-map}
 use Rattle.redo_outline.specs.Outline.{outline_of, with_duration}
 use Rattle.std.specs.List.{flat_map}
@@ -9,9 +9,12 @@ use Rattle.redo_outline.specs.Contents.{contents_of}
 use Rattle.redo_outline.specs.declared.node.Node.{Node}
 use Rattle.redo_outline.specs.Facts.{entries_at, target_status, texts_of}
 use Rattle.redo_view.specs.LogLines.{lines_left_after}
-use Rattle.redo_page.specs.Laws.{event_lines, lines_at, log_bytes, page_article, page_build, page_lines, placed_bytes}
-use Rattle.redo_page.specs.Page.{Request, durations_of, options_of, page_events, page_outline}
+use Rattle.redo_page.specs.Laws.{event_lines, lines_at, log_bytes, page_article, page_lines, placed_bytes, placed_lines}
+use Rattle.redo_page.specs.Page.{Request, durations_of, options_of, page_build, page_contents, page_events, page_outline}
 use Rattle.redo_page.specs.Tree.{articles, has_article, is_moved, is_short, node_at}
+use Rattle.redo_page.specs.Limits.{tree_limits}
+use Rattle.redo_trim.specs.declared.limit.Limit.{Limit}
+use Rattle.redo_trim.specs.Trim.{trim}
 use Rattle.redo_page.proofs.FailedIds.{articles_below}
 use Rattle.redo_page.proofs.TreeLines.{tree_text}
 use Rattle.redo_page.proofs.FailedLines.{article_text}
@@ -54,3 +57,12 @@ returns-clause-has_tree c = page_has_tree
 pub returns-clause-has_articles : goal.returns-clause-has_articles
 returns-clause-has_articles c = λ request logs requested place moved.
     page_has_article request logs requested place (and_parts (has_article (page_build request logs requested) place) (is_short (node_at (page_outline request logs requested) place)) moved).0
+
+pub returns-clause-whole : goal.returns-clause-whole
+returns-clause-whole c = λ request logs requested unlimited known.
+    let events = page_events request logs requested in
+    let nodes = page_outline request logs requested in
+    let no_limits : tree_limits logs (options_of request) nodes request.max_bytes ≡ [] = ap (tree_limits logs (options_of request) nodes) unlimited in
+    let same = c.events_are_in_contents.ensures logs (options_of request) requested known in
+    ap (λ (limits : List Limit). placed_lines None 0 (trim limits [] (contents_of events))) no_limits
+    ∙ ap (placed_lines None 0) (sym (c.trimmed_events_are_in_tree.ensures.tree [] events same) ∙ ap contents_of (c.unlimited_logs_are_whole.ensures [] events tt))

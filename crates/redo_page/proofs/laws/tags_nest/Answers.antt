@@ -9,11 +9,12 @@ use Rattle.redo_outline.specs.Contents.{contents_of}
 use Rattle.redo_page.specs.Frame.{command, title_text, verdict_of}
 use Rattle.redo_outline.specs.declared.node.Node.{Node}
 use Rattle.redo_page.specs.declared.frame.Verdict.{Verdict}
-use Rattle.redo_page.specs.Page.{Request, heading_of, options_of, page_events, page_facts, page_outline, page_parts, top_parts_of}
+use Rattle.redo_page.specs.Page.{Request, heading_of, options_of, page_contents, page_facts, page_outline, page_parts, top_parts_of}
 use Rattle.redo_page.proofs.Nesting.{Leads, Nest, lead_around, lead_in, then_lead}
 use Rattle.redo_page.proofs.FrameNesting.{head_leads, header_leads, footer_leads}
 use Rattle.redo_page.proofs.FailedNesting.{failed_nests}
 use Rattle.redo_page.proofs.SummaryNesting.{summary_nests}
+use Rattle.redo_page.proofs.TimelineLemmas.{timeline_nests}
 use Rattle.redo_page.proofs.TreeNesting.{tree_nests}
 use Rattle.redo_summary.specs.Summary.{Facts}
 use Rattle.redo_page.proofs.laws.tags_nest.Goals as goal
@@ -33,7 +34,7 @@ unfolding page_parts
 page_nests request logs requested =
     let nodes = page_outline request logs requested in
     then_lead (top_leads request.title logs (verdict_of nodes) (title_text request.title (verdict_of nodes) (heading_of nodes)) (heading_of nodes) nodes (page_facts request logs requested))
-    (then_lead (lead_in (codes "main" ∷ body) (tree_nests logs (options_of request) nodes (contents_of (page_events request logs requested))))
+    (then_lead (then_lead (lead_in (codes "main" ∷ body) (timeline_nests logs nodes (page_facts request logs requested))) (lead_in (codes "main" ∷ body) (tree_nests logs (options_of request) nodes (page_contents request logs requested))))
     (footer_leads request.dir (command request.dir (options_of request) requested) (length nodes)))
 
 pub returns : goal.returns

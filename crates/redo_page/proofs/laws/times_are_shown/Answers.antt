@@ -1,0 +1,19 @@
+use Rattle.redo_page.specs.Page.{page_facts, page_outline}
+use Rattle.redo_page.proofs.PagePartLemmas.{page_has_chart}
+use Rattle.redo_page.proofs.laws.times_are_shown.Goals as goal
+
+pub returns-clause-chart : goal.returns-clause-chart
+returns-clause-chart c = page_has_chart
+
+pub returns-clause-spans : goal.returns-clause-spans
+returns-clause-spans c = λ request logs requested. c.spans_are_parents_or_recipes.ensures (page_outline request logs requested) request.times
+
+pub returns-clause-parents : goal.returns-clause-parents
+returns-clause-parents c = λ request logs requested window.
+    let facts = page_facts request logs requested in
+    c.bars_say_when_targets_ran.ensures.parents logs (page_outline request logs requested) window facts.parents facts.recipes facts.marks
+
+pub returns-clause-recipes : goal.returns-clause-recipes
+returns-clause-recipes c = λ request logs requested window.
+    let facts = page_facts request logs requested in
+    c.bars_say_when_targets_ran.ensures.recipes logs (page_outline request logs requested) window facts.parents facts.recipes facts.marks
