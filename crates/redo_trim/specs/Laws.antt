@@ -51,9 +51,11 @@ other_events (event ∷ events) = event ∷ other_events events
 abbrev pub KeepsOthers : List Limit → List Gauge → List Event → Type 0
 KeepsOthers limits gauges events = other_events (trimmed limits gauges events) ≡ other_events events
 
--- Whether no line of any log has this entry.
-abbrev pub IsInNoLog : Entry → Type 0
-IsInNoLog entry = (target line : List ℕ) (ended : Bool) → IsEntry target line ended entry → ⊥
+-- Whether no line of any log is shown as this event.
+abbrev pub IsInNoLog : Event → Type 0
+IsInNoLog event =
+    (depth : ℕ) (target line : List ℕ) (ended : Bool) (entry : Entry)
+    → IsEntry target line ended entry → EntryShown depth entry ≡ event → ⊥
 
 -- ---- the lines of one log
 

@@ -1,6 +1,5 @@
 //! Laws about the definitions alone: their contracts are theorems, and their bodies are empty.
-ghost use Rattle.std.specs.Prelude.{ℕ, List, []};
-ghost use Rattle.redo_line.specs.declared.entry.Entry.TheVariants.{Note};
+ghost use Rattle.std.specs.Prelude.{ℕ, List};
 ghost use Rattle.redo_view.specs.Event.{Event};
 ghost use Rattle.redo_outline.specs.Contents.{Contents};
 ghost use Rattle.redo_trim.specs.declared.limit.Gauge.{Gauge};
@@ -8,6 +7,7 @@ ghost use Rattle.redo_trim.specs.declared.limit.Limit.{Limit};
 ghost use Rattle.redo_trim.specs.declared.trimmed.Trimmed.{Trimmed};
 ghost use Rattle.redo_trim.specs.Laws.{AreWhole, HasThreeParts, IsInNoLog, KeepsHeadAndTail, KeepsLogs, KeepsOthers};
 ghost use Rattle.redo_trim.specs.Laws.{ShowsHeadAndTail, StayInTree, TreeIsTrimmed};
+ghost use Rattle.redo_trim.specs.Trim.{marker};
 ghost use Rattle.redo_trim.specs.TrimmedForm.{HasShown, WritesShown};
 
 use redo_view::Form;
@@ -26,7 +26,7 @@ pub fn only_text_is_left_out()
 
 /// No log has the marker, because no line is read as a note of an empty kind.
 pub fn no_log_has_markers()
-    ensures { (pid : ℕ) (text : List ℕ) → IsInNoLog (Note pid [] text) }
+    ensures { (depth : ℕ) → IsInNoLog (marker depth) }
 {}
 
 /// Without limits nothing is left out: a limit whose tail begins at once is none.
