@@ -71,9 +71,14 @@ module _ {F : Type 0} (bytes : F → Event → List ℕ) (after : F → Event �
   next_bytes =
       ap (bytes_of bytes after form) (split_texts depth text len first) ∙ bytes-append bytes after form (text_events depth (ended (take len text))) (text_events depth (ended (drop len text)))
 
-  pub next_state : state_after after form (text_events depth (ended text)) ≡ state_after after (state_after after form (text_events depth (ended (take len text)))) (text_events depth (ended (drop len text)))
+  next_state : state_after after form (text_events depth (ended text)) ≡ state_after after (state_after after form (text_events depth (ended (take len text)))) (text_events depth (ended (drop len text)))
   next_state =
       ap (state_after after form) (split_texts depth text len first) ∙ state-append bytes after form (text_events depth (ended (take len text))) (text_events depth (ended (drop len text)))
+
+  pub state_next : (now : F) (left : List ℕ) → drop len text ≡ left → now ≡ state_after after form (text_events depth (ended (take len text)))
+      → state_after after now (text_events depth (ended left)) ≡ state_after after form (text_events depth (ended text))
+  state_next now left past same =
+      ap (λ l. state_after after now (text_events depth (ended l))) (sym past) ∙ ap (λ f. state_after after f (text_events depth (ended (drop len text)))) same ∙ sym next_state
 
 lines_length : (lines : List (List ℕ)) → length (flat_map with_line_feed lines) ≡ text_size lines
 lines_length [] = refl

@@ -91,7 +91,7 @@ left_out limit lines = lines_before limit.tail (text_size (head_lines limit.head
 abbrev pub HasThreeParts : Limit → List (List ℕ) → Type 0
 HasThreeParts limit lines = lines ≡ head_lines limit.head lines ++ (left_out limit lines ++ tail_lines limit lines)
 
--- The limit is one of two numbers that fit into 64 bits.
+-- Whether both numbers of a limit fit into 64 bits, as they do in the program.
 pub record FitsInto64Bits (limit : Limit) : Type 0 where
   pub head : limit.head < 2 ^ 64
   pub tail : limit.tail < 2 ^ 64

@@ -1,4 +1,4 @@
-use Rattle.std.proofs.Common.{◌≡◌, ℕ, List, [], ◌++◌, Err, take, drop, sym, ◌∙◌, ap, subst, arith}
+use Rattle.std.proofs.Common.{◌≡◌, ℕ, ◌+◌, List, [], ◌++◌, Err, take, drop, sym, ◌∙◌, ap, subst, arith}
 use Rattle.std.proofs.lemmas.List.{take_rest, length-drop, drop-drop, drop_all}
 use Rattle.std.proofs.lemmas.Result.{err_from_is_err_and}
 use Rattle.redo_device.specs.Sink.{append_output}
@@ -8,7 +8,7 @@ use Rattle.redo_view.specs.Form.{FormWrites, bytes_of, state_after, text_events}
 use Rattle.redo_trim.specs.declared.trimmed.Trimmed.{Trimmed}
 use Rattle.redo_trim.specs.TrimmedForm.{form_after, form_bytes}
 use Rattle.redo_trim.specs.Private.Writing.{IsFirstLine, WroteUpTo}
-use Rattle.redo_trim.proofs.LineLemmas.{complete_after, failed_part, last_part, next_bytes, next_state, wrote_all, wrote_more}
+use Rattle.redo_trim.proofs.LineLemmas.{complete_after, failed_part, last_part, next_bytes, state_next, wrote_all, wrote_more}
 use Rattle.redo_trim.proofs.trimmed.TrimmedForm.write_texts.Goals as goal
 
 pub returns-then-keeps_all-clause-wrote : goal.returns-then-keeps_all-clause-wrote
@@ -79,9 +79,7 @@ lines-preserved g c =
       wrote = subst (λ (l : List ℕ). WroteUpTo before after text (bytes_of bytes step now (text_events depth (ended l)))) past
           (subst (λ (f : Trimmed g.row.F.Denot). WroteUpTo before after text (bytes_of bytes step f (text_events depth (ended (drop size left))))) (sym state)
           (wrote_more before middle after text part others so_far wrote));
-      state = ap (λ (l : List ℕ). state_after step now (text_events depth (ended l))) (sym past)
-          ∙ ap (λ (f : Trimmed g.row.F.Denot). state_after step f (text_events depth (ended (drop size left)))) state
-          ∙ sym (next_state bytes step depth c.lines.self left size first.is_line.complete) ∙ c.lines.invariant.state;
+      state = state_next bytes step depth c.lines.self left size first.is_line.complete now (drop (done + size) lines) past state ∙ c.lines.invariant.state;
     }
 
 pub returns-clause-wrote : goal.returns-clause-wrote
