@@ -1,7 +1,8 @@
 -- What the laws state about charts.
-use Rattle.std.proofs.Common.{◌≡◌, ℕ, ◌+◌, ◌-◌, Bool, true, false, cond, nat_lt, List, [], ◌∷◌, ◌++◌, map, refl, sym, ap, ◌∙◌, subst}
+use Rattle.std.proofs.Common.{◌≡◌, ℕ, zero, suc, ◌+◌, ◌-◌, ◌*◌, ◌/◌, ◌<◌, ◌≤◌, min, Bool, true, false, cond, nat_lt, List, [], ◌∷◌, ◌++◌, map, refl, sym, ap, ◌∙◌, subst, arith}
 use Rattle.std.specs.Prelude.{◌&&◌}
-use Rattle.std.specs.List.{AllZip, flat_map, list_all, range_with_len}
+use Rattle.std.specs.List.{AllByRecursion, AllZip, flat_map, list_all, range_with_len}
+use Rattle.std.proofs.Math.Nat.{div-mul-le_self, div-zero, le-div_iff_mul-le}
 use Rattle.std.proofs.lemmas.List.{append-nil, map-append}
 use Rattle.std.proofs.lemmas.List.Folds.{list_all-append}
 use Rattle.std.proofs.lemmas.List.Sorted.{All-permutation}
@@ -12,15 +13,18 @@ use Rattle.redo_outline.specs.declared.node.Node.{Node}
 use Rattle.redo_timeline.specs.declared.bar.Bar.{Bar}
 use Rattle.redo_timeline.specs.declared.span.Span.{Span}
 use Rattle.redo_timeline.specs.declared.span.Window.{Window}
-use Rattle.redo_timeline.specs.Bars.{bar_of, bars_from, bars_in, joins, place_of}
-use Rattle.redo_timeline.specs.Lanes.{lanes_of}
+use Rattle.redo_timeline.specs.Bars.{bar_of, bars_from, bars_in, began_of, joins, place_of, units}
+use Rattle.redo_timeline.specs.Lanes.{ended_of, lanes_of}
+use Rattle.redo_timeline.specs.Laws.{EachBar}
 use Rattle.redo_timeline.specs.Timeline.{bars_of, drawn_bars, timeline_of}
-use Rattle.redo_timeline.proofs.LawLemmas.{drawn_once, joined, lanes-permutation}
+use Rattle.redo_timeline.proofs.CoverLemmas.{IsIncluded, bars_include}
+use Rattle.redo_timeline.proofs.CoverLemmas.{Includes as InTime}
+use Rattle.redo_timeline.proofs.LawLemmas.{all_imply, drawn_once, joined, lanes-permutation}
 use Rattle.redo_chart.specs.declared.band.Band.{Band}
 use Rattle.redo_chart.specs.Axis.{last_tick, tick_shapes}
 use Rattle.redo_chart.specs.Bands.{marks_band, max_mark_lanes, max_parent_lanes, max_recipe_lanes, parents_band, recipes_band}
-use Rattle.redo_chart.specs.Bars.{bar_shapes}
-use Rattle.redo_chart.specs.Laws.{Draws, DrawsAll, all_bars, are_below}
+use Rattle.redo_chart.specs.Bars.{bar_shapes, drawn_bar}
+use Rattle.redo_chart.specs.Laws.{Draws, DrawsAll, Includes, all_bars, are_below}
 use Rattle.redo_chart.specs.Timeline.{height_of, timeline_drawing}
 use Rattle.redo_units.specs.Ticks.{tick_step_of}
 
@@ -120,22 +124,43 @@ zip_append R [] others (y ∷ ys) more zip rest = absurd zip
 zip_append R (x ∷ xs) others [] more zip rest = absurd zip
 zip_append R (x ∷ xs) others (y ∷ ys) more zip rest = (zip.0, zip_append R xs others ys more zip.1 rest)
 
-module _ (logs : List Log) (nodes : List Node) (window : Window) (band : Band) where
-  lane_drawn : (lane : ℕ) (bars : List (List Span)) → AllZip (Draws logs nodes window band.kind) bars (bar_shapes logs nodes band (map (bar_of window lane) bars))
-  lane_drawn lane [] = tt
-  lane_drawn lane (bar ∷ bars) = (record { target = refl; begins = refl; lasts = refl; fails = refl; title = refl }, lane_drawn lane bars)
+quotient_le : (a b k : ℕ) → a ≤ b → a / k ≤ b / k
+quotient_le a b zero le = let none = div-zero a in omega (arith, none)
+quotient_le a b (suc k) le =
+    let some : 0 < suc k = omega arith in
+    let most : a / suc k * suc k ≤ b = let all = div-mul-le_self a (suc k) in omega (arith, all, le) in
+    (le-div_iff_mul-le some).1 most
 
-  lanes_drawn : (lane : ℕ) (lanes : List (List (List Span))) → AllZip (Draws logs nodes window band.kind) (all_bars lanes) (bar_shapes logs nodes band (drawn_bars window lane lanes))
-  lanes_drawn lane [] = tt
-  lanes_drawn lane (bars ∷ lanes) =
+units_le : (window : Window) (a b : ℕ) → a ≤ b → units window a ≤ units window b
+units_le window a b le = quotient_le (min (a - window.began) window.width * 10000) (min (b - window.began) window.width * 10000) window.width (omega (arith, le))
+
+module _ (logs : List Log) (nodes : List Node) (window : Window) (band : Band) where
+  -- What includes the times of a span in milliseconds, includes them in the chart.
+  included : (lane : ℕ) (bar : List Span) (span : Span) → InTime bar span → Includes window (drawn_bar logs nodes band (bar_of window lane bar)) span
+  included lane bar span times =
+      let begins = units_le window (began_of bar) span.began times.0 in
+      let ends = units_le window span.ended (ended_of bar) times.1 in
+      (begins, omega (arith, ends))
+
+  lane_drawn : (lane : ℕ) (bars : List (List Span)) → AllByRecursion IsIncluded bars → AllZip (Draws logs nodes window band.kind) bars (bar_shapes logs nodes band (map (bar_of window lane) bars))
+  lane_drawn lane [] times = tt
+  lane_drawn lane (bar ∷ bars) times =
+      (record { target = refl; begins = refl; lasts = refl; fails = refl; title = refl; times = all_imply (InTime bar) (Includes window (drawn_bar logs nodes band (bar_of window lane bar))) (included lane bar) bar times.0 },
+      lane_drawn lane bars times.1)
+
+  lanes_drawn : (lane : ℕ) (lanes : List (List (List Span))) → EachBar IsIncluded lanes → AllZip (Draws logs nodes window band.kind) (all_bars lanes) (bar_shapes logs nodes band (drawn_bars window lane lanes))
+  lanes_drawn lane [] times = tt
+  lanes_drawn lane (bars ∷ lanes) times =
       let here = map (bar_of window lane) bars in
       let later = drawn_bars window (lane + 1) lanes in
       subst (λ (shapes : List Shape). AllZip (Draws logs nodes window band.kind) (bars ++ all_bars lanes) shapes) (sym (map-append _ here later))
-      (zip_append (Draws logs nodes window band.kind) bars (all_bars lanes) (bar_shapes logs nodes band here) (bar_shapes logs nodes band later) (lane_drawn lane bars) (lanes_drawn (lane + 1) lanes))
+      (zip_append (Draws logs nodes window band.kind) bars (all_bars lanes) (bar_shapes logs nodes band here) (bar_shapes logs nodes band later) (lane_drawn lane bars times.0) (lanes_drawn (lane + 1) lanes times.1))
 
   pub group_drawn : (max_lanes : ℕ) (spans : List Span) → DrawsAll logs nodes window band.kind max_lanes spans (bar_shapes logs nodes band (drawn_bars window 0 (bars_of window max_lanes spans)) ++ [])
   group_drawn max_lanes spans =
       let shapes = bar_shapes logs nodes band (drawn_bars window 0 (bars_of window max_lanes spans)) in record {
-        bars = subst (λ (all : List Shape). AllZip (Draws logs nodes window band.kind) (all_bars (bars_of window max_lanes spans)) all) (sym (append-nil shapes)) (lanes_drawn 0 (bars_of window max_lanes spans));
+        bars =
+            subst (λ (all : List Shape). AllZip (Draws logs nodes window band.kind) (all_bars (bars_of window max_lanes spans)) all) (sym (append-nil shapes))
+            (lanes_drawn 0 (bars_of window max_lanes spans) (bars_include window max_lanes spans));
         once = drawn_once window max_lanes spans;
       }

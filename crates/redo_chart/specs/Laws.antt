@@ -1,6 +1,6 @@
 -- What the laws state.
-use Rattle.std.specs.Prelude.{◌≡◌, ℕ, ◌==◌, max, nat_lt, Bool, List, [], if◌then◌else◌}
-use Rattle.std.specs.List.{AllZip, flat_map, list_all}
+use Rattle.std.specs.Prelude.{◌≡◌, ℕ, ◌+◌, ◌==◌, ◌≤◌, max, nat_lt, Bool, List, [], if◌then◌else◌}
+use Rattle.std.specs.List.{AllByRecursion, AllZip, flat_map, list_all}
 use Rattle.std.specs.List.Sorted.{IsPermutation}
 use Rattle.redo_html.specs.declared.chart.GroupKind.{GroupKind}
 use Rattle.redo_html.specs.declared.chart.GroupKind.TheVariants.{Axis, Parents, Recipes, Untimed}
@@ -29,14 +29,19 @@ code Untimed = 3
 abbrev pub shapes_of : GroupKind → Drawing → List Shape
 shapes_of kind drawing = flat_map (λ (layer : Layer). if code layer.kind == code kind then layer.shapes else []) drawing.layers
 
+-- A bar includes the times of this span.
+abbrev pub Includes : Window → DrawnBar → Span → Type 0
+Includes window bar span = (bar.x ≤ units window span.began) × (units window span.ended ≤ bar.x + bar.width)
+
 -- What a bar says of its spans: it leads to the target of the first one, it begins when this one began, it is as wide as the time until
--- the last of them ended, but at least 0.1 %, and it is red and at least 0.3 % wide if one of them failed.
+-- the last of them ended, but at least 0.1 %, and it is red and at least 0.3 % wide if one of them failed. It includes all their times.
 pub record SaysOf (logs : List Log) (nodes : List Node) (window : Window) (kind : GroupKind) (spans : List Span) (bar : DrawnBar) : Type 0 where
   pub target : bar.place ≡ place_of spans
   pub begins : bar.x ≡ units window (began_of spans)
   pub lasts : bar.width ≡ max (width_of window spans) (if has_failed spans then 30 else 10)
   pub fails : bar.failed ≡ has_failed spans
   pub title : bar.title ≡ title_of logs nodes kind (bar_of window 0 spans)
+  pub times : AllByRecursion (Includes window bar) spans
 
 -- A shape is a bar, and says this of some spans.
 abbrev pub Draws : List Log → List Node → Window → GroupKind → List Span → Shape → Type 0

@@ -1,5 +1,6 @@
 mod BarLemmas
 mod CountLemmas
+pub mod CoverLemmas
 mod LaneLemmas
 pub mod LawLemmas
 mod NeedLemmas

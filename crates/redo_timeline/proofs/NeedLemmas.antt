@@ -33,16 +33,16 @@ began_le a b le = by (nat_cmp a.began b.began) (ranked a.began b.began (nat_cmp 
     by Greater is le = absurd (cc)
 
 -- Each span begins at this time or later, and at the time when the one before begins or later.
-abbrev Ascending : ℕ → List Span → Type 0
+abbrev pub Ascending : ℕ → List Span → Type 0
 Ascending low [] = Unit {0}
 Ascending low (span ∷ rest) = (low ≤ span.began) × Ascending span.began rest
 
-rising-ascending : (low : ℕ) (spans : List Span) → AllByRecursion (λ (span : Span). low ≤ span.began) spans → IsRising span_cmp spans → Ascending low spans
+pub rising-ascending : (low : ℕ) (spans : List Span) → AllByRecursion (λ (span : Span). low ≤ span.began) spans → IsRising span_cmp spans → Ascending low spans
 rising-ascending low [] above up = tt
 rising-ascending low (span ∷ rest) above up =
     (above.0, rising-ascending span.began rest (all_imply (λ (other : Span). is_gt (span_cmp span other) ≡ false) (λ (other : Span). span.began ≤ other.began) (began_le span) rest up.0) up.1)
 
-all_above_zero : (spans : List Span) → AllByRecursion (λ (span : Span). 0 ≤ span.began) spans
+pub all_above_zero : (spans : List Span) → AllByRecursion (λ (span : Span). 0 ≤ span.began) spans
 all_above_zero [] = tt
 all_above_zero (span ∷ rest) = (omega arith, all_above_zero rest)
 
