@@ -1,5 +1,5 @@
 -- What the times of logs and the results of showing them say about the page of a job.
-use Rattle.std.proofs.Common.{◌≡◌, inl, inr, false, List, [], ◌∷◌, length, map, Option, None, Some, Result, Ok, Err, IsErrAnd, arith, refl, sym, subst}
+use Rattle.std.proofs.Common.{◌≡◌, false, List, [], ◌∷◌, length, map, Option, None, Some, Result, Ok, Err, IsErrAnd, arith, refl, sym, subst}
 use Rattle.redo_device.specs.Feed.{Stream, SomeStream}
 use Rattle.redo_html_args.specs.Job.{PageParts}
 use Rattle.redo_index.specs.declared.index_entry.IndexEntry.{IndexEntry}
@@ -8,8 +8,7 @@ use Rattle.redo_log_cli.specs.declared.failure.Failure.{Failure}
 use Rattle.redo_log_cli.specs.declared.failure.Failure.TheVariants.{Memory}
 use Rattle.redo_log_cli.specs.Failure.{IsIndexFailure}
 use Rattle.redo_log_cli.specs.NamesFile.{byte_limit}
-use Rattle.redo_log_cli.specs.Output.{IsClosedAfter}
-use Rattle.redo_log_cli.specs.Shown.{IsShowResult, directory_call}
+use Rattle.redo_log_cli.specs.Shown.{directory_call}
 use Rattle.redo_log_cli.proofs.Results.{is_shown_failure}
 use Rattle.redo_run.specs.Rendered.{RenderCall}
 use Rattle.redo_times.specs.declared.times.Times.{Times}
@@ -53,7 +52,7 @@ abbrev no_times : List IndexEntry → List Times
 no_times index = times_of_all byte_limit (listed_targets index) (map (λ entry. empty) index)
 
 -- A failure before the run is a result, whatever the times are.
-pub is_page_failure : (job : PageParts) (index : List IndexEntry) (failure : Failure) → IsIndexFailure failure → IsPageResult job index (Err failure)
+is_page_failure : (job : PageParts) (index : List IndexEntry) (failure : Failure) → IsIndexFailure failure → IsPageResult job index (Err failure)
 is_page_failure job index failure is = record {
   times = no_times index;
   are_times = empty_streams index (λ streams. no_times index ≡ times_of_all byte_limit (listed_targets index) streams) refl;
@@ -64,12 +63,3 @@ is_page_failure job index failure is = record {
 pub is_out_of_memory : (job : PageParts) (index : List IndexEntry) (result : Result (Unit {0}) Failure) → IsErrAnd result (λ failure. failure ≡ Memory) → IsPageResult job index result
 is_out_of_memory job index (Ok done) is = absurd is
 is_out_of_memory job index (Err failure) is = is_page_failure job index failure (subst IsIndexFailure (sym is) tt)
-
-is_closed : (call : RenderCall) (outcome result : Result (Unit {0}) Failure) → IsClosedAfter outcome result → IsShowResult call outcome → IsShowResult call result
-is_closed call (Ok done) result (inl is) given = subst (IsShowResult call) (sym is) given
-is_closed call (Ok done) result (inr is) given = subst (IsShowResult call) (sym is) given
-is_closed call (Err failure) result is given = subst (IsShowResult call) (sym is) given
-
--- A result is still one after the output file was closed.
-pub is_page_closed : (job : PageParts) (index : List IndexEntry) (outcome result : Result (Unit {0}) Failure) → IsClosedAfter outcome result → IsPageResult job index outcome → IsPageResult job index result
-is_page_closed job index outcome result closed given = record { times = given.times; are_times = given.are_times; is_result = is_closed (call_of job index given.times) outcome result closed given.is_result }
