@@ -29,6 +29,8 @@ class Build:
         self.rng, self.is_limit, self.bytes = rng, is_limit, 0
         # Whether each log has nine lines of 1,024 bytes.
         self.is_even = is_limit and rng.random() < .2
+        # How many bytes all logs have, if they have no more without the last line of `all`.
+        self.total = rng.choice([0, 1, 999, 1000, 1001, 9999, 10_000, 999_999, 1_000_000]) if is_limit and not self.is_even else 0
         # The length of the longest recipes is from 1 ms to some weeks.
         self.longest = int(10 ** rng.uniform(0, 9.2))
         self.equal = rng.random() < .05
@@ -130,6 +132,9 @@ class Build:
             parts.append(self.record(b"done", other.ended, b"%d %s" % (other.status, name)))
         text = self.text()
         self.bytes += sum(len(line) + 1 for line in text)
+        if target is self.all and self.bytes < self.total:
+            text.append(b"y" * (self.total - self.bytes - 1))
+            self.bytes = self.total
         for place in sorted(rng.choice([len(parts)] * 4 + [0, rng.randrange(len(parts) + 1)]) for _ in text) if rng.random() < .3 else []:
             parts[min(place, len(parts) - 1) if parts else 0 : 0] = [[text.pop()]]
         lines += [line for part in parts for line in part] + text
@@ -146,7 +151,7 @@ class Build:
         every = list(self.all.each())
         with open(os.path.join(directory, "names"), "wb") as file:
             file.write(b"".join(b"%d %s\n" % (number, target.name) for number, target in enumerate(every, 1)))
-        for number, target in enumerate(every, 1):
+        for number, target in reversed([*enumerate(every, 1)]):  # `all` is the last one.
             with open(os.path.join(directory, "log.%d" % number), "wb") as file:
                 file.write(b"".join(line + b"\n" for line in self.log(target)))
         return every
