@@ -1,5 +1,5 @@
 -- What the laws state.
-use Rattle.std.proofs.Common.{ℕ, zero, suc, ◌+◌, ◌<◌, ◌≤◌, Bool, true, false, cond, ltb, List, [], ◌∷◌, Option, None, Some, filter, filter_map, length, map, not, option_map, take, refl, arith}
+use Rattle.std.proofs.Common.{◌≡◌, ℕ, zero, suc, ◌+◌, ◌<◌, ◌≤◌, Bool, true, false, cond, ltb, List, [], ◌∷◌, Option, None, Some, filter, filter_map, length, map, not, option_map, take, refl, arith}
 use Rattle.std.specs.Prelude.{IfSome}
 use Rattle.std.specs.declared.cmp.Ordering.{Ordering}
 use Rattle.std.specs.List.{AllByRecursion, cons_option}
@@ -11,11 +11,11 @@ use Rattle.redo_times.specs.declared.times.Times.{Times}
 use Rattle.redo_outline.specs.declared.node.Node.{Node}
 use Rattle.redo_summary.specs.declared.rank.Rank.{Rank}
 use Rattle.redo_summary.specs.declared.target.Target.{Target}
-use Rattle.redo_summary.specs.Laws.{AreOfNodes, AreSplit}
+use Rattle.redo_summary.specs.Laws.{AreInOrderOfPlace, AreOfNodes, AreRisingFrom, AreSplit}
 use Rattle.redo_summary.specs.Parents.{ran_others, spans_of}
 use Rattle.redo_summary.specs.Ranks.{first_ranks, rank_cmp, rank_of, warnings_from}
 use Rattle.redo_summary.specs.Summary.{summary_of}
-use Rattle.redo_summary.specs.Targets.{mark_of, only_time, span_between, span_if, span_of, targets_from, targets_of}
+use Rattle.redo_summary.specs.Targets.{mark_of, only_time, span_between, span_if, span_of, target_of, targets_from, targets_of}
 
 -- ---- what holds of each item still holds
 
@@ -102,6 +102,56 @@ are_of_nodes nodes times =
       marks = all_chosen (λ (target : Target). target.place < count) (λ (span : Span). span.place < count) mark_of (mark_below count) targets below;
       longest = first_below count _ (ranks_below count _ recipes);
       warned = first_below count _ (all_passed (λ (rank : Rank). rank.place < count) (λ (rank : Rank). ltb 0 rank.value) (warnings_from 0 nodes) (warnings_below count 0 nodes (omega arith)));
+    }
+
+-- ---- the order of places
+
+rising_less : (least other : ℕ) (spans : List Span) → other ≤ least → AreRisingFrom least spans → AreRisingFrom other spans
+rising_less least other [] less rising = tt
+rising_less least other (span ∷ spans) less rising = (let le = rising.0 in omega (arith, less, le), rising.1)
+
+rising_passed : (test : Span → Bool) (least : ℕ) (spans : List Span) → AreRisingFrom least spans → AreRisingFrom least (filter test spans)
+rising_passed test least [] rising = tt
+rising_passed test least (span ∷ spans) rising = by (test span) (rising_passed test (span.place + 1) spans rising.1)
+  where
+    by : (b : Bool) → AreRisingFrom (span.place + 1) (filter test spans) → AreRisingFrom least (cond b (span ∷ filter test spans) (filter test spans))
+    by true more = (rising.0, more)
+    by false more = rising_less (span.place + 1) least (filter test spans) (let le = rising.0 in omega (arith, le)) more
+
+rising_chosen : (choose : Target → Option Span) → ((target : Target) → IfSome (choose target) (λ (span : Span). span.place ≡ target.place)) → (times : List Times) (place : ℕ) (nodes : List Node)
+    → AreRisingFrom place (filter_map choose (targets_from times place nodes))
+rising_chosen choose kept times place [] = tt
+rising_chosen choose kept times place (node ∷ nodes) = by (choose (target_of times place node)) (kept (target_of times place node)) (rising_chosen choose kept times (place + 1) nodes)
+  where
+    by : (chosen : Option Span) → IfSome chosen (λ (span : Span). span.place ≡ place) → AreRisingFrom (place + 1) (filter_map choose (targets_from times (place + 1) nodes))
+        → AreRisingFrom place (cons_option chosen (filter_map choose (targets_from times (place + 1) nodes)))
+    by None here more = rising_less (place + 1) place (filter_map choose (targets_from times (place + 1) nodes)) (omega arith) more
+    by (Some span) here more = (omega (arith, here), rising_less (place + 1) (span.place + 1) (filter_map choose (targets_from times (place + 1) nodes)) (omega (arith, here)) more)
+
+span_place : (target : Target) → IfSome (span_of target) (λ (span : Span). span.place ≡ target.place)
+span_place target = by target.times.began target.times.ended
+  where
+    by : (began ended : Option ℕ) → IfSome (span_if target began ended) (λ (span : Span). span.place ≡ target.place)
+    by None None = tt
+    by None (Some ended) = tt
+    by (Some began) None = tt
+    by (Some began) (Some ended) = refl
+
+mark_place : (target : Target) → IfSome (mark_of target) (λ (span : Span). span.place ≡ target.place)
+mark_place target = by (only_time target.parent target.times.began target.times.ended)
+  where
+    by : (time : Option ℕ) → IfSome (option_map (λ (time : ℕ). span_between target time time) time) (λ (span : Span). span.place ≡ target.place)
+    by None = tt
+    by (Some time) = refl
+
+pub are_in_order_of_place : (nodes : List Node) (times : List Times) → AreInOrderOfPlace (summary_of nodes times)
+are_in_order_of_place nodes times =
+    let targets = targets_of nodes times in
+    let spans = rising_chosen span_of span_place times 0 nodes in
+    record {
+      parents = rising_passed (ran_others targets) 0 (spans_of targets) spans;
+      recipes = rising_passed (λ (span : Span). not (ran_others targets span)) 0 (spans_of targets) spans;
+      marks = rising_chosen mark_of mark_place times 0 nodes;
     }
 
 pub are_split : (nodes : List Node) (times : List Times) → AreSplit nodes times (summary_of nodes times)

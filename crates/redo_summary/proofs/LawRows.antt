@@ -1,7 +1,7 @@
 -- What the laws reject.
-use Rattle.std.proofs.Common.{◌≡◌, ◌<◌, [], ◌∷◌, None, inl, inr, arith}
+use Rattle.std.proofs.Common.{◌≤◌, ◌≡◌, ◌<◌, [], ◌∷◌, None, inl, inr, arith}
 use Rattle.std.proofs.lemmas.List.Sorted.{length_permutation}
-use Rattle.redo_summary.specs.Laws.{AreInOrder, AreOfNodes, AreSplit, IsTable}
+use Rattle.redo_summary.specs.Laws.{AreInOrder, AreInOrderOfPlace, AreOfNodes, AreSplit, IsTable}
 use Rattle.redo_summary.proofs.SummaryRows.{node, ran, rank, small_build, span}
 
 -- A larger value comes later; then a lower place with an equal value; then eleven ranks.
@@ -17,6 +17,14 @@ rejected_tables = (
 -- A place is not below the number of nodes.
 rejected_places : ¬ AreOfNodes (node 0 None None 0 0 ∷ []) small_build
 rejected_places = λ of_nodes. let below : 1 < 1 = of_nodes.recipes.0 in omega (arith, below)
+
+-- The places fall; then a place occurs twice.
+rejected_orders :
+    ¬ AreInOrderOfPlace (record small_build { recipes = span 2 1 9 ∷ span 1 3 4 ∷ [] }) × ¬ AreInOrderOfPlace (record small_build { marks = span 3 5 5 ∷ span 3 7 7 ∷ [] })
+rejected_orders = (
+  λ order. let above : 3 ≤ 1 = order.recipes.1.0 in omega (arith, above),
+  λ order. let above : 4 ≤ 3 = order.marks.1.0 in omega (arith, above),
+)
 
 -- A span is in no list.
 rejected_split : ¬ AreSplit (node 0 None None 0 0 ∷ []) (ran 1 9 ∷ []) (record small_build { parents = []; recipes = [] })

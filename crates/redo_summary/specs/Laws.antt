@@ -1,5 +1,5 @@
 -- What the laws state.
-use Rattle.std.specs.Prelude.{◌≡◌, ℕ, ◌<◌, ◌≤◌, ◌⊎◌, List, [], ◌∷◌, ◌++◌, length}
+use Rattle.std.specs.Prelude.{◌≡◌, ℕ, ◌+◌, ◌<◌, ◌≤◌, ◌⊎◌, List, [], ◌∷◌, ◌++◌, length}
 use Rattle.std.specs.List.{AllByRecursion}
 use Rattle.std.specs.List.Sorted.{IsPermutation}
 use Rattle.redo_timeline.specs.declared.span.Span.{Span}
@@ -24,6 +24,17 @@ pub record AreOfNodes (nodes : List Node) (facts : Facts) : Type 0 where
   pub marks : AreSpansBelow (length nodes) facts.marks
   pub longest : AreRanksBelow (length nodes) facts.longest
   pub warned : AreRanksBelow (length nodes) facts.warned
+
+-- The places of spans rise, and none is below a number.
+abbrev pub AreRisingFrom : ℕ → List Span → Type 0
+AreRisingFrom least [] = Unit {0}
+AreRisingFrom least (span ∷ spans) = (least ≤ span.place) × AreRisingFrom (span.place + 1) spans
+
+-- Each list of spans is in order of place, and has no place twice.
+pub record AreInOrderOfPlace (facts : Facts) : Type 0 where
+  pub parents : AreRisingFrom 0 facts.parents
+  pub recipes : AreRisingFrom 0 facts.recipes
+  pub marks : AreRisingFrom 0 facts.marks
 
 -- Each span of a shown target is in exactly one of the lists.
 abbrev pub AreSplit : List Node → List Times → Facts → Type 0

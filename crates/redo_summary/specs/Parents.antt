@@ -5,20 +5,21 @@ use Rattle.redo_timeline.specs.declared.span.Span.{Span}
 use Rattle.redo_summary.specs.declared.target.Target.{Target}
 use Rattle.redo_summary.specs.Targets.{mark_of, span_of}
 
--- Whether a span is in another, which ended after the first one began.
+-- Whether a span is in another, and ended after that one began. The two may begin or end at the same time.
 abbrev pub is_in : Span → Span → Bool
 is_in outer span = leb outer.began span.began && leb span.ended outer.ended && ltb outer.began span.ended
 
--- Whether these are known, and one holds of the other.
+-- Whether a span is known and in another.
 abbrev pub is_in_if_known : Span → Option Span → Bool
 is_in_if_known outer None = false
 is_in_if_known outer (Some span) = is_in outer span
 
+-- Whether a place is known and is this one.
 abbrev pub is_place : ℕ → Option ℕ → Bool
 is_place place None = false
 is_place place (Some other) = place == other
 
--- Whether the target of a span ran this target: it is its parent, and its span has the span of this target in it.
+-- Whether the target of a span ran this target: it is the parent of this target, and the span of this target is in its span.
 abbrev pub is_run_by : Span → Target → Bool
 is_run_by span target = is_place span.place target.parent && is_in_if_known span (span_of target)
 

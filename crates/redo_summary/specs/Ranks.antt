@@ -20,6 +20,7 @@ first_ranks ranks = take 10 (sort rank_cmp ranks)
 abbrev pub duration : Span → ℕ
 duration span = cut (span.ended - span.began)
 
+-- A recipe as a row of a table.
 abbrev pub rank_of : Span → Rank
 rank_of span = record { value = duration span; place = span.place }
 

@@ -23,6 +23,7 @@ time_between began ended = None
 abbrev pub duration_of : List Times → ℕ → Option ℕ
 duration_of times number = time_between (times_of times number).began (times_of times number).ended
 
+-- The target of a node at this place.
 abbrev pub target_of : List Times → ℕ → Node → Target
 target_of times place node = record {
   place = place;
@@ -44,6 +45,7 @@ targets_of nodes times = targets_from times 0 nodes
 abbrev pub span_between : Target → ℕ → ℕ → Span
 span_between target began ended = record { began = began; place = target.place; ended = ended; failed = target.failed }
 
+-- The span of a target, by both times.
 abbrev pub span_if : Target → Option ℕ → Option ℕ → Option Span
 span_if target (Some began) (Some ended) = Some (span_between target began ended)
 span_if target began ended = None
@@ -52,8 +54,8 @@ span_if target began ended = None
 abbrev pub span_of : Target → Option Span
 span_of target = span_if target target.times.began target.times.ended
 
--- The one time that is known of a target. It doesn't count if only the end of a requested target is known, which has no parent: the
--- log of a run by make says no more.
+-- The one time that is known of a target, by the place of its parent and both times. A requested target has no parent. If only its end
+-- is known, there is no such time: the log of a run by make says no more.
 abbrev pub only_time : Option ℕ → Option ℕ → Option ℕ → Option ℕ
 only_time parent (Some began) None = Some began
 only_time (Some parent) None (Some ended) = Some ended

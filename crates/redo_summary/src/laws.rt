@@ -2,12 +2,17 @@
 ghost use Rattle.std.specs.Prelude.{List};
 ghost use Rattle.redo_outline.specs.declared.node.Node.{Node};
 ghost use Rattle.redo_times.specs.declared.times.Times.{Times};
-ghost use Rattle.redo_summary.specs.Laws.{AreOfNodes, AreSplit, IsTable};
+ghost use Rattle.redo_summary.specs.Laws.{AreInOrderOfPlace, AreOfNodes, AreSplit, IsTable};
 ghost use Rattle.redo_summary.specs.Summary.{summary_of};
 
 /// All places are those of nodes.
 pub fn places_are_of_nodes()
     ensures { (nodes : List Node) (times : List Times) → AreOfNodes nodes (summary_of nodes times) }
+{}
+
+/// Parents, recipes and marks are in order of place. No place occurs twice in one of these lists.
+pub fn spans_are_in_order_of_place()
+    ensures { (nodes : List Node) (times : List Times) → AreInOrderOfPlace (summary_of nodes times) }
 {}
 
 /// The span of each shown target whose times are known is in exactly one of the lists of parents and recipes.

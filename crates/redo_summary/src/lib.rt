@@ -21,7 +21,10 @@ mod targets;
 mod totals;
 mod window;
 
-pub use laws::{places_are_of_nodes, ranks_are_in_order, spans_are_parents_or_recipes};
+pub use laws::{
+    places_are_of_nodes, ranks_are_in_order, spans_are_in_order_of_place,
+    spans_are_parents_or_recipes,
+};
 pub use rank::Rank;
 pub use summary::Summary;
 pub use targets::duration_of;

@@ -39,7 +39,7 @@ fn mark_parent(targets: &[Target], target: &Target, marked: &mut [bool])
     }
 }
 
-// Whether a span is in another, which ended after the first one began.
+// Whether a span is in another, and ended after that one began.
 fn is_in(outer: &Span, span: &Span) -> bool
     ensures { result ≡ is_in outer.now span.now }
 {
