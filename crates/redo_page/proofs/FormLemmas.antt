@@ -20,10 +20,13 @@ use Rattle.redo_page.specs.declared.block.Pending.{Pending}
 use Rattle.redo_logs.specs.Logs.{Log}
 use Rattle.redo_options.specs.declared.options.Options.{Options}
 use Rattle.redo_outline.specs.declared.node.Node.{Node}
-use Rattle.redo_outline.specs.Contents.{contents_of}
+use Rattle.redo_outline.specs.Contents.{Contents, contents_of}
 use Rattle.redo_outline.specs.Facts.{target_status}
 use Rattle.redo_outline.specs.Laws.{events_of}
 use Rattle.redo_outline.specs.Outline.{log_count, outline_of}
+use Rattle.redo_trim.specs.declared.limit.Limit.{Limit}
+use Rattle.redo_trim.specs.Laws.{AreInTree, KeepsLogs, StayInTree, TreeIsTrimmed}
+use Rattle.redo_trim.specs.Trim.{trim, trimmed}
 use Rattle.redo_page.specs.declared.block.Pending.TheVariants as pending
 use Rattle.redo_page.specs.Blocks.{after_line, end_parts, line_parts}
 use Rattle.redo_page.specs.Tree.{Build, articles, contents_parts, is_moved_if, section_end, section_start, top_level, tree_parts}
@@ -117,3 +120,15 @@ module _ (logs : List Log) (options : Options) (nodes : List Node) (places : Lis
       ap (λ (these : List ℕ). flat_map part_html section_start ++ tree_text (record { logs = logs; options = options; nodes = nodes; articles = these }) events) are
       ∙ ap (λ (t : List ℕ). flat_map part_html section_start ++ t) (walked_tree (record { logs = logs; options = options; nodes = nodes; articles = articles nodes }) events same within_outline)
       ∙ sym (flat_map-append part_html section_start (contents_parts (record { logs = logs; options = options; nodes = nodes; articles = articles nodes }) top_level 0 pending.Nothing (contents_of events) ++ section_end))
+
+-- The same without the middle of long logs.
+module _ (logs : List Log) (options : Options) (nodes : List Node) (places : List ℕ)
+    (stay : (limits : List Limit) (events : List Event) → StayInTree limits events) (are : (limits : List Limit) (events : List Event) → TreeIsTrimmed limits events)
+    (keep : (limits : List Limit) (contents : Contents) → KeepsLogs limits contents) (limits : List Limit) (events : List Event) where
+  pub cut_tree : AreInTree events → length nodes ≡ log_count (contents_of events) → places ≡ articles nodes
+      → flat_map part_html section_start ++ tree_text (record { logs = logs; options = options; nodes = nodes; articles = places }) (trimmed limits [] events)
+      ≡ flat_map part_html (tree_parts logs options nodes (trim limits [] (contents_of events)))
+  cut_tree same outline places_are =
+      let tree_is = are limits events same in
+      let count_is = outline ∙ sym (keep limits (contents_of events)) ∙ ap log_count (sym tree_is) in
+      whole_tree logs options nodes places (trimmed limits [] events) (stay limits events same) count_is places_are ∙ ap (λ (contents : Contents). flat_map part_html (tree_parts logs options nodes contents)) tree_is

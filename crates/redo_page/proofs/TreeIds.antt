@@ -26,7 +26,7 @@ use Rattle.redo_page.specs.declared.level.Level.{Level}
 use Rattle.redo_page.specs.Blocks.{end_parts, fits, line_parts, line_size, line_start, nested_end}
 use Rattle.redo_page.specs.Laws.{numbers_from}
 use Rattle.redo_page.specs.Targets.{facts_parts, how_parts, linked_parts, parts_if}
-use Rattle.redo_page.specs.Tree.{Build, after_log, after_shown, articles, closing_parts, contents_parts, done_parts, empty_start, flat_end, flat_start, group_end, group_left, group_parts, group_size, group_start, has_article, heading_parts, is_empty, is_expanded, is_moved_if, is_seen, is_short, no_node, item_parts, level_of, log_end, log_start, max_depth, mention_parts, moved_parts, nested_start, node_at, note_parts, opening_parts, opening_place, place_of, place_of_name, request_parts, shown_parts, top_level, tree_parts}
+use Rattle.redo_page.specs.Tree.{Build, after_log, after_shown, articles, closing_parts, contents_parts, done_parts, empty_start, flat_end, flat_start, group_end, group_left, group_parts, group_size, group_start, has_article, heading_parts, is_empty, is_expanded, is_moved_if, is_seen, is_short, no_node, item_parts, level_of, log_end, log_start, max_depth, mention_parts, moved_parts, nested_start, node_at, note_parts, note_prefix, opening_parts, opening_place, place_of, place_of_name, request_parts, shown_parts, top_level, tree_parts}
 use Rattle.redo_page.proofs.Ids.{Bare, IsBelow, Refer, Refers, article_link_refers, bare_if, bare_refers, bare_then, facts_bare, how_bare, linked_refers, references, same_refer, then_refer}
 
 -- ---- numbers
@@ -71,7 +71,7 @@ group_end_bare left = bare_if (left == 1) nested_end refl
 pub note_bare : (kind text : List ℕ) → Bare (note_parts kind text)
 note_bare kind text = by (bytes_eq kind (codes "check"))
   where
-    by : (check : Bool) → Bare (if check then note_parts (codes "check") text else note_parts [] text)
+    by : (check : Bool) → Bare (if check then note_parts (codes "check") text else MarkupPart markup.NoteItem ∷ NamePart (note_prefix kind) ∷ NamePart text ∷ MarkupPart markup.EndItem ∷ [])
     by true = refl
     by false = refl
 

@@ -10,9 +10,10 @@ use Rattle.redo_options.specs.declared.options.Options.{Options}
 use Rattle.redo_view.specs.declared.event.Opening.{Opening}
 use Rattle.redo_view.specs.Event.{Event}
 use Rattle.redo_view.specs.Event.Event.{Requested, Mentioned, EntryShown, LogEnds}
+use Rattle.redo_html.specs.declared.markup.Markup.TheVariants as markup
 use Rattle.redo_html.specs.declared.markup.Markup.TheVariants.{EndItem, Pre, EndPre}
 use Rattle.redo_html.specs.Parts.{Part}
-use Rattle.redo_html.specs.Parts.Part.{MarkupPart}
+use Rattle.redo_html.specs.Parts.Part.{MarkupPart, NamePart}
 use Rattle.redo_outline.specs.declared.node.Node.{Node}
 use Rattle.redo_outline.specs.Contents.{Contents}
 use Rattle.redo_outline.specs.Contents.Contents.{Nothing, Shown, Opened}
@@ -22,7 +23,7 @@ use Rattle.redo_page.specs.declared.block.Pending.TheVariants as pending
 use Rattle.redo_page.specs.declared.level.Level.{Level}
 use Rattle.redo_page.specs.Blocks.{after_line, end_parts, fits, line_parts, line_size, line_start, nested_end}
 use Rattle.redo_page.specs.Targets.{parts_if}
-use Rattle.redo_page.specs.Tree.{Build, after_item, after_log, after_shown, articles, closing_parts, contents_parts, done_parts, empty_start, entry_parts, flat_end, flat_start, group_end, group_left, group_parts, group_size, group_start, heading_parts, is_empty, is_expanded, is_moved, is_moved_if, is_seen, item_parts, level_of, log_end, log_start, max_depth, mention_parts, moved_parts, nested_start, node_at, note_parts, opening_parts, opening_place, place_of_name, request_parts, seen_parts, shown_parts, top_level, tree_parts}
+use Rattle.redo_page.specs.Tree.{Build, after_item, after_log, after_shown, articles, closing_parts, contents_parts, done_parts, empty_start, entry_parts, flat_end, flat_start, group_end, group_left, group_parts, group_size, group_start, heading_parts, is_empty, is_expanded, is_moved, is_moved_if, is_seen, item_parts, level_of, log_end, log_start, max_depth, mention_parts, moved_parts, nested_start, node_at, note_parts, note_prefix, opening_parts, opening_place, place_of_name, request_parts, seen_parts, shown_parts, top_level, tree_parts}
 use Rattle.redo_page.proofs.Nesting.{Leads, Nest, nest_if, lead_around, lead_in, then_lead, joined}
 use Rattle.redo_page.proofs.TargetNesting.{name_nests, exit_nests, facts_nest, how_nests, linked_nests}
 
@@ -111,7 +112,7 @@ request_nests name = record { leads = λ around tags. refl }
 note_nests : (kind text : List ℕ) → Nest (note_parts kind text)
 note_nests kind text = by (bytes_eq kind (codes "check"))
   where
-    by : (check : Bool) → Nest (if check then note_parts (codes "check") text else note_parts [] text)
+    by : (check : Bool) → Nest (if check then note_parts (codes "check") text else MarkupPart markup.NoteItem ∷ NamePart (note_prefix kind) ∷ NamePart text ∷ MarkupPart markup.EndItem ∷ [])
     by true = record { leads = λ around tags. refl }
     by false = record { leads = λ around tags. refl }
 

@@ -253,7 +253,8 @@ request_is = refl
 notes_are :
     (note_parts (codes "check") (codes "x") ≡ tag markup.NoteItem ∷ words (codes "(") ∷ words (codes "x") ∷ words (codes ")") ∷ tag markup.EndItem ∷ [])
     × (note_parts (codes "checks") (codes "x") ≡ tag markup.NoteItem ∷ words (codes "redo: ") ∷ words (codes "x") ∷ tag markup.EndItem ∷ [])
-notes_are = (refl, refl)
+    × (note_parts [] (codes "x") ≡ tag markup.NoteItem ∷ words [] ∷ words (codes "x") ∷ tag markup.EndItem ∷ [])
+notes_are = (refl, refl, refl)
 
 abbrev link : ℕ → List ℕ → List Part → List Part
 link place target rest = tag (markup.TargetLink place) ∷ name target (tag markup.EndLink ∷ rest)

@@ -12,7 +12,7 @@ use Rattle.redo_view.specs.Event.{Event}
 use Rattle.redo_view.specs.Event.Event.{Requested, Mentioned, EntryShown, LogEnds}
 use Rattle.redo_html.specs.declared.markup.Markup.TheVariants as markup
 use Rattle.redo_html.specs.Parts.{Part}
-use Rattle.redo_html.specs.Parts.Part.{MarkupPart}
+use Rattle.redo_html.specs.Parts.Part.{MarkupPart, NamePart}
 use Rattle.redo_html.specs.Style.{plain_style}
 use Rattle.redo_outline.specs.declared.node.Node.{Node}
 use Rattle.redo_outline.specs.Contents.{Contents}
@@ -26,7 +26,7 @@ use Rattle.redo_page.specs.declared.level.Level.{Level}
 use Rattle.redo_page.specs.Blocks.{after_line, block_for, end_parts, fits, line_part, line_parts, line_size, line_start, nested_end, new_block}
 use Rattle.redo_page.specs.Laws.{HaveSameLogs, blank_event, blank_line, blanked, markup_of, markups}
 use Rattle.redo_page.specs.Targets.{exit_parts, how_parts, linked_parts}
-use Rattle.redo_page.specs.Tree.{Build, after_item, after_log, after_shown, articles, closing_parts, contents_parts, depth_parts, done_parts, empty_start, flat_end, flat_start, group_end, group_left, group_start, heading_parts, is_empty, is_expanded, is_moved_if, is_seen_done, item_parts, level_of, log_end, log_start, max_depth, mention_parts, moved_parts, nested_start, node_at, note_parts, opening_parts, opening_place, place_of, place_of_name, request_parts, section_end, section_start, shown_parts, is_in_level, top_level, tree_parts}
+use Rattle.redo_page.specs.Tree.{Build, after_item, after_log, after_shown, articles, closing_parts, contents_parts, depth_parts, done_parts, empty_start, flat_end, flat_start, group_end, group_left, group_start, heading_parts, is_empty, is_expanded, is_moved_if, is_seen_done, item_parts, level_of, log_end, log_start, max_depth, mention_parts, moved_parts, nested_start, node_at, note_parts, note_prefix, opening_parts, opening_place, place_of, place_of_name, request_parts, section_end, section_start, shown_parts, is_in_level, top_level, tree_parts}
 
 -- ---- what isn't ended
 
@@ -87,7 +87,7 @@ after_line_same before other line same =
 note_same : (kind text : List ℕ) → markups (note_parts kind text) ≡ markups (note_parts [] [])
 note_same kind text = by (bytes_eq kind (codes "check"))
   where
-    by : (check : Bool) → markups (if check then note_parts (codes "check") text else note_parts [] text) ≡ markups (note_parts [] [])
+    by : (check : Bool) → markups (if check then note_parts (codes "check") text else MarkupPart markup.NoteItem ∷ NamePart (note_prefix kind) ∷ NamePart text ∷ MarkupPart markup.EndItem ∷ []) ≡ markups (note_parts [] [])
     by true = refl
     by false = refl
 

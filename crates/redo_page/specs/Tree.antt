@@ -1,5 +1,5 @@
 -- The tree of a page: each log where its target is mentioned first, with what it contains.
-use Rattle.std.specs.Prelude.{ℕ, suc, ◌+◌, ◌-◌, ◌==◌, ◌||◌, ◌&&◌, not, nat_le, nat_lt, Bool, true, false, ℤ, List, [], ◌∷◌, ◌++◌, Option, None, Some, codes, bytes_eq, position, option_and_then, slice_index_or, take, if◌then◌else◌}
+use Rattle.std.specs.Prelude.{ℕ, suc, ◌+◌, ◌-◌, ◌==◌, ◌||◌, ◌&&◌, not, nat_le, nat_lt, Bool, true, false, ℤ, List, [], ◌∷◌, ◌++◌, Option, None, Some, codes, bytes_eq, length, position, option_and_then, slice_index_or, take, if◌then◌else◌}
 use Rattle.std.specs.List.{list_any}
 use Rattle.redo_line.specs.declared.entry.Entry.{Entry}
 use Rattle.redo_line.specs.declared.entry.Entry.TheVariants.{Text, Done, Note}
@@ -149,11 +149,15 @@ after_item before seen = if seen then pending.Nothing else before
 abbrev pub request_parts : List ℕ → List Part
 request_parts name = (MarkupPart markup.Item ∷ []) ++ (name_parts name ++ (MarkupPart markup.EndItem ∷ []))
 
+-- What precedes the text of a note. A note of an empty kind is in no log: it says what the page shows.
+abbrev pub note_prefix : List ℕ → List ℕ
+note_prefix kind = if length kind == 0 then [] else codes "redo: "
+
 -- A record of a check, or another note.
 abbrev pub note_parts : List ℕ → List ℕ → List Part
 note_parts kind text =
     if bytes_eq kind (codes "check") then MarkupPart markup.NoteItem ∷ NamePart (codes "(") ∷ NamePart text ∷ NamePart (codes ")") ∷ MarkupPart markup.EndItem ∷ []
-    else MarkupPart markup.NoteItem ∷ NamePart (codes "redo: ") ∷ NamePart text ∷ MarkupPart markup.EndItem ∷ []
+    else MarkupPart markup.NoteItem ∷ NamePart (note_prefix kind) ∷ NamePart text ∷ MarkupPart markup.EndItem ∷ []
 
 module _ (build : Build) where
   abbrev pub has_article : ℕ → Bool

@@ -5,7 +5,7 @@ ghost use Rattle.redo_view.specs.EventRef.{IsWrittenAlone, event_value};
 ghost use Rattle.redo_page.specs.Blocks.{end_parts};
 ghost use Rattle.redo_page.specs.Private.Referring.{build_value};
 ghost use Rattle.redo_page.specs.Private.Writing.{WroteParts};
-ghost use Rattle.redo_page.specs.Tree.{after_shown, done_parts, entry_parts, is_seen, is_seen_done, is_seen_entry, item_parts, mention_parts, note_parts, request_parts, seen_parts, shown_parts};
+ghost use Rattle.redo_page.specs.Tree.{after_shown, done_parts, entry_parts, is_seen, is_seen_done, is_seen_entry, item_parts, mention_parts, note_parts, note_prefix, request_parts, seen_parts, shown_parts};
 
 use crate::block::Pending;
 use crate::build::BuildRef;
@@ -73,6 +73,13 @@ fn write_done<W: Sink>(
     page.put(&[Piece::Markup(Markup::EndItem)])
 }
 
+// Returns what precedes the text of a note of this kind.
+fn note_prefix(kind: &[u8]) -> &'static [u8]
+    ensures { result.now ≡ note_prefix kind.now }
+{
+    if kind.is_empty() { b"" } else { b"redo: " }
+}
+
 fn write_note<W: Sink>(kind: &[u8], text: &[u8], page: &mut PageWriter<'_, W>)
     ensures { WroteParts W.written page.old page.new (note_parts kind.now text.now) }
 {
@@ -87,7 +94,7 @@ fn write_note<W: Sink>(kind: &[u8], text: &[u8], page: &mut PageWriter<'_, W>)
     } else {
         page.put(&[
             Piece::Markup(Markup::NoteItem),
-            Piece::Name(b"redo: "),
+            Piece::Name(note_prefix(kind)),
             Piece::Name(text),
             Piece::Markup(Markup::EndItem),
         ])

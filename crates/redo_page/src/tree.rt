@@ -292,8 +292,8 @@ fn write_events<'a, W: Sink>(
     form: &mut Trimmed<'_, TreeForm<'a>>,
     out: &mut W,
 ) -> Result<(), FormFault>
-    requires ended { list_all has_ended build.entry.table.now ≡ true }
-    requires known { find_unknown build.entry.table.now requested.now ≡ None }
+    requires ended { list_all has_ended build.table.now ≡ true }
+    requires known { find_unknown build.table.now requested.now ≡ None }
     requires start { form.old.gauges ≡ [] }
     ensures wrote { FormWrites (W.written out.old) (W.written out.new)
         (bytes_of tree_bytes after_event form.old.form (trimmed form.old.limits.now []

@@ -142,7 +142,7 @@ module _ (limits : List Limit) where
   trim_proper (Opened event number inside rest) gauges are =
       (are.0, (trim_proper inside (gauge_of limits number ∷ gauges) are.1.0, trim_proper rest gauges are.1.1))
 
-  trim_count : (contents : Contents) (gauges : List Gauge) → log_count (trim limits gauges contents) ≡ log_count contents
+  pub trim_count : (contents : Contents) (gauges : List Gauge) → log_count (trim limits gauges contents) ≡ log_count contents
   trim_count Nothing gauges = refl
   trim_count (Shown event rest) gauges = count_shown (kept gauges event) (trim limits (after_shown event gauges) rest) ∙ trim_count rest (after_shown event gauges)
   trim_count (Opened event number inside rest) gauges =
@@ -207,5 +207,3 @@ module _ (limits : List Limit) where
     pub stays_in_tree : AreInTree (trimmed limits [] events)
     stays_in_tree = ap (events_of 0) tree_trimmed ∙ sym trimmed_is
 
-    pub keeps_logs : log_count (contents_of (trimmed limits [] events)) ≡ log_count (contents_of events)
-    keeps_logs = ap log_count tree_trimmed ∙ trim_count (contents_of events) []

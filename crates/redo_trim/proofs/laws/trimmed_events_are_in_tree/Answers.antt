@@ -1,3 +1,4 @@
+use Rattle.std.proofs.Common.{[]}
 use Rattle.redo_trim.proofs.TreeLemmas.{stays_in_tree, tree_trimmed, trim_count}
 use Rattle.redo_trim.proofs.laws.trimmed_events_are_in_tree.Goals as goal
 
