@@ -43,4 +43,5 @@ mod TreeRows
 mod TreeTags
 mod UpTo
 mod WalkLemmas
+mod WordLemmas
 mod WriterLemmas

@@ -1,14 +1,23 @@
 -- The highest level at which logs fit into a budget.
-use Rattle.std.proofs.Common.{◌≡◌, ℕ, zero, suc, ◌-◌, ◌<◌, ◌≤◌, ◌⊎◌, inl, inr, Bool, true, false, List, [], ◌∷◌, Some, refl, ◌∙◌, ap, arith}
+use Rattle.std.proofs.Common.{◌≡◌, ℕ, zero, suc, ◌+◌, ◌-◌, length, ◌<◌, ◌≤◌, min, ◌⊎◌, inl, inr, Bool, true, false, List, [], ◌∷◌, ◌++◌, Some, refl, ◌∙◌, ap, arith}
 use Rattle.std.specs.Prelude.{if◌then◌else◌}
 use Rattle.std.proofs.lemmas.Bool.{cases_lt, leb-false, lt-leb}
 use Rattle.redo_outline.specs.declared.node.Node.{Node}
 use Rattle.redo_page.specs.Excerpt.{last_where}
-use Rattle.redo_page.specs.Limits.{bytes_shown, fit_in}
+use Rattle.redo_page.specs.Limits.{at_most, bytes_shown, fit_in, limit_if, limits_from}
+use Rattle.redo_page.specs.Tree.{Build, place_of}
+use Rattle.redo_trim.specs.declared.limit.Limit.{Limit}
+use Rattle.std.proofs.lemmas.List.{append_assoc}
+use Rattle.std.proofs.lemmas.List.Sums.{sum_by-cons}
 
 more_bytes : (nodes : List Node) (low high : ℕ) → low ≤ high → bytes_shown (Some low) nodes ≤ bytes_shown (Some high) nodes
 more_bytes [] low high below = omega arith
-more_bytes (node ∷ nodes) low high below = let others = more_bytes nodes low high below in omega (arith, below, others)
+more_bytes (node ∷ nodes) low high below =
+    let others = more_bytes nodes low high below in
+    let less = sum_by-cons (λ (n : Node). at_most (Some low) n.bytes) node nodes in
+    let more = sum_by-cons (λ (n : Node). at_most (Some high) n.bytes) node nodes in
+    let one : min node.bytes low ≤ min node.bytes high = omega (arith, below) in
+    omega (arith, others, less, more, one)
 
 -- ---- the last number that passes a test
 
@@ -19,12 +28,12 @@ module _ (passes : ℕ → Bool) where
 
   -- If no number from `low` on passes, those numbers don't matter.
   pub last_below : (low high : ℕ) → low ≤ high → ((n : ℕ) → low < n → passes n ≡ false) → last_where passes high ≡ last_where passes low
-  last_below low zero below none = ap (last_where passes) (omega arith)
-  last_below low (suc high) below none = by (cases_lt high low)
+  last_below low zero below none = let same : zero ≡ low = omega arith in ap (last_where passes) same
+  last_below low (suc high) below none = by (λ within. last_below low high within none) (cases_lt high low)
     where
-      by : (high < low) ⊎ (low ≤ high) → last_where passes (suc high) ≡ last_where passes low
-      by (inl above) = ap (last_where passes) (omega arith)
-      by (inr within) = ap (λ (b : Bool). if b then suc high else last_where passes high) (none (suc high) (omega arith)) ∙ last_below low high within none
+      by : (low ≤ high → last_where passes high ≡ last_where passes low) → (high < low) ⊎ (low ≤ high) → last_where passes (suc high) ≡ last_where passes low
+      by before (inl above) = let same : suc high ≡ low = omega arith in ap (last_where passes) same
+      by before (inr within) = ap (λ (b : Bool). if b then suc high else last_where passes high) (none (suc high) (omega arith)) ∙ before within
 
 -- ---- levels
 
@@ -41,3 +50,19 @@ module _ (budget : ℕ) (nodes : List Node) where
   -- If a level fails, only lower ones count.
   pub lower_counts : (level above : ℕ) → fits level ≡ false → 0 < level → level ≤ above → last_where fits above ≡ last_where fits (level - 1)
   lower_counts level above fails some below = last_below fits (level - 1) above (omega arith) (λ n higher. higher_fails level n fails (omega arith))
+
+-- ---- limits, one by one
+
+-- The limit of one log more.
+pub next_limit : (build : Build) (level number count : ℕ) → number < count → (limits after : List Limit) (limit : Limit) → limit ≡ limit_if build level (place_of build.nodes number) → after ≡ limits ++ (limit ∷ [])
+    → limits ++ limits_from build level number (count - number) ≡ limits_from build level 0 count → after ++ limits_from build level (number + 1) (count - (number + 1)) ≡ limits_from build level 0 count
+next_limit build level number count below limits after limit limit_is after_is so_far =
+    let rest = limits_from build level (suc number) (count - suc number) in
+    let next : number + 1 ≡ suc number = omega arith in
+    let left : suc (count - suc number) ≡ count - number = omega (arith, below) in
+    ap (λ (n : ℕ). after ++ limits_from build level n (count - n)) next
+    ∙ ap (λ (ls : List Limit). ls ++ rest) after_is
+    ∙ append_assoc limits (limit ∷ []) rest
+    ∙ ap (λ (l : Limit). limits ++ (l ∷ rest)) limit_is
+    ∙ ap (λ (n : ℕ). limits ++ limits_from build level number n) left
+    ∙ so_far

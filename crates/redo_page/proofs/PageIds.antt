@@ -79,7 +79,7 @@ top_sections verdict timed failed = links verdict timed ++ (failed ++ MarkupPart
 
 -- The tags of sections of a page.
 abbrev page_sections : Verdict → Bool → List Part → List Part
-page_sections verdict timed failed = top_sections verdict timed failed ++ (parts_if timed (MarkupPart TimelineSection ∷ []) ++ MarkupPart TreeSection ∷ [])
+page_sections verdict timed failed = top_sections verdict timed failed ++ ((parts_if timed (MarkupPart TimelineSection ∷ []) ++ MarkupPart TreeSection ∷ []) ++ [])
 
 module _ (nodes : List Node) (facts : Facts) (places : AreOfNodes nodes facts) where
   top_refers : (title : List ℕ) (logs : List Log) (verdict : Verdict) (title_is heading : List ℕ)
@@ -111,6 +111,12 @@ HavePlaces = (nodes : List Node) (times : List Times) → AreOfNodes nodes (summ
 abbrev pub KeepLogs : Type 0
 KeepLogs = (limits : List Limit) (contents : Contents) → log_count (trim limits [] contents) ≡ log_count contents
 
+-- There is a node for each log that is opened.
+pub outline_counted : (request : Request) (logs : List Log) (requested : List (List ℕ)) → length (page_outline request logs requested) ≡ log_count (contents_of (page_events request logs requested))
+outline_counted request logs requested =
+    let events = page_events request logs requested in
+    length-map (outline_of logs events) (with_duration (durations_of request.times)) ∙ nodes_counted logs (target_status logs events) None 0 (contents_of events)
+
 module _ (have : HavePlaces) (lead : BarsLead) (keep : KeepLogs) (request : Request) (logs : List Log) (requested : List (List ℕ)) where
   abbrev parts : List Part
   parts = page_parts request logs requested
@@ -128,11 +134,6 @@ module _ (have : HavePlaces) (lead : BarsLead) (keep : KeepLogs) (request : Requ
   abbrev shown : Contents
   shown = page_contents request logs requested
 
-  -- There is a node for each log that is opened.
-  counted : length nodes ≡ log_count (contents_of events)
-  counted =
-      length-map (outline_of logs events) (with_duration (durations_of request.times)) ∙ nodes_counted logs (target_status logs events) None 0 (contents_of events)
-
   page_refers : Refers (length nodes) (articles nodes) parts (numbers_from 0 (log_count shown) ++ []) (((articles nodes ++ []) ++ []) ++ [])
       (page_sections (verdict_of nodes) (has_timeline facts) (failed_section (first_failures nodes)))
   unfolding page_parts
@@ -145,7 +146,7 @@ module _ (have : HavePlaces) (lead : BarsLead) (keep : KeepLogs) (request : Requ
   pub page_target_ids : target_ids parts ≡ numbers_from 0 (length nodes)
   page_target_ids =
       page_refers.target_ids_are ∙ append-nil (numbers_from 0 (log_count shown))
-      ∙ ap (numbers_from 0) (keep (tree_limits logs (options_of request) nodes request.max_bytes) (contents_of events) ∙ sym counted)
+      ∙ ap (numbers_from 0) (keep (tree_limits logs (options_of request) nodes request.max_bytes) (contents_of events) ∙ sym (outline_counted request logs requested))
 
   pub page_article_ids : article_ids parts ≡ articles nodes
   page_article_ids = page_refers.article_ids_are ∙ append-nil ((articles nodes ++ []) ++ []) ∙ append-nil (articles nodes ++ []) ∙ append-nil (articles nodes)

@@ -1,6 +1,8 @@
 -- A page that is written in three stages: up to the tree, the tree, and the end.
 use Rattle.std.proofs.Common.{◌≡◌, ℕ, ◌+◌, ◌≤◌, List, ◌++◌, Option, Result, Ok, Err, length, take, min, refl, sym, ◌∙◌, ap, subst, arith}
+use Rattle.std.specs.Prelude.{IsErrAnd}
 use Rattle.std.specs.List.{flat_map}
+use Rattle.redo_page.proofs.PartLoops.{append_nothing}
 use Rattle.std.proofs.lemmas.Grind.{flat_map-append}
 use Rattle.std.proofs.lemmas.List.{take-append-le, take_min}
 use Rattle.std.proofs.Math.Seq.{take-append-add}
@@ -44,6 +46,12 @@ module _ (before : Option Output) where
       let n = min wrote.0 (length stage) in
       let within : n ≤ length stage = omega arith in
       (n, wrote.1 ∙ ap (λ b. append_output before b 0) (sym (take-append-le n stage rest within ∙ take_min wrote.0 stage)))
+
+-- An allocation failed before anything was written.
+pub no_memory : (output : Option Output) (text : List ℕ) (result : Result (Unit {0}) FormFault) → IsErrAnd result (λ fault. fault ≡ OutOfMemory) → FormWrites output output text result
+no_memory output text (Ok done) is = absurd is
+no_memory output text (Err Write) is = absurd (cc)
+no_memory output text (Err OutOfMemory) is = (0, append_nothing output)
 
 -- ---- the three stages of a page
 

@@ -13,7 +13,7 @@ use Rattle.redo_page.specs.Private.Writing.{WroteParts, WroteUnless, WrotePartsU
 use Rattle.redo_page.specs.Targets.{parts_if}
 use Rattle.redo_page.proofs.WriterLemmas.{wrote_then}
 
-append_nothing : (output : Option Output) → output ≡ append_output output [] 0
+pub append_nothing : (output : Option Output) → output ≡ append_output output [] 0
 append_nothing None = refl
 append_nothing (Some taken) =
     ap (λ (bytes : List ℕ). Some (record { bytes = bytes; failures = taken.failures })) (sym (append-nil taken.bytes)) ∙ ap (λ (n : ℕ). Some (record { bytes = taken.bytes ++ []; failures = n })) more

@@ -12,7 +12,7 @@ use Rattle.redo_html.specs.Chart.{drawing_links}
 use Rattle.redo_html.specs.declared.markup.Markup.TheVariants as markup
 use Rattle.redo_html.specs.declared.markup.Markup.TheVariants.{TimelineSection}
 use Rattle.redo_html.specs.Parts.{Part}
-use Rattle.redo_html.specs.Parts.Part.{ChartPart, MarkupPart}
+use Rattle.redo_html.specs.Parts.Part.{ChartPart, MarkupPart, NamePart}
 use Rattle.redo_logs.specs.Logs.{Log}
 use Rattle.redo_outline.specs.declared.node.Node.{Node}
 use Rattle.redo_page.specs.Summary.{known_count}
@@ -32,8 +32,8 @@ marks_nest marks known = nest_if (not (marks == 0)) (record { leads = λ around 
 
 start_leads : (facts : Facts) → Leads [] (timeline_start facts) (codes "div" ∷ codes "section" ∷ [])
 start_leads facts =
-    then_lead {middle = codes "section" ∷ []} (record { leads = λ around tags. refl })
-    (then_lead (lead_in (codes "section" ∷ []) (marks_nest (length facts.marks) (known_count facts))) (record { leads = λ around tags. refl }))
+    then_lead {middle = codes "section" ∷ []} {parts = MarkupPart markup.TimelineSection ∷ MarkupPart markup.TimelineHeading ∷ NamePart (codes "Timeline") ∷ MarkupPart markup.EndHeading ∷ []} (record { leads = λ around tags. refl })
+    (then_lead {others = MarkupPart markup.TimelineScroll ∷ []} (lead_in (codes "section" ∷ []) (marks_nest (length facts.marks) (known_count facts))) (record { leads = λ around tags. refl }))
 
 pub timeline_nests : (logs : List Log) (nodes : List Node) (facts : Facts) → Nest (timeline_parts logs nodes facts)
 timeline_nests logs nodes facts = by facts.window

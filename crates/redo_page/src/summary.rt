@@ -335,6 +335,8 @@ pub fn write_summary<W: Sink>(
     requires { AreFailures nodes.now failures.now }
     ensures { WroteParts W.written page.old page.new (summary_parts table.now nodes.now summary.now) }
 {
+    let first = failures.first.as_slice();
+    let above = failures.above.as_slice();
     page.put(&[
         Piece::Markup(Markup::SummarySection),
         Piece::Markup(Markup::SummaryHeading),
@@ -342,13 +344,7 @@ pub fn write_summary<W: Sink>(
         Piece::Markup(Markup::EndHeading),
         Piece::Markup(Markup::DescriptionList),
     ]);
-    write_tiles(
-        summary,
-        nodes.len(),
-        failures.first.len(),
-        failures.above.len(),
-        page,
-    );
+    write_tiles(summary, nodes.len(), first.len(), above.len(), page);
     page.put(&[Piece::Markup(Markup::EndDescriptionList)]);
     write_tables(table, nodes, shown_longest(summary), summary.warned(), page);
     write_why(summary, page);

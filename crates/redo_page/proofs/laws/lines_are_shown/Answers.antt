@@ -29,7 +29,7 @@ returns-clause-complete c = λ request logs requested known.
     all_lines logs 0 None 0 (contents_of events) have ∙ ap (flat_map event_lines) (c.events_are_in_contents.ensures logs (options_of request) requested known)
 
 pub returns-clause-tree : goal.returns-clause-tree
-returns-clause-tree c = λ request logs requested. tree_text logs (options_of request) (page_outline request logs requested) (contents_of (page_events request logs requested))
+returns-clause-tree c = λ request logs requested. tree_text logs (options_of request) (page_outline request logs requested) (page_contents request logs requested)
 
 -- A node keeps its number.
 same_number : (durations : List (Option ℕ)) (nodes : List Node) (place : ℕ) → (node_at (map (with_duration durations) nodes) place).number ≡ (node_at nodes place).number

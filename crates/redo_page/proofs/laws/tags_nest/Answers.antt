@@ -23,7 +23,7 @@ use Rattle.redo_page.proofs.laws.tags_nest.Goals as goal
 abbrev body : List (List ℕ)
 body = codes "body" ∷ codes "html" ∷ []
 
-top_leads : (title : List ℕ) (logs : List Log) (verdict : Verdict) (title_is heading : List ℕ) (nodes : List Node) → Leads [] (top_parts_of title logs verdict title_is heading nodes) (codes "main" ∷ body)
+top_leads : (title : List ℕ) (logs : List Log) (verdict : Verdict) (title_is heading : List ℕ) (nodes : List Node) (facts : Facts) → Leads [] (top_parts_of title logs verdict title_is heading nodes facts) (codes "main" ∷ body)
 unfolding top_parts_of
 top_leads title logs verdict title_is heading nodes facts =
     then_lead (head_leads title_is verdict) (then_lead (lead_around body (header_leads title logs verdict heading nodes facts))

@@ -1,10 +1,25 @@
-use Rattle.std.proofs.Common.{◌++◌, Ok, Err, length, subst}
+use Rattle.std.proofs.Common.{◌++◌, ◌∙◌, Ok, Err, ap, length, sym, subst}
 use Rattle.std.proofs.lemmas.Result.{err_from_is_err_and}
 use Rattle.redo_view.specs.declared.form.FormFault.TheVariants.{Write}
 use Rattle.redo_view.specs.Form.{FormWrites}
+use Rattle.redo_options.specs.declared.options.Options.{Options}
+use Rattle.redo_outline.specs.Contents.{contents_of}
+use Rattle.redo_outline.specs.Outline.{log_count}
+use Rattle.redo_view.specs.Expansion.{shown_events}
 use Rattle.redo_page.specs.Page.{request_of}
-use Rattle.redo_page.proofs.PageLemmas.{after_stage, body_html, bottom_html, first_failed, page_splits, stage_stops, top_html}
+use Rattle.redo_page.proofs.PageIds.{outline_counted}
+use Rattle.redo_page.proofs.PageLemmas.{after_stage, body_html, bottom_html, first_failed, no_memory, page_splits, stage_stops, top_html}
 use Rattle.redo_page.proofs.page.write_outlined.Goals as goal
+
+pub returns-in_err-summary : goal.returns-in_err-summary
+returns-in_err-summary g c = no_memory _ _ _ c.from_residual-in_err-summary.ensures.1
+
+pub write_body-requires-clause-outline : goal.write_body-requires-clause-outline
+write_body-requires-clause-outline g c =
+    let request = request_of c.args.request.now in
+    let logs = c.args.table.now in
+    let requested = c.args.requested.now in
+    ap length c.requires.outline ∙ outline_counted request logs requested ∙ ap (λ (options : Options). log_count (contents_of (shown_events logs options requested))) (sym c.requires.options)
 
 pub returns-in_err-write_top : goal.returns-in_err-write_top
 returns-in_err-write_top g c =

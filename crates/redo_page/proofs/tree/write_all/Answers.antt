@@ -31,13 +31,13 @@ pub returns : goal.returns
 returns g c =
     let before = g.W.Sink.written c.args.out.now in
     let middle = g.W.Sink.written c.write_events.new.out in
-    let after = g.W.Sink.written c.end.new.out in
+    let after = g.W.Sink.written c.end-2.new.out in
     let shown = shown_events c.args.build.table.now c.args.build.options.now c.args.requested.now in
     let events = trimmed c.args.limits.now [] shown in
     let start = start_of (build_value c.args.build) in
     let start_is = c.new-trimmed.ensures.form ∙ c.new-form.ensures in
     let events_are = ap (λ limits. trimmed limits [] shown) c.new-trimmed.ensures.limits in
-    form_then before middle after (bytes_of tree_bytes after_event start events) (flat_map part_html (end_parts (state_after after_event start events).before ++ section_end)) c.end.result
+    form_then before middle after (bytes_of tree_bytes after_event start events) (flat_map part_html (end_parts (state_after after_event start events).before ++ section_end)) c.end-2.result
     (subst (λ text. WroteAll before middle text) (λ i. bytes_of tree_bytes after_event (start_is i) (events_are i)) c.in_ok-write_events.ensures.wrote)
-    (subst (λ (walk : Walk). FormWrites middle after (flat_map part_html (end_parts walk.before ++ section_end)) c.end.result)
-    (c.into_form.ensures ∙ c.in_ok-write_events.ensures.state ∙ (λ i. state_after after_event (start_is i) (events_are i))) c.end.ensures)
+    (subst (λ (walk : Walk). FormWrites middle after (flat_map part_html (end_parts walk.before ++ section_end)) c.end-2.result)
+    (c.into_form.ensures ∙ c.in_ok-write_events.ensures.state ∙ (λ i. state_after after_event (start_is i) (events_are i))) c.end-2.ensures)
