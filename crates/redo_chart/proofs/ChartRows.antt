@@ -1,10 +1,10 @@
 -- Rows of the charts of timelines, and of their parts. The values are worked out by hand.
-use Rattle.std.proofs.Common.{◌≡◌, ℕ, Bool, true, false, List, [], ◌∷◌, Option, None, Some, ℤ, pos, negsuc, refl}
+use Rattle.std.proofs.Common.{◌≡◌, ℕ, Bool, true, false, List, [], ◌∷◌, map, Option, None, Some, ℤ, pos, negsuc, refl, arith, ◌≤◌}
 use Rattle.std.specs.Fmt.{digits}
 use Rattle.std.specs.Prelude.{codes}
 use Rattle.redo_html.specs.declared.chart.Anchor.TheVariants.{Start, Middle, End}
 use Rattle.redo_html.specs.declared.chart.GroupKind.TheVariants.{Axis, Parents, Recipes, Untimed}
-use Rattle.redo_html.specs.Chart.{Drawing, Shape, drawing_links}
+use Rattle.redo_html.specs.Chart.{DrawnBar, Drawing, Layer, Shape, drawing_links}
 use Rattle.redo_html.specs.Chart.Shape.{BarShape, LineShape, TickShape}
 use Rattle.redo_logs.specs.declared.log_state.LogState.TheVariants.{Ended}
 use Rattle.redo_logs.specs.Logs.{Log}
@@ -18,7 +18,7 @@ use Rattle.redo_units.specs.Words.{decimal_text}
 use Rattle.redo_chart.specs.Axis.{anchor_of, axis_shapes}
 use Rattle.redo_chart.specs.Bands.{below, marks_band, max_mark_lanes, max_parent_lanes, max_recipe_lanes, parents_band, recipe_lane_height, recipes_band}
 use Rattle.redo_chart.specs.Bars.{bar_layer, drawn_bar, label_of}
-use Rattle.redo_chart.specs.Laws.{all_bars, are_below, shapes_of}
+use Rattle.redo_chart.specs.Laws.{Draws, Includes, SaysOf, all_bars, are_below, shapes_of}
 use Rattle.redo_chart.specs.Targets.{after_last_slash, last_part, name_at, status_at}
 use Rattle.redo_chart.specs.Timeline.{height_of, timeline_drawing}
 use Rattle.redo_chart.specs.Titles.{duration_after, status_text, title_of}
@@ -40,7 +40,6 @@ node number status = record {
   warnings_below = 0;
   fails_below = false;
   silent = 0;
-  took = None;
 }
 
 abbrev logs : List Log
@@ -67,7 +66,7 @@ last_parts = (refl, refl, refl, refl, refl, refl)
 statuses :
     status_text None ∷ status_text (Some (pos 0)) ∷ status_text (Some (pos 1)) ∷ status_text (Some (pos 127)) ∷ status_text (Some (negsuc 0)) ∷ status_text (Some (negsuc 14)) ∷ []
     ≡ codes ", not closed" ∷ [] ∷ codes ", exit 1" ∷ codes ", exit 127" ∷ codes ", exit -1" ∷ codes ", exit -15" ∷ []
-unfolding duration_words decimal_text digits
+unfolding decimal_text digits
 statuses = refl
 
 durations :
@@ -129,7 +128,7 @@ axes :
     ≡ LineShape 0 7 ∷ TickShape 0 Start (codes "0") ∷ LineShape 1818 7 ∷ TickShape 1818 Middle (codes "1 s") ∷ LineShape 3636 7 ∷ TickShape 3636 Middle (codes "2 s") ∷ LineShape 5454 7 ∷ TickShape 5454 Middle (codes "3 s")
     ∷ LineShape 7272 7 ∷ TickShape 7272 Middle (codes "4 s") ∷ LineShape 9090 7 ∷ TickShape 9090 Middle (codes "5 s") ∷ [])
     × (axis_shapes 34 900000000 ≡ LineShape 0 34 ∷ TickShape 0 Start (codes "0") ∷ LineShape 10000 34 ∷ TickShape 10000 End (codes "250:00 h") ∷ [])
-unfolding duration_words tick_step_of tick_words decimal_text digits
+unfolding tick_step_of tick_words decimal_text digits
 axes = (refl, refl, refl)
 
 -- ---- charts
@@ -150,19 +149,29 @@ abbrev drawn_at : ℕ → ℕ → ℕ → ℕ → ℕ → Bool → List ℕ → 
 drawn_at place x y width height failed title label =
     BarShape (record { place = place; x = x; y = y; width = width; height = height; failed = failed; title = title; label = label })
 
-whole : (chart.height ≡ 102) × (chart.lanes ≡ 2)
-    × (chart.layers
-    ≡ record { kind = Axis; shapes = axis_shapes 98 10000 }
-    ∷ record { kind = Parents; shapes = drawn_at 1 0 20 10000 12 false (codes "all, 10.0 s, not closed") (Some (codes "all")) ∷ [] }
-    ∷ record {
-      kind = Recipes;
-      shapes =
-          drawn_at 2 0 40 4000 16 false (codes "out/a.o, 4.00 s") (Some (codes "a.o")) ∷ drawn_at 4 5000 40 20 16 false (codes "2 targets in 0.02 s, from ") None
-          ∷ drawn_at 0 2000 58 7500 16 true (codes "out/b.o, 7.50 s, exit -1") (Some (codes "b.o")) ∷ [];
-    }
-    ∷ record { kind = Untimed; shapes = drawn_at 3 10000 82 30 12 true (codes "t, exit 12") None ∷ [] } ∷ [])
-unfolding duration_words tick_step_of tick_words decimal_text digits
-whole = (refl, refl, refl)
+sizes : (chart.height ≡ 102) × (chart.lanes ≡ 2) × (map (λ (layer : Layer). layer.kind) chart.layers ≡ Axis ∷ Parents ∷ Recipes ∷ Untimed ∷ [])
+unfolding tick_step_of
+sizes = (refl, refl, refl)
+
+axis_drawn : shapes_of Axis chart ≡ axis_shapes 98 10000
+unfolding tick_step_of
+axis_drawn = refl
+
+parents_drawn : shapes_of Parents chart ≡ drawn_at 1 0 20 10000 12 false (codes "all, 10.0 s, not closed") (Some (codes "all")) ∷ []
+unfolding tick_step_of duration_words decimal_text digits
+parents_drawn = refl
+
+-- The last two have one bar, after the first one in its lane.
+recipes_drawn :
+    shapes_of Recipes chart
+    ≡ drawn_at 2 0 40 4000 16 false (codes "out/a.o, 4.00 s") (Some (codes "a.o")) ∷ drawn_at 4 5000 40 20 16 false (codes "2 targets in 0.02 s, from ") None
+    ∷ drawn_at 0 2000 58 7500 16 true (codes "out/b.o, 7.50 s, exit -1") (Some (codes "b.o")) ∷ []
+unfolding tick_step_of duration_words decimal_text digits
+recipes_drawn = refl
+
+marks_drawn : shapes_of Untimed chart ≡ drawn_at 3 10000 82 30 12 true (codes "t, exit 12") None ∷ []
+unfolding tick_step_of duration_words decimal_text digits
+marks_drawn = refl
 
 links : drawing_links chart ≡ 1 ∷ 2 ∷ 4 ∷ 0 ∷ 3 ∷ []
 unfolding tick_step_of
@@ -176,3 +185,40 @@ tests :
     ≡ LineShape 1 2 ∷ LineShape 5 6 ∷ [])
     × (all_bars (((span 0 0 9 false ∷ []) ∷ []) ∷ [] ∷ ((span 1 0 9 false ∷ []) ∷ (span 2 0 9 false ∷ []) ∷ []) ∷ []) ≡ (span 0 0 9 false ∷ []) ∷ (span 1 0 9 false ∷ []) ∷ (span 2 0 9 false ∷ []) ∷ [])
 tests = (refl, refl, refl, refl, refl)
+
+-- ---- what the laws reject
+
+-- A bar of the span of place 2, from 1000 to 5000.
+abbrev said : ℕ → ℕ → ℕ → Bool → List ℕ → DrawnBar
+said place x width failed title = record { place = place; x = x; y = 40; width = width; height = 16; failed = failed; title = title; label = None }
+
+abbrev one : List Span
+one = span 2 1000 5000 false ∷ []
+
+abbrev title : List ℕ
+title = codes "out/a.o, 4.00 s"
+
+accepted_bar : SaysOf logs nodes window Recipes one (said 2 0 4000 false title)
+unfolding duration_words decimal_text digits
+accepted_bar = record { target = refl; begins = refl; lasts = refl; fails = refl; title = refl; times = ((omega arith, omega arith), tt) }
+
+-- Another target, another beginning, another width, red, or another tooltip.
+rejected_bars :
+    ¬ SaysOf logs nodes window Recipes one (said 1 0 4000 false title) × ¬ SaysOf logs nodes window Recipes one (said 2 1 4000 false title)
+    × ¬ SaysOf logs nodes window Recipes one (said 2 0 4001 false title) × ¬ SaysOf logs nodes window Recipes one (said 2 0 4000 true title)
+    × ¬ SaysOf logs nodes window Recipes one (said 2 0 4000 false [])
+unfolding duration_words decimal_text digits
+rejected_bars = (
+  λ says. let same : 1 ≡ 2 = says.target in omega (arith, same),
+  λ says. let same : 1 ≡ 0 = says.begins in omega (arith, same),
+  λ says. let same : 4001 ≡ 4000 = says.lasts in omega (arith, same),
+  λ says. let same : true ≡ false = says.fails in absurd (cc),
+  λ says. let same : [] ≡ title = says.title in absurd (cc),
+)
+
+-- A bar from 1000 to 5000 does not include the times of a span that began earlier, or ended later.
+rejected_times : ¬ Includes window (said 2 1000 4000 false title) (span 2 1500 5000 false) × ¬ Includes window (said 2 1000 4000 false title) (span 2 2000 6500 false)
+rejected_times = (λ times. let low : 1000 ≤ 500 = times.0 in omega (arith, low), λ times. let high : 5500 ≤ 5000 = times.1 in omega (arith, high))
+
+rejected_shapes : ¬ Draws logs nodes window Recipes one (LineShape 0 98) × ¬ Draws logs nodes window Recipes one (TickShape 0 Start title)
+rejected_shapes = (λ draws. draws, λ draws. draws)

@@ -19,7 +19,7 @@ use Rattle.redo_chart.specs.Titles.{title_of}
 abbrev pub are_below : ℕ → List Span → Bool
 are_below count spans = list_all (λ (span : Span). nat_lt span.place count) spans
 
--- The shapes in the layers of one kind.
+-- A number for each kind of layer, and the shapes in the layers of one kind.
 abbrev pub code : GroupKind → ℕ
 code Axis = 0
 code Parents = 1

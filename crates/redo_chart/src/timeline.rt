@@ -36,7 +36,8 @@ const MAX_MARK_LANES: usize = 1;
 /// `nodes` are the shown targets, and the place of a span is that of its node. A bar whose place is that of no node has an empty name and
 /// an unknown status. The width of the window must be from 1 to 2^44 - 1 milliseconds.
 ///
-/// If an allocation fails, nothing was written. If a write fails, a prefix was written, and no write followed.
+/// If an allocation or a write fails, a prefix was written, possibly nothing, and no write followed one that failed. All is laid out before
+/// anything is written.
 ///
 /// This takes the time of [`layout`], and writes each bar once.
 pub fn write_timeline<W: Sink>(
