@@ -144,9 +144,10 @@ module _ (logs : List Log) (nodes : List Node) (window : Window) (band : Band) w
 
   lane_drawn : (lane : ℕ) (bars : List (List Span)) → AllByRecursion IsIncluded bars → AllZip (Draws logs nodes window band.kind) bars (bar_shapes logs nodes band (map (bar_of window lane) bars))
   lane_drawn lane [] times = tt
-  lane_drawn lane (bar ∷ bars) times =
-      (record { target = refl; begins = refl; lasts = refl; fails = refl; title = refl; times = all_imply (InTime bar) (Includes window (drawn_bar logs nodes band (bar_of window lane bar))) (included lane bar) bar times.0 },
-      lane_drawn lane bars times.1)
+  lane_drawn lane (bar ∷ bars) times = (
+    record { target = refl; begins = refl; lasts = refl; fails = refl; title = refl; times = all_imply (InTime bar) (Includes window (drawn_bar logs nodes band (bar_of window lane bar))) (included lane bar) bar times.0 },
+    lane_drawn lane bars times.1,
+  )
 
   lanes_drawn : (lane : ℕ) (lanes : List (List (List Span))) → EachBar IsIncluded lanes → AllZip (Draws logs nodes window band.kind) (all_bars lanes) (bar_shapes logs nodes band (drawn_bars window lane lanes))
   lanes_drawn lane [] times = tt
