@@ -33,29 +33,29 @@ static PARENTS: [Span; 1] = [Span {
 // The last two are narrow, and in one bar.
 static RECIPES: [Span; 4] = [
     Span {
-    began: 1_000_000,
-    place: 1,
-    ended: 1_004_000,
-    failed: false,
-},
+        began: 1_000_000,
+        place: 1,
+        ended: 1_004_000,
+        failed: false,
+    },
     Span {
-    began: 1_002_000,
-    place: 2,
-    ended: 1_009_500,
-    failed: true,
-},
+        began: 1_002_000,
+        place: 2,
+        ended: 1_009_500,
+        failed: true,
+    },
     Span {
-    began: 1_005_000,
-    place: 3,
-    ended: 1_005_010,
-    failed: false,
-},
+        began: 1_005_000,
+        place: 3,
+        ended: 1_005_010,
+        failed: false,
+    },
     Span {
-    began: 1_005_012,
-    place: 4,
-    ended: 1_005_020,
-    failed: false,
-},
+        began: 1_005_012,
+        place: 4,
+        ended: 1_005_020,
+        failed: false,
+    },
 ];
 
 static MARKS: [Span; 1] = [Span {
