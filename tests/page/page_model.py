@@ -4,9 +4,9 @@
 reading.py returns what a browser reads of it.
 """
 
-import itertools
 import os
 import re
+from typing import NamedTuple
 
 from chart_model import DrawnBar, Span, Window, chart_html, layout, meter_html, most_at_once
 from text_model import bdi, lines_html, name_html, passage
@@ -164,6 +164,13 @@ def facts(shown):
 
 HOW = {b"do": b"made"}
 LEAST_LEVEL = 4096
+LEFT_OUT = b"Lines are left out here. The command at the end of this page shows all of them."
+
+
+class LeftOut(NamedTuple):
+    """In place of a text line that is not shown. The first one of a log is a note, and nothing is written for the others."""
+
+    is_first: bool
 
 
 def level_of(sizes, budget):
@@ -223,18 +230,22 @@ class Page:
     def is_cut(self, shown):
         return self.level is not None and shown.size > self.level and not self.is_moved(shown)
 
-    def kept(self, shown):
-        """Whether each text line of a log is shown in the tree, unless the log is moved."""
+    def items_of(self, shown):
+        """The items of a log. If it is cut, they have its first and its last text lines, and what is in place of the others."""
         if not self.is_cut(shown):
-            return [True] * len(shown.lines)
-        first = self.level // 4
-        last = shown.size - (self.level - first)
-        kept, begin = [], 0
-        for line in shown.lines:
-            end = begin + len(line) + 1
-            kept.append(end <= first or begin >= last)
-            begin = end
-        return kept
+            return shown.items
+        head = self.level // 4
+        tail = shown.size - (self.level - head)
+        items, begin, all_shown = [], 0, True
+        for item in shown.items:
+            if isinstance(item, Text):
+                end = begin + len(item.line) + 1
+                if end > head and begin < tail:
+                    item = LeftOut(all_shown)
+                    all_shown = False
+                begin = end
+            items.append(item)
+        return items
 
     # ---- the tree ----
 
@@ -246,8 +257,7 @@ class Page:
 
     def contents(self, around, expanded, depth):
         """Writes what a log contains. A row of five silent logs or more is a group; lines in a row are blocks."""
-        items = [item for item in around.items if self.is_seen(item, around)]
-        kept = iter(self.kept(around))
+        items = [item for item in self.items_of(around) if self.is_seen(item, around)]
         at = 0
         while at < len(items):
             item = items[at]
@@ -256,7 +266,7 @@ class Page:
                 while end < len(items) and isinstance(items[end], Text):
                     end += 1
                 if not self.is_moved(around):
-                    self.stretches([(next(kept), text.line) for text in items[at:end]])
+                    self.blocks([text.line for text in items[at:end]])
                 at = end
             elif isinstance(item, Shown) and item.silent and not (around.target is not None and around.silent):
                 end = at
@@ -279,15 +289,6 @@ class Page:
             return shown is None or shown.parent is not around
         return True
 
-    def stretches(self, lines):
-        """Lines in a row, each with whether it is shown."""
-        for is_kept, stretch in itertools.groupby(lines, lambda pair: pair[0]):
-            stretch = [line for _, line in stretch]
-            if is_kept:
-                self.blocks(stretch)
-            else:
-                self.put(b'<li class="note">', many(len(stretch), b" line left out", b" lines left out"), b"</li>")
-
     def blocks(self, lines):
         blocks, size = [], 0
         for line in lines:
@@ -299,7 +300,9 @@ class Page:
         self.put(b"<li>", *[b"<pre>\n" + lines_html(block) + b"</pre>" for block in blocks], b"</li>")
 
     def item(self, item):
-        if isinstance(item, Mention):
+        if isinstance(item, LeftOut):
+            self.put(b'<li class="note">' + LEFT_OUT + b"</li>" if item.is_first else b"")
+        elif isinstance(item, Mention):
             self.put(b"<li>", self.link(item.target) if item.target in self.build.targets else bdi(item.target), self.how(item.kind), b"</li>")
         elif isinstance(item, Done):
             self.put(b'<li class="note">needs ', self.link(item.target), exit_badge(item.status), b"</li>")
@@ -315,9 +318,6 @@ class Page:
         note = b""
         if self.is_moved(shown):
             note = b'<li class="note"><a href="#f%d">What it printed is shown above</a></li>' % shown.place
-        elif self.is_cut(shown):
-            command = b"redo-log --dir=" + quoted(self.directory) + b" " + as_target(shown.target)
-            note = b'<li class="note">Its first and last lines are shown. To see all: <code>' + name_html(command) + b"</code></li>"
         if not shown.items:
             self.put(b'<li id="t%d">' % shown.place, heading, b"</li>")
         elif depth >= 60:
@@ -553,16 +553,13 @@ class Page:
 
     def command(self):
         flags = b" -u" * self.build.unchanged + b" --debug-locks" * self.build.debug_locks
-        return b"redo-log -r" + flags + b" --dir=" + quoted(self.directory) + b"".join(b" " + as_target(name) for name in self.requested)
+        # A name with a dash at its start would be an option. A shell joins `./` to the quoted name.
+        words = [(b"./" if name.startswith(b"-") else b"") + quoted(name) for name in self.requested]
+        return b"redo-log -r" + flags + b" --dir=" + quoted(self.directory) + b"".join(b" " + word for word in words)
 
 
 def quoted(word):
     return word if re.fullmatch(rb"[a-zA-Z0-9@%+,./:=_-]+", word) else b"'" + word.replace(b"'", b"'\\''") + b"'"
-
-
-def as_target(name):
-    """A name as an argument. With a dash at its start it would be an option. A shell joins `./` to the quoted name."""
-    return (b"./" if name.startswith(b"-") else b"") + quoted(name)
 
 
 def cut_to(limit, line):

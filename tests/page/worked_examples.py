@@ -201,28 +201,83 @@ def part(page, begin, end):
     return found.partition(end)[0] if end in found else None
 
 
+def tile(term, value):
+    return b"<div><dt>" + term + b"</dt><dd>" + value + b"</dd></div>"
+
+
+NOTE = b'<li class="note">Lines are left out here. The command at the end of this page shows all of them.</li>'
+
+
+def told(page):
+    """The numbers that are the text lines of a tree, in order, and None for each note that lines are left out."""
+    tree = part(page, b'<ul class="tree">', b"</section>")
+    return [int(number) if number else None for number in re.findall(rb"^0*([0-9]+)$|" + NOTE, tree, re.M)]
+
+
+def numbered(first, last, length=99):
+    return b"".join(b"%0*d\n" % (length, number) for number in range(first, last + 1))
+
+
 # 100 lines of 100 bytes, of which 4,096 bytes are shown: lines 1 to 10 end within the first 1,024, and the last 3,072 have 30 lines.
-LONG = {b"all": record(b"do", 1, b"a") + b"".join(b"%099d\n" % number for number in range(1, 101)) + record(b"done", 2, b"0 all"), b"a": b""}
-tree = part(made_page(LONG, max_bytes=5, directory=b"my dir"), b"</p><ul class=\"tree\">", b"</section>")
-lines = [b"%099d\n" % number for number in range(1, 101)]
-check("a long log", part(tree, b"</summary><ul>", b"</ul>"),
-      b"<li class=\"note\">Its first and last lines are shown. To see all: <code>redo-log --dir='my dir' all</code></li><li id=\"t1\"><bdi>a</bdi> "
-      b"<strong class=\"o\">not closed</strong></li><li><pre>\n" + b"".join(lines[:10]) + b"</pre></li><li class=\"note\">60 lines left out</li><li><pre>\n"
-      + b"".join(lines[70:]) + b"</pre></li>")
-check("a long log, shown", b"left out" in made_page(LONG, max_bytes=10_000) or b"left out" in made_page(LONG, max_bytes=0), False)
-# 10,000 bytes but for one: the level is 9,999. The first 2,499 bytes have 24 lines, the last 7,500 have 75, and line 25 is left out.
-check("one line is left out", part(made_page(LONG, max_bytes=9_999), b"To see all", b"</ul>").count(b'<li class="note">1 line left out</li>'), 1)
+LONG = {b"all": record(b"do", 1, b"a") + numbered(1, 100) + record(b"done", 2, b"0 all"), b"a": b""}
+page = made_page(LONG, max_bytes=5, directory=b"my dir")
+check("a long log", part(page, b"<ul class=\"tree\">", b"</section>"),
+      b'<li><details open id="t0"><summary><bdi>all</bdi> <small>100 lines</small> <small>1 below</small></summary><ul><li id="t1"><bdi>a</bdi> '
+      b"<strong class=\"o\">not closed</strong></li><li><pre>\n" + numbered(1, 10) + b"</pre></li>" + NOTE + b"<li><pre>\n" + numbered(71, 100)
+      + b"</pre></li></ul></details></li></ul>")
+check("its size", tile(b"Logs", b"10.0 kB") in page, True)
+check("the command at the end", part(page, b"As one text: <code>", b"</code>"), b"redo-log -r --dir='my dir' all")
+for budget in (0, 10_000, 10_001, 16_000_000):
+    check(("a long log, whole", budget), told(made_page(LONG, max_bytes=budget)), [*range(1, 101)])
+check("a long log, by default", made_page(LONG), made_page(LONG, max_bytes=0))
+# 10,000 bytes but for one: the level is 9,999. The first 2,499 bytes have 24 lines, and the last 7,500 have 75.
+check("one line is left out", told(made_page(LONG, max_bytes=9_999)), [*range(1, 25), None, *range(26, 101)])
+# The level is 4,100: the first 1,025 bytes have 10 lines, and the last 3,075 have 30. It is 4,133, and the last 3,100 have 31.
+for budget, wanted in [(4100, [*range(1, 11), None, *range(71, 101)]), (4133, [*range(1, 11), None, *range(70, 101)])]:
+    check(("another level", budget), told(made_page(LONG, max_bytes=budget)), wanted)
 # Ten lines of 1,024 bytes: the first one ends with the first 1,024 bytes, and the eighth one begins with the last 3,072.
-EQUAL = [b"%01023d\n" % number for number in range(1, 11)]
-for what, first, wanted in [("at the limits", EQUAL[0], [b"6"]), ("a byte more", b"0" + EQUAL[0], [b"7"]), ("a byte less", EQUAL[0][1:], [b"6"])]:
-    text = b"".join([first, *EQUAL[1:]])
-    check(what, re.findall(rb">(\d+) lines left out<", made_page({b"all": text}, max_bytes=4096)), wanted)
-check("one long line", part(made_page({b"all": b"x" * 9000}, max_bytes=8999), b"</code></li>", b"</ul>"), b'<li class="note">1 line left out</li>')
-FAILED = {b"all": record(b"do", 1, b"a") + b"y" * 20_000 + b"\n" + record(b"done", 1, b"2 all"), b"a": b"x" * 9000 + b"\n" + record(b"done", 2, b"1 a")}
-check("an output in an article isn't cut", (b"<pre>\n" + b"x" * 9000 + b"\n</pre></article>" in made_page(FAILED, max_bytes=1),
-                                            made_page(FAILED, max_bytes=1).count(b"left out")), (True, 1))
-APART = {b"all": b"".join(lines[:50]) + record(b"do", 1, b"a") + b"".join(lines[50:]), b"a": b"x\n"}
-check("stretches in parts", re.findall(rb">(\d+) lines left out<", made_page(APART, max_bytes=1)), [b"40", b"20"])
+for what, first, wanted in [("at the limits", 1023, [1, None, 8, 9, 10]), ("a byte more", 1024, [None, 8, 9, 10]), ("a byte less", 1022, [1, None, 8, 9, 10])]:
+    check(what, told(made_page({b"all": numbered(1, 1, first) + numbered(2, 10, 1023)}, max_bytes=4096)), wanted)
+# Nine lines of 1,024 bytes and another one: if that one has at most 1,024, the eighth begins within the last 3,072.
+for last, wanted in [(1022, [1, None, 8, 9, 10]), (1023, [1, None, 8, 9, 10]), (1024, [1, None, 9, 10])]:
+    check(("the tail", last), told(made_page({b"all": numbered(1, 9, 1023) + numbered(10, 10, last)}, max_bytes=4096)), wanted)
+check("one long line", part(made_page({b"all": b"x" * 9000}, max_bytes=8999), b"</summary><ul>", b"</ul>"), NOTE)
+# Of lines of 1,024, 5,000 and 1,024 bytes, the second one neither ends within the first 1,024 nor begins within the last 3,072.
+check("a long line between", told(made_page({b"all": numbered(1, 1, 1023) + numbered(2, 2, 4999) + numbered(3, 3, 1023)}, max_bytes=4096)), [1, None, 3])
+check("a long line at the end", told(made_page({b"all": numbered(1, 1, 1023) + numbered(2, 2, 4999)}, max_bytes=4096)), [1, None])
+check("a long line at the start", told(made_page({b"all": numbered(1, 1, 4999) + numbered(2, 3, 99)}, max_bytes=4096)), [None, 2, 3])
+
+# What isn't text is shown where it is, and ends no head. The note is where the first line is left out.
+BETWEEN = {b"all": numbered(1, 10) + record(b"check", 1, b"x") + numbered(11, 40) + record(b"hint", 1, b"y") + numbered(41, 100)}
+check("records between lines", part(made_page(BETWEEN, max_bytes=1), b"</summary><ul>", b"</ul>"),
+      b"<li><pre>\n" + numbered(1, 10) + b'</pre></li><li class="note">(x)</li>' + NOTE + b'<li class="note">redo: y</li><li><pre>\n' + numbered(71, 100)
+      + b"</pre></li>")
+# Each of two logs of 100 lines has its own head and its own tail. The shorter one between them is whole.
+NESTED = {b"all": numbered(1, 50) + record(b"do", 1, b"a") + numbered(51, 100), b"a": numbered(101, 150) + record(b"do", 1, b"b") + numbered(151, 200),
+          b"b": numbered(201, 240)}
+wanted = [*range(1, 11), None, *range(101, 111), None, *range(201, 241), *range(171, 201), *range(71, 101)]
+check("logs in long ones", told(made_page(NESTED, max_bytes=1)), wanted)
+# The budget has 12,196 bytes: 4,000 of the shortest log, and 4,098 of each of the other two.
+check("a common level", (level_of([10_000, 10_000, 4000], 12_196), told(made_page(NESTED, max_bytes=12_196))), (4098, wanted))
+# A colour ends with its block. In the whole log it goes on.
+RED = {b"all": b"\x1b[31m" + numbered(1, 100)}
+check("colours", [made_page(RED, max_bytes=budget).count(b'<span class="r">') for budget in (0, 1)], [100, 10])
+check("no colour after lines that are left out", part(made_page(RED, max_bytes=1), NOTE, b"</ul>"), b"<li><pre>\n" + numbered(71, 100) + b"</pre></li>")
+# Lines that are left out still are between the groups of silent logs.
+ROW = [b"s%d" % number for number in range(10)]
+GROUPS = {b"all": numbered(1, 15) + b"".join(record(b"do", 1, name) for name in ROW[:5]) + numbered(16, 20) + b"".join(record(b"do", 1, name) for name in ROW[5:])
+          + numbered(21, 100), **{name: b"" for name in ROW}}
+check("groups between lines that are left out", re.findall(rb'<li class="note">|<summary>[0-9]+ targets', made_page(GROUPS, max_bytes=1)),
+      [b'<li class="note">', b"<summary>5 targets", b"<summary>5 targets"])
+# The sixty-first log is not nested.
+DEEP = {b"all": record(b"do", 1, b"d1"), **{b"d%d" % depth: record(b"do", 1, b"d%d" % (depth + 1)) for depth in range(1, 60)}, b"d60": numbered(1, 100)}
+check("a log that is not nested", part(made_page(DEEP, max_bytes=1), b"<small>level 60</small></li>", b"</ul>"),
+      b"<li><pre>\n" + numbered(1, 10) + b"</pre></li>" + NOTE + b"<li><pre>\n" + numbered(71, 100) + b'</pre></li><li class="note">end of <bdi>d60</bdi></li>')
+# An output of 300 lines is in an article, and not cut. One of 301 lines is in the tree, and the excerpt in its article has the last 60.
+for count, wanted in [(300, []), (301, [*range(1, 11), None, *range(272, 302)])]:
+    failed = made_page({b"all": record(b"do", 1, b"a"), b"a": numbered(1, count) + record(b"done", 2, b"1 a")}, max_bytes=1)
+    article = [int(number) for number in re.findall(rb"^0*([0-9]+)$", part(failed, b"<article", b"</article>"), re.M)]
+    check(("an output in an article", count), (told(failed), article), (wanted, [*range(1, 301)] if count == 300 else [*range(1, 11), *range(242, 302)]))
 
 # ---- pages -----------------------------------------------------------------------------------------------------------
 
@@ -230,10 +285,6 @@ check("stretches in parts", re.findall(rb">(\d+) lines left out<", made_page(APA
 def bare(page):
     """The parts between the header and the tree that depend on times, and the nav."""
     return part(page, b"</h1>", b"</header>"), part(page, b"<dl>", b"</section>"), part(page, b'<section id="timeline"', b"</section>"), part(page, b"<nav", b"</nav>")
-
-
-def tile(term, value):
-    return b"<div><dt>" + term + b"</dt><dd>" + value + b"</dd></div>"
 
 
 header, summary, timeline, nav = bare(made_page({b"all": b"warning: x\n"}))
