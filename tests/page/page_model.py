@@ -435,10 +435,10 @@ class Page:
             yield b"At once", b"%s, at most %d" % (tenths(timing.total, timing.window.width), most_at_once(timing.recipes))
 
     def longest(self):
-        """The table of the targets that took longest."""
+        """The table of the recipes that took longest. Those that ran others are not among them."""
         if not self.timing.timed:
             return b""
-        times = {shown: min(shown.ended - shown.began, WIDEST) for shown in self.build.order if shown.has_times}
+        times = {self.build.order[span.place]: min(span.ended - span.began, WIDEST) for span in self.timing.recipes}
         return self.table(b"Longest", times, duration)
 
     def most_warnings(self):

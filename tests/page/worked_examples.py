@@ -328,8 +328,18 @@ def row(place, name, status, value, hundredths):
 
 
 check("make: tables", summary.partition(b"</dl>")[2],
-      b'<div class="cols"><div><h3>Longest</h3><table><tbody>' + row(1, b"d/x", 2, b"8.00 s", 10_000) + row(3, b"sub/z", 1, b"6.00 s", 7500)
-      + row(2, b"sub/y", 0, b"3.00 s", 3750) + b"</tbody></table></div></div>")
+      b'<div class="cols"><div><h3>Longest</h3><table><tbody>' + row(3, b"sub/z", 1, b"6.00 s", 10_000) + row(2, b"sub/y", 0, b"3.00 s", 5000)
+      + b"</tbody></table></div></div>")
+
+# Of twelve recipes, the last one took longest and has most warnings. The others are equal, so nine of them follow in their order.
+TWELVE = {b"all": b"".join(record(b"do", 0, b"t%d" % place) for place in range(1, 13)),
+          **{b"t%d" % place: b"warning:\n" * (1 + (place == 12)) + record(b"done", 2 + 2 * (place == 12), b"0 t%d" % place) for place in range(1, 13)}}
+summary = bare(made_page(TWELVE))[1]
+check("tables of ten", summary.partition(b"</dl>")[2],
+      b'<div class="cols"><div><h3>Longest</h3><table><tbody>' + row(12, b"t12", 0, b"4.00 s", 10_000)
+      + b"".join(row(place, b"t%d" % place, 0, b"2.00 s", 5000) for place in range(1, 10))
+      + b"</tbody></table></div><div><h3>Most warnings</h3><table><tbody>" + row(12, b"t12", 0, b"2", 10_000)
+      + b"".join(row(place, b"t%d" % place, 0, b"1", 5000) for place in range(1, 10)) + b"</tbody></table></div></div>")
 
 
 def labelled(place, x, y, width, height, title, fill, label, failed=False):
