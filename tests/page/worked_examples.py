@@ -259,6 +259,10 @@ wanted = [*range(1, 11), None, *range(101, 111), None, *range(201, 241), *range(
 check("logs in long ones", told(made_page(NESTED, max_bytes=1)), wanted)
 # The budget has 12,196 bytes: 4,000 of the shortest log, and 4,098 of each of the other two.
 check("a common level", (level_of([10_000, 10_000, 4000], 12_196), told(made_page(NESTED, max_bytes=12_196))), (4098, wanted))
+# A line of 4,096 bytes is a log that isn't cut. A longer one neither ends in the head nor begins in the tail.
+for length, wanted in [(4095, [201]), (4096, [None])]:
+    check(("beside a long log", length), told(made_page({b"all": record(b"do", 1, b"a") + numbered(1, 100), b"a": numbered(201, 201, length)}, max_bytes=1)),
+          [*wanted, *range(1, 11), None, *range(71, 101)])
 # A colour ends with its block. In the whole log it goes on.
 RED = {b"all": b"\x1b[31m" + numbered(1, 100)}
 check("colours", [made_page(RED, max_bytes=budget).count(b'<span class="r">') for budget in (0, 1)], [100, 10])
