@@ -40,6 +40,7 @@ node number status = record {
   warnings_below = 0;
   fails_below = false;
   silent = 0;
+  took = None;
 }
 
 abbrev logs : List Log
