@@ -12,14 +12,15 @@ use Rattle.redo_logs.specs.Logs.{Log}
 use Rattle.redo_html.specs.declared.markup.Markup.TheVariants as markup
 use Rattle.redo_html.specs.Passage.{html_from}
 use Rattle.redo_html.specs.Parts.{Part, part_html}
-use Rattle.redo_html.specs.Parts.Part.{MarkupPart}
+use Rattle.redo_html.specs.Parts.Part.{MarkupPart, NamePart, NumberPart}
 use Rattle.redo_html.specs.Shown.{is_odd, number_text, odd_text, picture}
 use Rattle.redo_html.specs.Symbols.{first_letter, first_symbol, is_sequence, letter_len, sequence_len, sequence_numbers, symbol_len, symbols_after}
 use Rattle.redo_outline.specs.declared.node.Node.{Node}
 use Rattle.redo_page.specs.Errors.{begins_with}
 use Rattle.redo_page.specs.Excerpt.{cut_to, excerpt_line_end, excerpt_line_parts, excerpt_parts, in_tree_parts}
 use Rattle.redo_page.specs.declared.failed.Failures.{Failures}
-use Rattle.redo_page.specs.Failed.{AreFailures, article_of, article_parts, article_row, cause_of_node, cause_parts, failed_above, failed_parts, is_unclosed, list_parts, more_above, more_parts, nothing_parts, output_parts, path_parts, path_separator, places_where, row_parts, section_parts, target_row, unlisted_parts, whole_parts}
+use Rattle.redo_page.specs.Failed.{AreFailures, article_of, article_parts, article_row, article_took, cause_of_node, cause_parts, failed_above, failed_parts, is_unclosed, list_parts, more_above, more_parts, nothing_parts, output_parts, path_parts, path_separator, places_where, row_parts, section_parts, target_row, unlisted_parts, whole_parts}
+use Rattle.redo_units.specs.Durations.{duration_words}
 
 abbrev log : List ℕ → List Entry → Log
 log target entries = record { target = target; entries = entries; state = Ended }
@@ -221,6 +222,24 @@ no_failure_below_it :
     ≡ true
 unfolding output_parts nothing_parts symbols_after first_symbol symbol_len is_sequence sequence_len sequence_numbers first_letter letter_len is_odd picture odd_text number_text encode_utf8 digits html_from
 no_failure_below_it = refl
+
+-- ---- how long targets took
+
+-- `C2 B7` is a middle dot.
+took_are :
+    (article_took None ≡ [])
+    × (article_took (Some 1234)
+    ≡ NumberPart 1 ∷ NamePart (codes ".") ∷ NumberPart 2 ∷ NumberPart 3 ∷ NamePart (codes " s") ∷ NamePart (32 ∷ 0xC2 ∷ 0xB7 ∷ 32 ∷ []) ∷ [])
+unfolding duration_words
+took_are = (refl, refl)
+
+-- It precedes the path.
+article_begins :
+    bytes_eq (html (take 15 (article_parts logs (node 0 None None 0 2 true ∷ record b { took = Some 61000 } ∷ []) 1)))
+    (codes "<article id=\"f1\"><h3><bdi>b</bdi> <strong class=\"x\">exit 1</strong></h3><p class=\"meta\">1 min 01")
+    ≡ true
+unfolding article_parts article_of path_parts output_parts whole_parts in_tree_parts duration_words symbols_after first_symbol symbol_len is_sequence sequence_len sequence_numbers first_letter letter_len is_odd picture odd_text number_text encode_utf8 digits html_from
+article_begins = refl
 
 -- ---- paths
 

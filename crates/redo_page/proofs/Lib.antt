@@ -17,6 +17,7 @@ mod Ids
 mod JoinLemmas
 mod LawRows
 mod LimitLemmas
+mod LimitRows
 mod Nesting
 mod PageIds
 mod PageLemmas
@@ -31,10 +32,12 @@ mod ShownLemmas
 mod StackLemmas
 mod SummaryIds
 mod SummaryNesting
+mod SummaryRows
 mod TargetNesting
 mod TargetRows
 mod TextLemmas
 mod TimelineLemmas
+mod TimelineRows
 mod TreeIds
 mod TreeLines
 mod TreeNesting

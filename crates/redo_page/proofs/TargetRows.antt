@@ -7,7 +7,8 @@ use Rattle.redo_html.specs.declared.markup.Markup.TheVariants as markup
 use Rattle.redo_html.specs.Parts.{Part}
 use Rattle.redo_html.specs.Parts.Part.{MarkupPart, NamePart, NumberPart}
 use Rattle.redo_outline.specs.declared.node.Node.{Node}
-use Rattle.redo_page.specs.Targets.{badge_parts, below_parts, exit_parts, facts_parts, how_parts, lines_parts, linked_parts, name_parts, parts_if, warnings_below_parts, warnings_parts}
+use Rattle.redo_page.specs.Targets.{badge_parts, below_parts, exit_parts, facts_parts, how_parts, lines_parts, linked_parts, name_parts, parts_if, took_parts, warnings_below_parts, warnings_parts}
+use Rattle.redo_units.specs.Durations.{duration_words}
 
 abbrev tag : Markup → Part
 tag markup = MarkupPart markup
@@ -69,18 +70,27 @@ warnings_below_are :
     × (warnings_below_parts 2 ≡ words (codes " ") ∷ tag markup.Small ∷ words (codes "with ") ∷ tag markup.Warnings ∷ number 2 ∷ words (codes " warnings") ∷ tag markup.EndWarnings ∷ tag markup.EndSmall ∷ [])
 warnings_below_are = (refl, refl, refl)
 
--- It printed three lines, two of which are warnings, and four targets are below it, with one warning.
+took_are :
+    (took_parts None ≡ [])
+    × (took_parts (Some 1234)
+    ≡ words (codes " ") ∷ tag markup.Small ∷ number 1 ∷ words (codes ".") ∷ number 2 ∷ number 3 ∷ words (codes " s") ∷ tag markup.EndSmall ∷ [])
+unfolding duration_words
+took_are = (refl, refl)
+
+-- It took 61 seconds and printed three lines, two of which are warnings. Four targets are below it, with one warning.
 abbrev node : Node
-node = record { number = 0; parent = None; status = Some (pos 5); lines = 3; bytes = 9; warnings = 2; below = 4; children = 1; others = true; warnings_below = 1; fails_below = false; silent = 0; took = None }
+node = record { number = 0; parent = None; status = Some (pos 5); lines = 3; bytes = 9; warnings = 2; below = 4; children = 1; others = true; warnings_below = 1; fails_below = false; silent = 0; took = Some 61000 }
 
 facts_are :
     facts_parts node
     ≡ words (codes " ") ∷ tag markup.ExitBadge ∷ words (codes "exit ") ∷ words [] ∷ number 5 ∷ tag markup.EndBadge
+    ∷ words (codes " ") ∷ tag markup.Small ∷ number 1 ∷ words (codes " min ") ∷ number 0 ∷ number 1 ∷ words (codes " s") ∷ tag markup.EndSmall
     ∷ words (codes " ") ∷ tag markup.Small ∷ number 3 ∷ words (codes " lines") ∷ tag markup.EndSmall
     ∷ words (codes " ") ∷ tag markup.Small ∷ tag markup.Warnings ∷ number 2 ∷ words (codes " warnings") ∷ tag markup.EndWarnings ∷ tag markup.EndSmall
     ∷ words (codes " ") ∷ tag markup.Small ∷ number 4 ∷ words (codes " below") ∷ tag markup.EndSmall
     ∷ words (codes " ") ∷ tag markup.Small ∷ words (codes "with ") ∷ tag markup.Warnings ∷ number 1 ∷ words (codes " warning") ∷ tag markup.EndWarnings ∷ tag markup.EndSmall
     ∷ []
+unfolding duration_words
 facts_are = refl
 
 -- ---- locks

@@ -1,0 +1,109 @@
+-- Rows of how much of long logs a page shows. The values are worked out by hand.
+use Rattle.std.proofs.Common.{◌≡◌, ℕ, true, false, List, [], ◌∷◌, Option, None, Some, ℤ, pos, refl}
+use Rattle.std.specs.Prelude.{codes}
+use Rattle.redo_logs.specs.declared.log_state.LogState.TheVariants.{Ended}
+use Rattle.redo_logs.specs.Logs.{Log}
+use Rattle.redo_options.specs.declared.options.Options.{Options}
+use Rattle.redo_outline.specs.declared.node.Node.{Node}
+use Rattle.redo_page.specs.Limits.{at_most, bytes_shown, fit_in, highest_level, level_for, limit_at, limit_if, limits_from, limits_of, min_level, place_limit, tree_limits}
+use Rattle.redo_page.specs.Tree.{Build}
+use Rattle.redo_trim.specs.declared.limit.Limit.{Limit}
+
+-- ---- values
+
+-- The log with this number, in which a target with this status printed this many bytes in two lines.
+abbrev printed : ℕ → Option ℤ → ℕ → Node
+printed number status bytes = record {
+  number = number;
+  parent = None;
+  status = status;
+  lines = 2;
+  bytes = bytes;
+  warnings = 0;
+  below = 0;
+  children = 0;
+  others = true;
+  warnings_below = 0;
+  fails_below = false;
+  silent = 0;
+  took = None;
+}
+
+abbrev node : ℕ → Node
+node bytes = printed 0 (Some (pos 0)) bytes
+
+abbrev limit : ℕ → ℕ → Limit
+limit head tail = record { head = head; tail = tail }
+
+abbrev whole : Limit
+whole = limit 0 0
+
+-- ---- the level
+
+shown_are :
+    (at_most None 5 ≡ 5) × (at_most (Some 3) 5 ≡ 3) × (at_most (Some 7) 5 ≡ 5) × (bytes_shown None (node 5 ∷ node 3 ∷ []) ≡ 8) × (bytes_shown (Some 4) (node 5 ∷ node 3 ∷ []) ≡ 7)
+    × (bytes_shown (Some 0) (node 5 ∷ node 3 ∷ []) ≡ 0) × (bytes_shown (Some 4) [] ≡ 0)
+shown_are = (refl, refl, refl, refl, refl, refl, refl)
+
+fits_are :
+    (fit_in None 8 (node 5 ∷ node 3 ∷ []) ≡ true) × (fit_in None 7 (node 5 ∷ node 3 ∷ []) ≡ false) × (fit_in (Some 4) 7 (node 5 ∷ node 3 ∷ []) ≡ true)
+    × (fit_in (Some 4) 6 (node 5 ∷ node 3 ∷ []) ≡ false) × (fit_in (Some 4) 0 [] ≡ true)
+fits_are = (refl, refl, refl, refl, refl)
+
+-- The level that fits exactly; the highest one below a level that doesn't fit; no byte; all bytes.
+levels_are :
+    (highest_level 10 (node 20 ∷ node 3 ∷ []) ≡ 7) × (highest_level 10 (node 4 ∷ node 4 ∷ node 4 ∷ []) ≡ 3) × (highest_level 0 (node 5 ∷ []) ≡ 0)
+    × (highest_level 2 (node 5 ∷ node 5 ∷ node 5 ∷ []) ≡ 0) × (highest_level 12 (node 3 ∷ node 3 ∷ []) ≡ 12)
+levels_are = (refl, refl, refl, refl, refl)
+
+-- A budget of 0 allows all bytes. So does one into which all logs fit, even exactly.
+no_levels_are :
+    (level_for 0 (node 9999 ∷ []) ≡ None) × (level_for 300 (node 200 ∷ node 100 ∷ []) ≡ None) × (level_for 5000 [] ≡ None)
+no_levels_are = (refl, refl, refl)
+
+-- 4,096 bytes are shown, even if this is more than the budget.
+some_levels_are :
+    (min_level ≡ 4096) × (level_for 299 (node 200 ∷ node 100 ∷ []) ≡ Some 4096) × (level_for 5000 (node 20000 ∷ []) ≡ Some 5000) × (level_for 5000 (node 20000 ∷ node 50 ∷ []) ≡ Some 4950)
+    × (level_for 4097 (node 5000 ∷ node 1 ∷ []) ≡ Some 4096) × (level_for 4097 (node 5000 ∷ []) ≡ Some 4097)
+some_levels_are = (refl, refl, refl, refl, refl, refl)
+
+-- ---- limits
+
+-- Of 20,000 bytes, the first 1,250 and the last 3,750 are shown. A quarter is rounded down.
+limits_are :
+    (limit_at 5000 20000 ≡ limit 1250 16250) × (limit_at 4096 4097 ≡ limit 1024 1025) × (limit_at 4099 10000 ≡ limit 1024 6925) × (limit_at 5000 3000 ≡ limit 1250 0)
+limits_are = (refl, refl, refl, refl)
+
+abbrev options : Options
+options = record { recursive = true; unchanged = false; details = true; debug_locks = false; debug_pids = false }
+
+abbrev log : List ℕ → Log
+log target = record { target = target; entries = []; state = Ended }
+
+-- The second log isn't shown.
+abbrev logs : List Log
+logs = log (codes "a") ∷ log (codes "b") ∷ log (codes "c") ∷ log (codes "d") ∷ []
+
+-- The output of the second target is in its article, because it failed. The output of the third one is too long for that.
+abbrev nodes : List Node
+nodes = printed 2 (Some (pos 0)) 20000 ∷ printed 3 (Some (pos 1)) 40000 ∷ printed 0 (Some (pos 1)) 40001 ∷ []
+
+abbrev build : Build
+build = record { logs = logs; options = options; nodes = nodes; articles = 1 ∷ 2 ∷ [] }
+
+-- A log that has as many bytes as the level is shown whole.
+places_are :
+    (place_limit build 5000 0 ≡ limit 1250 16250) × (place_limit build 19999 0 ≡ limit 4999 4999) × (place_limit build 20000 0 ≡ whole) × (place_limit build 5000 1 ≡ whole)
+    × (place_limit build 5000 2 ≡ limit 1250 36251) × (place_limit (record build { articles = [] }) 5000 1 ≡ limit 1250 36250)
+    × (limit_if build 5000 None ≡ whole) × (limit_if build 5000 (Some 0) ≡ limit 1250 16250)
+places_are = (refl, refl, refl, refl, refl, refl, refl, refl)
+
+numbers_are :
+    (limits_from build 5000 0 4 ≡ limit 1250 36251 ∷ whole ∷ limit 1250 16250 ∷ whole ∷ []) × (limits_from build 5000 2 1 ≡ limit 1250 16250 ∷ []) × (limits_from build 5000 0 0 ≡ [])
+    × (limits_of build None 4 ≡ []) × (limits_of build (Some 5000) 3 ≡ limit 1250 36251 ∷ whole ∷ limit 1250 16250 ∷ [])
+numbers_are = (refl, refl, refl, refl, refl)
+
+-- The logs have 100,001 bytes. A limit of 10 still allows 4,096 of each.
+trees_are :
+    (tree_limits logs options nodes 0 ≡ []) × (tree_limits logs options nodes 100001 ≡ []) × (tree_limits logs options nodes 10 ≡ limit 1024 36929 ∷ whole ∷ limit 1024 16928 ∷ whole ∷ [])
+trees_are = (refl, refl, refl)

@@ -1,0 +1,264 @@
+-- Rows of the summary, as the parts that are written. The values are worked out by hand.
+use Rattle.std.proofs.Common.{◌≡◌, ℕ, ◌+◌, Bool, true, false, List, [], ◌∷◌, ◌++◌, Option, None, Some, ℤ, pos, replicate, refl}
+use Rattle.std.specs.Prelude.{codes}
+use Rattle.redo_html.specs.declared.markup.Markup.{Markup}
+use Rattle.redo_html.specs.declared.markup.Markup.TheVariants as markup
+use Rattle.redo_html.specs.Parts.{Part}
+use Rattle.redo_html.specs.Parts.Part.{MarkupPart, MeterPart, NamePart, NumberPart}
+use Rattle.redo_logs.specs.declared.log_state.LogState.TheVariants.{Ended}
+use Rattle.redo_logs.specs.Logs.{Log}
+use Rattle.redo_outline.specs.declared.node.Node.{Node}
+use Rattle.redo_page.specs.declared.summary.Measure.TheVariants.{Milliseconds, Count}
+use Rattle.redo_page.specs.Summary.{above_parts, at_once_parts, failed_parts, known_count, largest_of, measure_parts, meter_width, row_parts, shown_longest, summary_parts, table_parts, table_start, tables_parts, tile, tile_end, tile_start, tiles, timed_tiles, took_tile, unknown_parts, why_parts}
+use Rattle.redo_page.specs.Words.{word_part, words_parts}
+use Rattle.redo_summary.specs.declared.rank.Rank.{Rank}
+use Rattle.redo_summary.specs.Summary.{Facts}
+use Rattle.redo_timeline.specs.declared.span.Span.{Span}
+use Rattle.redo_timeline.specs.declared.span.Window.{Window}
+use Rattle.redo_units.specs.Durations.{duration_words}
+use Rattle.redo_units.specs.Sizes.{size_words, tenths_words}
+use Rattle.redo_units.specs.Words.WordValue.{NumberWord, TextWord}
+
+abbrev tag : Markup → Part
+tag markup = MarkupPart markup
+
+abbrev words : List ℕ → Part
+words text = NamePart text
+
+abbrev number : ℕ → Part
+number value = NumberPart value
+
+-- ---- values
+
+abbrev log : List ℕ → Log
+log target = record { target = target; entries = []; state = Ended }
+
+abbrev node : ℕ → Option ℕ → Option ℤ → Bool → Node
+node number parent status fails_below = record {
+  number = number;
+  parent = parent;
+  status = status;
+  lines = 0;
+  bytes = 0;
+  warnings = 0;
+  below = 0;
+  children = 0;
+  others = false;
+  warnings_below = 0;
+  fails_below = fails_below;
+  silent = 0;
+  took = None;
+}
+
+abbrev logs : List Log
+logs = log (codes "a") ∷ log (codes "b") ∷ log (codes "all") ∷ []
+
+-- The third target failed, and the first one with it.
+abbrev nodes : List Node
+nodes = node 2 None (Some (pos 1)) true ∷ node 0 (Some 0) (Some (pos 0)) false ∷ node 1 (Some 0) (Some (pos 2)) false ∷ []
+
+abbrev span : ℕ → Span
+span place = record { began = 0; place = place; ended = 9; failed = false }
+
+abbrev rank : ℕ → ℕ → Rank
+rank value place = record { value = value; place = place }
+
+-- No time is known.
+abbrev unknown : Facts
+unknown = record { window = None; took = 0; parents = []; recipes = []; marks = []; sum = 0; most = 0; warnings = 4; bytes = 46099; longest = rank 9 0 ∷ []; warned = [] }
+
+abbrev window : Window
+window = record { began = 1000; width = 90000 }
+
+-- All times are known.
+abbrev known : Facts
+known = record {
+  window = Some window;
+  took = 90000;
+  parents = span 0 ∷ [];
+  recipes = span 1 ∷ span 2 ∷ [];
+  marks = [];
+  sum = 125000;
+  most = 2;
+  warnings = 7;
+  bytes = 1;
+  longest = rank 60000 2 ∷ rank 5000 1 ∷ [];
+  warned = rank 8 1 ∷ [];
+}
+
+-- One of three times is unknown.
+abbrev few : Facts
+few = record known { parents = []; marks = span 0 ∷ [] }
+
+-- ---- numbers with units
+
+words_are :
+    (word_part (NumberWord 5) ≡ number 5 ∷ []) × (word_part (TextWord (codes " s")) ≡ words (codes " s") ∷ [])
+    × (words_parts [] ≡ []) × (words_parts (NumberWord 1 ∷ TextWord (codes ".") ∷ NumberWord 0 ∷ []) ≡ number 1 ∷ words (codes ".") ∷ number 0 ∷ [])
+words_are = (refl, refl, refl, refl)
+
+-- ---- tiles
+
+tile_is :
+    (tile_start (codes "t") ≡ tag markup.Div ∷ tag markup.Term ∷ words (codes "t") ∷ tag markup.EndTerm ∷ tag markup.Description ∷ [])
+    × (tile_end ≡ tag markup.EndDescription ∷ tag markup.EndDiv ∷ [])
+    × (tile (codes "t") (number 5 ∷ [])
+    ≡ tag markup.Div ∷ tag markup.Term ∷ words (codes "t") ∷ tag markup.EndTerm ∷ tag markup.Description ∷ number 5 ∷ tag markup.EndDescription ∷ tag markup.EndDiv ∷ [])
+tile_is = (refl, refl, refl)
+
+failures_are :
+    (above_parts 0 ≡ []) × (above_parts 1 ≡ words (codes ", and ") ∷ number 1 ∷ words (codes " above") ∷ [])
+    × (failed_parts 0 0 ≡ number 0 ∷ []) × (failed_parts 3 0 ≡ number 3 ∷ []) × (failed_parts 3 2 ≡ number 3 ∷ words (codes ", and ") ∷ number 2 ∷ words (codes " above") ∷ [])
+failures_are = (refl, refl, refl, refl, refl)
+
+abbrev tile_of : List ℕ → List Part → List Part → List Part
+tile_of term description rest =
+    tag markup.Div ∷ tag markup.Term ∷ words term ∷ tag markup.EndTerm ∷ tag markup.Description ∷ (description ++ tag markup.EndDescription ∷ tag markup.EndDiv ∷ rest)
+
+-- 125 seconds in 90 are 1.3 at once.
+at_once_is : at_once_parts known ≡ number 1 ∷ words (codes ".") ∷ number 3 ∷ words (codes ", at most ") ∷ number 2 ∷ []
+unfolding tenths_words
+at_once_is = refl
+
+took_is :
+    (took_tile unknown ≡ []) × (took_tile few ≡ tile_of (codes "Took") (number 1 ∷ words (codes " min ") ∷ number 3 ∷ number 0 ∷ words (codes " s") ∷ []) [])
+unfolding duration_words
+took_is = (refl, refl)
+
+abbrev timed : List Part → List Part
+timed rest =
+    tile_of (codes "Sum of times") (number 2 ∷ words (codes " min ") ∷ number 0 ∷ number 5 ∷ words (codes " s") ∷ [])
+    (tile_of (codes "At once") (number 1 ∷ words (codes ".") ∷ number 3 ∷ words (codes ", at most ") ∷ number 2 ∷ []) rest)
+
+timed_are : (timed_tiles unknown ≡ []) × (timed_tiles few ≡ []) × (timed_tiles known ≡ timed [])
+unfolding duration_words tenths_words
+timed_are = (refl, refl, refl)
+
+abbrev all_tiles : List Part → List Part
+all_tiles rest =
+    tile_of (codes "Targets") (number 3 ∷ [])
+    (tile_of (codes "Failed") (number 1 ∷ words (codes ", and ") ∷ number 1 ∷ words (codes " above") ∷ [])
+    (tile_of (codes "Lines with warning:") (number 7 ∷ [])
+    (tile_of (codes "Logs") (number 1 ∷ words (codes " byte") ∷ words [] ∷ words [] ∷ [])
+    (tile_of (codes "Took") (number 1 ∷ words (codes " min ") ∷ number 3 ∷ number 0 ∷ words (codes " s") ∷ []) (timed rest)))))
+
+tiles_are :
+    (tiles known 3 1 1 ≡ all_tiles [])
+    × (tiles unknown 5 2 0
+    ≡ tile_of (codes "Targets") (number 5 ∷ []) (tile_of (codes "Failed") (number 2 ∷ []) (tile_of (codes "Lines with warning:") (number 4 ∷ [])
+    (tile_of (codes "Logs") (number 46 ∷ words (codes ".") ∷ number 0 ∷ words (codes " kB") ∷ []) []))))
+unfolding duration_words size_words tenths_words
+tiles_are = (refl, refl)
+
+-- ---- tables
+
+measures_are :
+    (measure_parts Count 12345 ≡ number 12345 ∷ []) × (measure_parts Milliseconds 12345 ≡ number 12 ∷ words (codes ".") ∷ number 3 ∷ words (codes " s") ∷ words [] ∷ [])
+unfolding duration_words
+measures_are = (refl, refl)
+
+-- In hundredths of a percent, rounded down. Ten thousand times a value is at most 2^64 - 1.
+widths_are :
+    (meter_width 10 10 ≡ 10000) × (meter_width 5 10 ≡ 5000) × (meter_width 1 3 ≡ 3333) × (meter_width 0 0 ≡ 0) × (meter_width 2 0 ≡ 20000) × (meter_width 0 7 ≡ 0)
+    × (meter_width 1844674407370955 1 ≡ 18446744073709550000) × (meter_width 1844674407370956 1 ≡ 18446744073709551615) × (meter_width 18446744073709551615 18446744073709551615 ≡ 1)
+widths_are = (refl, refl, refl, refl, refl, refl, refl, refl, refl)
+
+longest_are : (shown_longest unknown ≡ []) × (shown_longest few ≡ []) × (shown_longest known ≡ rank 60000 2 ∷ rank 5000 1 ∷ [])
+longest_are = (refl, refl, refl)
+
+largest_are : (largest_of [] ≡ 0) × (largest_of (rank 9 1 ∷ []) ≡ 9) × (largest_of (rank 60000 2 ∷ rank 5000 1 ∷ []) ≡ 60000)
+largest_are = (refl, refl, refl)
+
+-- The second recipe took a twelfth of the time of the first one.
+abbrev short_row : List Part → List Part
+short_row rest =
+    tag markup.TableRow ∷ tag markup.RowHeading ∷ tag (markup.TargetLink 1) ∷ tag markup.Bdi ∷ words (codes "a") ∷ tag markup.EndBdi ∷ tag markup.EndLink ∷ tag markup.EndRowHeading
+    ∷ tag markup.NumberCell ∷ number 5 ∷ words (codes ".") ∷ number 0 ∷ number 0 ∷ words (codes " s") ∷ tag markup.EndCell
+    ∷ tag markup.MeterCell ∷ MeterPart 833 ∷ tag markup.EndCell ∷ tag markup.EndTableRow ∷ rest
+
+abbrev long_row : List Part → List Part
+long_row rest =
+    tag markup.TableRow ∷ tag markup.RowHeading ∷ tag (markup.TargetLink 2) ∷ tag markup.Bdi ∷ words (codes "b") ∷ tag markup.EndBdi ∷ tag markup.EndLink
+    ∷ words (codes " ") ∷ tag markup.ExitBadge ∷ words (codes "exit ") ∷ words [] ∷ number 2 ∷ tag markup.EndBadge ∷ tag markup.EndRowHeading
+    ∷ tag markup.NumberCell ∷ number 1 ∷ words (codes " min ") ∷ number 0 ∷ number 0 ∷ words (codes " s") ∷ tag markup.EndCell
+    ∷ tag markup.MeterCell ∷ MeterPart 10000 ∷ tag markup.EndCell ∷ tag markup.EndTableRow ∷ rest
+
+abbrev warned_row : List Part → List Part
+warned_row rest =
+    tag markup.TableRow ∷ tag markup.RowHeading ∷ tag (markup.TargetLink 1) ∷ tag markup.Bdi ∷ words (codes "a") ∷ tag markup.EndBdi ∷ tag markup.EndLink ∷ tag markup.EndRowHeading
+    ∷ tag markup.NumberCell ∷ number 8 ∷ tag markup.EndCell ∷ tag markup.MeterCell ∷ MeterPart 10000 ∷ tag markup.EndCell ∷ tag markup.EndTableRow ∷ rest
+
+rows_are :
+    (row_parts logs nodes Milliseconds 60000 (rank 5000 1) ≡ short_row []) × (row_parts logs nodes Milliseconds 60000 (rank 60000 2) ≡ long_row [])
+    × (row_parts logs nodes Count 8 (rank 8 1) ≡ warned_row [])
+unfolding row_parts duration_words
+rows_are = (refl, refl, refl)
+
+abbrev table : List ℕ → List Part → List Part
+table heading rest =
+    tag markup.Div ∷ tag markup.Title3 ∷ words heading ∷ tag markup.EndTitle3 ∷ tag markup.Table ∷ tag markup.TableBody ∷ rest
+
+abbrev table_end : List Part → List Part
+table_end rest = tag markup.EndTableBody ∷ tag markup.EndTable ∷ tag markup.EndDiv ∷ rest
+
+table_starts_are : table_start (codes "h") ≡ table (codes "h") []
+table_starts_are = refl
+
+-- A meter shows a part of the value of the first row.
+table_is :
+    (table_parts logs nodes Milliseconds (codes "h") [] ≡ [])
+    × (table_parts logs nodes Milliseconds (codes "h") (rank 60000 2 ∷ rank 5000 1 ∷ []) ≡ table (codes "h") (long_row (short_row (table_end []))))
+    × (table_parts logs nodes Count (codes "h") (rank 8 1 ∷ []) ≡ table (codes "h") (warned_row (table_end [])))
+unfolding table_parts row_parts duration_words
+table_is = (refl, refl, refl)
+
+abbrev both_tables : List Part → List Part
+both_tables rest =
+    tag markup.Columns ∷ table (codes "Longest") (long_row (short_row (table_end (table (codes "Most warnings") (warned_row (table_end (tag markup.EndDiv ∷ rest)))))))
+
+tables_are :
+    (tables_parts logs nodes [] [] ≡ [])
+    × (tables_parts logs nodes [] (rank 8 1 ∷ []) ≡ tag markup.Columns ∷ table (codes "Most warnings") (warned_row (table_end (tag markup.EndDiv ∷ []))))
+    × (tables_parts logs nodes (rank 60000 2 ∷ []) [] ≡ tag markup.Columns ∷ table (codes "Longest") (long_row (table_end (tag markup.EndDiv ∷ []))))
+    × (tables_parts logs nodes (rank 60000 2 ∷ rank 5000 1 ∷ []) (rank 8 1 ∷ []) ≡ both_tables [])
+unfolding tables_parts table_parts row_parts duration_words
+tables_are = (refl, refl, refl, refl)
+
+-- ---- why there is no timeline
+
+counts_are : (known_count unknown ≡ 0) × (known_count known ≡ 3) × (known_count few ≡ 3) × (known_count (record known { marks = replicate 4 (span 0) }) ≡ 7)
+counts_are = (refl, refl, refl, refl)
+
+abbrev nothing_known : Part
+nothing_known = words (codes "There is no timeline: the logs do not say when the targets ran.")
+
+abbrev some_known : ℕ → ℕ → List Part → List Part
+some_known unknown targets rest =
+    words (codes "There is no timeline: the logs of ") ∷ number unknown ∷ words (codes " of ") ∷ number targets
+    ∷ words (codes " targets do not say when they began, or when they ended.") ∷ rest
+
+unknown_are : (unknown_parts 0 0 ≡ nothing_known ∷ []) × (unknown_parts 1 1 ≡ some_known 1 1 []) × (unknown_parts 2 7 ≡ some_known 2 7 [])
+unknown_are = (refl, refl, refl)
+
+reasons_are :
+    (why_parts known ≡ [])
+    × (why_parts unknown ≡ tag markup.QuietParagraph ∷ nothing_known ∷ tag markup.EndParagraph ∷ [])
+    × (why_parts few ≡ tag markup.QuietParagraph ∷ some_known 1 3 (tag markup.EndParagraph ∷ []))
+reasons_are = (refl, refl, refl)
+
+-- ---- the section
+
+abbrev section : List Part → List Part
+section rest =
+    tag markup.SummarySection ∷ tag markup.SummaryHeading ∷ words (codes "Summary") ∷ tag markup.EndHeading ∷ tag markup.DescriptionList ∷ rest
+
+summary_is :
+    (summary_parts logs nodes known ≡ section (all_tiles (tag markup.EndDescriptionList ∷ both_tables (tag markup.EndSection ∷ []))))
+    × (summary_parts logs nodes unknown
+    ≡ section
+    (tile_of (codes "Targets") (number 3 ∷ []) (tile_of (codes "Failed") (number 1 ∷ words (codes ", and ") ∷ number 1 ∷ words (codes " above") ∷ [])
+    (tile_of (codes "Lines with warning:") (number 4 ∷ []) (tile_of (codes "Logs") (number 46 ∷ words (codes ".") ∷ number 0 ∷ words (codes " kB") ∷ [])
+    (tag markup.EndDescriptionList ∷ tag markup.QuietParagraph ∷ nothing_known ∷ tag markup.EndParagraph ∷ tag markup.EndSection ∷ [])))))
+    )
+unfolding summary_parts tables_parts table_parts row_parts duration_words size_words tenths_words
+summary_is = (refl, refl)

@@ -1,0 +1,158 @@
+-- Rows of the timeline's section, as the parts that are written. The values are worked out by hand.
+use Rattle.std.proofs.Common.{◌≡◌, ℕ, Bool, true, false, List, [], ◌∷◌, Option, None, Some, pos, replicate, refl}
+use Rattle.std.specs.Fmt.{digits}
+use Rattle.std.specs.Prelude.{codes, length}
+use Rattle.redo_html.specs.declared.chart.GroupKind.TheVariants.{Parents, Recipes, Untimed}
+use Rattle.redo_html.specs.declared.markup.Markup.{Markup}
+use Rattle.redo_html.specs.declared.markup.Markup.TheVariants as markup
+use Rattle.redo_html.specs.Chart.{Drawing, Shape}
+use Rattle.redo_html.specs.Chart.Shape.{BarShape}
+use Rattle.redo_html.specs.Parts.{Part}
+use Rattle.redo_html.specs.Parts.Part.{ChartPart, MarkupPart, NamePart, NumberPart}
+use Rattle.redo_chart.specs.Laws.{shapes_of}
+use Rattle.redo_logs.specs.declared.log_state.LogState.TheVariants.{Ended}
+use Rattle.redo_logs.specs.Logs.{Log}
+use Rattle.redo_outline.specs.declared.node.Node.{Node}
+use Rattle.redo_page.specs.Timeline.{facts_drawing, has_timeline, marks_parts, pale_text, timeline_end, timeline_if, timeline_parts, timeline_section, timeline_start}
+use Rattle.redo_summary.specs.Summary.{Facts}
+use Rattle.redo_timeline.specs.declared.span.Span.{Span}
+use Rattle.redo_timeline.specs.declared.span.Window.{Window}
+use Rattle.redo_units.specs.Durations.{duration_words}
+use Rattle.redo_units.specs.Ticks.{tick_step_of, tick_words}
+use Rattle.redo_units.specs.Words.{decimal_text}
+
+abbrev tag : Markup → Part
+tag markup = MarkupPart markup
+
+abbrev words : List ℕ → Part
+words text = NamePart text
+
+abbrev number : ℕ → Part
+number value = NumberPart value
+
+-- ---- values
+
+abbrev log : List ℕ → Log
+log target = record { target = target; entries = []; state = Ended }
+
+abbrev node : ℕ → Option ℕ → Node
+node number parent = record {
+  number = number;
+  parent = parent;
+  status = Some (pos 0);
+  lines = 0;
+  bytes = 0;
+  warnings = 0;
+  below = 0;
+  children = 0;
+  others = false;
+  warnings_below = 0;
+  fails_below = false;
+  silent = 0;
+  took = None;
+}
+
+abbrev logs : List Log
+logs = log (codes "all") ∷ log (codes "a") ∷ log (codes "b") ∷ log (codes "c") ∷ []
+
+abbrev nodes : List Node
+nodes = node 0 None ∷ node 2 (Some 0) ∷ node 1 (Some 0) ∷ node 3 (Some 0) ∷ []
+
+abbrev span : ℕ → ℕ → ℕ → Span
+span place began ended = record { began = began; place = place; ended = ended; failed = false }
+
+abbrev window : Window
+window = record { began = 1000; width = 10000 }
+
+abbrev facts : Option Window → List Span → List Span → List Span → Facts
+facts window parents recipes marks = record {
+  window = window;
+  took = 10000;
+  parents = parents;
+  recipes = recipes;
+  marks = marks;
+  sum = 0;
+  most = 0;
+  warnings = 0;
+  bytes = 0;
+  longest = [];
+  warned = [];
+}
+
+abbrev some : ℕ → List Span
+some count = replicate count (span 0 1000 11000)
+
+-- A target that ran two others at once.
+abbrev known : Facts
+known = facts (Some window) (span 0 1000 11000 ∷ []) (span 1 1000 6000 ∷ span 2 2000 11000 ∷ []) []
+
+-- ---- whether there is a timeline
+
+-- One of ten targets may have a mark.
+timelines_are :
+    (has_timeline known ≡ true) × (has_timeline (facts None (some 1) (some 2) []) ≡ false) × (has_timeline (facts (Some window) [] [] []) ≡ false)
+    × (has_timeline (facts (Some window) (some 1) (some 8) (some 1)) ≡ true) × (has_timeline (facts (Some window) (some 1) (some 7) (some 1)) ≡ false)
+timelines_are = (refl, refl, refl, refl, refl)
+
+-- ---- what precedes the chart
+
+abbrev marks_text : ℕ → ℕ → List Part → List Part
+marks_text marks targets rest =
+    tag markup.QuietParagraph ∷ words (codes "The logs of ") ∷ number marks ∷ words (codes " of ") ∷ number targets
+    ∷ words (codes " targets do not say when they began, or when they ended. These are marks in the last row.") ∷ tag markup.EndParagraph ∷ rest
+
+marks_are : (marks_parts 0 7 ≡ []) × (marks_parts 1 9 ≡ marks_text 1 9 []) × (marks_parts 2 21 ≡ marks_text 2 21 [])
+marks_are = (refl, refl, refl)
+
+abbrev heading : List Part → List Part
+heading rest = tag markup.TimelineSection ∷ tag markup.TimelineHeading ∷ words (codes "Timeline") ∷ tag markup.EndHeading ∷ rest
+
+starts_are :
+    (timeline_start known ≡ heading (tag markup.TimelineScroll ∷ []))
+    × (timeline_start (facts (Some window) (some 5) (some 14) (some 2)) ≡ heading (marks_text 2 21 (tag markup.TimelineScroll ∷ [])))
+starts_are = (refl, refl)
+
+-- ---- what follows the chart
+
+abbrev pale : List ℕ
+pale = codes " Pale bars are recipes that ran others. They don't count in the sum of times."
+
+pale_are : (pale_text true ≡ pale) × (pale_text false ≡ [])
+pale_are = (refl, refl)
+
+abbrev after : List ℕ → List Part
+after text =
+    tag markup.EndDiv ∷ tag markup.QuietParagraph ∷ words (codes "A bar leads to its log.") ∷ words text ∷ tag markup.EndParagraph ∷ tag markup.EndSection ∷ []
+
+ends_are : (timeline_end known ≡ after pale) × (timeline_end (facts (Some window) [] (some 1) []) ≡ after [])
+ends_are = (refl, refl)
+
+-- ---- the section
+
+abbrev drawn_at : ℕ → ℕ → ℕ → ℕ → ℕ → List ℕ → Option (List ℕ) → Shape
+drawn_at place x y width height title label = BarShape (record { place = place; x = x; y = y; width = width; height = height; failed = false; title = title; label = label })
+
+-- With a mark of the last target.
+abbrev chart : Drawing
+chart = facts_drawing logs nodes (record known { marks = span 3 9000 9000 ∷ [] }) window
+
+chart_is :
+    (chart.height ≡ 102) × (chart.lanes ≡ 2) × (shapes_of Parents chart ≡ drawn_at 0 0 20 10000 12 (codes "all, 10.0 s") (Some (codes "all")) ∷ [])
+    × (shapes_of Recipes chart ≡ drawn_at 1 0 40 5000 16 (codes "b, 5.00 s") (Some (codes "b")) ∷ drawn_at 2 1000 58 9000 16 (codes "a, 9.00 s") (Some (codes "a")) ∷ [])
+    × (shapes_of Untimed chart ≡ drawn_at 3 8000 82 30 12 (codes "c") None ∷ [])
+unfolding duration_words tick_step_of tick_words decimal_text digits
+chart_is = (refl, refl, refl, refl, refl)
+
+section_is :
+    timeline_section logs nodes known window ≡ heading (tag markup.TimelineScroll ∷ ChartPart (facts_drawing logs nodes known window) ∷ after pale)
+section_is = refl
+
+-- Without a window, or if too few times are known, there is no section.
+sections_are :
+    (length (timeline_if logs nodes known (Some window)) ≡ 12) × (timeline_if logs nodes known None ≡ []) × (timeline_if logs nodes (facts (Some window) [] [] (some 1)) (Some window) ≡ [])
+sections_are = (refl, refl, refl)
+
+timeline_is :
+    (timeline_parts logs nodes known ≡ heading (tag markup.TimelineScroll ∷ ChartPart (facts_drawing logs nodes known window) ∷ after pale))
+    × (timeline_parts logs nodes (record known { window = None }) ≡ [])
+timeline_is = (refl, refl)
