@@ -235,8 +235,8 @@ took_are = (refl, refl)
 
 -- It precedes the path.
 article_begins :
-    bytes_eq (html (take 15 (article_parts logs (node 0 None None 0 2 true ∷ record b { took = Some 61000 } ∷ []) 1)))
-    (codes "<article id=\"f1\"><h3><bdi>b</bdi> <strong class=\"x\">exit 1</strong></h3><p class=\"meta\">1 min 01")
+    bytes_eq (html (take 22 (article_parts logs (node 0 None None 0 2 true ∷ record b { took = Some 61000 } ∷ []) 1)))
+    (codes "<article id=\"f1\"><h3><bdi>b</bdi> <strong class=\"x\">exit 1</strong></h3><p class=\"meta\">1 min 01 s " ++ 0xC2 ∷ 0xB7 ∷ codes " <bdi>all</bdi>")
     ≡ true
 unfolding article_parts article_of path_parts output_parts whole_parts in_tree_parts duration_words symbols_after first_symbol symbol_len is_sequence sequence_len sequence_numbers first_letter letter_len is_odd picture odd_text number_text encode_utf8 digits html_from
 article_begins = refl

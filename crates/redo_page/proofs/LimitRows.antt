@@ -93,7 +93,7 @@ build = record { logs = logs; options = options; nodes = nodes; articles = 1 ∷
 
 -- A log that has as many bytes as the level is shown whole.
 places_are :
-    (place_limit build 5000 0 ≡ limit 1250 16250) × (place_limit build 19999 0 ≡ limit 4999 4999) × (place_limit build 20000 0 ≡ whole) × (place_limit build 5000 1 ≡ whole)
+    (place_limit build 5000 0 ≡ limit 1250 16250) × (place_limit build 19999 0 ≡ limit 4999 5000) × (place_limit build 20000 0 ≡ whole) × (place_limit build 5000 1 ≡ whole)
     × (place_limit build 5000 2 ≡ limit 1250 36251) × (place_limit (record build { articles = [] }) 5000 1 ≡ limit 1250 36250)
     × (limit_if build 5000 None ≡ whole) × (limit_if build 5000 (Some 0) ≡ limit 1250 16250)
 places_are = (refl, refl, refl, refl, refl, refl, refl, refl)

@@ -1,5 +1,5 @@
 -- Rows of whole pages, as the parts that are written. The model in tests/page gives the same tags and texts.
-use Rattle.std.proofs.Common.{Bor, ◌≡◌, ℕ, Bool, true, false, List, [], ◌∷◌, ◌++◌, None, Some, pos, refl}
+use Rattle.std.proofs.Common.{Bor, ◌≡◌, ℕ, Bool, true, false, List, [], ◌∷◌, ◌++◌, map, None, Some, pos, length, replicate, refl}
 use Rattle.std.specs.Fmt.{digits}
 use Rattle.std.specs.List.{filter, flat_map, starts_with}
 use Rattle.std.specs.Prelude.{bytes_eq, codes, nat_eq, take}
@@ -10,6 +10,9 @@ use Rattle.redo_logs.specs.declared.log_state.LogState.TheVariants.{Ended}
 use Rattle.redo_logs.specs.Logs.{Log}
 use Rattle.redo_view.specs.declared.event.Opening.TheVariants.{OpensHere}
 use Rattle.redo_view.specs.Event.Event.{Requested, Mentioned, EntryShown, LogEnds}
+use Rattle.redo_outline.specs.Contents.{Contents}
+use Rattle.redo_outline.specs.Contents.Contents.{Nothing, Shown, Opened}
+use Rattle.redo_outline.specs.declared.node.Node.{Node}
 use Rattle.redo_view.specs.Expansion.{show_log, show_log_within}
 use Rattle.redo_html.specs.Passage.{html_from}
 use Rattle.redo_html.specs.Shown.{is_odd, number_text, odd_text, picture}
@@ -23,10 +26,15 @@ use Rattle.redo_html.specs.Parts.Part.{MarkupPart, LogPart, NamePart, NumberPart
 use Rattle.redo_page.specs.Excerpt.{in_tree_parts}
 use Rattle.redo_page.specs.Failed.{article_of, article_parts, failed_parts, list_parts, more_parts, output_parts, path_parts, section_parts, whole_parts}
 use Rattle.redo_page.specs.Frame.{footer_parts, is_safe}
-use Rattle.redo_page.specs.Summary.{summary_parts, tables_parts}
-use Rattle.redo_units.specs.Sizes.{size_words}
+use Rattle.redo_page.specs.Summary.{row_parts, summary_parts, table_parts, tables_parts}
+use Rattle.redo_page.specs.Laws.{placed_lines}
+use Rattle.redo_page.specs.Page.{Request, body_parts, durations_of, options_of, page_contents, page_events, page_facts, page_html, page_outline, page_parts, request_of, top_parts_of, tree_contents}
+use Rattle.redo_summary.specs.Summary.{Facts}
+use Rattle.redo_timeline.specs.declared.span.Window.{Window}
+use Rattle.redo_units.specs.Dates as dates
+use Rattle.redo_units.specs.Durations.{duration_words}
+use Rattle.redo_units.specs.Sizes.{size_words, tenths_words}
 use Rattle.redo_times.specs.declared.times.Times.{Times}
-use Rattle.redo_page.specs.Page.{Request, options_of, page_events, page_html, page_outline, page_parts, request_of, top_parts_of}
 
 abbrev tag : Markup → Part
 tag markup = MarkupPart markup
@@ -83,6 +91,75 @@ outline_is :
     ∷ []
 unfolding show_log show_log_within
 outline_is = refl
+
+-- ---- times
+
+abbrev ran : ℕ → ℕ → Times
+ran began ended = record { began = Some began; ended = Some ended }
+
+-- Both times of a target are needed.
+durations_are : durations_of (ran 1000 5000 ∷ begun ∷ record { began = None; ended = Some 8 } ∷ ran 7 7 ∷ []) ≡ Some 4000 ∷ None ∷ None ∷ Some 0 ∷ []
+durations_are = refl
+
+-- A target that ran another one. Nothing is known of the third one, which isn't shown.
+abbrev timed : Request
+timed = record (request [] false false) { times = ran 1795829211000 1795829213500 ∷ ran 1795829211200 1795829213000 ∷ [] }
+
+-- How long each target took is in the outline.
+timed_outline_is :
+    (map (λ (node : Node). node.took) (page_outline timed made (codes "a" ∷ [])) ≡ Some 2500 ∷ Some 1800 ∷ [])
+    × (map (λ (node : Node). node.took) (page_outline (record timed { times = begun ∷ ran 3 9 ∷ [] }) made (codes "a" ∷ [])) ≡ None ∷ Some 6 ∷ [])
+unfolding show_log show_log_within
+timed_outline_is = (refl, refl)
+
+abbrev window : Window
+window = record { began = 1795829211000; width = 2500 }
+
+facts_are :
+    page_facts timed made (codes "a" ∷ []) ≡ record {
+      window = Some window;
+      took = 2500;
+      parents = record { began = 1795829211000; place = 0; ended = 1795829213500; failed = false } ∷ [];
+      recipes = record { began = 1795829211200; place = 1; ended = 1795829213000; failed = false } ∷ [];
+      marks = [];
+      sum = 1800;
+      most = 1;
+      warnings = 0;
+      bytes = 2;
+      longest = record { value = 1800; place = 1 } ∷ [];
+      warned = [];
+    }
+unfolding show_log show_log_within
+facts_are = refl
+
+-- ---- contents
+
+-- Five lines of 1,001 bytes, with their line feeds.
+abbrev long : List Log
+long = log (codes "a") (replicate 5 (Text (replicate 1000 120))) ∷ []
+
+abbrev limited : ℕ → Request
+limited bytes = record (request [] false false) { max_bytes = bytes }
+
+abbrev line_count : Contents → ℕ
+line_count contents = length (placed_lines None 0 contents)
+
+-- Without a limit, or within it, all lines are shown. Otherwise, the first line ends in the first 1,024 bytes, and three lines begin in the
+-- last 3,072.
+contents_are :
+    (line_count (page_contents (limited 0) long (codes "a" ∷ [])) ≡ 5) × (line_count (page_contents (limited 5005) long (codes "a" ∷ [])) ≡ 5)
+    × (line_count (page_contents (limited 4096) long (codes "a" ∷ [])) ≡ 4) × (line_count (page_contents (limited 1) long (codes "a" ∷ [])) ≡ 4)
+    × (line_count (tree_contents long (options_of (limited 1)) 0 (codes "a" ∷ []) (page_outline (limited 1) long (codes "a" ∷ []))) ≡ 5)
+unfolding show_log show_log_within
+contents_are = (refl, refl, refl, refl, refl)
+
+-- What is requested is shown, with the text lines of all shown logs.
+made_contents :
+    page_contents (request [] false false) made (codes "a" ∷ [])
+    ≡ Opened (Requested (codes "a") (OpensHere 0)) 0
+    (Shown (EntryShown 1 (Text (codes "x"))) (Opened (Mentioned 1 9 Made (codes "b") (OpensHere 1)) 1 (Shown (EntryShown 2 (Closing 9 (pos 0))) Nothing) (Shown (EntryShown 1 (Closing 9 (pos 0))) Nothing))) Nothing
+unfolding show_log show_log_within
+made_contents = refl
 
 -- ---- pages
 
@@ -169,6 +246,7 @@ milestone (MarkupPart markup.Nav) = markup.Nav ∷ []
 milestone (MarkupPart markup.Main) = markup.Main ∷ []
 milestone (MarkupPart markup.FailedSection) = markup.FailedSection ∷ []
 milestone (MarkupPart markup.SummarySection) = markup.SummarySection ∷ []
+milestone (MarkupPart markup.TimelineSection) = markup.TimelineSection ∷ []
 milestone (MarkupPart markup.TreeSection) = markup.TreeSection ∷ []
 milestone (MarkupPart markup.Footer) = markup.Footer ∷ []
 milestone (MarkupPart markup.EndHtml) = markup.EndHtml ∷ []
@@ -185,6 +263,22 @@ failed_milestones :
     ≡ markup.Head ∷ markup.Header ∷ markup.Nav ∷ markup.Main ∷ markup.FailedSection ∷ markup.SummarySection ∷ markup.TreeSection ∷ markup.Footer ∷ markup.EndHtml ∷ []
 unfolding page_parts top_parts_of summary_parts tables_parts size_words footer_parts failed_parts section_parts list_parts more_parts article_parts article_of path_parts in_tree_parts output_parts whole_parts is_safe number_text digits show_log show_log_within
 failed_milestones = refl
+
+-- If most times are known, there is a timeline.
+timed_milestones :
+    flat_map milestone (page_parts timed made (codes "a" ∷ []))
+    ≡ markup.Head ∷ markup.Header ∷ markup.Nav ∷ markup.Main ∷ markup.SummarySection ∷ markup.TimelineSection ∷ markup.TreeSection ∷ markup.Footer ∷ markup.EndHtml ∷ []
+unfolding page_parts top_parts_of summary_parts tables_parts table_parts row_parts size_words tenths_words duration_words dates.date_text_of dates.date_parts dates.period_of footer_parts failed_parts is_safe number_text digits show_log show_log_within
+timed_milestones = refl
+
+abbrev facts : Facts
+facts = page_facts timed made (codes "a" ∷ [])
+
+-- The page of these facts has a timeline, too, and the tree of the contents.
+body_is :
+    flat_map milestone (body_parts made (options_of timed) 0 (codes "a" ∷ []) (page_outline timed made (codes "a" ∷ [])) facts) ≡ markup.TimelineSection ∷ markup.TreeSection ∷ []
+unfolding duration_words show_log show_log_within
+body_is = refl
 
 abbrev title_of : Part → List (List ℕ)
 title_of (TitlePart title) = title ∷ []

@@ -35,11 +35,11 @@ number value = NumberPart value
 abbrev log : List ℕ → Log
 log target = record { target = target; entries = []; state = Ended }
 
-abbrev node : ℕ → Option ℕ → Node
-node number parent = record {
+abbrev node : ℕ → Option ℕ → ℕ → Node
+node number parent status = record {
   number = number;
   parent = parent;
-  status = Some (pos 0);
+  status = Some (pos status);
   lines = 0;
   bytes = 0;
   warnings = 0;
@@ -56,7 +56,7 @@ abbrev logs : List Log
 logs = log (codes "all") ∷ log (codes "a") ∷ log (codes "b") ∷ log (codes "c") ∷ []
 
 abbrev nodes : List Node
-nodes = node 0 None ∷ node 2 (Some 0) ∷ node 1 (Some 0) ∷ node 3 (Some 0) ∷ []
+nodes = node 0 None 0 ∷ node 2 (Some 0) 0 ∷ node 1 (Some 0) 0 ∷ node 3 (Some 0) 1 ∷ []
 
 abbrev span : ℕ → ℕ → ℕ → Span
 span place began ended = record { began = began; place = place; ended = ended; failed = false }
@@ -129,17 +129,17 @@ ends_are = (refl, refl)
 
 -- ---- the section
 
-abbrev drawn_at : ℕ → ℕ → ℕ → ℕ → ℕ → List ℕ → Option (List ℕ) → Shape
-drawn_at place x y width height title label = BarShape (record { place = place; x = x; y = y; width = width; height = height; failed = false; title = title; label = label })
+abbrev drawn_at : ℕ → ℕ → ℕ → ℕ → ℕ → Bool → List ℕ → Option (List ℕ) → Shape
+drawn_at place x y width height failed title label = BarShape (record { place = place; x = x; y = y; width = width; height = height; failed = failed; title = title; label = label })
 
--- With a mark of the last target.
+-- With a mark of the last target, which failed.
 abbrev chart : Drawing
-chart = facts_drawing logs nodes (record known { marks = span 3 9000 9000 ∷ [] }) window
+chart = facts_drawing logs nodes (record known { marks = record { began = 9000; place = 3; ended = 9000; failed = true } ∷ [] }) window
 
 chart_is :
-    (chart.height ≡ 102) × (chart.lanes ≡ 2) × (shapes_of Parents chart ≡ drawn_at 0 0 20 10000 12 (codes "all, 10.0 s") (Some (codes "all")) ∷ [])
-    × (shapes_of Recipes chart ≡ drawn_at 1 0 40 5000 16 (codes "b, 5.00 s") (Some (codes "b")) ∷ drawn_at 2 1000 58 9000 16 (codes "a, 9.00 s") (Some (codes "a")) ∷ [])
-    × (shapes_of Untimed chart ≡ drawn_at 3 8000 82 30 12 (codes "c") None ∷ [])
+    (chart.height ≡ 102) × (chart.lanes ≡ 2) × (shapes_of Parents chart ≡ drawn_at 0 0 20 10000 12 false (codes "all, 10.0 s") (Some (codes "all")) ∷ [])
+    × (shapes_of Recipes chart ≡ drawn_at 1 0 40 5000 16 false (codes "b, 5.00 s") (Some (codes "b")) ∷ drawn_at 2 1000 58 9000 16 false (codes "a, 9.00 s") (Some (codes "a")) ∷ [])
+    × (shapes_of Untimed chart ≡ drawn_at 3 8000 82 30 12 true (codes "c, exit 1") None ∷ [])
 unfolding duration_words tick_step_of tick_words decimal_text digits
 chart_is = (refl, refl, refl, refl, refl)
 
