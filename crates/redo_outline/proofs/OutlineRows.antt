@@ -17,7 +17,7 @@ use Rattle.redo_outline.specs.Contents.{contents_from, contents_of}
 use Rattle.redo_outline.specs.Contents.Contents.{Nothing, Shown, Opened}
 use Rattle.redo_outline.specs.Facts.{entries_at, is_failure, is_warning, name_or_empty, saturated, target_at, target_status, text_size, texts_of}
 use Rattle.redo_outline.specs.Laws.{events_of}
-use Rattle.redo_outline.specs.Outline.{is_visible, outline_of}
+use Rattle.redo_outline.specs.Outline.{is_visible, outline_of, with_duration}
 
 abbrev log : List ℕ → List Entry → Log
 log target entries = record { target = target; entries = entries; state = Ended }
@@ -173,3 +173,28 @@ visible :
     (is_visible (done (pos 0) a) ≡ false) × (is_visible (done (pos 1) a) ≡ true) × (is_visible (EntryShown 1 (closed (pos 1))) ≡ false) × (is_visible (text 1) ≡ true)
     × (is_visible (EntryShown 1 (Note 9 a a)) ≡ true) × (is_visible (line (OpenedBefore 0)) ≡ true) × (is_visible (Requested a NotOpened) ≡ true)
 visible = (refl, refl, refl, refl, refl, refl, refl)
+
+-- ---- durations
+
+-- The number of a log says how long its target took. Nothing is known of a target past the end.
+abbrev numbered : ℕ → Option ℕ → Node
+numbered number took = record {
+  number = number;
+  parent = Some 9;
+  status = Some (pos 3);
+  lines = 1;
+  bytes = 2;
+  warnings = 3;
+  below = 4;
+  children = 5;
+  others = true;
+  warnings_below = 6;
+  fails_below = true;
+  silent = 7;
+  took = took;
+}
+
+durations :
+    map (with_duration (Some 70 ∷ None ∷ Some 90 ∷ [])) (numbered 2 None ∷ numbered 0 None ∷ numbered 1 (Some 5) ∷ numbered 3 (Some 5) ∷ [])
+    ≡ numbered 2 (Some 90) ∷ numbered 0 (Some 70) ∷ numbered 1 None ∷ numbered 3 None ∷ []
+durations = refl

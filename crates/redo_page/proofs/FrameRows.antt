@@ -18,7 +18,7 @@ use Rattle.redo_summary.specs.Summary.{Facts}
 use Rattle.redo_timeline.specs.declared.span.Window.{Window}
 use Rattle.redo_units.specs.Dates as dates
 use Rattle.redo_units.specs.Durations.{duration_words}
-use Rattle.redo_page.specs.Frame.{began_parts, timeline_nav, argument, body_markup, command, failed_nav, footer_parts, head_parts, header_parts, is_safe, log_count_parts, quoted, root_parts, sign_text, title_parts, title_text, titled, top_heading_parts, verdict_of, verdict_text}
+use Rattle.redo_page.specs.Frame.{began_parts, timeline_nav, argument, body_markup, command, failed_nav, footer_parts, head_parts, header_parts, is_safe, log_count_parts, nav_parts, quoted, root_parts, sign_text, title_parts, title_text, titled, top_heading_parts, verdict_of, verdict_text}
 
 abbrev tag : Markup → Part
 tag markup = MarkupPart markup
@@ -130,6 +130,17 @@ timeline_navs_are :
     (timeline_nav true ≡ tag markup.Item ∷ tag markup.TimelineLink ∷ words (codes "Timeline") ∷ tag markup.EndLink ∷ tag markup.EndItem ∷ [])
     × (timeline_nav false ≡ [])
 timeline_navs_are = (refl, refl)
+
+-- The links are in the order of the sections.
+nav_is :
+    nav_parts Failed true
+    ≡ tag markup.Nav ∷ tag markup.Unordered
+    ∷ tag markup.Item ∷ tag markup.FailedLink ∷ words (codes "What failed") ∷ tag markup.EndLink ∷ tag markup.EndItem
+    ∷ tag markup.Item ∷ tag markup.SummaryLink ∷ words (codes "Summary") ∷ tag markup.EndLink ∷ tag markup.EndItem
+    ∷ tag markup.Item ∷ tag markup.TimelineLink ∷ words (codes "Timeline") ∷ tag markup.EndLink ∷ tag markup.EndItem
+    ∷ tag markup.Item ∷ tag markup.TreeLink ∷ words (codes "All logs") ∷ tag markup.EndLink ∷ tag markup.EndItem
+    ∷ tag markup.EndUnordered ∷ tag markup.EndNav ∷ tag markup.Main ∷ []
+nav_is = refl
 
 header_is :
     header_parts (codes "t") logs Failed (codes "h") (made ∷ []) (facts (Some (record { began = 1795829211999; width = 1 })) 61000)

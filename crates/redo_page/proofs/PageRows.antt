@@ -27,7 +27,7 @@ use Rattle.redo_page.specs.Excerpt.{in_tree_parts}
 use Rattle.redo_page.specs.Failed.{article_of, article_parts, failed_parts, list_parts, more_parts, output_parts, path_parts, section_parts, whole_parts}
 use Rattle.redo_page.specs.Frame.{footer_parts, is_safe}
 use Rattle.redo_page.specs.Summary.{row_parts, summary_parts, table_parts, tables_parts}
-use Rattle.redo_page.specs.Laws.{placed_lines}
+use Rattle.redo_page.specs.Laws.{log_bytes, placed_lines}
 use Rattle.redo_page.specs.Page.{Request, body_parts, durations_of, options_of, page_contents, page_events, page_facts, page_html, page_outline, page_parts, request_of, top_parts_of, tree_contents}
 use Rattle.redo_summary.specs.Summary.{Facts}
 use Rattle.redo_timeline.specs.declared.span.Window.{Window}
@@ -279,6 +279,12 @@ body_is :
     flat_map milestone (body_parts made (options_of timed) 0 (codes "a" ∷ []) (page_outline timed made (codes "a" ∷ [])) facts) ≡ markup.TimelineSection ∷ markup.TreeSection ∷ []
 unfolding duration_words show_log show_log_within
 body_is = refl
+
+-- The tree of a page shows these lines.
+limited_page :
+    (length (log_bytes (page_parts (limited 0) long (codes "a" ∷ []))) ≡ 5005) × (length (log_bytes (page_parts (limited 1) long (codes "a" ∷ []))) ≡ 4004)
+unfolding page_parts top_parts_of summary_parts tables_parts size_words footer_parts failed_parts is_safe number_text digits show_log show_log_within
+limited_page = (refl, refl)
 
 abbrev title_of : Part → List (List ℕ)
 title_of (TitlePart title) = title ∷ []
