@@ -26,7 +26,7 @@ use Rattle.redo_html.specs.Parts.Part.{MarkupPart, LogPart, NamePart, NumberPart
 use Rattle.redo_page.specs.Excerpt.{in_tree_parts}
 use Rattle.redo_page.specs.Failed.{article_of, article_parts, failed_parts, list_parts, more_parts, output_parts, path_parts, section_parts, whole_parts}
 use Rattle.redo_page.specs.Frame.{footer_parts, is_safe}
-use Rattle.redo_page.specs.Summary.{row_parts, summary_parts, table_parts, tables_parts}
+use Rattle.redo_page.specs.Summary.{rank_parts, summary_parts, table_parts, tables_parts}
 use Rattle.redo_page.specs.Laws.{log_bytes, placed_lines}
 use Rattle.redo_page.specs.Page.{Request, body_parts, durations_of, options_of, page_contents, page_events, page_facts, page_html, page_outline, page_parts, request_of, top_parts_of, tree_contents}
 use Rattle.redo_summary.specs.Summary.{Facts}
@@ -268,7 +268,7 @@ failed_milestones = refl
 timed_milestones :
     flat_map milestone (page_parts timed made (codes "a" ∷ []))
     ≡ markup.Head ∷ markup.Header ∷ markup.Nav ∷ markup.Main ∷ markup.SummarySection ∷ markup.TimelineSection ∷ markup.TreeSection ∷ markup.Footer ∷ markup.EndHtml ∷ []
-unfolding page_parts top_parts_of summary_parts tables_parts table_parts row_parts size_words tenths_words duration_words dates.date_text_of dates.date_parts dates.period_of footer_parts failed_parts is_safe number_text digits show_log show_log_within
+unfolding page_parts top_parts_of summary_parts tables_parts table_parts rank_parts size_words tenths_words duration_words dates.date_text_of dates.date_parts dates.period_of footer_parts failed_parts is_safe number_text digits show_log show_log_within
 timed_milestones = refl
 
 abbrev facts : Facts

@@ -15,7 +15,7 @@ use Rattle.redo_outline.specs.Facts.{target_at}
 use Rattle.redo_page.specs.declared.summary.Measure.{Measure}
 use Rattle.redo_page.specs.declared.summary.Measure.TheVariants.{Milliseconds, Count}
 use Rattle.redo_page.specs.Failed.{failed_above, places_where}
-use Rattle.redo_page.specs.Summary.{at_once_parts, failed_parts, known_count, largest_of, measure_parts, row_parts, shown_longest, summary_parts, table_parts, tables_parts, tile, tile_end, tile_start, tiles, timed_tiles, took_tile, unknown_parts, why_parts}
+use Rattle.redo_page.specs.Summary.{at_once_parts, failed_counts, known_count, largest_of, measure_parts, rank_parts, shown_longest, summary_parts, table_parts, tables_parts, tile, tile_end, tile_start, tiles, timed_tiles, took_tile, unknown_parts, why_parts}
 use Rattle.redo_page.specs.Targets.{linked_parts}
 use Rattle.redo_page.specs.Tree.{first_failures, node_at}
 use Rattle.redo_page.specs.Words.{word_part, words_parts}
@@ -33,7 +33,7 @@ plain_bare words = bare_each word_part word_bare words
 tile_bare : (term : List ℕ) (description : List Part) → Bare description → Bare (tile term description)
 tile_bare term description bare = bare_then (tile_start term) (description ++ tile_end) refl (bare_then description tile_end bare refl)
 
-failed_bare : (first above : ℕ) → Bare (failed_parts first above)
+failed_bare : (first above : ℕ) → Bare (failed_counts first above)
 failed_bare first above = bare_if (not (above == 0)) _ refl
 
 tiles_bare : (facts : Facts) (targets first above : ℕ) → Bare (tiles facts targets first above)
@@ -43,9 +43,9 @@ tiles_bare facts targets first above =
     let timed = took_tile facts ++ timed_tiles facts in
     let logs = tile (codes "Logs") (words_parts (size_words facts.bytes)) in
     let warnings = tile (codes "Lines with warning:") (NumberPart facts.warnings ∷ []) in
-    let failed = tile (codes "Failed") (failed_parts first above) in
+    let failed = tile (codes "Failed") (failed_counts first above) in
     bare_then (tile (codes "Targets") (NumberPart targets ∷ [])) (failed ++ (warnings ++ (logs ++ timed))) (tile_bare (codes "Targets") (NumberPart targets ∷ []) refl)
-    (bare_then failed (warnings ++ (logs ++ timed)) (tile_bare (codes "Failed") (failed_parts first above) (failed_bare first above))
+    (bare_then failed (warnings ++ (logs ++ timed)) (tile_bare (codes "Failed") (failed_counts first above) (failed_bare first above))
     (bare_then warnings (logs ++ timed) (tile_bare (codes "Lines with warning:") (NumberPart facts.warnings ∷ []) refl)
     (bare_then logs timed (tile_bare (codes "Logs") (words_parts (size_words facts.bytes)) (plain_bare (size_words facts.bytes)))
     (bare_then (took_tile facts) (timed_tiles facts) (bare_if (is_some facts.window) (tile (codes "Took") (words_parts (duration_words facts.took))) (tile_bare (codes "Took") (words_parts (duration_words facts.took)) (plain_bare (duration_words facts.took))))
@@ -67,21 +67,21 @@ why_bare facts = bare_if (not (is_timed facts)) _ (by (known_count facts == 0))
     by false = refl
 
 module _ (count : ℕ) (listed : List ℕ) (logs : List Log) (nodes : List Node) where
-  row_refers : (measure : Measure) (largest : ℕ) (rank : Rank) → rank.place < count → Refer count listed (row_parts logs nodes measure largest rank) [] []
-  unfolding row_parts
+  row_refers : (measure : Measure) (largest : ℕ) (rank : Rank) → rank.place < count → Refer count listed (rank_parts logs nodes measure largest rank) [] []
+  unfolding rank_parts
   row_refers measure largest rank below =
       let name = target_at logs (node_at nodes rank.place).number in
       same_refer {others = linked_parts (Some rank.place) name} (simp (flat_map-append, badge_bare (node_at nodes rank.place).status, measure_bare measure rank.value))
       (linked_refers (Some rank.place) name (lt-ltb rank.place count below))
 
-  rows_refer : (measure : Measure) (largest : ℕ) (ranks : List Rank) → AreRanksBelow count ranks → Refer count listed (flat_map (row_parts logs nodes measure largest) ranks) [] []
+  rows_refer : (measure : Measure) (largest : ℕ) (ranks : List Rank) → AreRanksBelow count ranks → Refer count listed (flat_map (rank_parts logs nodes measure largest) ranks) [] []
   rows_refer measure largest [] below = bare_refers [] refl
   rows_refer measure largest (rank ∷ ranks) below = then_refer (row_refers measure largest rank below.0) (rows_refer measure largest ranks below.1)
 
   table_refers : (measure : Measure) (heading : List ℕ) (ranks : List Rank) → AreRanksBelow count ranks → Refer count listed (table_parts logs nodes measure heading ranks) [] []
   unfolding table_parts
   table_refers measure heading ranks below =
-      refer_if (not (length ranks == 0)) (same_refer {others = flat_map (row_parts logs nodes measure (largest_of ranks)) ranks} (simp (flat_map-append, append-nil)) (rows_refer measure (largest_of ranks) ranks below))
+      refer_if (not (length ranks == 0)) (same_refer {others = flat_map (rank_parts logs nodes measure (largest_of ranks)) ranks} (simp (flat_map-append, append-nil)) (rows_refer measure (largest_of ranks) ranks below))
 
   tables_refer : (longest warned : List Rank) → AreRanksBelow count longest → AreRanksBelow count warned → Refer count listed (tables_parts logs nodes longest warned) [] []
   unfolding tables_parts

@@ -10,7 +10,7 @@ use Rattle.redo_outline.specs.Facts.{target_at}
 use Rattle.redo_page.specs.declared.summary.Measure.{Measure}
 use Rattle.redo_page.specs.declared.summary.Measure.TheVariants.{Milliseconds, Count}
 use Rattle.redo_page.specs.Failed.{failed_above, places_where}
-use Rattle.redo_page.specs.Summary.{above_parts, at_once_parts, failed_parts, known_count, largest_of, measure_parts, row_parts, shown_longest, summary_parts, table_parts, table_start, tables_parts, tile, tile_end, tile_start, tiles, timed_tiles, took_tile, unknown_parts, why_parts}
+use Rattle.redo_page.specs.Summary.{above_parts, at_once_parts, failed_counts, known_count, largest_of, measure_parts, rank_parts, shown_longest, summary_parts, table_parts, table_start, tables_parts, tile, tile_end, tile_start, tiles, timed_tiles, took_tile, unknown_parts, why_parts}
 use Rattle.redo_page.specs.Tree.{first_failures, node_at}
 use Rattle.redo_page.specs.Words.{word_part, words_parts}
 use Rattle.redo_summary.specs.declared.rank.Rank.{Rank}
@@ -29,7 +29,7 @@ tile_nests term description nests =
     then_lead {middle = codes "dd" ∷ codes "div" ∷ []} {parts = tile_start term} (record { leads = λ around tags. refl })
     (then_lead (lead_in (codes "dd" ∷ codes "div" ∷ []) nests) (record { leads = λ around tags. refl }))
 
-failed_nest : (first above : ℕ) → Nest (failed_parts first above)
+failed_nest : (first above : ℕ) → Nest (failed_counts first above)
 failed_nest first above = then_lead {middle = []} {parts = NumberPart first ∷ []} (record { leads = λ around tags. refl }) (nest_if (not (above == 0)) (record { leads = λ around tags. refl }))
 
 number_nests : (number : ℕ) → Nest (NumberPart number ∷ [])
@@ -38,7 +38,7 @@ number_nests number = record { leads = λ around tags. refl }
 tiles_nest : (facts : Facts) (targets first above : ℕ) → Nest (tiles facts targets first above)
 tiles_nest facts targets first above =
     then_lead (tile_nests (codes "Targets") (NumberPart targets ∷ []) (number_nests targets))
-    (then_lead (tile_nests (codes "Failed") (failed_parts first above) (failed_nest first above))
+    (then_lead (tile_nests (codes "Failed") (failed_counts first above) (failed_nest first above))
     (then_lead (tile_nests (codes "Lines with warning:") (NumberPart facts.warnings ∷ []) (number_nests facts.warnings))
     (then_lead (tile_nests (codes "Logs") (words_parts (size_words facts.bytes)) (plain_nests (size_words facts.bytes)))
     (then_lead (nest_if (is_some facts.window) (tile_nests (codes "Took") (words_parts (duration_words facts.took)) (plain_nests (duration_words facts.took))))
@@ -63,8 +63,8 @@ why_nests facts =
     unknown_nests false = record { leads = λ around tags. refl }
 
 module _ (logs : List Log) (nodes : List Node) where
-  row_nests : (measure : Measure) (largest : ℕ) (rank : Rank) → Nest (row_parts logs nodes measure largest rank)
-  unfolding row_parts
+  row_nests : (measure : Measure) (largest : ℕ) (rank : Rank) → Nest (rank_parts logs nodes measure largest rank)
+  unfolding rank_parts
   row_nests measure largest rank = record {
     leads = λ around tags.
         simp (joined, (linked_nests (Some rank.place) (target_at logs (node_at nodes rank.place).number)).leads, (badge_nests (node_at nodes rank.place).status).leads, (measure_nests measure rank.value).leads);
@@ -75,7 +75,7 @@ module _ (logs : List Log) (nodes : List Node) where
   table_nests measure heading ranks =
       nest_if (not (length ranks == 0))
       (then_lead {middle = codes "tbody" ∷ codes "table" ∷ codes "div" ∷ []} {parts = table_start heading} (record { leads = λ around tags. refl })
-      (then_lead (lead_in (codes "tbody" ∷ codes "table" ∷ codes "div" ∷ []) (nest_each (row_parts logs nodes measure (largest_of ranks)) (row_nests measure (largest_of ranks)) ranks)) (record { leads = λ around tags. refl })))
+      (then_lead (lead_in (codes "tbody" ∷ codes "table" ∷ codes "div" ∷ []) (nest_each (rank_parts logs nodes measure (largest_of ranks)) (row_nests measure (largest_of ranks)) ranks)) (record { leads = λ around tags. refl })))
 
   tables_nest : (longest warned : List Rank) → Nest (tables_parts logs nodes longest warned)
   unfolding tables_parts

@@ -9,7 +9,7 @@ use Rattle.redo_logs.specs.declared.log_state.LogState.TheVariants.{Ended}
 use Rattle.redo_logs.specs.Logs.{Log}
 use Rattle.redo_outline.specs.declared.node.Node.{Node}
 use Rattle.redo_page.specs.declared.summary.Measure.TheVariants.{Milliseconds, Count}
-use Rattle.redo_page.specs.Summary.{above_parts, at_once_parts, failed_parts, known_count, largest_of, measure_parts, meter_width, row_parts, shown_longest, summary_parts, table_parts, table_start, tables_parts, tile, tile_end, tile_start, tiles, timed_tiles, took_tile, unknown_parts, why_parts}
+use Rattle.redo_page.specs.Summary.{above_parts, at_once_parts, failed_counts, known_count, largest_of, measure_parts, meter_width, rank_parts, shown_longest, summary_parts, table_parts, table_start, tables_parts, tile, tile_end, tile_start, tiles, timed_tiles, took_tile, unknown_parts, why_parts}
 use Rattle.redo_page.specs.Words.{word_part, words_parts}
 use Rattle.redo_summary.specs.declared.rank.Rank.{Rank}
 use Rattle.redo_summary.specs.Summary.{Facts}
@@ -108,7 +108,7 @@ tile_is = (refl, refl, refl)
 
 failures_are :
     (above_parts 0 ≡ []) × (above_parts 1 ≡ words (codes ", and ") ∷ number 1 ∷ words (codes " above") ∷ [])
-    × (failed_parts 0 0 ≡ number 0 ∷ []) × (failed_parts 3 0 ≡ number 3 ∷ []) × (failed_parts 3 2 ≡ number 3 ∷ words (codes ", and ") ∷ number 2 ∷ words (codes " above") ∷ [])
+    × (failed_counts 0 0 ≡ number 0 ∷ []) × (failed_counts 3 0 ≡ number 3 ∷ []) × (failed_counts 3 2 ≡ number 3 ∷ words (codes ", and ") ∷ number 2 ∷ words (codes " above") ∷ [])
 failures_are = (refl, refl, refl, refl, refl)
 
 abbrev tile_of : List ℕ → List Part → List Part → List Part
@@ -189,9 +189,9 @@ warned_row rest =
     ∷ tag markup.NumberCell ∷ number 8 ∷ tag markup.EndCell ∷ tag markup.MeterCell ∷ MeterPart 10000 ∷ tag markup.EndCell ∷ tag markup.EndTableRow ∷ rest
 
 rows_are :
-    (row_parts logs nodes Milliseconds 60000 (rank 5000 1) ≡ short_row []) × (row_parts logs nodes Milliseconds 60000 (rank 60000 2) ≡ long_row [])
-    × (row_parts logs nodes Count 8 (rank 8 1) ≡ warned_row [])
-unfolding row_parts duration_words
+    (rank_parts logs nodes Milliseconds 60000 (rank 5000 1) ≡ short_row []) × (rank_parts logs nodes Milliseconds 60000 (rank 60000 2) ≡ long_row [])
+    × (rank_parts logs nodes Count 8 (rank 8 1) ≡ warned_row [])
+unfolding rank_parts duration_words
 rows_are = (refl, refl, refl)
 
 abbrev table : List ℕ → List Part → List Part
@@ -209,7 +209,7 @@ table_is :
     (table_parts logs nodes Milliseconds (codes "h") [] ≡ [])
     × (table_parts logs nodes Milliseconds (codes "h") (rank 60000 2 ∷ rank 5000 1 ∷ []) ≡ table (codes "h") (long_row (short_row (table_end []))))
     × (table_parts logs nodes Count (codes "h") (rank 8 1 ∷ []) ≡ table (codes "h") (warned_row (table_end [])))
-unfolding table_parts row_parts duration_words
+unfolding table_parts rank_parts duration_words
 table_is = (refl, refl, refl)
 
 abbrev both_tables : List Part → List Part
@@ -221,7 +221,7 @@ tables_are :
     × (tables_parts logs nodes [] (rank 8 1 ∷ []) ≡ tag markup.Columns ∷ table (codes "Most warnings") (warned_row (table_end (tag markup.EndDiv ∷ []))))
     × (tables_parts logs nodes (rank 60000 2 ∷ []) [] ≡ tag markup.Columns ∷ table (codes "Longest") (long_row (table_end (tag markup.EndDiv ∷ []))))
     × (tables_parts logs nodes (rank 60000 2 ∷ rank 5000 1 ∷ []) (rank 8 1 ∷ []) ≡ both_tables [])
-unfolding tables_parts table_parts row_parts duration_words
+unfolding tables_parts table_parts rank_parts duration_words
 tables_are = (refl, refl, refl, refl)
 
 -- ---- why there is no timeline
@@ -260,5 +260,5 @@ summary_is :
     (tile_of (codes "Lines with warning:") (number 4 ∷ []) (tile_of (codes "Logs") (number 46 ∷ words (codes ".") ∷ number 0 ∷ words (codes " kB") ∷ [])
     (tag markup.EndDescriptionList ∷ tag markup.QuietParagraph ∷ nothing_known ∷ tag markup.EndParagraph ∷ tag markup.EndSection ∷ [])))))
     )
-unfolding summary_parts tables_parts table_parts row_parts duration_words size_words tenths_words
+unfolding summary_parts tables_parts table_parts rank_parts duration_words size_words tenths_words
 summary_is = (refl, refl)

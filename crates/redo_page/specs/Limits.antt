@@ -21,7 +21,7 @@ bytes_shown level nodes = sum_by (λ (node : Node). at_most level node.bytes) no
 abbrev pub fit_in : Option ℕ → ℕ → List Node → Bool
 fit_in level budget nodes = nat_le (bytes_shown level nodes) budget
 
--- No log is cut to fewer bytes.
+-- The lowest level. A log that shows whole lines only may show fewer bytes.
 abbrev pub min_level : ℕ
 min_level = 4096
 

@@ -34,8 +34,8 @@ abbrev pub above_parts : ℕ → List Part
 above_parts above = parts_if (not (above == 0)) (NamePart (codes ", and ") ∷ NumberPart above ∷ NamePart (codes " above") ∷ [])
 
 -- How many targets failed, and how many of those above them.
-abbrev pub failed_parts : ℕ → ℕ → List Part
-failed_parts first above = (NumberPart first ∷ []) ++ above_parts above
+abbrev pub failed_counts : ℕ → ℕ → List Part
+failed_counts first above = (NumberPart first ∷ []) ++ above_parts above
 
 -- How many recipes ran at once, on average and at most.
 abbrev pub at_once_parts : Facts → List Part
@@ -52,7 +52,7 @@ timed_tiles facts =
 abbrev pub tiles : Facts → ℕ → ℕ → ℕ → List Part
 tiles facts targets first above =
     tile (codes "Targets") (NumberPart targets ∷ [])
-    ++ (tile (codes "Failed") (failed_parts first above)
+    ++ (tile (codes "Failed") (failed_counts first above)
     ++ (tile (codes "Lines with warning:") (NumberPart facts.warnings ∷ [])
     ++ (tile (codes "Logs") (words_parts (size_words facts.bytes))
     ++ (took_tile facts ++ timed_tiles facts))))
@@ -98,8 +98,8 @@ largest_of (rank ∷ ranks) = rank.value
 
 module _ (logs : List Log) (nodes : List Node) where
   -- A target, its value, and a meter that shows how large the value is.
-  unfoldable pub row_parts : Measure → ℕ → Rank → List Part
-  row_parts measure largest rank =
+  unfoldable pub rank_parts : Measure → ℕ → Rank → List Part
+  rank_parts measure largest rank =
       MarkupPart markup.TableRow ∷ MarkupPart markup.RowHeading
       ∷ (linked_parts (Some rank.place) (target_at logs (node_at nodes rank.place).number)
       ++ (badge_parts (node_at nodes rank.place).status
@@ -111,7 +111,7 @@ module _ (logs : List Log) (nodes : List Node) where
   unfoldable pub table_parts : Measure → List ℕ → List Rank → List Part
   table_parts measure heading ranks =
       parts_if (not (length ranks == 0))
-      (table_start heading ++ (flat_map (row_parts measure (largest_of ranks)) ranks ++ MarkupPart markup.EndTableBody ∷ MarkupPart markup.EndTable ∷ MarkupPart markup.EndDiv ∷ []))
+      (table_start heading ++ (flat_map (rank_parts measure (largest_of ranks)) ranks ++ MarkupPart markup.EndTableBody ∷ MarkupPart markup.EndTable ∷ MarkupPart markup.EndDiv ∷ []))
 
   unfoldable pub tables_parts : List Rank → List Rank → List Part
   tables_parts longest warned =

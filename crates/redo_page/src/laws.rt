@@ -70,9 +70,9 @@ pub fn links_lead_to_ids()
     trimmed_events_are_in_tree();
 }
 
-/// No text line is lost, added, changed or moved out of order, if each requested target has a log. A page has the text lines of the events.
-/// The tree shows them, except the lines of a log whose output is in its article, and the middle of long logs. This article shows exactly
-/// the lines of this log. If the number of bytes isn't limited, no log is long. [`redo_trim::head_and_tail_are_kept`] states which lines
+/// The contents of a page have the text lines of the events, each once and in order, if each requested target has a log. The tree shows
+/// those that are left of long logs, in order, except the lines of logs whose output is in an article. Such an article shows exactly the
+/// lines of its log. Nothing is left out if the number of bytes isn't limited. [`redo_trim::head_and_tail_are_kept`] states which lines
 /// of a long log are left.
 pub fn lines_are_shown()
     ensures complete { (request : Request) (logs : List Log) (requested : List (List ℕ)) → find_unknown logs requested ≡ None →
@@ -112,7 +112,7 @@ pub fn tags_are_its_own()
 }
 
 /// If a page has a timeline, its chart shows when each target ran: the span of each shown target whose times are known is in exactly one
-/// bar, and this bar says where the span is.
+/// bar. This bar includes the span, is at least 0.1 % of the chart wide, and says how long the span is, or how many spans it stands for.
 pub fn times_are_shown()
     ensures chart { (request : Request) (logs : List Log) (requested : List (List ℕ)) (window : Window) →
         (page_facts request logs requested).window ≡ Some window → is_timed (page_facts request logs requested) ≡ true →

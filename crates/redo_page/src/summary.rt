@@ -3,7 +3,7 @@ ghost use Rattle.std.specs.Prelude.{◌≡◌, ◌∷◌, [], codes, map};
 ghost use Rattle.std.specs.List.{flat_map};
 ghost use Rattle.redo_page.specs.Failed.{AreFailures};
 ghost use Rattle.redo_html.specs.Parts.Part.{NumberPart};
-ghost use Rattle.redo_page.specs.Summary.{above_parts, at_once_parts, failed_parts, known_count, largest_of, measure_parts, meter_width, row_parts, shown_longest, summary_parts, table_parts, table_start, tables_parts, tile, tile_end, tile_start, tiles, timed_tiles, took_tile, unknown_parts, why_parts};
+ghost use Rattle.redo_page.specs.Summary.{above_parts, at_once_parts, failed_counts, known_count, largest_of, measure_parts, meter_width, rank_parts, shown_longest, summary_parts, table_parts, table_start, tables_parts, tile, tile_end, tile_start, tiles, timed_tiles, took_tile, unknown_parts, why_parts};
 ghost use Rattle.redo_page.specs.Words.{words_parts};
 ghost use Rattle.redo_units.specs.Words.{word_of};
 ghost use Rattle.redo_page.specs.Private.Writing.{WroteParts};
@@ -70,7 +70,7 @@ fn write_words_tile<W: Sink>(term: &[u8], words: &[Word], page: &mut PageWriter<
 
 // Writes how many targets failed, and how many of those above them.
 fn write_failed_tile<W: Sink>(first: usize, above: usize, page: &mut PageWriter<'_, W>)
-    ensures { WroteParts W.written page.old page.new (tile (codes "Failed") (failed_parts first above)) }
+    ensures { WroteParts W.written page.old page.new (tile (codes "Failed") (failed_counts first above)) }
 {
     write_tile_start(b"Failed", page);
     page.put(&[Piece::Number(first as u64)]);
@@ -157,7 +157,7 @@ fn meter_width(value: u64, largest: u64) -> u64
 }
 
 // Writes a target, its value, and a meter.
-#[tactic(auto, using(crate::proofs::WriterLemmas::wrote_then), unfolding(crate::specs::Summary::row_parts))]
+#[tactic(auto, using(crate::proofs::WriterLemmas::wrote_then), unfolding(crate::specs::Summary::rank_parts))]
 fn write_row<W: Sink>(
     table: &LogTable,
     nodes: &[Node],
@@ -166,7 +166,7 @@ fn write_row<W: Sink>(
     rank: Rank,
     page: &mut PageWriter<'_, W>,
 )
-    ensures { WroteParts W.written page.old page.new (row_parts table.now nodes.now measure largest rank) }
+    ensures { WroteParts W.written page.old page.new (rank_parts table.now nodes.now measure largest rank) }
 {
     let node = node_at(nodes, rank.place);
     page.put(&[
@@ -197,7 +197,7 @@ fn write_rows<W: Sink>(
     ranks: &[Rank],
     page: &mut PageWriter<'_, W>,
 )
-    ensures { WroteParts W.written page.old page.new (flat_map (row_parts table.now nodes.now measure largest) ranks.now) }
+    ensures { WroteParts W.written page.old page.new (flat_map (rank_parts table.now nodes.now measure largest) ranks.now) }
 {
     for rank in ranks {
         write_row(table, nodes, measure, largest, *rank, page);

@@ -146,7 +146,8 @@ pub fn write_timeline<W: Sink>(
     summary: &Summary,
     out: &mut W,
 ) -> Result<(), FormFault>
-    ensures { FormWrites (W.written out.old) (W.written out.new) (flat_map part_html (timeline_parts table.now nodes.now summary.now)) result }
+    ensures { FormWrites (W.written out.old) (W.written out.new)
+        (flat_map part_html (timeline_parts table.now nodes.now summary.now)) result }
 {
     match summary.window() {
         Some(window) if summary.is_timed() => {

@@ -4,7 +4,7 @@ use Rattle.std.specs.Prelude.{codes}
 use Rattle.std.specs.Fmt.{digits}
 use Rattle.std.specs.List.{AllByRecursion}
 use Rattle.redo_units.specs.Durations.{duration_text, duration_words}
-use Rattle.redo_units.specs.Sizes.{size_text, size_words, tenths_text, tenths_words}
+use Rattle.redo_units.specs.Sizes.{size_words, tenths_words}
 use Rattle.redo_units.specs.declared.words.Word.TheVariants.{Number, Text}
 use Rattle.redo_units.specs.Words.{decimal_text, word_of, words_text}
 use Rattle.redo_units.specs.Words.WordValue.{NumberWord, TextWord}
@@ -80,9 +80,15 @@ sizes =
     shows 18446744073709551615 (codes "18446744073.7 GB") ∷
     []
 
+abbrev size_text : ℕ → List ℕ
+size_text bytes = words_text (size_words bytes)
+
 these_sizes : AllByRecursion (λ row. size_text row.number ≡ row.text) sizes
 unfolding size_words decimal_text digits
 these_sizes = (refl, (refl, (refl, (refl, (refl, (refl, (refl, (refl, (refl, (refl, (refl, (refl, (refl, (refl, (refl, tt)))))))))))))))
+
+abbrev tenths_text : ℕ → ℕ → List ℕ
+tenths_text amount per = words_text (tenths_words amount per)
 
 -- The last two are of 2^64 / 10, of which the tenfold is at most 2^64 - 1, and of 2^64 - 1.
 quotients :

@@ -1,6 +1,6 @@
 -- How sizes and quotients are written.
 use Rattle.std.specs.Prelude.{ℕ, ◌*◌, ◌/◌, ◌%◌, min, max, ◌==◌, nat_lt, List, [], ◌∷◌, codes, if◌then◌else◌}
-use Rattle.redo_units.specs.Words.{WordValue, no_word, words_text}
+use Rattle.redo_units.specs.Words.{WordValue, no_word}
 use Rattle.redo_units.specs.Words.WordValue.{NumberWord, TextWord}
 
 -- A number of bytes in a unit of this many, with one decimal.
@@ -16,9 +16,6 @@ size_words bytes =
     else if nat_lt bytes 1000000000 then size_in 1000000 (codes " MB") bytes
     else size_in 1000000000 (codes " GB") bytes
 
-abbrev pub size_text : ℕ → List ℕ
-size_text bytes = words_text (size_words bytes)
-
 -- How many tenths an amount is of another one, or of 1 if that is 0. Ten times the amount is at most 2^64 - 1.
 abbrev pub quotient_in_tenths : ℕ → ℕ → ℕ
 quotient_in_tenths amount per = min (amount * 10) 0xFFFFFFFFFFFFFFFF / max per 1
@@ -26,6 +23,3 @@ quotient_in_tenths amount per = min (amount * 10) 0xFFFFFFFFFFFFFFFF / max per 1
 -- A quotient with one decimal.
 unfoldable pub tenths_words : ℕ → ℕ → List WordValue
 tenths_words amount per = let tenths = quotient_in_tenths amount per in NumberWord (tenths / 10) ∷ TextWord (codes ".") ∷ NumberWord (tenths % 10) ∷ []
-
-abbrev pub tenths_text : ℕ → ℕ → List ℕ
-tenths_text amount per = words_text (tenths_words amount per)

@@ -3,14 +3,14 @@ use Rattle.redo_html.specs.declared.markup.Markup.TheVariants as markup
 use Rattle.redo_html.specs.Parts.Part.{MarkupPart, MeterPart}
 use Rattle.redo_outline.specs.declared.node.Node.{Node}
 use Rattle.redo_outline.specs.Facts.{target_at}
-use Rattle.redo_page.specs.Summary.{measure_parts, row_parts}
+use Rattle.redo_page.specs.Summary.{measure_parts, rank_parts}
 use Rattle.redo_page.specs.Targets.{badge_parts, linked_parts}
 use Rattle.redo_page.proofs.PartLoops.{wrote_as}
 use Rattle.redo_page.proofs.WriterLemmas.{wrote_then}
 use Rattle.redo_page.proofs.summary.write_row.Goals as goal
 
 pub returns : goal.returns
-unfolding row_parts
+unfolding rank_parts
 returns g c =
     let rank = c.args.rank in
     let node = c.node_at-node.ensures in

@@ -2,7 +2,7 @@ use Rattle.std.proofs.Common.{ap, ◌∷◌, [], ◌++◌, ◌∙◌}
 use Rattle.std.specs.Prelude.{codes}
 use Rattle.redo_html.specs.Parts.Part.{NumberPart}
 use Rattle.redo_units.specs.Sizes.{size_words}
-use Rattle.redo_page.specs.Summary.{failed_parts, tile, timed_tiles, took_tile}
+use Rattle.redo_page.specs.Summary.{failed_counts, tile, timed_tiles, took_tile}
 use Rattle.redo_page.specs.Words.{words_parts}
 use Rattle.redo_page.proofs.PartLoops.{wrote_as}
 use Rattle.redo_page.proofs.WriterLemmas.{wrote_then}
@@ -14,7 +14,7 @@ returns g c =
     let bytes = c.size.ensures ∙ ap size_words c.bytes.ensures in
     wrote_as g.W.Sink.written c.args.page.now c.write_timed_tiles.new.page _ _
     (λ i. tile (codes "Targets") (NumberPart c.args.targets ∷ [])
-    ++ (tile (codes "Failed") (failed_parts c.args.first c.args.above)
+    ++ (tile (codes "Failed") (failed_counts c.args.first c.args.above)
     ++ (tile (codes "Lines with warning:") (NumberPart (c.warnings.ensures i) ∷ [])
     ++ (tile (codes "Logs") (words_parts (bytes i)) ++ (took_tile facts ++ timed_tiles facts)))))
     (wrote_then c.write_number_tile.ensures (wrote_then c.write_failed_tile.ensures (wrote_then c.write_number_tile-2.ensures
