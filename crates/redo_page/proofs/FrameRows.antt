@@ -19,6 +19,7 @@ use Rattle.redo_timeline.specs.declared.span.Window.{Window}
 use Rattle.redo_units.specs.Dates as dates
 use Rattle.redo_units.specs.Durations.{duration_words}
 use Rattle.redo_page.specs.Frame.{began_parts, timeline_nav, argument, body_markup, command, failed_nav, footer_parts, head_parts, header_parts, is_safe, log_count_parts, nav_parts, quoted, root_parts, sign_text, title_parts, title_text, titled, top_heading_parts, verdict_of, verdict_text}
+use Rattle.redo_page.specs.Laws.{section_links}
 
 abbrev tag : Markup → Part
 tag markup = MarkupPart markup
@@ -156,6 +157,14 @@ header_is :
     ∷ tag markup.EndUnordered ∷ tag markup.EndNav ∷ tag markup.Main ∷ []
 unfolding duration_words dates.date_text_of dates.date_parts dates.period_of
 header_is = refl
+
+-- Only if most times are known, there is a link to the timeline.
+header_links_are :
+    (section_links (header_parts [] logs Made [] [] (facts None 0)) ≡ codes "summary" ∷ codes "tree" ∷ [])
+    × (section_links (header_parts [] logs Failed [] [] (record (facts (Some (record { began = 7; width = 1 })) 1) { recipes = record { began = 7; place = 0; ended = 8; failed = false } ∷ [] }))
+    ≡ codes "failed" ∷ codes "summary" ∷ codes "timeline" ∷ codes "tree" ∷ [])
+unfolding duration_words dates.date_text_of dates.date_parts dates.period_of
+header_links_are = (refl, refl)
 
 -- ---- the end
 

@@ -1,6 +1,7 @@
 -- Rows of the summary, as the parts that are written. The values are worked out by hand.
 use Rattle.std.proofs.Common.{◌≡◌, ℕ, Bool, true, false, List, [], ◌∷◌, ◌++◌, Option, None, Some, ℤ, pos, replicate, refl}
-use Rattle.std.specs.Prelude.{codes}
+use Rattle.std.specs.List.{flat_map}
+use Rattle.std.specs.Prelude.{codes, take}
 use Rattle.redo_html.specs.declared.markup.Markup.{Markup}
 use Rattle.redo_html.specs.declared.markup.Markup.TheVariants as markup
 use Rattle.redo_html.specs.Parts.{Part}
@@ -150,6 +151,19 @@ tiles_are :
 unfolding duration_words size_words tenths_words
 tiles_are = (refl, refl)
 
+-- The words of some parts.
+abbrev words_of : Part → List (List ℕ)
+words_of (NamePart text) = text ∷ []
+words_of part = []
+
+tile_words_are :
+    (flat_map words_of (tiles known 3 1 0)
+    ≡ codes "Targets" ∷ codes "Failed" ∷ codes "Lines with warning:" ∷ codes "Logs" ∷ codes " byte" ∷ [] ∷ [] ∷ codes "Took" ∷ codes " min " ∷ codes " s"
+    ∷ codes "Sum of times" ∷ codes " min " ∷ codes " s" ∷ codes "At once" ∷ codes "." ∷ codes ", at most " ∷ [])
+    × (flat_map words_of (tiles unknown 5 2 0) ≡ codes "Targets" ∷ codes "Failed" ∷ codes "Lines with warning:" ∷ codes "Logs" ∷ codes "." ∷ codes " kB" ∷ [])
+unfolding duration_words size_words tenths_words
+tile_words_are = (refl, refl)
+
 -- ---- tables
 
 measures_are :
@@ -262,3 +276,28 @@ summary_is :
     )
 unfolding summary_parts tables_parts table_parts rank_parts duration_words size_words tenths_words
 summary_is = (refl, refl)
+
+-- The section's heading, and the number of targets, of those that failed, and of those above.
+summary_begins :
+    take 22 (summary_parts logs nodes unknown)
+    ≡ section
+    (tile_of (codes "Targets") (number 3 ∷ [])
+    (tag markup.Div ∷ tag markup.Term ∷ words (codes "Failed") ∷ tag markup.EndTerm ∷ tag markup.Description ∷ number 1 ∷ words (codes ", and ") ∷ number 1 ∷ words (codes " above") ∷ []))
+unfolding summary_parts tables_parts table_parts row_parts duration_words size_words tenths_words
+summary_begins = refl
+
+-- Where the tables and the reason begin.
+abbrev milestone : Part → List Markup
+milestone (MarkupPart markup.EndDescriptionList) = markup.EndDescriptionList ∷ []
+milestone (MarkupPart markup.Columns) = markup.Columns ∷ []
+milestone (MarkupPart markup.Table) = markup.Table ∷ []
+milestone (MarkupPart markup.QuietParagraph) = markup.QuietParagraph ∷ []
+milestone (MarkupPart markup.EndSection) = markup.EndSection ∷ []
+milestone part = []
+
+milestones_are :
+    (flat_map milestone (summary_parts logs nodes known) ≡ markup.EndDescriptionList ∷ markup.Columns ∷ markup.Table ∷ markup.Table ∷ markup.EndSection ∷ [])
+    × (flat_map milestone (summary_parts logs nodes few) ≡ markup.EndDescriptionList ∷ markup.Columns ∷ markup.Table ∷ markup.QuietParagraph ∷ markup.EndSection ∷ [])
+    × (flat_map milestone (summary_parts logs nodes unknown) ≡ markup.EndDescriptionList ∷ markup.QuietParagraph ∷ markup.EndSection ∷ [])
+unfolding summary_parts tables_parts table_parts row_parts duration_words size_words tenths_words
+milestones_are = (refl, refl, refl)

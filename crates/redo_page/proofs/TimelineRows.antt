@@ -149,7 +149,7 @@ section_is = refl
 
 -- Without a window, or if too few times are known, there is no section.
 sections_are :
-    (length (timeline_if logs nodes known (Some window)) ≡ 12) × (timeline_if logs nodes known None ≡ []) × (timeline_if logs nodes (facts (Some window) [] [] (some 1)) (Some window) ≡ [])
+    (length (timeline_if logs nodes known (Some window)) ≡ 12) × (timeline_if logs nodes known None ≡ []) × (length (timeline_if logs nodes (facts (Some window) [] [] (some 1)) (Some window)) ≡ 0)
 sections_are = (refl, refl, refl)
 
 timeline_is :
