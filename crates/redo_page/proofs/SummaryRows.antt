@@ -283,7 +283,7 @@ summary_begins :
     ≡ section
     (tile_of (codes "Targets") (number 3 ∷ [])
     (tag markup.Div ∷ tag markup.Term ∷ words (codes "Failed") ∷ tag markup.EndTerm ∷ tag markup.Description ∷ number 1 ∷ words (codes ", and ") ∷ number 1 ∷ words (codes " above") ∷ []))
-unfolding summary_parts tables_parts table_parts row_parts duration_words size_words tenths_words
+unfolding summary_parts tables_parts table_parts rank_parts duration_words size_words tenths_words
 summary_begins = refl
 
 -- Where the tables and the reason begin.
@@ -299,5 +299,5 @@ milestones_are :
     (flat_map milestone (summary_parts logs nodes known) ≡ markup.EndDescriptionList ∷ markup.Columns ∷ markup.Table ∷ markup.Table ∷ markup.EndSection ∷ [])
     × (flat_map milestone (summary_parts logs nodes few) ≡ markup.EndDescriptionList ∷ markup.Columns ∷ markup.Table ∷ markup.QuietParagraph ∷ markup.EndSection ∷ [])
     × (flat_map milestone (summary_parts logs nodes unknown) ≡ markup.EndDescriptionList ∷ markup.QuietParagraph ∷ markup.EndSection ∷ [])
-unfolding summary_parts tables_parts table_parts row_parts duration_words size_words tenths_words
+unfolding summary_parts tables_parts table_parts rank_parts duration_words size_words tenths_words
 milestones_are = (refl, refl, refl)
