@@ -14,13 +14,12 @@ use crate::excerpt::{cut_to, write_excerpt, write_in_tree};
 use crate::nodes::{is_short, node_at};
 use crate::printed::Printed;
 use crate::targets::{write_badge, write_name};
-use redo_outline::target_at;
 use crate::words::write_words;
 use crate::writer::PageWriter;
 use redo_device::Sink;
 use redo_html::{Markup, Piece, Style};
 use redo_logs::LogTable;
-use redo_outline::Node;
+use redo_outline::{Node, target_at};
 use redo_units::duration;
 
 const MAX_CAUSE: usize = 160;

@@ -6,10 +6,9 @@ ghost use Rattle.redo_page.specs.Tree.{has_article, has_one_child, is_empty, is_
 
 use crate::level::Level;
 use crate::nodes::{has_failed, is_short, node_at};
-use redo_outline::target_at;
 use redo_line::TargetName;
 use redo_logs::LogTable;
-use redo_outline::{Node, Outline};
+use redo_outline::{Node, Outline, target_at};
 use redo_view::{Opening, Options};
 
 /// What the tree depends on.

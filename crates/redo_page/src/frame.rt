@@ -8,7 +8,6 @@ ghost use Rattle.redo_page.specs.Tree.{first_failures};
 ghost use Rattle.redo_units.specs.Dates.{date_text_of};
 
 use crate::targets::{plural, write_badge, write_name};
-use redo_outline::target_at;
 use crate::timeline::has_timeline;
 use crate::words::write_words;
 use crate::writer::PageWriter;
@@ -17,7 +16,7 @@ use redo_device::Sink;
 use redo_html::{Markup, Piece};
 use redo_line::TargetName;
 use redo_logs::LogTable;
-use redo_outline::Node;
+use redo_outline::{Node, target_at};
 use redo_summary::Summary;
 use redo_timeline::Window;
 use redo_units::{date, duration};
@@ -258,10 +257,7 @@ fn write_timeline_nav<W: Sink>(timed: bool, page: &mut PageWriter<'_, W>)
 fn write_nav<W: Sink>(verdict: Verdict, timed: bool, page: &mut PageWriter<'_, W>)
     ensures { WroteParts W.written page.old page.new (nav_parts verdict timed) }
 {
-    page.put(&[
-        Piece::Markup(Markup::Nav),
-        Piece::Markup(Markup::Unordered),
-    ]);
+    page.put(&[Piece::Markup(Markup::Nav), Piece::Markup(Markup::Unordered)]);
     write_failed_nav(verdict, page);
     write_nav_item(Markup::SummaryLink, b"Summary", page);
     write_timeline_nav(timed, page);

@@ -101,7 +101,11 @@ fn limit_if(build: &BuildRef<'_>, level: u64, place: Option<usize>) -> Limit
 }
 
 /// Returns the limits of all logs, by their numbers; none if no log has a limit.
-pub fn limits_of(alloc: Global, build: &BuildRef<'_>, level: Option<u64>) -> Result<Vec<Limit>, AllocError>
+pub fn limits_of(
+    alloc: Global,
+    build: &BuildRef<'_>,
+    level: Option<u64>,
+) -> Result<Vec<Limit>, AllocError>
     ensures { IfOk result (λ limits. limits.items ≡ limits_of (build_value build.now) level (length build.now.table.now)) }
 {
     let mut limits = Vec::new(alloc);

@@ -264,7 +264,14 @@ fn write_tables<W: Sink>(
         return;
     }
     page.put(&[Piece::Markup(Markup::Columns)]);
-    write_table(table, nodes, Measure::Milliseconds, b"Longest", longest, page);
+    write_table(
+        table,
+        nodes,
+        Measure::Milliseconds,
+        b"Longest",
+        longest,
+        page,
+    );
     write_table(table, nodes, Measure::Count, b"Most warnings", warned, page);
     page.put(&[Piece::Markup(Markup::EndDiv)]);
 }

@@ -206,4 +206,3 @@ module _ (limits : List Limit) where
 
     pub stays_in_tree : AreInTree (trimmed limits [] events)
     stays_in_tree = ap (events_of 0) tree_trimmed ∙ sym trimmed_is
-
