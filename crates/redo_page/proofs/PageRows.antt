@@ -2,7 +2,7 @@
 use Rattle.std.proofs.Common.{Bor, ◌≡◌, ℕ, Bool, true, false, List, [], ◌∷◌, ◌++◌, map, None, Some, pos, length, replicate, refl}
 use Rattle.std.specs.Fmt.{digits}
 use Rattle.std.specs.List.{filter, flat_map, starts_with}
-use Rattle.std.specs.Prelude.{bytes_eq, codes, nat_eq, take}
+use Rattle.std.specs.Prelude.{bytes_eq, codes, nat_eq, sum_by, take}
 use Rattle.redo_line.specs.declared.entry.Entry.{Entry}
 use Rattle.redo_line.specs.declared.entry.Entry.TheVariants.{Text, Mention, Closing}
 use Rattle.redo_line.specs.declared.entry.How.TheVariants.{Made}
@@ -22,7 +22,7 @@ use Rattle.redo_html.specs.Symbols.{first_letter, first_symbol, is_sequence, let
 use Rattle.redo_html.specs.declared.markup.Markup.{Markup}
 use Rattle.redo_html.specs.declared.markup.Markup.TheVariants as markup
 use Rattle.redo_html.specs.Parts.{Part}
-use Rattle.redo_html.specs.Parts.Part.{MarkupPart, LogPart, NamePart, NumberPart, TitlePart, StylePart}
+use Rattle.redo_html.specs.Parts.Part.{MarkupPart, LogPart, NamePart, NumberPart, TitlePart, StylePart, ChartPart}
 use Rattle.redo_page.specs.Excerpt.{in_tree_parts}
 use Rattle.redo_page.specs.Failed.{article_of, article_parts, failed_parts, list_parts, more_parts, output_parts, path_parts, section_parts, whole_parts}
 use Rattle.redo_page.specs.Frame.{footer_parts, is_safe}
@@ -279,6 +279,16 @@ body_is :
     flat_map milestone (body_parts made (options_of timed) 0 (codes "a" ∷ []) (page_outline timed made (codes "a" ∷ [])) facts) ≡ markup.TimelineSection ∷ markup.TreeSection ∷ []
 unfolding duration_words show_log show_log_within
 body_is = refl
+
+-- The number of charts.
+abbrev chart_count : Part → ℕ
+chart_count (ChartPart drawing) = 1
+chart_count part = 0
+
+charts_are :
+    (sum_by chart_count (page_parts timed made (codes "a" ∷ [])) ≡ 1) × (sum_by chart_count (page_parts (request [] false false) made (codes "a" ∷ [])) ≡ 0)
+unfolding page_parts top_parts_of summary_parts tables_parts table_parts row_parts size_words tenths_words duration_words dates.date_text_of dates.date_parts dates.period_of footer_parts failed_parts is_safe number_text digits show_log show_log_within
+charts_are = (refl, refl)
 
 -- The tree of a page shows these lines.
 limited_page :
