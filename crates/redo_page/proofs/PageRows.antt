@@ -287,7 +287,7 @@ chart_count part = 0
 
 charts_are :
     (sum_by chart_count (page_parts timed made (codes "a" ∷ [])) ≡ 1) × (sum_by chart_count (page_parts (request [] false false) made (codes "a" ∷ [])) ≡ 0)
-unfolding page_parts top_parts_of summary_parts tables_parts table_parts row_parts size_words tenths_words duration_words dates.date_text_of dates.date_parts dates.period_of footer_parts failed_parts is_safe number_text digits show_log show_log_within
+unfolding page_parts top_parts_of summary_parts tables_parts table_parts rank_parts size_words tenths_words duration_words dates.date_text_of dates.date_parts dates.period_of footer_parts failed_parts is_safe number_text digits show_log show_log_within
 charts_are = (refl, refl)
 
 -- The tree of a page shows these lines.
