@@ -230,7 +230,7 @@ check("the command at the end", part(page, b"As one text: <code>", b"</code>"), 
 for budget in (0, 10_000, 10_001, 16_000_000):
     check(("a long log, whole", budget), told(made_page(LONG, max_bytes=budget)), [*range(1, 101)])
 check("a long log, by default", made_page(LONG), made_page(LONG, max_bytes=0))
-# 10,000 bytes but for one: the level is 9,999. The first 2,499 bytes have 24 lines, and the last 7,500 have 75.
+# A limit of one byte less than 10,000: the level is 9,999. The first 2,499 bytes have 24 lines, and the last 7,500 have 75.
 check("one line is left out", told(made_page(LONG, max_bytes=9_999)), [*range(1, 25), None, *range(26, 101)])
 # The level is 4,100: the first 1,025 bytes have 10 lines, and the last 3,075 have 30. It is 4,133, and the last 3,100 have 31.
 for budget, wanted in [(4100, [*range(1, 11), None, *range(71, 101)]), (4133, [*range(1, 11), None, *range(70, 101)])]:
