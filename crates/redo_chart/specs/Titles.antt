@@ -18,13 +18,13 @@ abbrev pub magnitude : ℤ → ℕ
 magnitude (pos status) = status
 magnitude (negsuc less) = suc less
 
--- How a target ended. Nothing is said if its status is 0.
+-- How a target ended. The text is empty if its status is 0.
 abbrev pub status_text : Option ℤ → List ℕ
 status_text None = codes ", not closed"
 status_text (Some (pos zero)) = []
 status_text (Some status) = before_magnitude status ++ decimal_text (magnitude status)
 
--- How long the targets of a bar ran, after this word. Nothing is said of targets of which only one time is known.
+-- How long the targets of a bar ran, after this word. The text is empty for targets of which only one time is known.
 abbrev pub duration_after : List ℕ → GroupKind → ℕ → List ℕ
 duration_after word Axis ms = []
 duration_after word Parents ms = word ++ duration_text ms

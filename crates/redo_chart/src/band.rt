@@ -31,7 +31,7 @@ impl Band {
         }
     }
 
-    /// Returns the band of the recipes, which follows that of the parents.
+    /// Returns the band of the recipes, which follows the parents' band.
     pub fn recipes(parent_lanes: usize, lanes: usize) -> Band
         requires { parent_lanes ≤ spec.max_parent_lanes }
         ensures { result ≡ spec.recipes_band parent_lanes lanes }
@@ -43,7 +43,7 @@ impl Band {
         }
     }
 
-    /// Returns the band of the marks, which follows that of the recipes.
+    /// Returns the band of the marks, which follows the recipes' band.
     pub fn marks(parent_lanes: usize, recipe_lanes: usize) -> Band
         requires parents { parent_lanes ≤ spec.max_parent_lanes }
         requires recipes { recipe_lanes ≤ spec.max_recipe_lanes }

@@ -103,7 +103,7 @@ sections_linked nodes timed = by (nat_lt 0 (length (first_failures nodes))) (lis
     by false false true = refl
     by false false false = refl
 
--- The places that the times of shown targets lead to are those of nodes.
+-- The times of shown targets lead to places of nodes.
 abbrev pub HavePlaces : Type 0
 HavePlaces = (nodes : List Node) (times : List Times) → AreOfNodes nodes (summary_of nodes times)
 

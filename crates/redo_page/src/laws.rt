@@ -112,7 +112,7 @@ pub fn tags_are_its_own()
 }
 
 /// If a page has a timeline, its chart shows when each target ran: the span of each shown target whose times are known is in exactly one
-/// bar. This bar includes the span, is at least 0.1 % of the chart wide, and says how long the span is, or how many spans it stands for.
+/// bar. This bar includes the span, is at least 0.1 % of the chart wide, and says how long the span is, or how many targets it shows.
 pub fn times_are_shown()
     ensures chart { (request : Request) (logs : List Log) (requested : List (List ℕ)) (window : Window) →
         (page_facts request logs requested).window ≡ Some window → is_timed (page_facts request logs requested) ≡ true →

@@ -17,7 +17,7 @@ AreSpansBelow count spans = AllByRecursion (λ (span : Span). span.place < count
 abbrev pub AreRanksBelow : ℕ → List Rank → Type 0
 AreRanksBelow count ranks = AllByRecursion (λ (rank : Rank). rank.place < count) ranks
 
--- All places are those of nodes.
+-- Each place is the place of a node.
 pub record AreOfNodes (nodes : List Node) (facts : Facts) : Type 0 where
   pub parents : AreSpansBelow (length nodes) facts.parents
   pub recipes : AreSpansBelow (length nodes) facts.recipes

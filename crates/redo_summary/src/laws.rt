@@ -5,7 +5,7 @@ ghost use Rattle.redo_times.specs.declared.times.Times.{Times};
 ghost use Rattle.redo_summary.specs.Laws.{AreInOrderOfPlace, AreOfNodes, AreSplit, IsTable};
 ghost use Rattle.redo_summary.specs.Summary.{summary_of};
 
-/// All places are those of nodes.
+/// Each place is the place of a node.
 pub fn places_are_of_nodes()
     ensures { (nodes : List Node) (times : List Times) → AreOfNodes nodes (summary_of nodes times) }
 {}

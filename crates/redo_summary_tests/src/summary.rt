@@ -119,7 +119,7 @@ fn durations_of_targets(rt: HostRuntime) {
     assert_eq!(rt; duration_of(&times, 2), None);
 }
 
-// Returns ten ranks, each with a value and a place that are lower by one than those of the one before.
+// Returns ten ranks, each with a value and a place that are lower by one than in the rank before.
 fn falling_ranks(alloc: Global, value: u64, place: usize) -> Result<Vec<Rank>, AllocError> {
     let mut ranks = Vec::new(alloc);
     for i in 0u32..10 {

@@ -13,7 +13,7 @@ use Rattle.redo_timeline.proofs.LaneLemmas.{ended-last}
 use Rattle.redo_timeline.proofs.NeedLemmas.{Ascending, all_above_zero, rising-ascending}
 use Rattle.redo_timeline.proofs.OrderLemmas.{in_order-rising}
 
--- The time of a bar includes that of this span.
+-- The time of a bar includes this span's time.
 abbrev pub Includes : List Span → Span → Type 0
 Includes bar span = (began_of bar ≤ span.began) × (span.ended ≤ ended_of bar)
 
@@ -99,7 +99,7 @@ module _ (window : Window) where
   lanes_included high [] between = tt
   lanes_included high (lane ∷ lanes) between = (lane_included high lane between.0, lanes_included high lanes between.1)
 
-  -- The time of each bar includes those of its spans.
+  -- The time of each bar includes its spans' times.
   pub bars_include : (max_lanes : ℕ) (spans : List Span) → EachBar IsIncluded (bars_of window max_lanes spans)
   bars_include max_lanes spans =
       let taken = lanes_taken max_lanes 0 (in_order spans) [] none (rising-ascending 0 (in_order spans) (all_above_zero (in_order spans)) (in_order-rising spans)) in
