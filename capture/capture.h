@@ -83,6 +83,8 @@ struct target {
   int is_in_run, is_started, is_mentioned; /* is_mentioned: as a prerequisite, in the log of another target */
   struct target *parent;                 /* the target whose recipe runs the make that makes this one; may be NULL */
   pid_t process;                         /* of the last line */
+  const struct make *first_make;         /* the first make that ran it; lines that other makes run don't change its end */
+  pid_t end_process;
   int64_t start_time, end_time;
   int status;                     /* as a shell reports it; -1 while a line runs */
   unsigned running_lines;         /* number of lines that run */
@@ -246,7 +248,7 @@ extern struct line *lines; /* the lines that run now */
 void begin_line(struct make *make, struct target *target, struct command command, int64_t time, pid_t process, struct pipe *pipe);
 void end_line(struct make *make, pid_t process, int status, int64_t time, int is_shown);
 /* Ends a line that make couldn't start. */
-void fail_line(struct target *target, pid_t process, int64_t time);
+void fail_line(struct target *target, const struct make *make, pid_t process, int64_t time);
 /* Begins the log of a target, before its first line starts. */
 void begin_target(struct target *target, struct target *parent, int64_t time);
 /* Writes the records at the start of the log, once its first line has a process. Mentions the target in the log of its parent. */

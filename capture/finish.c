@@ -71,7 +71,7 @@ static void add_closing_record(struct target *target) {
   if (open_log(target) < 0) return;
   if (fstat(target->log_fd, &found) == 0 && found.st_size > 0 && pread(target->log_fd, &last, 1, found.st_size - 1) < 1)
     last = '\n';
-  char *record = xasprintf("%s@@REDO:done:%d:%s@@ %d %s\n", last == '\n' ? "" : "\n", (int)target->process,
+  char *record = xasprintf("%s@@REDO:done:%d:%s@@ %d %s\n", last == '\n' ? "" : "\n", (int)target->end_process,
                            format_time(target->end_time), target->status, name_in_own_log(target->name));
   target->is_closed = write_all(target->log_fd, record, strlen(record)) == 0;
   if (!target->is_closed) report_write_error(log_file_name(target->number));
@@ -107,7 +107,8 @@ static void finish_log(struct target *target) {
 /* Gives the log of the run the status of the run, unless a recipe makes `all`. */
 static void end_run_log(int status) {
   if (run_target->is_in_run) return;
-  run_target->process = getpid(), run_target->end_time = wall_clock_ms(), run_target->status = status;
+  run_target->process = run_target->end_process = getpid();
+  run_target->end_time = wall_clock_ms(), run_target->status = status;
 }
 
 static void finish_run(int status) {

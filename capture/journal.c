@@ -4,7 +4,7 @@
      start NUMBER PROCESS HEAD                     its first line started; the first HEAD bytes of its log are records
      needed NUMBER                                 a log mentions it as a prerequisite
      line NUMBER PROCESS                           a line began, after its first
-     ended NUMBER PROCESS TIME STATUS              a line ended
+     ended NUMBER PROCESS TIME STATUS              a line ended; PROCESS and TIME are those of the target's end so far
      mention NUMBER START END                      these bytes of its log are a provisional record
    `.capture/closed` has a line for each closed log: its number and its name. */
 #define _GNU_SOURCE
@@ -96,7 +96,7 @@ static void parse_event(const char *line) {
   if (sscanf(line, "needed %u", &number) == 1) target->is_mentioned = 1;
   if (sscanf(line, "line %u %d", &number, &process) == 2) target->process = process, target->status = -1;
   if (sscanf(line, "ended %u %d %" SCNd64 " %d", &number, &process, &time, &status) == 4)
-    target->process = process, target->end_time = time, target->status = status;
+    target->process = target->end_process = process, target->end_time = time, target->status = status;
   if (sscanf(line, "mention %u %lld %lld", &number, &start, &end) == 3 && start >= 0 && end > start) {
     target->mentions = grow_array(target->mentions, target->mention_count, &target->mention_capacity, sizeof *target->mentions);
     target->mentions[target->mention_count++] = (struct range){start, end};

@@ -110,7 +110,7 @@ static int handle_failed(struct make *make, const char *message, size_t size) {
   if (!can_capture(make, recipe, 0)) return 0;
   struct target *target = begin_recipe(make, recipe, failed.time);
   start_recipe(make, recipe, make->process);
-  fail_line(target, make->process, failed.time);
+  fail_line(target, make, make->process, failed.time);
   return 0;
 }
 

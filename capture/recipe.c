@@ -58,7 +58,7 @@ void begin_target(struct target *target, struct target *parent, int64_t time) {
   if (parent && parent->name[0] == '/' && target->name[0] != '/') parent = NULL;
   if (write_journal("target %u %lld %u %s\n", target->number, (long long)time, parent ? parent->number : 0, target->name) < 0) return;
   target->is_in_run = 1, target->is_started = target->is_closed = target->is_mentioned = 0, target->status = -1;
-  target->parent = parent, target->start_time = time;
+  target->parent = parent, target->start_time = time, target->first_make = NULL, target->end_process = 0;
   begin_log(target);
   if (parent_of(target) != target) open_log(parent_of(target));
 }
@@ -89,19 +89,22 @@ void begin_line(struct make *make, struct target *target, struct command command
   if (target->is_in_run && target->process != process && target->status >= 0)
     write_journal("line %u %d\n", target->number, (int)process);
   target->process = process, target->status = -1;
+  if (!target->first_make) target->first_make = make;
   if (pipe) start_pipe(pipe, target);
 }
 
 static int shell_status(int status) { return WIFSIGNALED(status) ? 128 + WTERMSIG(status) : WEXITSTATUS(status); }
 
-static void end_target_line(struct target *target, int status, int64_t time) {
-  target->status = status, target->end_time = time;
+/* If several makes run one target, only the first make changes its end: other logs have the start of the first one already. */
+static void end_target_line(struct target *target, const struct make *make, pid_t process, int status, int64_t time) {
+  target->status = status;
+  if (make == target->first_make || target->end_process == 0) target->end_process = process, target->end_time = time;
   if (!target->is_in_run) return;
   target->is_interrupted = status != 0 && stop_signal != 0;
-  write_journal("ended %u %d %lld %d\n", target->number, (int)target->process, (long long)time, status);
+  write_journal("ended %u %d %lld %d\n", target->number, (int)target->end_process, (long long)target->end_time, status);
   if (status == 0) return;
   if (target->parent) target->parent->has_failed_child = 1;
-  char *record = xasprintf("@@REDO:done:%d:%s@@ %d", (int)target->process, format_time(time), status);
+  char *record = xasprintf("@@REDO:done:%d:%s@@ %d", (int)process, format_time(time), status);
   mention_in_parent(target, record);
   free(record);
 }
@@ -125,7 +128,7 @@ void end_line(struct make *make, pid_t process, int wait_status, int64_t time, i
   if (status != 0) handle_signals();
   if (line->pipe && !drain_pipe(line->pipe, status != 0 && is_shown)) flush_pipe(line->pipe);
   complete_line(target);
-  end_target_line(target, status, time);
+  end_target_line(target, make, process, status, time);
   if (is_shown && !target->is_interrupted) show_output(line, status);
   *link = line->next;
   target->running_lines--;
@@ -137,9 +140,9 @@ void end_line(struct make *make, pid_t process, int wait_status, int64_t time, i
 }
 
 /* make itself prints the cause. */
-void fail_line(struct target *target, pid_t process, int64_t time) {
+void fail_line(struct target *target, const struct make *make, pid_t process, int64_t time) {
   if (!target->is_in_run) return;
   target->process = process;
-  end_target_line(target, 127, time);
+  end_target_line(target, make, process, 127, time);
   close_log(target);
 }
