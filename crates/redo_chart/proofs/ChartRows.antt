@@ -1,10 +1,10 @@
 -- Rows of the charts of timelines, and of their parts. The values are worked out by hand.
-use Rattle.std.proofs.Common.{◌≡◌, ℕ, Bool, true, false, List, [], ◌∷◌, map, Option, None, Some, ℤ, pos, negsuc, refl, arith, ◌≤◌}
+use Rattle.std.proofs.Common.{◌≡◌, ℕ, Bool, true, false, List, [], ◌∷◌, map, Option, None, Some, ℤ, pos, negsuc, refl}
 use Rattle.std.specs.Fmt.{digits}
 use Rattle.std.specs.Prelude.{codes}
 use Rattle.redo_html.specs.declared.chart.Anchor.TheVariants.{Start, Middle, End}
 use Rattle.redo_html.specs.declared.chart.GroupKind.TheVariants.{Axis, Parents, Recipes, Untimed}
-use Rattle.redo_html.specs.Chart.{DrawnBar, Drawing, Layer, Shape, drawing_links}
+use Rattle.redo_html.specs.Chart.{Drawing, Layer, Shape, drawing_links}
 use Rattle.redo_html.specs.Chart.Shape.{BarShape, LineShape, TickShape}
 use Rattle.redo_logs.specs.declared.log_state.LogState.TheVariants.{Ended}
 use Rattle.redo_logs.specs.Logs.{Log}
@@ -18,15 +18,15 @@ use Rattle.redo_units.specs.Words.{decimal_text}
 use Rattle.redo_chart.specs.Axis.{anchor_of, axis_shapes}
 use Rattle.redo_chart.specs.Bands.{below, marks_band, max_mark_lanes, max_parent_lanes, max_recipe_lanes, parents_band, recipe_lane_height, recipes_band}
 use Rattle.redo_chart.specs.Bars.{bar_layer, drawn_bar, label_of}
-use Rattle.redo_chart.specs.Laws.{Draws, Includes, SaysOf, all_bars, are_below, shapes_of}
+use Rattle.redo_chart.specs.Laws.{shapes_of}
 use Rattle.redo_chart.specs.Targets.{after_last_slash, last_part, name_at, status_at}
 use Rattle.redo_chart.specs.Timeline.{height_of, timeline_drawing}
 use Rattle.redo_chart.specs.Titles.{duration_after, status_text, title_of}
 
-abbrev log : List ℕ → Log
+abbrev pub log : List ℕ → Log
 log target = record { target = target; entries = []; state = Ended }
 
-abbrev node : ℕ → Option ℤ → Node
+abbrev pub node : ℕ → Option ℤ → Node
 node number status = record {
   number = number;
   parent = None;
@@ -41,13 +41,14 @@ node number status = record {
   fails_below = false;
   silent = 0;
   took = None;
+  ended = None;
 }
 
-abbrev logs : List Log
+abbrev pub logs : List Log
 logs = log (codes "all") ∷ log (codes "out/a.o") ∷ log (codes "out/b.o") ∷ log (codes "t") ∷ []
 
 -- The last one has no log.
-abbrev nodes : List Node
+abbrev pub nodes : List Node
 nodes = node 2 (Some (negsuc 0)) ∷ node 0 None ∷ node 1 (Some (pos 0)) ∷ node 3 (Some (pos 12)) ∷ node 9 (Some (pos 1)) ∷ []
 
 -- ---- targets
@@ -116,6 +117,13 @@ drawn :
 unfolding duration_words decimal_text digits
 drawn = (refl, refl, refl)
 
+-- A bar of the fourth target, in the sixth lane.
+drawn_lower :
+    drawn_bar logs nodes (recipes_band 1 3) (record { lane = 5; x = 9; width = 400; place = 3; count = 1; began = 1000; ended = 2500; failed = false })
+    ≡ record { place = 3; x = 9; y = 130; width = 400; height = 16; failed = false; title = codes "t, 1.50 s, exit 12"; label = Some (codes "t") }
+unfolding duration_words decimal_text digits
+drawn_lower = refl
+
 -- ---- the axis
 
 anchors : anchor_of 0 0 ∷ anchor_of 0 9999 ∷ anchor_of 1 9700 ∷ anchor_of 1 9701 ∷ [] ≡ Start ∷ Start ∷ Middle ∷ End ∷ []
@@ -134,14 +142,14 @@ axes = (refl, refl, refl)
 
 -- ---- charts
 
-abbrev span : ℕ → ℕ → ℕ → Bool → Span
+abbrev pub span : ℕ → ℕ → ℕ → Bool → Span
 span place began ended failed = record { began = began; place = place; ended = ended; failed = failed }
 
 -- A window in which a unit is a millisecond.
-abbrev window : Window
+abbrev pub window : Window
 window = record { began = 1000; width = 10000 }
 
-abbrev chart : Drawing
+abbrev pub chart : Drawing
 chart =
     timeline_drawing logs nodes window (span 1 1000 11000 false ∷ [])
     (span 2 1000 5000 false ∷ span 0 3000 10500 true ∷ span 4 6000 6010 false ∷ span 3 6012 6020 false ∷ []) (span 3 11000 11000 true ∷ [])
@@ -177,49 +185,3 @@ marks_drawn = refl
 links : drawing_links chart ≡ 1 ∷ 2 ∷ 4 ∷ 0 ∷ 3 ∷ []
 unfolding tick_step_of
 links = refl
-
--- ---- laws
-
-tests :
-    (are_below 3 (span 2 0 9 false ∷ span 0 0 9 false ∷ []) ≡ true) × (are_below 2 (span 0 0 9 false ∷ span 2 0 9 false ∷ []) ≡ false) × (are_below 0 [] ≡ true)
-    × (shapes_of Recipes (record { height = 0; lanes = 0; layers = record { kind = Recipes; shapes = LineShape 1 2 ∷ [] } ∷ record { kind = Axis; shapes = LineShape 3 4 ∷ [] } ∷ record { kind = Recipes; shapes = LineShape 5 6 ∷ [] } ∷ [] })
-    ≡ LineShape 1 2 ∷ LineShape 5 6 ∷ [])
-    × (all_bars (((span 0 0 9 false ∷ []) ∷ []) ∷ [] ∷ ((span 1 0 9 false ∷ []) ∷ (span 2 0 9 false ∷ []) ∷ []) ∷ []) ≡ (span 0 0 9 false ∷ []) ∷ (span 1 0 9 false ∷ []) ∷ (span 2 0 9 false ∷ []) ∷ [])
-tests = (refl, refl, refl, refl, refl)
-
--- ---- what the laws reject
-
--- A bar of the span of place 2, from 1000 to 5000.
-abbrev said : ℕ → ℕ → ℕ → Bool → List ℕ → DrawnBar
-said place x width failed title = record { place = place; x = x; y = 40; width = width; height = 16; failed = failed; title = title; label = None }
-
-abbrev one : List Span
-one = span 2 1000 5000 false ∷ []
-
-abbrev title : List ℕ
-title = codes "out/a.o, 4.00 s"
-
-accepted_bar : SaysOf logs nodes window Recipes one (said 2 0 4000 false title)
-unfolding duration_words decimal_text digits
-accepted_bar = record { target = refl; begins = refl; lasts = refl; fails = refl; title = refl; times = ((omega arith, omega arith), tt) }
-
--- Another target, another beginning, another width, red, or another tooltip.
-rejected_bars :
-    ¬ SaysOf logs nodes window Recipes one (said 1 0 4000 false title) × ¬ SaysOf logs nodes window Recipes one (said 2 1 4000 false title)
-    × ¬ SaysOf logs nodes window Recipes one (said 2 0 4001 false title) × ¬ SaysOf logs nodes window Recipes one (said 2 0 4000 true title)
-    × ¬ SaysOf logs nodes window Recipes one (said 2 0 4000 false [])
-unfolding duration_words decimal_text digits
-rejected_bars = (
-  λ says. let same : 1 ≡ 2 = says.target in omega (arith, same),
-  λ says. let same : 1 ≡ 0 = says.begins in omega (arith, same),
-  λ says. let same : 4001 ≡ 4000 = says.lasts in omega (arith, same),
-  λ says. let same : true ≡ false = says.fails in absurd (cc),
-  λ says. let same : [] ≡ title = says.title in absurd (cc),
-)
-
--- A bar from 1000 to 5000 does not include the times of a span that began earlier, or ended later.
-rejected_times : ¬ Includes window (said 2 1000 4000 false title) (span 2 1500 5000 false) × ¬ Includes window (said 2 1000 4000 false title) (span 2 2000 6500 false)
-rejected_times = (λ times. let low : 1000 ≤ 500 = times.0 in omega (arith, low), λ times. let high : 5500 ≤ 5000 = times.1 in omega (arith, high))
-
-rejected_shapes : ¬ Draws logs nodes window Recipes one (LineShape 0 98) × ¬ Draws logs nodes window Recipes one (TickShape 0 Start title)
-rejected_shapes = (λ draws. draws, λ draws. draws)

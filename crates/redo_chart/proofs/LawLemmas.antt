@@ -1,7 +1,8 @@
 -- What the laws state about charts.
-use Rattle.std.proofs.Common.{◌≡◌, ℕ, zero, suc, ◌+◌, ◌-◌, ◌*◌, ◌/◌, ◌<◌, ◌≤◌, min, Bool, true, false, cond, nat_lt, List, [], ◌∷◌, ◌++◌, map, refl, sym, ap, ◌∙◌, subst, arith}
-use Rattle.std.specs.Prelude.{◌&&◌}
+use Rattle.std.proofs.Common.{◌≡◌, ℕ, zero, suc, ◌+◌, ◌-◌, ◌*◌, ◌/◌, ◌<◌, ◌≤◌, leb, ltb, min, Bool, true, false, cond, nat_lt, List, [], ◌∷◌, ◌++◌, map, Option, None, Some, refl, sym, ap, ◌∙◌, subst, arith}
+use Rattle.std.specs.Prelude.{◌&&◌, IfSome}
 use Rattle.std.specs.List.{AllByRecursion, AllZip, flat_map, list_all, range_with_len}
+use Rattle.std.proofs.lemmas.Bool.{le-leb, lt-ltb}
 use Rattle.std.proofs.Math.Nat.{div-mul-le_self, div-zero, le-div_iff_mul-le}
 use Rattle.std.proofs.lemmas.List.{append-nil, map-append}
 use Rattle.std.proofs.lemmas.List.Folds.{list_all-append}
@@ -19,12 +20,13 @@ use Rattle.redo_timeline.specs.Laws.{EachBar}
 use Rattle.redo_timeline.specs.Timeline.{bars_of, drawn_bars, timeline_of}
 use Rattle.redo_timeline.proofs.CoverLemmas.{IsIncluded, bars_include}
 use Rattle.redo_timeline.proofs.CoverLemmas.{Includes as InTime}
-use Rattle.redo_timeline.proofs.LawLemmas.{all_imply, drawn_once, joined, lanes-permutation}
+use Rattle.redo_timeline.proofs.LawLemmas.{all_imply, drawn_once, joined, joined_narrow, lanes-permutation}
 use Rattle.redo_chart.specs.declared.band.Band.{Band}
 use Rattle.redo_chart.specs.Axis.{last_tick, tick_shapes}
 use Rattle.redo_chart.specs.Bands.{marks_band, max_mark_lanes, max_parent_lanes, max_recipe_lanes, parents_band, recipes_band}
-use Rattle.redo_chart.specs.Bars.{bar_shapes, drawn_bar}
+use Rattle.redo_chart.specs.Bars.{bar_shapes, drawn_bar, label_of}
 use Rattle.redo_chart.specs.Laws.{Draws, DrawsAll, Includes, all_bars, are_below}
+use Rattle.redo_chart.specs.Targets.{last_part, name_at}
 use Rattle.redo_chart.specs.Timeline.{height_of, timeline_drawing}
 use Rattle.redo_units.specs.Ticks.{tick_step_of}
 
@@ -142,10 +144,33 @@ module _ (logs : List Log) (nodes : List Node) (window : Window) (band : Band) w
       let ends = units_le window span.ended (ended_of bar) times.1 in
       (begins, omega (arith, ends))
 
+  -- The label is the last part of the name, and a bar that is large enough has one.
+  is_labelled : (name : List ℕ) (bar : Bar) → IfSome (label_of name band.lane_height bar) (λ label. last_part name ≡ Some label)
+  is_labelled name bar = by (leb 350 bar.width && ltb 12 band.lane_height) (last_part name)
+    where
+      by : (b : Bool) (part : Option (List ℕ)) → IfSome (cond b part None) (λ label. part ≡ Some label)
+      by true None = tt
+      by true (Some label) = refl
+      by false part = tt
+
+  has_label : (name : List ℕ) (bar : Bar) → 350 ≤ bar.width → 10 < band.lane_height - 2 → label_of name band.lane_height bar ≡ last_part name
+  has_label name bar wide high =
+      let low : 12 < band.lane_height = omega (arith, high) in
+      ap (λ (b : Bool). cond b (last_part name) None) (and_both (leb 350 bar.width) (ltb 12 band.lane_height) (le-leb 350 bar.width wide) (lt-ltb 12 band.lane_height low))
+
   lane_drawn : (lane : ℕ) (bars : List (List Span)) → AllByRecursion IsIncluded bars → AllZip (Draws logs nodes window band.kind) bars (bar_shapes logs nodes band (map (bar_of window lane) bars))
   lane_drawn lane [] times = tt
   lane_drawn lane (bar ∷ bars) times = (
-    record { target = refl; begins = refl; lasts = refl; fails = refl; title = refl; times = all_imply (InTime bar) (Includes window (drawn_bar logs nodes band (bar_of window lane bar))) (included lane bar) bar times.0 },
+    record {
+      target = refl;
+      begins = refl;
+      lasts = refl;
+      fails = refl;
+      title = refl;
+      label = is_labelled (name_at logs nodes (place_of bar)) (bar_of window lane bar);
+      labelled = has_label (name_at logs nodes (place_of bar)) (bar_of window lane bar);
+      times = all_imply (InTime bar) (Includes window (drawn_bar logs nodes band (bar_of window lane bar))) (included lane bar) bar times.0;
+    },
     lane_drawn lane bars times.1,
   )
 
@@ -164,4 +189,5 @@ module _ (logs : List Log) (nodes : List Node) (window : Window) (band : Band) w
             subst (λ (all : List Shape). AllZip (Draws logs nodes window band.kind) (all_bars (bars_of window max_lanes spans)) all) (sym (append-nil shapes))
             (lanes_drawn 0 (bars_of window max_lanes spans) (bars_include window max_lanes spans));
         once = drawn_once window max_lanes spans;
+        narrow = joined_narrow window max_lanes spans;
       }

@@ -1,3 +1,5 @@
 mod ChartLemmas
 mod ChartRows
 mod LawLemmas
+mod LawRows
+mod RowLemmas

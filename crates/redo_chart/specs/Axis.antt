@@ -22,7 +22,7 @@ last_tick width = width / tick_step_of width
 
 abbrev pub tick_shapes : ℕ → ℕ → ℕ → ℕ → List Shape
 tick_shapes bottom width step i =
-    LineShape (tick_x width step i) bottom ∷ TickShape (tick_x width step i) (anchor_of i (tick_x width step i)) (tick_text (i * step) step) ∷ []
+    let x = tick_x width step i in LineShape x bottom ∷ TickShape x (anchor_of i x) (tick_text (i * step) step) ∷ []
 
 -- The axis of a chart that shows this width. Its lines end at `bottom`.
 abbrev pub axis_shapes : ℕ → ℕ → List Shape

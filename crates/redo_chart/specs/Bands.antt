@@ -28,4 +28,5 @@ abbrev pub recipes_band : ℕ → ℕ → Band
 recipes_band parent_lanes lanes = record { kind = Recipes; top = below parents_band parent_lanes; lane_height = recipe_lane_height lanes }
 
 abbrev pub marks_band : ℕ → ℕ → Band
-marks_band parent_lanes recipe_lanes = record { kind = Untimed; top = below (recipes_band parent_lanes recipe_lanes) recipe_lanes; lane_height = 14 }
+marks_band parent_lanes recipe_lanes =
+    record { kind = Untimed; top = below (recipes_band parent_lanes recipe_lanes) recipe_lanes; lane_height = 14 }

@@ -31,4 +31,5 @@ drawing_of logs nodes width parents recipes marks =
 
 abbrev pub timeline_drawing : List Log → List Node → Window → List Span → List Span → List Span → Drawing
 timeline_drawing logs nodes window parents recipes marks =
-    drawing_of logs nodes window.width (timeline_of window max_parent_lanes parents) (timeline_of window max_recipe_lanes recipes) (timeline_of window max_mark_lanes marks)
+    drawing_of logs nodes window.width (timeline_of window max_parent_lanes parents) (timeline_of window max_recipe_lanes recipes)
+    (timeline_of window max_mark_lanes marks)

@@ -38,7 +38,8 @@ title_of_one logs nodes kind bar =
 
 abbrev pub title_of_many : List Log → List Node → GroupKind → Bar → List ℕ
 title_of_many logs nodes kind bar =
-    decimal_text bar.count ++ (codes " targets" ++ (duration_after (codes " in ") kind (bar.ended - bar.began) ++ (codes ", from " ++ name_at logs nodes bar.place)))
+    decimal_text bar.count ++ (codes " targets" ++ (duration_after (codes " in ") kind (bar.ended - bar.began)
+    ++ (codes ", from " ++ name_at logs nodes bar.place)))
 
 abbrev pub title_of : List Log → List Node → GroupKind → Bar → List ℕ
 title_of logs nodes kind bar = if bar.count == 1 then title_of_one logs nodes kind bar else title_of_many logs nodes kind bar

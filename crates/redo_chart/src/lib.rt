@@ -18,5 +18,7 @@ mod targets;
 mod timeline;
 mod titles;
 
-pub use laws::{bars_lead_to_places, bars_say_when_targets_ran};
+pub use laws::{
+    axis_has_no_bars, bars_are_in_rows, bars_lead_to_places, bars_say_when_targets_ran,
+};
 pub use timeline::write_timeline;
