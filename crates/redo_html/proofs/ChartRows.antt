@@ -74,11 +74,11 @@ shape_rows =
     ∷ shape Axis (item.Line 2500 86) (codes "<line x1=\"25.00%\" x2=\"25.00%\" y1=\"15\" y2=\"86\"></line>")
     ∷ shape Axis (item.Tick 2500 anchor.Middle (at (codes "1 s"))) (codes "<text x=\"25.00%\" y=\"11\" text-anchor=\"middle\">1 s</text>")
     ∷ shape Axis (item.Tick 9876 anchor.End (at (codes "<" ++ (1 ∷ []) ++ codes ">"))) (codes "<text x=\"98.76%\" y=\"11\" text-anchor=\"end\">&lt;^A&gt;</text>")
-    ∷ shape Parents (bar 0 0 20 10000 12 false (codes "all, 4 s") (Some (at (codes "all")))) (codes "<a href=\"#t0\" tabindex=\"-1\"><svg x=\"0.00%\" y=\"20\" width=\"100.00%\" height=\"12\"><title>all, 4 s</title><rect width=\"100%\" height=\"12\"></rect><text x=\"4\" y=\"7\" fill=\"currentColor\">all</text></svg></a>")
-    ∷ shape Parents (bar 1 5 34 9995 12 true (codes "lib, exit 2") (Some (at (codes "lib")))) (codes "<a href=\"#t1\" tabindex=\"-1\"><svg x=\"0.05%\" y=\"34\" width=\"99.95%\" height=\"12\"><title>lib, exit 2</title><rect width=\"100%\" height=\"12\" class=\"f\" fill=\"#c62828\"></rect><text x=\"4\" y=\"7\" fill=\"#fff\">lib</text></svg></a>")
+    ∷ shape Parents (bar 0 0 20 10000 12 false (codes "all, 4 s") (Some (at (codes "all")))) (codes "<a href=\"#t0\" tabindex=\"-1\"><svg x=\"0.00%\" y=\"20\" width=\"100.00%\" height=\"12\"><title>all, 4 s</title><rect width=\"100%\" height=\"12\"></rect><text x=\"4\" y=\"9\" fill=\"currentColor\">all</text></svg></a>")
+    ∷ shape Parents (bar 1 5 34 9995 12 true (codes "lib, exit 2") (Some (at (codes "lib")))) (codes "<a href=\"#t1\" tabindex=\"-1\"><svg x=\"0.05%\" y=\"34\" width=\"99.95%\" height=\"12\"><title>lib, exit 2</title><rect width=\"100%\" height=\"12\" class=\"f\" fill=\"#c62828\"></rect><text x=\"4\" y=\"9\" fill=\"#fff\">lib</text></svg></a>")
     ∷ shape Recipes (bar 7 1234 54 30 16 false (codes "out/<a>&\"b'.o, 0.01 s") None) (codes "<a href=\"#t7\" tabindex=\"-1\"><rect x=\"12.34%\" y=\"54\" width=\"0.30%\" height=\"16\"><title>out/&lt;a&gt;&amp;\"b'.o, 0.01 s</title></rect></a>")
     ∷ shape Recipes (bar 8 1264 54 700 16 true (codes "</title>" ++ (255 ∷ [])) None) (codes "<a href=\"#t8\" tabindex=\"-1\"><rect x=\"12.64%\" y=\"54\" width=\"7.00%\" height=\"16\" class=\"f\" fill=\"#c62828\"><title>&lt;/title&gt;\\xff</title></rect></a>")
-    ∷ shape Recipes (bar 9 2000 72 350 16 true (codes "c, exit 1") (Some (at (codes "a<b>&")))) (codes "<a href=\"#t9\" tabindex=\"-1\"><svg x=\"20.00%\" y=\"72\" width=\"3.50%\" height=\"16\"><title>c, exit 1</title><rect width=\"100%\" height=\"16\" class=\"f\" fill=\"#c62828\"></rect><text x=\"4\" y=\"11\" fill=\"#fff\">a&lt;b&gt;&amp;</text></svg></a>")
+    ∷ shape Recipes (bar 9 2000 72 350 16 true (codes "c, exit 1") (Some (at (codes "a<b>&")))) (codes "<a href=\"#t9\" tabindex=\"-1\"><svg x=\"20.00%\" y=\"72\" width=\"3.50%\" height=\"16\"><title>c, exit 1</title><rect width=\"100%\" height=\"16\" class=\"f\" fill=\"#c62828\"></rect><text x=\"4\" y=\"12\" fill=\"#fff\">a&lt;b&gt;&amp;</text></svg></a>")
     ∷ shape Recipes (bar 12 2350 72 400 3 false ((27 ∷ []) ++ codes "[1md") (Some (at (codes "d" ++ (27 ∷ []) ++ codes "[m")))) (codes "<a href=\"#t12\" tabindex=\"-1\"><svg x=\"23.50%\" y=\"72\" width=\"4.00%\" height=\"3\"><title>^[[1md</title><rect width=\"100%\" height=\"3\"></rect><text x=\"4\" y=\"0\" fill=\"#fff\">d^[[m</text></svg></a>")
     ∷ shape Untimed (bar 18446744073709551615 9999 90 10 14 false (codes "e") None) (codes "<a href=\"#t18446744073709551615\" tabindex=\"-1\"><rect x=\"99.99%\" y=\"90\" width=\"0.10%\" height=\"14\"><title>e</title></rect></a>")
     ∷ shape Untimed (bar 13 0 90 350 14 false (codes "f") (Some (at (codes "f")))) (codes "<a href=\"#t13\" tabindex=\"-1\"><svg x=\"0.00%\" y=\"90\" width=\"3.50%\" height=\"14\"><title>f</title><rect width=\"100%\" height=\"14\"></rect><text x=\"4\" y=\"9\" fill=\"#fff\">f</text></svg></a>")
@@ -127,13 +127,13 @@ rows =
     ++ codes "<text x=\"0.00%\" y=\"11\">0</text><line x1=\"25.00%\" x2=\"25.00%\" y1=\"15\" y2=\"86\"></line>"
     ++ codes "<text x=\"25.00%\" y=\"11\" text-anchor=\"middle\">1 s</text><text x=\"98.76%\" y=\"11\" text-anchor=\"end\">&lt;^A&gt;</text></g>"
     ++ codes "<g class=\"w\" fill=\"#8886\"><a href=\"#t0\" tabindex=\"-1\"><svg x=\"0.00%\" y=\"20\" width=\"100.00%\" height=\"12\"><title>all, 4 s</title>"
-    ++ codes "<rect width=\"100%\" height=\"12\"></rect><text x=\"4\" y=\"7\" fill=\"currentColor\">all</text></svg></a><a href=\"#t1\" tabindex=\"-1\">"
+    ++ codes "<rect width=\"100%\" height=\"12\"></rect><text x=\"4\" y=\"9\" fill=\"currentColor\">all</text></svg></a><a href=\"#t1\" tabindex=\"-1\">"
     ++ codes "<svg x=\"0.05%\" y=\"34\" width=\"99.95%\" height=\"12\"><title>lib, exit 2</title><rect width=\"100%\" height=\"12\" class=\"f\" fill=\"#c62828\"></rect>"
-    ++ codes "<text x=\"4\" y=\"7\" fill=\"#fff\">lib</text></svg></a></g><g class=\"k\" fill=\"#3a6ea5\"><a href=\"#t7\" tabindex=\"-1\">"
+    ++ codes "<text x=\"4\" y=\"9\" fill=\"#fff\">lib</text></svg></a></g><g class=\"k\" fill=\"#3a6ea5\"><a href=\"#t7\" tabindex=\"-1\">"
     ++ codes "<rect x=\"12.34%\" y=\"54\" width=\"0.30%\" height=\"16\"><title>out/&lt;a&gt;&amp;\"b'.o, 0.01 s</title></rect></a><a href=\"#t8\" tabindex=\"-1\">"
     ++ codes "<rect x=\"12.64%\" y=\"54\" width=\"7.00%\" height=\"16\" class=\"f\" fill=\"#c62828\"><title>&lt;/title&gt;\\xff</title></rect></a>"
     ++ codes "<a href=\"#t9\" tabindex=\"-1\"><svg x=\"20.00%\" y=\"72\" width=\"3.50%\" height=\"16\"><title>c, exit 1</title>"
-    ++ codes "<rect width=\"100%\" height=\"16\" class=\"f\" fill=\"#c62828\"></rect><text x=\"4\" y=\"11\" fill=\"#fff\">a&lt;b&gt;&amp;</text></svg></a>"
+    ++ codes "<rect width=\"100%\" height=\"16\" class=\"f\" fill=\"#c62828\"></rect><text x=\"4\" y=\"12\" fill=\"#fff\">a&lt;b&gt;&amp;</text></svg></a>"
     ++ codes "<a href=\"#t12\" tabindex=\"-1\"><svg x=\"23.50%\" y=\"72\" width=\"4.00%\" height=\"3\"><title>^[[1md</title><rect width=\"100%\" height=\"3\"></rect>"
     ++ codes "<text x=\"4\" y=\"0\" fill=\"#fff\">d^[[m</text></svg></a></g><g class=\"e\" fill=\"#8a6d3b\"><a href=\"#t18446744073709551615\" tabindex=\"-1\">"
     ++ codes "<rect x=\"99.99%\" y=\"90\" width=\"0.10%\" height=\"14\"><title>e</title></rect></a><a href=\"#t13\" tabindex=\"-1\">"
@@ -163,7 +163,7 @@ percents_are = refl
 -- ---- tags and texts
 
 -- One tick and one bar, with these texts.
-abbrev two : List ℕ → List ℕ → List ℕ → Drawing
+abbrev pub two : List ℕ → List ℕ → List ℕ → Drawing
 two tick title label =
     drawing_of (chart 40 3 (group Axis (item.Tick 50 anchor.End (at tick) ∷ []) ∷ group Recipes (bar 4 100 20 250 16 true title (Some (at label)) ∷ []) ∷ []))
 
@@ -171,7 +171,7 @@ tags_are : tags_of (part_tokens (ChartPart (two (codes "<a>") (codes "</title>")
     ≡ codes "svg role=\"img\" aria-label=\"A bar for each target, from its start to its end, in 3 lanes\" width=\"100%\" height=\"40\" font-size=\"11\""
     ∷ codes "g class=\"axis\" stroke=\"#8886\" fill=\"currentColor\" stroke-width=\".5\"" ∷ codes "text x=\"0.50%\" y=\"11\" text-anchor=\"end\"" ∷ codes "/text" ∷ codes "/g"
     ∷ codes "g class=\"k\" fill=\"#3a6ea5\"" ∷ codes "a href=\"#t4\" tabindex=\"-1\"" ∷ codes "svg x=\"1.00%\" y=\"20\" width=\"2.50%\" height=\"16\"" ∷ codes "title" ∷ codes "/title"
-    ∷ codes "rect width=\"100%\" height=\"16\" class=\"f\" fill=\"#c62828\"" ∷ codes "/rect" ∷ codes "text x=\"4\" y=\"11\" fill=\"#fff\"" ∷ codes "/text" ∷ codes "/svg" ∷ codes "/a" ∷ codes "/g" ∷ codes "/svg" ∷ []
+    ∷ codes "rect width=\"100%\" height=\"16\" class=\"f\" fill=\"#c62828\"" ∷ codes "/rect" ∷ codes "text x=\"4\" y=\"12\" fill=\"#fff\"" ∷ codes "/text" ∷ codes "/svg" ∷ codes "/a" ∷ codes "/g" ∷ codes "/svg" ∷ []
 unfolding symbols_after first_symbol symbol_len is_sequence sequence_len sequence_numbers first_letter letter_len is_odd picture odd_text number_text encode_utf8 digits
 tags_are = refl
 

@@ -1,7 +1,10 @@
 mod ChartReading
 mod ChartRows
+mod ChartTags
 mod ChartWriting
 mod HtmlRows
+mod LawRows
+mod LetterRows
 mod LineLemmas
 mod LineRows
 mod LineWriting
@@ -17,6 +20,7 @@ mod ShownRows
 mod StyleLemmas
 mod SymbolLemmas
 mod TagReading
+mod TagRows
 mod TextReading
 mod Utf8Lemmas
 mod VerbatimLemmas

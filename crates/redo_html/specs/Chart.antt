@@ -1,5 +1,5 @@
 -- Charts: what is in a chart, its elements as they are written and as they are read, and the text that they show.
-use Rattle.std.specs.Prelude.{ℕ, ◌+◌, ◌-◌, ◌/◌, ◌%◌, ◌==◌, Bool, List, [], ◌∷◌, ◌++◌, map, Option, None, Some, option_map, codes, if◌then◌else◌}
+use Rattle.std.specs.Prelude.{ℕ, ◌+◌, ◌*◌, ◌/◌, ◌%◌, ◌==◌, Bool, List, [], ◌∷◌, ◌++◌, map, Option, None, Some, option_map, codes, if◌then◌else◌}
 use Rattle.std.specs.List.{flat_map}
 use Rattle.redo_html.specs.declared.chart.Anchor.{Anchor}
 use Rattle.redo_html.specs.declared.chart.Anchor.TheVariants as anchor
@@ -159,7 +159,7 @@ bar_nodes kind bar (Some label) =
     element (codes "svg") (position bar) (
     tooltip bar.title
     ++ element (codes "rect") (fixed (codes "width") (codes "100%") ∷ number (codes "height") bar.height ∷ failed_attributes bar.failed) []
-    ++ element (codes "text") (fixed (codes "x") (codes "4") ∷ number (codes "y") (bar.height - 5) ∷ fixed (codes "fill") (label_fill kind bar.failed) ∷ []) (Words label ∷ []))
+    ++ element (codes "text") (fixed (codes "x") (codes "4") ∷ number (codes "y") (bar.height / 4 * 3) ∷ fixed (codes "fill") (label_fill kind bar.failed) ∷ []) (Words label ∷ []))
 
 abbrev pub anchor_attributes : Anchor → List Attribute
 anchor_attributes anchor.Start = []

@@ -320,7 +320,7 @@ fn write_labelled_bar<'a, W: Sink>(
             Fragment::Html(b"\""),
             Fragment::Html(failed_attribute(bar.failed)),
             Fragment::Html(b"></rect><text x=\"4\" y=\""),
-            Fragment::Number(bar.height.saturating_sub(5)),
+            Fragment::Number(bar.height / 4 * 3),
             Fragment::Html(b"\" fill=\""),
             Fragment::Html(fill_of_label(kind, bar.failed)),
             Fragment::Html(b"\">"),

@@ -26,9 +26,11 @@
 //! before the second letter, so a sequence that changes nothing writes nothing. What is bold, and in which hue, is part of
 //! the definition of a passage. Background colours and concealed text are ignored, because they can hide what a log says.
 //!
-//! **Lines** (`Lines`). Each line of a log is a passage, and begins with the style after the line before it. So a style lasts
-//! until the log sets another one, and the lines may be cut into blocks anywhere. [`write_log_lines`] writes lines without
-//! escape characters as one passage, which has the same HTML: no symbol, run of letters or mark goes past a line feed.
+//! **Lines** (`Lines`). Each line of a log is a passage, and begins with the style after the line before it.
+//! [`write_log_lines`] takes the style at the start of some lines and sets it to the one at their end, so several calls may write
+//! the lines of a log. The crates above begin each block of lines with the plain style, and there a style of the log ends.
+//! Lines without escape characters are written as one passage, which has the same HTML: no symbol, run of letters or mark goes
+//! past a line feed.
 //!
 //! **Reading** (`Html`). The tokenizer of the HTML standard, in the states that a page needs. The laws compose: each part
 //! of a page is read from the data state to the data state (`ReadsAs`), whatever follows it. A reading that leaves the
