@@ -1,7 +1,9 @@
 mod LawLemmas
 mod LawRows
 mod ParentLemmas
+mod RanOthersLemmas
 mod RankLemmas
 mod SummaryRows
+mod TableLemmas
 mod TargetLemmas
 mod TimeLemmas

@@ -135,7 +135,7 @@ inserted_in_order new (next ∷ rest) ordered = by (is_gt (rank_cmp new next)) r
     by true after more = (before_inserted next new rest (before_if_after new next after) ordered.0, more)
     by false after more = (before_if_not_after new next after, ordered)
 
-sorted_in_order : (ranks : List Rank) → AreInOrder (sort rank_cmp ranks)
+pub sorted_in_order : (ranks : List Rank) → AreInOrder (sort rank_cmp ranks)
 sorted_in_order [] = tt
 sorted_in_order (rank ∷ rest) = inserted_in_order rank (sort rank_cmp rest) (sorted_in_order rest)
 

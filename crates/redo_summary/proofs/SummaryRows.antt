@@ -38,6 +38,7 @@ node number parent status bytes warnings = record {
   fails_below = true;
   silent = 9;
   took = None;
+  ended = None;
 }
 
 abbrev pub target : ℕ → Option ℕ → Times → Target
@@ -210,6 +211,23 @@ whole :
     })
     × (summary_of (node 3 None (Some (pos 0)) 10 0 ∷ node 0 (Some 0) (Some (pos 1)) 20 0 ∷ node 2 (Some 0) (Some (pos 2)) 30 4 ∷ node 1 (Some 0) None 40 2 ∷ []) (ran 1020 1050 ∷ ended_at 1095 ∷ ran 1050 1090 ∷ ran 1010 1100 ∷ ran 1 9999 ∷ []) ≡ small_build)
 whole = (refl, refl)
+
+-- A requested target ran two others at once: recipes count in `sum` and `most`, and their parent doesn't.
+overlap :
+    summary_of (node 0 None (Some (pos 0)) 10 0 ∷ node 1 (Some 0) (Some (pos 0)) 20 0 ∷ node 2 (Some 0) (Some (pos 0)) 30 0 ∷ []) (ran 1000 1100 ∷ ran 1010 1050 ∷ ran 1040 1090 ∷ []) ≡ record {
+      window = Some (record { began = 1000; width = 100 });
+      took = 100;
+      parents = span 0 1000 1100 ∷ [];
+      recipes = span 1 1010 1050 ∷ span 2 1040 1090 ∷ [];
+      marks = [];
+      sum = 90;
+      most = 2;
+      warnings = 0;
+      bytes = 60;
+      longest = rank 50 2 ∷ rank 40 1 ∷ [];
+      warned = [];
+    }
+overlap = refl
 
 abbrev counted : ℕ → ℕ → ℕ → Facts
 counted parents recipes marks = record small_build { parents = replicate parents (span 0 1 9); recipes = replicate recipes (span 0 1 9); marks = replicate marks (span 0 1 1) }

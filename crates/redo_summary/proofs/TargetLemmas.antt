@@ -26,6 +26,7 @@ no_node = record {
   fails_below = false;
   silent = 0;
   took = None;
+  ended = None;
 }
 
 targets-last : (times : List Times) (place : ℕ) (nodes : List Node) (node : Node) → targets_from times place (nodes ++ node ∷ []) ≡ targets_from times place nodes ++ target_of times (place + length nodes) node ∷ []

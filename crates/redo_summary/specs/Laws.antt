@@ -1,14 +1,15 @@
 -- What the laws state.
-use Rattle.std.specs.Prelude.{◌≡◌, ℕ, ◌+◌, ◌<◌, ◌≤◌, ◌⊎◌, List, [], ◌∷◌, ◌++◌, length}
-use Rattle.std.specs.List.{AllByRecursion}
+use Rattle.std.specs.Prelude.{◌≡◌, ℕ, ◌+◌, ◌<◌, ◌≤◌, ◌⊎◌, min, ltb, List, [], ◌∷◌, ◌++◌, length, filter, Option, Some}
+use Rattle.std.specs.List.{AllByRecursion, Contains}
 use Rattle.std.specs.List.Sorted.{IsPermutation}
 use Rattle.redo_timeline.specs.declared.span.Span.{Span}
 use Rattle.redo_times.specs.declared.times.Times.{Times}
 use Rattle.redo_outline.specs.declared.node.Node.{Node}
 use Rattle.redo_summary.specs.declared.rank.Rank.{Rank}
 use Rattle.redo_summary.specs.Parents.{spans_of}
+use Rattle.redo_summary.specs.Ranks.{warnings_from}
 use Rattle.redo_summary.specs.Summary.{Facts}
-use Rattle.redo_summary.specs.Targets.{targets_of}
+use Rattle.redo_summary.specs.Targets.{targets_of, times_of}
 
 -- The places of spans, or of ranks, are below a number.
 abbrev pub AreSpansBelow : ℕ → List Span → Type 0
@@ -40,6 +41,27 @@ pub record AreInOrderOfPlace (facts : Facts) : Type 0 where
 abbrev pub AreSplit : List Node → List Times → Facts → Type 0
 AreSplit nodes times facts = IsPermutation (spans_of (targets_of nodes times)) (facts.parents ++ facts.recipes)
 
+-- A beginning and an end are known. They are in a span, and the end is after the beginning of the span.
+abbrev pub AreDuring : Span → Option ℕ → Option ℕ → Type 0
+AreDuring span (Some began) (Some ended) = (span.began ≤ began) × (ended ≤ span.ended) × (span.began < ended)
+AreDuring span began ended = ⊥
+
+-- The target of a span ran the target of a node: its log directly contains the log of the node, whose target began and ended in the span.
+pub record Ran (times : List Times) (span : Span) (node : Node) : Type 0 where
+  pub contains : node.parent ≡ Some span.place
+  pub during : AreDuring span (times_of times node.number).began (times_of times node.number).ended
+
+-- The target of a span ran the target of one of these nodes.
+abbrev pub RanOthers : List Node → List Times → Span → Type 0
+RanOthers nodes times span = (node : Node) × Contains nodes node × Ran times span node
+
+-- The target of each span ran others, or none did.
+abbrev pub AllRanOthers : List Node → List Times → List Span → Type 0
+AllRanOthers nodes times spans = AllByRecursion (RanOthers nodes times) spans
+
+abbrev pub NoneRanOthers : List Node → List Times → List Span → Type 0
+NoneRanOthers nodes times spans = AllByRecursion (λ (span : Span). ¬ RanOthers nodes times span) spans
+
 -- A rank is before another: its value is larger, or it is equal and its place isn't higher.
 abbrev pub IsBefore : Rank → Rank → Type 0
 IsBefore rank next = (next.value < rank.value) ⊎ ((rank.value ≡ next.value) × (rank.place ≤ next.place))
@@ -56,3 +78,15 @@ AreInOrder (rank ∷ ranks) = IsBeforeFirst rank ranks × AreInOrder ranks
 -- At most ten ranks, each before the next one.
 abbrev pub IsTable : List Rank → Type 0
 IsTable ranks = (length ranks ≤ 10) × AreInOrder ranks
+
+-- A rank for each target with warnings.
+abbrev pub warning_ranks : List Node → List Rank
+warning_ranks nodes = filter (λ (rank : Rank). ltb 0 rank.value) (warnings_from 0 nodes)
+
+-- A table has the first ten of some ranks, or all of them if there are no more: it and some others are these ranks, each once, and each
+-- rank of the table is before each of the others.
+pub record HasFirstTen (ranks table : List Rank) : Type 0 where
+  pub others : List Rank
+  pub once : IsPermutation ranks (table ++ others)
+  pub count : length table ≡ min 10 (length ranks)
+  pub first : AllByRecursion (λ (rank : Rank). AllByRecursion (IsBefore rank) others) table

@@ -1,8 +1,9 @@
 //! Laws about the definitions alone: their contracts are theorems, and their bodies are empty.
-ghost use Rattle.std.specs.Prelude.{List};
+ghost use Rattle.std.specs.Prelude.{List, map};
 ghost use Rattle.redo_outline.specs.declared.node.Node.{Node};
 ghost use Rattle.redo_times.specs.declared.times.Times.{Times};
-ghost use Rattle.redo_summary.specs.Laws.{AreInOrderOfPlace, AreOfNodes, AreSplit, IsTable};
+ghost use Rattle.redo_summary.specs.Laws.{AllRanOthers, AreInOrderOfPlace, AreOfNodes, AreSplit, HasFirstTen, IsTable, NoneRanOthers, warning_ranks};
+ghost use Rattle.redo_summary.specs.Ranks.{rank_of};
 ghost use Rattle.redo_summary.specs.Summary.{summary_of};
 
 /// Each place is the place of a node.
@@ -20,8 +21,22 @@ pub fn spans_are_parents_or_recipes()
     ensures { (nodes : List Node) (times : List Times) → AreSplit nodes times (summary_of nodes times) }
 {}
 
+/// Each parent ran others, and no recipe ran others: its log directly contains the log of another target, which began and ended while it
+/// ran.
+pub fn parents_ran_others()
+    ensures parents { (nodes : List Node) (times : List Times) → AllRanOthers nodes times (summary_of nodes times).parents }
+    ensures recipes { (nodes : List Node) (times : List Times) → NoneRanOthers nodes times (summary_of nodes times).recipes }
+{}
+
 /// A table has at most ten ranks. Their values fall, and ranks with equal values are in order of place.
 pub fn ranks_are_in_order()
     ensures longest { (nodes : List Node) (times : List Times) → IsTable (summary_of nodes times).longest }
     ensures warned { (nodes : List Node) (times : List Times) → IsTable (summary_of nodes times).warned }
+{}
+
+/// The tables have the ten recipes that took longest, and the ten targets with the most warnings, or all of them if there are no more.
+pub fn tables_have_first_ranks()
+    ensures longest { (nodes : List Node) (times : List Times) →
+        HasFirstTen (map rank_of (summary_of nodes times).recipes) (summary_of nodes times).longest }
+    ensures warned { (nodes : List Node) (times : List Times) → HasFirstTen (warning_ranks nodes) (summary_of nodes times).warned }
 {}

@@ -22,8 +22,8 @@ mod totals;
 mod window;
 
 pub use laws::{
-    places_are_of_nodes, ranks_are_in_order, spans_are_in_order_of_place,
-    spans_are_parents_or_recipes,
+    parents_ran_others, places_are_of_nodes, ranks_are_in_order, spans_are_in_order_of_place,
+    spans_are_parents_or_recipes, tables_have_first_ranks,
 };
 pub use rank::Rank;
 pub use summary::Summary;

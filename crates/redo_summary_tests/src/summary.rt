@@ -150,6 +150,7 @@ fn node(
         fails_below: false,
         silent: 0,
         took: None,
+        ended: None,
     }
 }
 

@@ -4,6 +4,6 @@ pub mod CoverLemmas
 mod LaneLemmas
 pub mod LawLemmas
 mod NeedLemmas
-mod OrderLemmas
+pub mod OrderLemmas
 mod TimelineLemmas
 mod TimelineRows

@@ -1,11 +1,12 @@
 -- Rows of timelines, and of the lanes and bars in them. The values are worked out by hand.
 use Rattle.std.proofs.Common.{◌≡◌, ℕ, Bool, true, false, [], ◌∷◌, refl, arith, inl, inr, lit<}
+use Rattle.std.proofs.lemmas.List.Sorted.{length_permutation}
 use Rattle.redo_timeline.specs.declared.bar.Bar.{Bar}
 use Rattle.redo_timeline.specs.declared.span.Span.{Span}
 use Rattle.redo_timeline.specs.declared.span.Window.{Window}
 use Rattle.redo_timeline.specs.Bars.{IsValidWindow, bar_of, bars_in, is_narrow, units}
 use Rattle.redo_timeline.specs.Lanes.{ended_of, lanes_of}
-use Rattle.redo_timeline.specs.Laws.{AreInTurn, EachBar, IsAloneIfFailed, IsInLanes, IsSlimIfJoined, spans_of}
+use Rattle.redo_timeline.specs.Laws.{AreInTurn, AreOrdered, EachBar, IsAloneIfFailed, IsInLanes, IsSlimIfJoined, spans_of}
 use Rattle.redo_timeline.specs.Order.{in_order}
 use Rattle.redo_timeline.specs.Parallelism.{most_of, runs_at}
 use Rattle.redo_timeline.specs.Timeline.{timeline_of}
@@ -152,6 +153,16 @@ rejected_bars = (
 
 rejected_lanes : ¬ IsInLanes 1 (record { bars = []; lane_count = 2 }) × ¬ IsInLanes 2 (record { bars = bar 0 0 30 0 1 0 30 false ∷ bar 1 0 30 0 1 0 30 false ∷ []; lane_count = 1 })
 rejected_lanes = (λ lanes. let few = (lanes (omega arith)).0 in omega (arith, few), λ lanes. let below = (lanes (omega arith)).1.1.0 in omega (arith, below))
+
+-- A span is lost, or is there twice. Then a later span comes first.
+rejected_orders :
+    ¬ AreOrdered (span 0 5 9 ∷ span 1 3 4 ∷ []) (span 1 3 4 ∷ []) × ¬ AreOrdered (span 1 3 4 ∷ []) (span 1 3 4 ∷ span 1 3 4 ∷ [])
+    × ¬ AreOrdered (span 0 5 9 ∷ span 1 3 4 ∷ []) (span 0 5 9 ∷ span 1 3 4 ∷ [])
+rejected_orders = (
+  λ ordered. let count : 1 ≡ 2 = length_permutation (span 0 5 9 ∷ span 1 3 4 ∷ []) (span 1 3 4 ∷ []) ordered.0 in omega (arith, count),
+  λ ordered. let count : 2 ≡ 1 = length_permutation (span 1 3 4 ∷ []) (span 1 3 4 ∷ span 1 3 4 ∷ []) ordered.0 in omega (arith, count),
+  λ ordered. let sorted : true ≡ false = ordered.1 0 (span 0 0 0) (omega arith) (omega arith) in absurd (cc),
+)
 
 -- ---- parallelism
 

@@ -6,7 +6,7 @@ use Rattle.redo_timeline.specs.declared.bar.Bar.{Bar}
 use Rattle.redo_timeline.specs.declared.span.Span.{Span}
 use Rattle.redo_timeline.specs.declared.span.Window.{Window}
 use Rattle.redo_timeline.specs.Bars.{has_failed, width_of}
-use Rattle.redo_timeline.specs.Order.{in_order, span_cmp}
+use Rattle.redo_timeline.specs.Order.{span_cmp}
 use Rattle.redo_timeline.specs.Timeline.{Drawing}
 
 -- The spans of all bars, lane by lane.
@@ -41,6 +41,6 @@ abbrev pub IsInLanes : ℕ → Drawing → Type 0
 IsInLanes max_lanes drawing =
     0 < max_lanes → (drawing.lane_count ≤ max_lanes) × AllByRecursion (λ (bar : Bar). bar.lane < drawing.lane_count) drawing.bars
 
--- The same spans, each at or after the one before.
-abbrev pub AreOrdered : List Span → Type 0
-AreOrdered spans = IsPermutation spans (in_order spans) × IsSorted span_cmp (in_order spans)
+-- The second list has the spans of the first one, each at or after the one before.
+abbrev pub AreOrdered : List Span → List Span → Type 0
+AreOrdered spans ordered = IsPermutation spans ordered × IsSorted span_cmp ordered

@@ -5,6 +5,7 @@ ghost use Rattle.std.specs.List.Sorted.{IsPermutation};
 ghost use Rattle.redo_timeline.specs.declared.span.Span.{Span};
 ghost use Rattle.redo_timeline.specs.declared.span.Window.{Window};
 ghost use Rattle.redo_timeline.specs.Laws.{AreInTurn, AreOrdered, EachBar, IsAloneIfFailed, IsInLanes, IsSlimIfJoined, spans_of};
+ghost use Rattle.redo_timeline.specs.Order.{in_order};
 ghost use Rattle.redo_timeline.specs.Parallelism.{most_of, runs_at};
 ghost use Rattle.redo_timeline.specs.Timeline.{bars_of, timeline_of};
 
@@ -40,7 +41,7 @@ pub fn lanes_are_needed()
 
 /// Spans take lanes in the order in which they began.
 pub fn spans_are_ordered()
-    ensures { (spans : List Span) → AreOrdered spans }
+    ensures { (spans : List Span) → AreOrdered spans (in_order spans) }
 {}
 
 /// No more spans run at any time.

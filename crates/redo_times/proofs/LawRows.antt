@@ -1,6 +1,7 @@
 -- Records of logs, as the laws see them.
-use Rattle.std.proofs.Common.{ℕ, List, [], ◌∷◌, ◌++◌, arith, refl}
-use Rattle.std.specs.Prelude.{codes}
+use Rattle.std.proofs.Common.{◌≡◌, ◌⊎◌, ℕ, zero, suc, true, inl, inr, List, [], ◌∷◌, ◌++◌, Option, None, Some, arith, refl, ap, subst, sym}
+use Rattle.std.specs.Prelude.{codes, option_and_then, take}
+use Rattle.std.specs.List.{Contains}
 use Rattle.std.specs.List.Sorted.{IsPermutation}
 use Rattle.redo_line.specs.Decimal.{number}
 use Rattle.redo_line.specs.Entry.{entry_of, record_entry}
@@ -8,9 +9,10 @@ use Rattle.redo_line.specs.Lines.{ended, split_lines, with_line_feed}
 use Rattle.redo_line.specs.Parts.{after_prefix, split_once}
 use Rattle.redo_line.specs.Record.{fields_of, record_fields, status_of}
 use Rattle.redo_name.specs.Names.{normal, reduce_suffix}
+use Rattle.redo_times.specs.declared.report.Stage.{Stage}
 use Rattle.redo_times.specs.declared.report.Stage.TheVariants.{Began, EndedInOwnLog, EndedInOtherLog}
-use Rattle.redo_times.specs.Laws.{IsReported}
-use Rattle.redo_times.specs.Report.{TimedLog, report_of}
+use Rattle.redo_times.specs.Laws.{BeginsAfter, IsEnd, IsFirst, IsLast, IsReported, Never}
+use Rattle.redo_times.specs.Report.{TimedLog, line_time, report_of, stage_of}
 use Rattle.redo_times.specs.Time.{time_value}
 
 abbrev a : List ℕ
@@ -56,3 +58,175 @@ done_at_20 = record { log = done_in_all; is_log = (0, omega arith, refl); line =
 
 swapped : IsPermutation (done_in_all ∷ done_in_b ∷ []) (done_in_b ∷ done_in_all ∷ [])
 swapped = record { moves = (0, 1) ∷ []; below = (omega arith, omega arith, tt); is = refl }
+
+-- ---- first and last times
+
+abbrev IsOneOrThree : ℕ → Type 0
+IsOneOrThree time = (time ≡ 1) ⊎ (time ≡ 3)
+
+-- 1 is the first one, and 3 the last one.
+is_first : IsFirst IsOneOrThree 1
+is_first = record { is = inl refl; none_earlier = λ other is. elim is [ inl one ↦ omega (arith, one) | inr three ↦ omega (arith, three) ] }
+
+not_first : ¬ IsFirst IsOneOrThree 3 × ¬ IsFirst IsOneOrThree 0
+not_first = (
+  λ first. let low = first.none_earlier 1 (inl refl) in omega (arith, low),
+  λ first. elim first.is [ inl one ↦ omega (arith, one) | inr three ↦ omega (arith, three) ],
+)
+
+is_last : IsLast IsOneOrThree 3
+is_last = record { is = inr refl; none_later = λ other is. elim is [ inl one ↦ omega (arith, one) | inr three ↦ omega (arith, three) ] }
+
+not_last : ¬ IsLast IsOneOrThree 1 × ¬ IsLast IsOneOrThree 4
+not_last = (
+  λ last. let high = last.none_later 3 (inr refl) in omega (arith, high),
+  λ last. elim last.is [ inl one ↦ omega (arith, one) | inr three ↦ omega (arith, three) ],
+)
+
+not_never : ¬ Never IsOneOrThree
+not_never = λ never. never 3 (inr refl)
+
+-- ---- what logs report
+
+only : {A : Type 0} (x y : A) → Contains (x ∷ []) y → x ≡ y
+only x y (zero, below, is) = is
+only x y (suc k, below, is) = absurd (omega (arith, below))
+
+one_of_two : {A : Type 0} (x y z : A) → Contains (x ∷ y ∷ []) z → (x ≡ z) ⊎ (y ≡ z)
+one_of_two x y z (zero, below, is) = inl is
+one_of_two x y z (suc zero, below, is) = inr is
+one_of_two x y z (suc (suc k), below, is) = absurd (omega (arith, below))
+
+abbrev said : Stage → List ℕ → Option (Stage × List ℕ)
+said stage target = Some (stage, target)
+
+abbrev stage_in : Option (Stage × List ℕ) → Stage
+stage_in None = Began
+stage_in (Some parts) = parts.0
+
+abbrev target_in : Option (Stage × List ℕ) → List ℕ
+target_in None = []
+target_in (Some parts) = parts.1
+
+same_stage : (stage other : Stage) (target name : List ℕ) → said stage target ≡ said other name → stage ≡ other
+same_stage stage other target name same = ap stage_in same
+
+same_target : (stage other : Stage) (target name : List ℕ) → said stage target ≡ said other name → target ≡ name
+same_target stage other target name same = ap target_in same
+
+same_time : (time other : ℕ) → Some time ≡ Some other → time ≡ other
+same_time time other same = cc
+
+-- What a log with one line says.
+says_line : (logs : List TimedLog) (log : TimedLog) (line : List ℕ) (stage : Stage) (target : List ℕ) (time : ℕ) → ended (take 1000 log.bytes) ≡ line ∷ []
+    → (report : IsReported 1000 logs stage target time) → log ≡ report.log
+    → (option_and_then (stage_of log.target) (entry_of log.target line true) ≡ said stage target) × (line_time line ≡ Some time)
+says_line logs log line stage target time one report log_is =
+    let lines = subst (λ (l : TimedLog). Contains (ended (take 1000 l.bytes)) report.line) (sym log_is) report.is_line in
+    let line_is = only line report.line (subst (λ (ls : List (List ℕ)). Contains ls report.line) one lines) in
+    let says = subst (λ (l : TimedLog). option_and_then (stage_of l.target) (entry_of l.target report.line true) ≡ Some (stage, target)) (sym log_is) report.says in (
+      subst (λ (l : List ℕ). option_and_then (stage_of log.target) (entry_of log.target l true) ≡ Some (stage, target)) (sym line_is) says,
+      subst (λ (l : List ℕ). line_time l ≡ Some time) (sym line_is) report.at,
+    )
+
+reported_in_all : (stage : Stage) (target : List ℕ) (time : ℕ) → IsReported 1000 (done_in_all ∷ []) stage target time
+    → (said EndedInOtherLog a ≡ said stage target) × (Some 1700000020000 ≡ Some time)
+unfolding split_lines ended record_fields fields_of status_of split_once after_prefix normal reduce_suffix number time_value entry_of record_entry report_of
+reported_in_all stage target time report =
+    says_line (done_in_all ∷ []) done_in_all (is_done (codes "1700000020")) stage target time refl report (only done_in_all report.log report.is_log)
+
+-- Another stage, another target, another time.
+not_reported :
+    ¬ IsReported 1000 (done_in_all ∷ []) EndedInOwnLog a 1700000020000 × ¬ IsReported 1000 (done_in_all ∷ []) EndedInOtherLog (codes "b") 1700000020000
+    × ¬ IsReported 1000 (done_in_all ∷ []) EndedInOtherLog a 1700000021000
+unfolding split_lines ended record_fields fields_of status_of split_once after_prefix normal reduce_suffix number time_value entry_of record_entry report_of
+not_reported = (
+  λ report. let stages = same_stage EndedInOtherLog EndedInOwnLog a a (reported_in_all EndedInOwnLog a 1700000020000 report).0 in absurd (cc),
+  λ report. let names = same_target EndedInOtherLog EndedInOtherLog a (codes "b") (reported_in_all EndedInOtherLog (codes "b") 1700000020000 report).0 in let letters : ◌≡◌ {A = ℕ} 97 98 = cc in omega (arith, letters),
+  λ report. let times = same_time 1700000020000 1700000021000 (reported_in_all EndedInOtherLog a 1700000021000 report).1 in omega (arith, times),
+)
+
+-- A record that is in none of these logs.
+not_in_logs : ¬ IsReported 1000 [] EndedInOtherLog a 1700000020000
+unfolding split_lines ended record_fields fields_of status_of split_once after_prefix normal reduce_suffix number time_value entry_of record_entry report_of
+not_in_logs = λ report. let below = report.is_log.1 in omega (arith, below)
+
+-- The record has 31 bytes with its line feed. Within 30 it isn't ended.
+not_within : ¬ IsReported 30 (done_in_all ∷ []) EndedInOtherLog a 1700000020000
+unfolding split_lines ended record_fields fields_of status_of split_once after_prefix normal reduce_suffix number time_value entry_of record_entry report_of
+not_within = λ report.
+    let log_is = only done_in_all report.log report.is_log in
+    let lines : Contains [] report.line = subst (λ (l : TimedLog). Contains (ended (take 30 l.bytes)) report.line) (sym log_is) report.is_line in
+    let below = lines.1 in omega (arith, below)
+
+-- ---- when a target ended
+
+-- The log of `all` says that `a` ended at 20, and its own log says that it ended at 30.
+abbrev closed_at_30 : TimedLog
+closed_at_30 = log a (with_line_feed (is_done (codes "1700000030")))
+
+abbrev both : List TimedLog
+both = done_in_all ∷ closed_at_30 ∷ []
+
+own_at_30 : IsReported 1000 both EndedInOwnLog a 1700000030000
+unfolding split_lines ended record_fields fields_of status_of split_once after_prefix normal reduce_suffix number time_value entry_of record_entry report_of
+own_at_30 = record { log = closed_at_30; is_log = (1, omega arith, refl); line = is_done (codes "1700000030"); is_line = (0, omega arith, refl); says = refl; at = refl }
+
+other_at_20 : IsReported 1000 both EndedInOtherLog a 1700000020000
+unfolding split_lines ended record_fields fields_of status_of split_once after_prefix normal reduce_suffix number time_value entry_of record_entry report_of
+other_at_20 = record { log = done_in_all; is_log = (0, omega arith, refl); line = is_done (codes "1700000020"); is_line = (0, omega arith, refl); says = refl; at = refl }
+
+reported_in_both : (stage : Stage) (time : ℕ) → IsReported 1000 both stage a time → ((stage ≡ EndedInOtherLog) × (time ≡ 1700000020000)) ⊎ ((stage ≡ EndedInOwnLog) × (time ≡ 1700000030000))
+unfolding split_lines ended record_fields fields_of status_of split_once after_prefix normal reduce_suffix number time_value entry_of record_entry report_of
+reported_in_both stage time report =
+    elim (one_of_two done_in_all closed_at_30 report.log report.is_log) [
+      | inl first ↦
+          let facts : (said EndedInOtherLog a ≡ said stage a) × (Some 1700000020000 ≡ Some time) = says_line both done_in_all (is_done (codes "1700000020")) stage a time refl report first in
+          inl (sym (same_stage EndedInOtherLog stage a a facts.0), sym (same_time 1700000020000 time facts.1))
+      | inr second ↦
+          let facts : (said EndedInOwnLog a ≡ said stage a) × (Some 1700000030000 ≡ Some time) = says_line both closed_at_30 (is_done (codes "1700000030")) stage a time refl report second in
+          inr (sym (same_stage EndedInOwnLog stage a a facts.0), sym (same_time 1700000030000 time facts.1))
+    ]
+
+-- Its own log decides.
+is_end : IsEnd 1000 both a 1700000030000
+is_end = inl (record {
+  is = own_at_30;
+  none_later = λ time report. elim (reported_in_both EndedInOwnLog time report) [ inl other ↦ let stages = other.0 in absurd (cc) | inr own ↦ let same = own.1 in omega (arith, same) ];
+})
+
+not_end : ¬ IsEnd 1000 both a 1700000020000
+not_end = λ end. elim end [ inl last ↦ (let high = last.none_later 1700000030000 own_at_30 in omega (arith, high)) | inr other ↦ other.0 1700000030000 own_at_30 ]
+
+closed_at_11 : IsReported 1000 closed EndedInOwnLog a 1700000011000
+unfolding split_lines ended record_fields fields_of status_of split_once after_prefix normal reduce_suffix number time_value entry_of record_entry report_of
+closed_at_11 = record { log = log a (with_line_feed (is_done (codes "1700000012")) ++ with_line_feed (is_done (codes "1700000011"))); is_log = (0, omega arith, refl); line = is_done (codes "1700000011"); is_line = (1, omega arith, refl); says = refl; at = refl }
+
+-- Its last record has an earlier time than the first one.
+not_latest : ¬ IsEnd 1000 closed a 1700000011000
+not_latest = λ end. elim end [ inl last ↦ (let high = last.none_later 1700000012000 closed_at_12 in omega (arith, high)) | inr other ↦ other.0 1700000012000 closed_at_12 ]
+
+-- ---- beginnings after the end
+
+abbrev begun_once : TimedLog
+begun_once = log (codes "all") (with_line_feed (begins (codes "1700000001")))
+
+begun_once_at_1 : IsReported 1000 (begun_once ∷ []) Began a 1700000001000
+unfolding split_lines ended record_fields fields_of status_of split_once after_prefix normal reduce_suffix number time_value entry_of record_entry report_of
+begun_once_at_1 = record { log = begun_once; is_log = (0, omega arith, refl); line = begins (codes "1700000001"); is_line = (0, omega arith, refl); says = refl; at = refl }
+
+only_at_1 : (time : ℕ) → IsReported 1000 (begun_once ∷ []) Began a time → time ≡ 1700000001000
+unfolding split_lines ended record_fields fields_of status_of split_once after_prefix normal reduce_suffix number time_value entry_of record_entry report_of
+only_at_1 time report =
+    let facts : (said Began a ≡ said Began a) × (Some 1700000001000 ≡ Some time) = says_line (begun_once ∷ []) begun_once (begins (codes "1700000001")) Began a time refl report (only begun_once report.log report.is_log) in
+    sym (same_time 1700000001000 time facts.1)
+
+begins_after : BeginsAfter 1000 (begun_once ∷ []) a (Some 1700000000999)
+begins_after = (1700000000999, refl, λ time report. let same = only_at_1 time report in omega (arith, same))
+
+-- A beginning at the end is not after it. Nothing is after an end that is unknown.
+not_begins_after : ¬ BeginsAfter 1000 (begun_once ∷ []) a (Some 1700000001000) × ¬ BeginsAfter 1000 [] a None
+not_begins_after = (
+  λ after. let same : 1700000001000 ≡ after.0 = (let is = after.1 in cc) in let late = after.2 1700000001000 begun_once_at_1 in omega (arith, same, late),
+  λ after. let none = after.1 in absurd (cc),
+)

@@ -20,7 +20,7 @@ use Rattle.redo_view.specs.Written.{WroteAll, WrotePrefix}
 use Rattle.redo_trim.specs.declared.limit.Gauge.{Gauge}
 use Rattle.redo_trim.specs.declared.trimmed.Trimmed.{Trimmed}
 use Rattle.redo_trim.specs.Trim.{kept, trimmed}
-use Rattle.redo_trim.specs.TrimmedForm.{HasShown, WritesShown, form_after, form_bytes}
+use Rattle.redo_trim.specs.TrimmedForm.{form_after, form_bytes}
 
 -- ---- parts of a text, one after the other
 
@@ -83,7 +83,8 @@ module _ {F : Type 0} (bytes : F → Event → List ℕ) (after : F → Event �
       ap (bytes_of bytes after form.form) (kept_alone form.gauges event alone) ∙ append-nil (bytes form.form (event_value event))
 
   -- What the adapter writes for events is what the inner form writes for what is shown of them.
-  pub trimmed_bytes : (form : Trimmed F) (events : List Event) → WritesShown bytes after form events
+  pub trimmed_bytes : (form : Trimmed F) (events : List Event)
+      → bytes_of (form_bytes bytes after) (form_after after) form events ≡ bytes_of bytes after form.form (trimmed form.limits.now form.gauges events)
   trimmed_bytes form [] = refl
   trimmed_bytes form (event ∷ events) =
       let shown = kept form.gauges event in
@@ -91,7 +92,8 @@ module _ {F : Type 0} (bytes : F → Event → List ℕ) (after : F → Event �
       ap (λ more. bytes_of bytes after form.form shown ++ more) (trimmed_bytes next events)
       ∙ sym (bytes-append form.form shown (trimmed form.limits.now next.gauges events))
 
-  pub trimmed_state : (form : Trimmed F) (events : List Event) → HasShown after form events
+  pub trimmed_state : (form : Trimmed F) (events : List Event)
+      → (state_after (form_after after) form events).form ≡ state_after after form.form (trimmed form.limits.now form.gauges events)
   trimmed_state form [] = refl
   trimmed_state form (event ∷ events) =
       let shown = kept form.gauges event in

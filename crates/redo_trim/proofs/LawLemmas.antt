@@ -15,8 +15,8 @@ use Rattle.redo_trim.specs.declared.limit.Gauge.{Gauge}
 use Rattle.redo_trim.specs.declared.limit.Limit.{Limit}
 use Rattle.redo_trim.specs.declared.limit.Showing.{Showing}
 use Rattle.redo_trim.specs.declared.limit.Showing.TheVariants as showing
-use Rattle.redo_trim.specs.Laws.{AreWhole, FitsInto64Bits, HasThreeParts, KeepsHeadAndTail, KeepsOthers, ShowsHeadAndTail, after_head, head_lines, left_out, lines_before, lines_from, lines_in, marker_for, other_events, tail_lines}
-use Rattle.redo_trim.specs.Trim.{after_end, gauges_after, innermost, kept, limit_of, line_shown, line_size, marker, showing_in, showing_of, trim, trimmed, with_opened, with_shown_all, with_text}
+use Rattle.redo_trim.specs.Laws.{AreNoLimits, FitsInto64Bits, after_head, head_and_tail, head_lines, left_out, lines_before, lines_from, lines_in, marked_lines, marker_for, other_events, tail_lines}
+use Rattle.redo_trim.specs.Trim.{after_end, gauge_of, gauges_after, innermost, kept, limit_of, line_shown, line_size, marker, showing_in, showing_of, trim, trimmed, with_opened, with_shown_all, with_text}
 use Rattle.redo_trim.specs.Private.Writing.{keeps_all}
 use Rattle.redo_trim.proofs.LineLemmas.{keeps_whole}
 
@@ -40,7 +40,7 @@ tail_parts tail begin (line ∷ lines) = by (tail_parts tail (begin + line_size 
     by others true = refl
     by others false = ap (λ ls. line ∷ ls) others
 
-pub three_parts : (limit : Limit) (lines : List (List ℕ)) → HasThreeParts limit lines
+pub three_parts : (limit : Limit) (lines : List (List ℕ)) → lines ≡ head_lines limit.head lines ++ (left_out limit lines ++ tail_lines limit lines)
 three_parts limit lines =
     let first = head_lines limit.head lines in
     head_parts limit.head lines ∙ ap (λ ls. first ++ ls) (tail_parts limit.tail (text_size first) (after_head limit.head lines))
@@ -174,7 +174,8 @@ module _ (limit : Limit) (fits : FitsInto64Bits limit) where
       ∙ ap (λ (gs : List Gauge). line_shown (showing_at limit begin (line_size line)) depth line ++ trimmed limits gs (text_events depth lines)) (next_gauge begin (line_size line) outer)
       ∙ ap (λ es. line_shown (showing_at limit begin (line_size line)) depth line ++ es) (same_lines limits depth outer (begin + line_size line) lines)
 
-pub shows_head_and_tail : (limits : List Limit) (number : ℕ) (lines : List (List ℕ)) → ShowsHeadAndTail limits number lines
+pub shows_head_and_tail : (limits : List Limit) (number : ℕ) (lines : List (List ℕ)) (depth : ℕ) (outer : List Gauge) → FitsInto64Bits (limit_of limits number)
+    → trimmed limits (gauge_of limits number ∷ outer) (text_events depth lines) ≡ marked_lines depth (limit_of limits number) lines
 shows_head_and_tail limits number lines depth outer fits =
     let limit = limit_of limits number in
     same_lines limit fits limits depth outer 0 lines ∙ whole_log limit depth lines
@@ -220,7 +221,8 @@ module _ (limits : List Limit) (limit : Limit) (fits : FitsInto64Bits limit) (ou
   kept_among (Shown (LogEnds depth) rest) begin = kept_among rest begin
   kept_among (Opened event number inside rest) begin = kept_among rest begin
 
-pub keeps_head_and_tail : (limits : List Limit) (number : ℕ) (contents : Contents) → KeepsHeadAndTail limits number contents
+pub keeps_head_and_tail : (limits : List Limit) (number : ℕ) (contents : Contents) (outer : List Gauge) → FitsInto64Bits (limit_of limits number)
+    → lines_in (trim limits (gauge_of limits number ∷ outer) contents) ≡ head_and_tail (limit_of limits number) (lines_in contents)
 keeps_head_and_tail limits number contents outer fits =
     let limit = limit_of limits number in
     let lines = lines_in contents in
@@ -237,7 +239,7 @@ line_no_other showing.Whole depth line events = refl
 line_no_other showing.Marker depth line events = refl
 line_no_other showing.Nothing depth line events = refl
 
-pub keeps_others : (limits : List Limit) (gauges : List Gauge) (events : List Event) → KeepsOthers limits gauges events
+pub keeps_others : (limits : List Limit) (gauges : List Gauge) (events : List Event) → other_events (trimmed limits gauges events) ≡ other_events events
 keeps_others limits gauges [] = refl
 keeps_others limits gauges (Requested name opening ∷ events) = ap (λ es. Requested name opening ∷ es) (keeps_others limits (gauges_after limits gauges (Requested name opening)) events)
 keeps_others limits gauges (Mentioned depth pid how name opening ∷ events) =
@@ -305,5 +307,5 @@ module _ (limits : List Limit) (none : AllByRecursion (λ (limit : Limit). limit
       ap (λ es. es ++ trimmed limits (gauges_after limits gauges event) events) (all_kept gauges event (none_kept gauges have))
       ∙ ap (λ es. event ∷ es) (whole_from (gauges_after limits gauges event) events (after_none gauges event have))
 
-pub are_whole : (limits : List Limit) (events : List Event) → AreWhole limits events
+pub are_whole : (limits : List Limit) (events : List Event) → AreNoLimits limits → trimmed limits [] events ≡ events
 are_whole limits events none = whole_from limits none [] events tt

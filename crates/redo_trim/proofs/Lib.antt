@@ -1,6 +1,7 @@
 pub mod FormLemmas
 mod GaugeLemmas
 mod LawLemmas
+mod LawRows
 mod LineLemmas
 mod MarkerLemmas
 mod TreeLemmas

@@ -16,13 +16,13 @@ use Rattle.redo_trim.specs.Laws.{head_lines, left_out, lines_in, other_events, t
 use Rattle.redo_trim.specs.Trim.{after_shown, gauges_after, kept, limit_of, line_size, marker, showing_in, showing_of, trim, trimmed}
 use Rattle.redo_trim.specs.TrimmedForm.{form_after, form_bytes}
 
-abbrev limit : ℕ → ℕ → Limit
+abbrev pub limit : ℕ → ℕ → Limit
 limit head tail = record { head = head; tail = tail }
 
 abbrev gauge : Limit → ℕ → Gauge
 gauge limit seen = record { limit = limit; seen = seen }
 
-abbrev text : List ℕ → Event
+abbrev pub text : List ℕ → Event
 text line = EntryShown 1 (Text line)
 
 -- ---- one line
@@ -93,7 +93,7 @@ abbrev lines : List ℕ → Event
 lines line = EntryShown 2 (Text line)
 
 -- The lines of `a` begin at the bytes 0, 6, 12 and 20, and so do those of `b`.
-abbrev events : List Event
+abbrev pub events : List Event
 events =
     Requested (codes "a") (OpensHere 0) ∷ text (codes "a one") ∷ Mentioned 1 9 Made (codes "b") (OpensHere 1) ∷ lines (codes "b one") ∷ lines (codes "b two")
     ∷ EntryShown 2 (Note 9 (codes "check") (codes "n")) ∷ lines (codes "b three") ∷ lines (codes "b four") ∷ LogEnds 2 ∷ text (codes "a two") ∷ text (codes "a three") ∷ text (codes "a four") ∷ LogEnds 1 ∷ []
@@ -136,7 +136,7 @@ others = refl
 -- ---- the lines of one log
 
 -- They begin at the bytes 0, 4, 8, 14 and 19.
-abbrev five : List (List ℕ)
+abbrev pub five : List (List ℕ)
 five = codes "one" ∷ codes "two" ∷ codes "three" ∷ codes "four" ∷ codes "five" ∷ []
 
 parts :

@@ -12,9 +12,8 @@ use Rattle.redo_outline.specs.Contents.Contents.{Nothing, Shown, Opened}
 use Rattle.redo_outline.specs.Facts.{text_size}
 use Rattle.redo_outline.specs.Laws.{events_of}
 use Rattle.redo_outline.specs.Outline.{log_count}
-use Rattle.redo_trim.specs.declared.limit.Gauge.{Gauge}
 use Rattle.redo_trim.specs.declared.limit.Limit.{Limit}
-use Rattle.redo_trim.specs.Trim.{gauge_of, limit_of, line_size, marker, trim, trimmed}
+use Rattle.redo_trim.specs.Trim.{line_size, marker, trim, trimmed}
 
 -- ---- the tree
 
@@ -34,9 +33,9 @@ TreeIsTrimmed limits events = AreInTree events → contents_of (trimmed limits [
 abbrev pub KeepsLogs : List Limit → Contents → Type 0
 KeepsLogs limits contents = log_count (trim limits [] contents) ≡ log_count contents
 
--- Nothing is left out if each limit lets the tail begin at once.
-abbrev pub AreWhole : List Limit → List Event → Type 0
-AreWhole limits events = AllByRecursion (λ limit. limit.tail ≡ 0) limits → trimmed limits [] events ≡ events
+-- Whether each limit lets the tail begin at once, so that it limits nothing.
+abbrev pub AreNoLimits : List Limit → Type 0
+AreNoLimits limits = AllByRecursion (λ limit. limit.tail ≡ 0) limits
 
 -- ---- what is no text line
 
@@ -46,10 +45,6 @@ other_events [] = []
 other_events (EntryShown depth (Text line) ∷ events) = other_events events
 other_events (EntryShown depth (Note pid [] text) ∷ events) = other_events events
 other_events (event ∷ events) = event ∷ other_events events
-
--- Whether they are shown unchanged, and in order.
-abbrev pub KeepsOthers : List Limit → List Gauge → List Event → Type 0
-KeepsOthers limits gauges events = other_events (trimmed limits gauges events) ≡ other_events events
 
 -- Whether no line of any log is shown as this event.
 abbrev pub IsInNoLog : Event → Type 0
@@ -87,9 +82,9 @@ tail_lines limit lines = lines_from limit.tail (text_size (head_lines limit.head
 abbrev pub left_out : Limit → List (List ℕ) → List (List ℕ)
 left_out limit lines = lines_before limit.tail (text_size (head_lines limit.head lines)) (after_head limit.head lines)
 
--- A log has its head, then the lines that are left out, then its tail.
-abbrev pub HasThreeParts : Limit → List (List ℕ) → Type 0
-HasThreeParts limit lines = lines ≡ head_lines limit.head lines ++ (left_out limit lines ++ tail_lines limit lines)
+-- The head and the tail.
+abbrev pub head_and_tail : Limit → List (List ℕ) → List (List ℕ)
+head_and_tail limit lines = head_lines limit.head lines ++ tail_lines limit lines
 
 -- Whether both numbers of a limit fit into 64 bits, as they do in the program.
 pub record FitsInto64Bits (limit : Limit) : Type 0 where
@@ -101,13 +96,10 @@ abbrev pub marker_for : ℕ → List (List ℕ) → List Event
 marker_for depth [] = []
 marker_for depth (line ∷ lines) = marker depth ∷ []
 
--- Of the lines of a log, its head and its tail are shown, and between them a marker.
-abbrev pub ShowsHeadAndTail : List Limit → ℕ → List (List ℕ) → Type 0
-ShowsHeadAndTail limits number lines =
-    (depth : ℕ) (outer : List Gauge) → FitsInto64Bits (limit_of limits number)
-    → trimmed limits (gauge_of limits number ∷ outer) (text_events depth lines)
-    ≡ text_events depth (head_lines (limit_of limits number).head lines)
-    ++ (marker_for depth (left_out (limit_of limits number) lines) ++ text_events depth (tail_lines (limit_of limits number) lines))
+-- The head and the tail of a log, and between them a marker if any lines are left out.
+abbrev pub marked_lines : ℕ → Limit → List (List ℕ) → List Event
+marked_lines depth limit lines =
+    text_events depth (head_lines limit.head lines) ++ (marker_for depth (left_out limit lines) ++ text_events depth (tail_lines limit lines))
 
 -- The text lines directly in some contents.
 abbrev pub lines_in : Contents → List (List ℕ)
@@ -115,10 +107,3 @@ lines_in Nothing = []
 lines_in (Shown (EntryShown depth (Text line)) rest) = line ∷ lines_in rest
 lines_in (Shown event rest) = lines_in rest
 lines_in (Opened event number inside rest) = lines_in rest
-
--- Of the lines directly in a log, its head and its tail are kept, whatever is between them.
-abbrev pub KeepsHeadAndTail : List Limit → ℕ → Contents → Type 0
-KeepsHeadAndTail limits number contents =
-    (outer : List Gauge) → FitsInto64Bits (limit_of limits number)
-    → lines_in (trim limits (gauge_of limits number ∷ outer) contents)
-    ≡ head_lines (limit_of limits number).head (lines_in contents) ++ tail_lines (limit_of limits number) (lines_in contents)
