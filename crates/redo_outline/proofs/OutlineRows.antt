@@ -13,11 +13,12 @@ use Rattle.redo_view.specs.Event.{Event}
 use Rattle.redo_view.specs.Event.Event.{Requested, Mentioned, EntryShown, LogEnds}
 use Rattle.redo_view.specs.Expansion.{shown_events, show_log, show_log_within}
 use Rattle.redo_outline.specs.declared.node.Node.{Node}
+use Rattle.redo_outline.specs.declared.node.RunTimes.{RunTimes}
 use Rattle.redo_outline.specs.Contents.{contents_from, contents_of}
 use Rattle.redo_outline.specs.Contents.Contents.{Nothing, Shown, Opened}
 use Rattle.redo_outline.specs.Facts.{entries_at, is_failure, is_warning, name_or_empty, saturated, target_at, target_status, text_size, texts_of}
 use Rattle.redo_outline.specs.Laws.{events_of}
-use Rattle.redo_outline.specs.Outline.{is_visible, outline_of, with_duration}
+use Rattle.redo_outline.specs.Outline.{is_visible, outline_of, with_times}
 
 abbrev log : List ℕ → List Entry → Log
 log target entries = record { target = target; entries = entries; state = Ended }
@@ -48,13 +49,13 @@ logs =
 -- What is known of each log, in the order in which they are opened.
 abbrev nodes : List Node
 nodes =
-    record { number = 0; parent = None; status = Some (pos 1); lines = 0; bytes = 0; warnings = 0; below = 6; children = 5; others = true; warnings_below = 2; fails_below = true; silent = 0; took = None }
-    ∷ record { number = 1; parent = Some 0; status = Some (pos 0); lines = 2; bytes = 23; warnings = 1; below = 1; children = 1; others = true; warnings_below = 1; fails_below = true; silent = 0; took = None }
-    ∷ record { number = 6; parent = Some 1; status = Some (negsuc 0); lines = 2; bytes = 25; warnings = 1; below = 0; children = 0; others = true; warnings_below = 0; fails_below = false; silent = 0; took = None }
-    ∷ record { number = 2; parent = Some 0; status = Some (pos 0); lines = 0; bytes = 0; warnings = 0; below = 0; children = 0; others = false; warnings_below = 0; fails_below = false; silent = 3; took = None }
-    ∷ record { number = 3; parent = Some 0; status = Some (pos 0); lines = 0; bytes = 0; warnings = 0; below = 0; children = 0; others = false; warnings_below = 0; fails_below = false; silent = 2; took = None }
-    ∷ record { number = 4; parent = Some 0; status = Some (pos 0); lines = 0; bytes = 0; warnings = 0; below = 0; children = 0; others = false; warnings_below = 0; fails_below = false; silent = 1; took = None }
-    ∷ record { number = 5; parent = Some 0; status = Some (pos 2); lines = 1; bytes = 6; warnings = 0; below = 0; children = 0; others = true; warnings_below = 0; fails_below = false; silent = 0; took = None }
+    record { number = 0; parent = None; status = Some (pos 1); lines = 0; bytes = 0; warnings = 0; below = 6; children = 5; others = true; warnings_below = 2; fails_below = true; silent = 0; took = None; ended = None }
+    ∷ record { number = 1; parent = Some 0; status = Some (pos 0); lines = 2; bytes = 23; warnings = 1; below = 1; children = 1; others = true; warnings_below = 1; fails_below = true; silent = 0; took = None; ended = None }
+    ∷ record { number = 6; parent = Some 1; status = Some (negsuc 0); lines = 2; bytes = 25; warnings = 1; below = 0; children = 0; others = true; warnings_below = 0; fails_below = false; silent = 0; took = None; ended = None }
+    ∷ record { number = 2; parent = Some 0; status = Some (pos 0); lines = 0; bytes = 0; warnings = 0; below = 0; children = 0; others = false; warnings_below = 0; fails_below = false; silent = 3; took = None; ended = None }
+    ∷ record { number = 3; parent = Some 0; status = Some (pos 0); lines = 0; bytes = 0; warnings = 0; below = 0; children = 0; others = false; warnings_below = 0; fails_below = false; silent = 2; took = None; ended = None }
+    ∷ record { number = 4; parent = Some 0; status = Some (pos 0); lines = 0; bytes = 0; warnings = 0; below = 0; children = 0; others = false; warnings_below = 0; fails_below = false; silent = 1; took = None; ended = None }
+    ∷ record { number = 5; parent = Some 0; status = Some (pos 2); lines = 1; bytes = 6; warnings = 0; below = 0; children = 0; others = true; warnings_below = 0; fails_below = false; silent = 0; took = None; ended = None }
     ∷ []
 
 outline : outline_of logs (shown_events logs options (codes "all" ∷ [])) ≡ nodes
@@ -174,11 +175,11 @@ visible :
     × (is_visible (EntryShown 1 (Note 9 a a)) ≡ true) × (is_visible (line (OpenedBefore 0)) ≡ true) × (is_visible (Requested a NotOpened) ≡ true)
 visible = (refl, refl, refl, refl, refl, refl, refl)
 
--- ---- durations
+-- ---- times
 
--- The number of a log says how long its target took. Nothing is known of a target past the end.
-abbrev numbered : ℕ → Option ℕ → Node
-numbered number took = record {
+-- The number of a log says how long its target took, and when it ended. Nothing is known of a target past the end.
+abbrev numbered : ℕ → Option ℕ → Option ℕ → Node
+numbered number took ended = record {
   number = number;
   parent = Some 9;
   status = Some (pos 3);
@@ -192,9 +193,14 @@ numbered number took = record {
   fails_below = true;
   silent = 7;
   took = took;
+  ended = ended;
 }
 
-durations :
-    map (with_duration (Some 70 ∷ None ∷ Some 90 ∷ [])) (numbered 2 None ∷ numbered 0 None ∷ numbered 1 (Some 5) ∷ numbered 3 (Some 5) ∷ [])
-    ≡ numbered 2 (Some 90) ∷ numbered 0 (Some 70) ∷ numbered 1 None ∷ numbered 3 None ∷ []
-durations = refl
+abbrev run : Option ℕ → Option ℕ → RunTimes
+run took ended = record { took = took; ended = ended }
+
+times :
+    map (with_times (run (Some 70) (Some 170) ∷ run None (Some 180) ∷ run (Some 90) None ∷ run None None ∷ []))
+    (numbered 2 None None ∷ numbered 0 None None ∷ numbered 1 (Some 5) (Some 6) ∷ numbered 3 (Some 5) (Some 6) ∷ numbered 4 (Some 5) (Some 6) ∷ [])
+    ≡ numbered 2 (Some 90) None ∷ numbered 0 (Some 70) (Some 170) ∷ numbered 1 None (Some 180) ∷ numbered 3 None None ∷ numbered 4 None None ∷ []
+times = refl

@@ -43,6 +43,7 @@ no_node = record {
   fails_below = false;
   silent = 0;
   took = None;
+  ended = None;
 }
 
 pub places_more : (nodes : List Node) (k : ℕ) (old new : List (Option ℕ)) → k < length nodes → AreNodePlaces (take k nodes) old → IsPlaceSet (get_or nodes k no_node).number k old new → AreNodePlaces (take (k + 1) nodes) new

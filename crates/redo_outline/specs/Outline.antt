@@ -7,6 +7,7 @@ use Rattle.redo_logs.specs.Logs.{Log}
 use Rattle.redo_view.specs.Event.{Event}
 use Rattle.redo_view.specs.Event.Event.{Requested, Mentioned, EntryShown, LogEnds}
 use Rattle.redo_outline.specs.declared.node.Node.{Node}
+use Rattle.redo_outline.specs.declared.node.RunTimes.{RunTimes}
 use Rattle.redo_outline.specs.Contents.{Contents, contents_of}
 use Rattle.redo_outline.specs.Contents.Contents.{Nothing, Shown, Opened}
 use Rattle.redo_outline.specs.Facts.{entries_at, is_failure, is_warning, saturated, target_status, text_size, texts_of}
@@ -94,6 +95,7 @@ module _ (logs : List Log) (status : ℕ → Option ℤ) where
     fails_below = has_failures inside;
     silent = (if not (has_failed number) && is_silent inside then suc (silent_count rest) else 0);
     took = None;
+    ended = None;
   }
 
   -- The nodes of some contents. The first one has the place `place`: a place is the number of nodes before it.
@@ -103,9 +105,16 @@ module _ (logs : List Log) (status : ℕ → Option ℤ) where
   nodes_of parent place (Opened event number inside rest) =
       node_of parent number inside rest ∷ (nodes_of (Some place) (suc place) inside ++ nodes_of parent (suc place + log_count inside) rest)
 
--- A node, with how long its target took. `durations` has this for each log, by its number.
-abbrev pub with_duration : List (Option ℕ) → Node → Node
-with_duration durations node = record node { took = slice_index_or durations node.number None }
+abbrev pub unknown_times : RunTimes
+unknown_times = record { took = None; ended = None }
+
+-- How long the target of the log with this number took, and when it ended. `times` has this for each log, by its number.
+abbrev pub times_at : List RunTimes → ℕ → RunTimes
+times_at times number = slice_index_or times number unknown_times
+
+-- A node, with how long its target took, and when it ended.
+abbrev pub with_times : List RunTimes → Node → Node
+with_times times node = record node { took = (times_at times node.number).took; ended = (times_at times node.number).ended }
 
 -- The outline of these events.
 abbrev pub outline_of : List Log → List Event → List Node

@@ -20,5 +20,5 @@ mod sweep;
 
 pub use facts::target_at;
 pub use laws::events_are_in_contents;
-pub use node::Node;
+pub use node::{Node, RunTimes};
 pub use outline::Outline;

@@ -27,6 +27,17 @@ pub struct Node {
     pub fails_below: bool,
     /// The number of silent logs in a row, of which this one is the first. It is 0 if this one isn't silent.
     pub silent: usize,
-    /// How long the target took, in milliseconds, if it was set ([`Outline::set_durations`](crate::Outline::set_durations)).
+    /// How long the target took, in milliseconds, if it was set ([`Outline::set_times`](crate::Outline::set_times)).
     pub took: Option<u64>,
+    /// When the target ended, in milliseconds since 1970, if it was set.
+    pub ended: Option<u64>,
+}
+
+/// What is known of when a target ran.
+#[derive(Clone, Copy, Debug, PartialEq, Eq)]
+pub struct RunTimes {
+    /// How long the target took, in milliseconds.
+    pub took: Option<u64>,
+    /// When the target ended, in milliseconds since 1970.
+    pub ended: Option<u64>,
 }

@@ -1,14 +1,14 @@
 //! The outline of what is shown.
-ghost use Rattle.std.specs.Prelude.{◌≡◌, ◌==◌, true, None, IfOk, map, position, slice_index_or};
+ghost use Rattle.std.specs.Prelude.{◌≡◌, ◌==◌, true, None, IfOk, map, position};
 ghost use Rattle.std.specs.List.{list_all};
 ghost use Rattle.redo_logs.specs.Logs.{has_ended};
 ghost use Rattle.redo_view.specs.Expansion.{shown_events};
 ghost use Rattle.redo_view.specs.View.{find_unknown};
-ghost use Rattle.redo_outline.specs.Outline.{outline_of, with_duration};
+ghost use Rattle.redo_outline.specs.Outline.{outline_of, times_at, with_times};
 
 use crate::collector::Collector;
 use crate::laws::events_are_in_contents;
-use crate::node::Node;
+use crate::node::{Node, RunTimes};
 use crate::places::node_places;
 use redo_line::{Broken, Sink, TargetName};
 use redo_logs::LogTable;
@@ -63,12 +63,12 @@ impl Outline {
         Ok(Outline { nodes, places })
     }
 
-    /// Sets how long the targets took, in milliseconds. `durations` has this by the numbers of logs; nothing is known of a log past its
+    /// Sets how long the targets took, and when they ended. `times` has this by the numbers of logs; nothing is known of a log past its
     /// end.
-    pub fn set_durations(&mut self, durations: &[Option<u64>])
-        ensures { self.new ≡ map (with_duration durations.now) self.old }
+    pub fn set_times(&mut self, times: &[RunTimes])
+        ensures { self.new ≡ map (with_times times.now) self.old }
     {
-        set_durations(self.nodes.as_mut_slice(), durations);
+        set_times(self.nodes.as_mut_slice(), times);
     }
 
     /// Returns the nodes.
@@ -89,24 +89,40 @@ impl Outline {
     }
 }
 
-fn set_durations(nodes: &mut [Node], durations: &[Option<u64>])
-    ensures { nodes.new ≡ map (with_duration durations.now) nodes.old }
+fn set_times(nodes: &mut [Node], times: &[RunTimes])
+    ensures { nodes.new ≡ map (with_times times.now) nodes.old }
 {
     for place in 0..nodes.len() {
-        let took = duration_of(durations, nodes[place].number);
-        nodes[place].took = took;
+        nodes[place] = with_times(times, nodes[place]);
     }
 }
 
-// Returns how long the target of the log with this number took.
-fn duration_of(durations: &[Option<u64>], number: u32) -> Option<u64>
-    ensures { result ≡ slice_index_or durations.now number None }
+// Returns a node, with the times of the target of its log.
+fn with_times(times: &[RunTimes], node: Node) -> Node
+    ensures { result ≡ with_times times.now node }
 {
-    match durations.get(number as usize) {
-        Some(duration) => *duration,
-        None => None,
+    let RunTimes { took, ended } = times_of(times, node.number);
+    Node {
+        took,
+        ended,
+        ..node
     }
 }
+
+// Returns the times of the target of the log with this number.
+fn times_of(times: &[RunTimes], number: u32) -> RunTimes
+    ensures { result ≡ times_at times.now number }
+{
+    match times.get(number as usize) {
+        Some(times) => *times,
+        None => UNKNOWN_TIMES,
+    }
+}
+
+const UNKNOWN_TIMES: RunTimes = RunTimes {
+    took: None,
+    ended: None,
+};
 
 // A writer to which nothing is written.
 #[derive(Drop)]

@@ -114,6 +114,7 @@ fn node_from(
         fails_below: inside.fails,
         silent: if is_silent { rest.silent_logs + 1 } else { 0 },
         took: None,
+        ended: None,
     }
 }
 

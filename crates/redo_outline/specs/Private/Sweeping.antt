@@ -54,6 +54,7 @@ node_from log facts status inside rest = record {
   fails_below = inside.fails;
   silent = (if is_silent_log status inside then rest.silent_logs + 1 else 0);
   took = None;
+  ended = None;
 }
 
 -- What is known of a log from the opening of a log in it on.

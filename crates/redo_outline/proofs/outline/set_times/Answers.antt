@@ -1,10 +1,10 @@
-use Rattle.std.proofs.Common.{◌≡◌, ℕ, suc, ◌+◌, ◌<◌, List, ◌∷◌, [], ◌++◌, Option, length, map, take, drop, get_or, slice_set, sym, ◌∙◌, ap, arith}
+use Rattle.std.proofs.Common.{◌≡◌, ℕ, suc, ◌+◌, ◌<◌, List, ◌∷◌, [], ◌++◌, length, map, take, drop, get_or, slice_set, sym, ◌∙◌, ap, arith}
 use Rattle.std.proofs.Math.Seq.{drop-cons, get_or-append_seam, set-append_seam, take-suc}
 use Rattle.std.proofs.lemmas.List.{append_assoc, length-map, length-take, map-append}
 use Rattle.redo_outline.specs.declared.node.Node.{Node}
-use Rattle.redo_outline.specs.Outline.{with_duration}
+use Rattle.redo_outline.specs.Outline.{with_times}
 use Rattle.redo_outline.proofs.PlacesLemmas.{no_node}
-use Rattle.redo_outline.proofs.outline.set_durations.Goals as goal
+use Rattle.redo_outline.proofs.outline.set_times.Goals as goal
 
 -- Nodes of which the first `i` were changed by a function.
 module _ (f : Node → Node) (nodes done : List Node) (i : ℕ) (below : i < length nodes) (so_far : done ≡ map f (take i nodes) ++ drop i nodes) where
@@ -35,11 +35,10 @@ module _ (f : Node → Node) (nodes done : List Node) (i : ℕ) (below : i < len
 
 pub loop-place-preserved : goal.loop-place-preserved
 loop-place-preserved c =
-    let durations = c.args.durations.now in
+    let times = c.args.times.now in
     let nodes = c.args.nodes.now in
     let done = c.loop-place.nodes in
     let i = c.loop-place.place in
     let below : i < length nodes = omega arith in
-    let node = get_or done i no_node in
-    one_more (with_duration durations) nodes done i below c.loop-place.invariant _
-    (ap (λ (took : Option ℕ). record node { took = took }) c.duration_of-took.ensures ∙ ap (with_duration durations) (here (with_duration durations) nodes done i below c.loop-place.invariant))
+    one_more (with_times times) nodes done i below c.loop-place.invariant _
+    (c.with_times.ensures ∙ ap (with_times times) (here (with_times times) nodes done i below c.loop-place.invariant))
