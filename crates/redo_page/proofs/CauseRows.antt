@@ -24,6 +24,7 @@ compilers =
     ∷ found (codes "error[E0425]: cannot find value" ∷ codes "last" ∷ []) (codes "error[E0425]: cannot find value")
     ∷ found (codes "x.java:1: cannot find symbol" ∷ codes "last" ∷ []) (codes "x.java:1: cannot find symbol")
     ∷ found (codes "ERROR in ./a.js" ∷ codes "last" ∷ []) (codes "ERROR in ./a.js")
+    ∷ found (codes "a.c:1:5: warning: unused 'x'" ∷ codes "a.c:2:5: note: in 'f'" ∷ codes "a.c:3:5: error: 'y' undeclared" ∷ codes "last" ∷ []) (codes "a.c:3:5: error: 'y' undeclared")
     ∷ found (codes "a.c:1:10: fatal error: b.h" ∷ codes "last" ∷ []) (codes "a.c:1:10: fatal error: b.h")
     ∷ found (codes "fatal: not a git repository" ∷ codes "last" ∷ []) (codes "fatal: not a git repository")
     ∷ []
@@ -54,6 +55,7 @@ others =
     found (codes "Traceback (most recent call last):" ∷ codes "ModuleNotFoundError: No module named 'x'" ∷ []) (codes "ModuleNotFoundError: No module named 'x'")
     ∷ found (codes "no errors, terror, error_1, 1error, fatally, cannots, no such files" ∷ codes "last" ∷ []) (codes "last")
     ∷ found (codes "failed, Fail" ∷ codes "last" ∷ []) (codes "last")
+    ∷ found (codes "warning: x" ∷ codes "note: y" ∷ codes "failed: z" ∷ codes "last" ∷ []) (codes "last")
     ∷ found (codes "no such" ∷ codes "not foun" ∷ codes "last" ∷ []) (codes "last")
     ∷ found (codes "last" ∷ [] ∷ (32 ∷ 9 ∷ 13 ∷ []) ∷ (esc (codes "[0m") ++ 32 ∷ []) ∷ []) (codes "last")
     ∷ found (codes "first" ∷ codes "  last" ∷ []) (codes "  last")
@@ -66,4 +68,4 @@ others =
 
 causes_are : AllByRecursion (λ row. cause_of row.lines ≡ row.cause) (compilers ++ (linkers ++ (shells ++ (tests ++ others))))
 unfolding begins_with
-causes_are = (refl, (refl, (refl, (refl, (refl, (refl, (refl, (refl, (refl, (refl, (refl, (refl, (refl, (refl, (refl, (refl, (refl, (refl, (refl, (refl, (refl, (refl, (refl, (refl, (refl, tt)))))))))))))))))))))))))
+causes_are = (refl, (refl, (refl, (refl, (refl, (refl, (refl, (refl, (refl, (refl, (refl, (refl, (refl, (refl, (refl, (refl, (refl, (refl, (refl, (refl, (refl, (refl, (refl, (refl, (refl, (refl, (refl, tt)))))))))))))))))))))))))))

@@ -60,6 +60,14 @@ errors_begin :
 unfolding begins_with
 errors_begin = refl
 
+-- These are no words for an error, or not alone.
+no_errors_begin :
+    map begins_with_error
+    (codes "warning" ∷ codes "note" ∷ codes "failed" ∷ codes "failure" ∷ codes "errors" ∷ codes "undefined" ∷ codes "file" ∷ codes "found" ∷ codes "PASS" ∷ [])
+    ≡ false ∷ false ∷ false ∷ false ∷ false ∷ false ∷ false ∷ false ∷ false ∷ []
+unfolding begins_with
+no_errors_begin = refl
+
 -- An error after a space, after a sequence, and without words for an error where a word begins.
 lines_are :
     map is_error (codes "an error" ∷ codes "a: Error: b" ∷ (27 ∷ codes "[1merror") ∷ codes "terror" ∷ codes "error_1" ∷ (27 ∷ codes "error") ∷ [] ∷ [])

@@ -149,8 +149,8 @@ unfolding in_tree_parts
 in_tree_is = refl
 
 left_out_are :
-    (left_out_parts 7 1 ≡ tag markup.CutParagraph ∷ NumberPart 1 ∷ words (codes " more line: ") ∷ tag (markup.TargetLink 7) ∷ words (codes "in the tree") ∷ tag markup.EndLink ∷ tag markup.EndParagraph ∷ [])
-    × (left_out_parts 7 2 ≡ tag markup.CutParagraph ∷ NumberPart 2 ∷ words (codes " more lines: ") ∷ tag (markup.TargetLink 7) ∷ words (codes "in the tree") ∷ tag markup.EndLink ∷ tag markup.EndParagraph ∷ [])
+    (left_out_parts 7 1 ≡ tag markup.CutParagraph ∷ NumberPart 1 ∷ words (codes " more line: ") ∷ tag (markup.TargetLink 7) ∷ words (codes "in its log") ∷ tag markup.EndLink ∷ tag markup.EndParagraph ∷ [])
+    × (left_out_parts 7 2 ≡ tag markup.CutParagraph ∷ NumberPart 2 ∷ words (codes " more lines: ") ∷ tag (markup.TargetLink 7) ∷ words (codes "in its log") ∷ tag markup.EndLink ∷ tag markup.EndParagraph ∷ [])
 unfolding left_out_parts in_tree_parts
 left_out_are = (refl, refl)
 
@@ -180,10 +180,10 @@ excerpt_is :
     bytes_eq (flat_map part_html (excerpt_parts 7 (a_lines 20 ++ (codes "error" ∷ a_lines 85))))
     (codes "<pre>\n"
     ++ (a_text 10
-    ++ (codes "</pre><p class=\"cut\">5 more lines: <a href=\"#t7\">in the tree</a></p><pre>\n"
+    ++ (codes "</pre><p class=\"cut\">5 more lines: <a href=\"#t7\">in its log</a></p><pre>\n"
     ++ (a_text 5
     ++ (codes "error\n"
-    ++ (a_text 24 ++ (codes "</pre><p class=\"cut\">1 more line: <a href=\"#t7\">in the tree</a></p><pre>\n" ++ (a_text 60 ++ codes "</pre>"))))))))
+    ++ (a_text 24 ++ (codes "</pre><p class=\"cut\">1 more line: <a href=\"#t7\">in its log</a></p><pre>\n" ++ (a_text 60 ++ codes "</pre>"))))))))
     ≡ true
 unfolding excerpt_parts excerpt_line_parts excerpt_line_end cut_to left_out_parts in_tree_parts begins_with symbols_after first_symbol symbol_len is_sequence sequence_len sequence_numbers first_letter letter_len is_odd picture odd_text number_text encode_utf8 digits html_from
 excerpt_is = refl

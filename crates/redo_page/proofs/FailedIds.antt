@@ -1,5 +1,5 @@
 -- The ids and the links of the section on what failed.
-use Rattle.std.proofs.Common.{◌≡◌, ℕ, zero, suc, ◌+◌, ◌<◌, Bool, true, false, List, [], ◌∷◌, ◌++◌, Option, None, Some, refl, sym, ◌∙◌, ap, arith}
+use Rattle.std.proofs.Common.{◌≡◌, ℕ, zero, suc, ◌+◌, Bool, true, false, List, [], ◌∷◌, ◌++◌, Option, None, Some, refl, sym, ◌∙◌, ap, arith}
 use Rattle.std.specs.Prelude.{◌==◌, nat_lt, codes, drop, length, take, if◌then◌else◌}
 use Rattle.std.specs.List.{flat_map, list_all}
 use Rattle.std.proofs.lemmas.Bool.{and_from, and_parts, eq-eqb, lt-ltb, or_left, or_right}
@@ -20,9 +20,10 @@ use Rattle.redo_page.specs.Excerpt.{Stretch, error_position, excerpt_line_parts,
 use Rattle.redo_page.specs.Excerpt.Stretch.{Shown, LeftOut}
 use Rattle.redo_units.specs.Durations.{duration_words}
 use Rattle.redo_page.specs.Failed.{article_of, article_parts, article_took, article_row, cause_if, cause_of_node, cause_parts, failed_above, failed_parts, is_unclosed, list_parts, max_path, max_rows, more_parts, nothing_parts, output_parts, path_parts, places_where, printed_by, row_parts, section_parts, target_row, unlisted_parts, whole_parts}
-use Rattle.redo_page.specs.Laws.{is_among, is_increasing}
+use Rattle.redo_page.specs.Laws.{is_among}
 use Rattle.redo_page.specs.Targets.{parts_if}
 use Rattle.redo_page.specs.Tree.{articles, failed_first, first_failures, first_failures_from, is_short, max_articles, node_at}
+use Rattle.redo_page.proofs.FailedOrder.{sort-passes}
 use Rattle.redo_page.proofs.Ids.{Bare, Refer, Refers, badge_bare, bare_if, bare_refers, bare_then, link_refers, article_link_refers, reference, references, refer_each, refer_if, same_refer, then_refer, words_bare}
 
 -- ---- places
@@ -70,35 +71,13 @@ among_after front (number ∷ numbers) =
     here [] = or_left (number == number) (is_among numbers number) (eq-eqb number number refl)
     here (other ∷ front) = or_right (number == other) (is_among (front ++ (number ∷ numbers)) number) (here front)
 
--- Places in order increase.
-first_after : (other place : ℕ) (nodes : List Node) → other < place → list_all (nat_lt other) (first_failures_from place nodes) ≡ true
-first_after other place [] less = refl
-first_after other place (node ∷ nodes) less = by (failed_first node) (first_after other (suc place) nodes (omega arith))
-  where
-    by : (first : Bool) → list_all (nat_lt other) (first_failures_from (suc place) nodes) ≡ true → list_all (nat_lt other) ((if first then place ∷ [] else []) ++ first_failures_from (suc place) nodes) ≡ true
-    by true others = and_from (nat_lt other place) (list_all (nat_lt other) (first_failures_from (suc place) nodes)) (lt-ltb other place less) others
-    by false others = others
-
-first_increase : (place : ℕ) (nodes : List Node) → is_increasing (first_failures_from place nodes) ≡ true
-first_increase place [] = refl
-first_increase place (node ∷ nodes) = by (failed_first node) (first_increase (suc place) nodes)
-  where
-    by : (first : Bool) → is_increasing (first_failures_from (suc place) nodes) ≡ true → is_increasing ((if first then place ∷ [] else []) ++ first_failures_from (suc place) nodes) ≡ true
-    by true others = and_from (list_all (nat_lt place) (first_failures_from (suc place) nodes)) (is_increasing (first_failures_from (suc place) nodes)) (first_after place (suc place) nodes (omega arith)) others
-    by false others = others
-
-take_increases : (count : ℕ) (numbers : List ℕ) → is_increasing numbers ≡ true → is_increasing (take count numbers) ≡ true
-take_increases zero numbers increasing = refl
-take_increases (suc count) [] increasing = refl
-take_increases (suc count) (number ∷ numbers) increasing =
-    let parts = and_parts (list_all (nat_lt number) numbers) (is_increasing numbers) increasing in
-    and_from (list_all (nat_lt number) (take count numbers)) (is_increasing (take count numbers)) (all_take (nat_lt number) count numbers parts.0) (take_increases count numbers parts.1)
+first_are_below : (nodes : List Node) → AreBelow (length nodes) (first_failures nodes)
+first_are_below nodes =
+    sort-passes nodes (λ number. nat_lt number (length nodes)) (first_failures_from 0 nodes)
+    (ap (λ count. list_all (λ number. nat_lt number count) (first_failures_from 0 nodes)) (omega arith) ∙ first_below 0 nodes)
 
 pub articles_below : (nodes : List Node) → AreBelow (length nodes) (articles nodes)
-articles_below nodes = all_take (λ number. nat_lt number (length nodes)) max_articles (first_failures nodes) (ap (λ count. list_all (λ number. nat_lt number count) (first_failures nodes)) (omega arith) ∙ first_below 0 nodes)
-
-pub articles_increase : (nodes : List Node) → is_increasing (articles nodes) ≡ true
-articles_increase nodes = take_increases max_articles (first_failures nodes) (first_increase 0 nodes)
+articles_below nodes = all_take (λ number. nat_lt number (length nodes)) max_articles (first_failures nodes) (first_are_below nodes)
 
 -- ---- paths
 
@@ -255,7 +234,7 @@ failed_section first = parts_if (nat_lt 0 (length first)) (MarkupPart markup.Fai
 
 pub failed_refers : (logs : List Log) (nodes : List Node) → Refers (length nodes) (articles nodes) (failed_parts logs nodes) [] (articles nodes ++ []) (failed_section (first_failures nodes))
 unfolding failed_parts
-failed_refers logs nodes = by (first_failures nodes) (ap (λ count. list_all (λ number. nat_lt number count) (first_failures nodes)) (omega arith) ∙ first_below 0 nodes)
+failed_refers logs nodes = by (first_failures nodes) (first_are_below nodes)
   where
     below : (holds : Node → Bool) → AreBelow (length nodes) (places_where holds 0 nodes)
     below holds = ap (λ count. list_all (λ number. nat_lt number count) (places_where holds 0 nodes)) (omega arith) ∙ where_below holds 0 nodes

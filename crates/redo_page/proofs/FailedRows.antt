@@ -17,9 +17,10 @@ use Rattle.redo_html.specs.Shown.{is_odd, number_text, odd_text, picture}
 use Rattle.redo_html.specs.Symbols.{first_letter, first_symbol, is_sequence, letter_len, sequence_len, sequence_numbers, symbol_len, symbols_after}
 use Rattle.redo_outline.specs.declared.node.Node.{Node}
 use Rattle.redo_page.specs.Errors.{begins_with}
-use Rattle.redo_page.specs.Excerpt.{cut_to, excerpt_line_end, excerpt_line_parts, excerpt_parts, in_tree_parts}
+use Rattle.redo_page.specs.Excerpt.{cut_to, excerpt_line_end, excerpt_line_parts, excerpt_parts, in_tree_parts, left_out_parts}
 use Rattle.redo_page.specs.declared.failed.Failures.{Failures}
 use Rattle.redo_page.specs.Failed.{AreFailures, article_of, article_parts, article_row, article_took, cause_of_node, cause_parts, failed_above, failed_parts, is_unclosed, list_parts, more_above, more_parts, nothing_parts, output_parts, path_parts, path_separator, places_where, row_parts, section_parts, target_row, unlisted_parts, whole_parts}
+use Rattle.redo_page.specs.Laws.{target_links}
 use Rattle.redo_units.specs.Durations.{duration_words}
 
 abbrev log : List ℕ → List Entry → Log
@@ -53,6 +54,7 @@ node number parent status lines below fails = record {
   fails_below = fails;
   silent = 0;
   took = None;
+  ended = None;
 }
 
 abbrev b : Node
@@ -87,6 +89,15 @@ one_failure :
 unfolding failed_parts section_parts list_parts more_parts target_row row_parts unlisted_parts cause_of_node cause_parts cut_to begins_with article_parts article_of path_parts output_parts whole_parts in_tree_parts symbols_after first_symbol symbol_len is_sequence sequence_len sequence_numbers first_letter letter_len is_odd picture odd_text number_text encode_utf8 digits html_from
 one_failure = refl
 
+-- Below the article, there is a list of those above, and then one of those that aren't closed.
+one_unclosed :
+    bytes_eq (html (failed_parts logs (node 0 None (Some (pos 3)) 0 2 true ∷ b ∷ node 3 (Some 0) None 2 0 false ∷ [])))
+    (codes "<section id=\"failed\" aria-labelledby=\"h-failed\"><h2 id=\"h-failed\">What failed</h2><article id=\"f1\"><h3><bdi>b</bdi> <strong class=\"x\">exit 1</strong></h3><p class=\"meta\"><bdi>all</bdi>"
+    ++ then (codes "<a href=\"#t1\">its place in the tree</a></p><pre>\ncc b.c\nb.c:1: error: x\n</pre></article><details class=\"more\"><summary>1 above these, which failed with them</summary><ol class=\"list\"><li><a href=\"#t0\"><bdi>all</bdi></a> <strong class=\"x\">exit 3</strong></li></ol></details><details class=\"more\"><summary>1 not closed</summary><ol class=\"list\"><li><a href=\"#t2\"><bdi>d</bdi></a> <strong class=\"o\">not closed</strong></li></ol></details></section>"))
+    ≡ true
+unfolding failed_parts section_parts list_parts more_parts article_row target_row row_parts unlisted_parts cause_of_node cause_parts cut_to begins_with article_parts article_of path_parts output_parts whole_parts in_tree_parts symbols_after first_symbol symbol_len is_sequence sequence_len sequence_numbers first_letter letter_len is_odd picture odd_text number_text encode_utf8 digits html_from
+one_unclosed = refl
+
 -- ---- lists
 
 two_failures :
@@ -113,6 +124,14 @@ more_without_causes :
     ≡ true
 unfolding more_parts target_row row_parts unlisted_parts cause_of_node cause_parts cut_to begins_with symbols_after first_symbol symbol_len is_sequence sequence_len sequence_numbers first_letter letter_len is_odd picture odd_text number_text encode_utf8 digits html_from
 more_without_causes = refl
+
+-- Each row has the link, the name and the status of its own target.
+more_than_one :
+    bytes_eq (html (more_parts logs (node 0 None None 0 2 true ∷ b ∷ c ∷ []) markup.Ordered false (codes " more") (1 ∷ 2 ∷ [])))
+    (codes "<details class=\"more\"><summary>2 more</summary><ol class=\"list\"><li><a href=\"#t1\"><bdi>b</bdi></a> <strong class=\"x\">exit 1</strong></li><li><a href=\"#t2\"><bdi>c</bdi></a> <strong class=\"x\">exit 2</strong></li></ol></details>")
+    ≡ true
+unfolding more_parts target_row row_parts unlisted_parts cause_of_node cause_parts cut_to begins_with symbols_after first_symbol symbol_len is_sequence sequence_len sequence_numbers first_letter letter_len is_odd picture odd_text number_text encode_utf8 digits html_from
+more_than_one = refl
 
 -- The starts of articles and of lists, and the links to articles.
 abbrev marks_of : Part → List Part
@@ -149,6 +168,32 @@ ten_failures :
 unfolding failed_parts section_parts list_parts more_parts article_row target_row row_parts unlisted_parts article_parts article_of path_parts output_parts nothing_parts in_tree_parts cause_of_node cause_parts number_text digits
 ten_failures = refl
 
+-- Ten targets that printed nothing, then one that printed an error, then another one that printed nothing.
+abbrev twelve : List Node
+twelve = replicate 10 (record c { parent = None }) ++ record b { parent = None } ∷ record c { parent = None } ∷ []
+
+abbrev listed : ℕ → List ℕ
+listed place = codes "<li><a href=\"#f" ++ (number_text place ++ codes "\"><bdi>c</bdi></a> <strong class=\"x\">exit 2</strong></li>")
+
+abbrev article : ℕ → List ℕ
+article place =
+    codes "<article id=\"f"
+    ++ (number_text place
+    ++ (codes "\"><h3><bdi>c</bdi> <strong class=\"x\">exit 2</strong></h3><p class=\"meta\"><a href=\"#t"
+    ++ (number_text place ++ codes "\">its place in the tree</a></p><p class=\"quiet\">It printed nothing that was captured.</p></article>")))
+
+-- The first ten have articles. The list of the others goes on with number 11, and says why they failed.
+twelve_failures :
+    bytes_eq (html (failed_parts logs twelve))
+    (codes "<section id=\"failed\" aria-labelledby=\"h-failed\"><h2 id=\"h-failed\">What failed</h2><ol class=\"list\">"
+    ++ (flat_map listed (range_with_len 0 10)
+    ++ (codes "</ol>"
+    ++ (flat_map article (range_with_len 0 10)
+    ++ codes "<details class=\"more\"><summary>2 more that failed</summary><ol class=\"list\" start=\"11\"><li><a href=\"#t10\"><bdi>b</bdi></a> <strong class=\"x\">exit 1</strong> <code>b.c:1: error: x</code></li><li><a href=\"#t11\"><bdi>c</bdi></a> <strong class=\"x\">exit 2</strong></li></ol></details></section>"))))
+    ≡ true
+unfolding failed_parts section_parts list_parts more_parts article_row target_row row_parts unlisted_parts cause_of_node cause_parts cut_to begins_with article_parts article_of path_parts output_parts nothing_parts in_tree_parts symbols_after first_symbol symbol_len is_sequence sequence_len sequence_numbers first_letter letter_len is_odd picture odd_text number_text encode_utf8 digits html_from
+twelve_failures = refl
+
 abbrev items_of : Part → List Part
 items_of (MarkupPart markup.Item) = MarkupPart markup.Item ∷ []
 items_of part = []
@@ -156,6 +201,15 @@ items_of part = []
 at_most_200 : length (flat_map items_of (more_parts logs [] markup.Ordered false [] (range_with_len 0 201))) ≡ 200
 unfolding more_parts target_row row_parts unlisted_parts
 at_most_200 = refl
+
+abbrev numbers_of : Part → List ℕ
+numbers_of (NumberPart number) = number ∷ []
+numbers_of part = []
+
+-- The heading counts all of them, and the end those that aren't listed.
+all_counted : flat_map numbers_of (more_parts logs [] markup.Ordered false [] (range_with_len 0 201)) ≡ 201 ∷ 1 ∷ []
+unfolding more_parts target_row row_parts unlisted_parts
+all_counted = refl
 
 all_listed : html (unlisted_parts 200) ≡ []
 unfolding unlisted_parts symbols_after first_symbol symbol_len is_sequence sequence_len sequence_numbers first_letter letter_len is_odd picture odd_text number_text encode_utf8 digits html_from
@@ -208,6 +262,15 @@ long_output :
     ≡ true
 unfolding output_parts whole_parts excerpt_parts excerpt_line_parts excerpt_line_end cut_to begins_with symbols_after first_symbol symbol_len is_sequence sequence_len sequence_numbers first_letter letter_len is_odd picture odd_text number_text encode_utf8 digits html_from
 long_output = refl
+
+-- Line 20 of 106 reports an error: lines are left out before the lines around it, and after them.
+abbrev many_lines : List Log
+many_lines = log (codes "e") (replicate 20 (Text (codes "a")) ++ Text (codes "error") ∷ replicate 85 (Text (codes "a"))) ∷ []
+
+-- Where lines are left out, a link leads to the place of the target.
+excerpt_links : target_links (output_parts many_lines 5 (node 0 None (Some (pos 1)) 301 0 false)) ≡ 5 ∷ 5 ∷ []
+unfolding output_parts excerpt_parts excerpt_line_parts excerpt_line_end cut_to left_out_parts in_tree_parts begins_with
+excerpt_links = refl
 
 no_output :
     bytes_eq (html (output_parts logs 5 c))

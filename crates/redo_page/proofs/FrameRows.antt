@@ -34,7 +34,7 @@ number value = NumberPart value
 
 -- What is known of a target that is in the log at `parent`.
 abbrev node : Option ℕ → Option ℤ → Bool → Node
-node parent status fails = record { number = 0; parent = parent; status = status; lines = 0; bytes = 0; warnings = 0; below = 0; children = 0; others = false; warnings_below = 0; fails_below = fails; silent = 0; took = None }
+node parent status fails = record { number = 0; parent = parent; status = status; lines = 0; bytes = 0; warnings = 0; below = 0; children = 0; others = false; warnings_below = 0; fails_below = fails; silent = 0; took = None; ended = None }
 
 abbrev begun : Node
 begun = node None None false
@@ -157,6 +157,22 @@ header_is :
     ∷ tag markup.EndUnordered ∷ tag markup.EndNav ∷ tag markup.Main ∷ []
 unfolding duration_words dates.date_text_of dates.date_parts dates.period_of
 header_is = refl
+
+abbrev two_logs : List Log
+two_logs = record { target = codes "a"; entries = []; state = Ended } ∷ record { target = codes "b"; entries = []; state = Ended } ∷ []
+
+-- Two requested targets, with the name and the status of each. The one that is shown first has the second log, and another target is below it.
+requested_are :
+    header_parts [] two_logs Made (codes "h") (record made { number = 1 } ∷ node (Some 0) (Some (pos 0)) false ∷ begun ∷ []) (facts None 0)
+    ≡ tag markup.Header ∷ tag markup.Title1 ∷ tag markup.Sign ∷ words (0xE2 ∷ 0x9C ∷ 0x93 ∷ []) ∷ tag markup.EndSign ∷ words (codes " ") ∷ words (codes "h") ∷ tag markup.EndTitle1
+    ∷ tag markup.Paragraph ∷ tag markup.Bdi ∷ words (codes "b") ∷ tag markup.EndBdi ∷ tag markup.EndParagraph
+    ∷ tag markup.Paragraph ∷ tag markup.Bdi ∷ words (codes "a") ∷ tag markup.EndBdi
+    ∷ words (codes " ") ∷ tag markup.OpenBadge ∷ words (codes "not closed") ∷ tag markup.EndBadge ∷ tag markup.EndParagraph
+    ∷ tag markup.EndHeader ∷ tag markup.Nav ∷ tag markup.Unordered
+    ∷ tag markup.Item ∷ tag markup.SummaryLink ∷ words (codes "Summary") ∷ tag markup.EndLink ∷ tag markup.EndItem
+    ∷ tag markup.Item ∷ tag markup.TreeLink ∷ words (codes "All logs") ∷ tag markup.EndLink ∷ tag markup.EndItem
+    ∷ tag markup.EndUnordered ∷ tag markup.EndNav ∷ tag markup.Main ∷ []
+requested_are = refl
 
 -- Only if most times are known, there is a link to the timeline.
 header_links_are :

@@ -33,8 +33,10 @@ is_section TimelineLink = true
 is_section TreeLink = true
 is_section markup = false
 
+-- Such tags, and charts.
 abbrev pub section : Part → List Part
 section (MarkupPart markup) = if is_section markup then MarkupPart markup ∷ [] else []
+section (ChartPart drawing) = ChartPart drawing ∷ []
 section part = []
 
 -- Whether a tag has an id of a target, of an article or of a section, or leads to one.
@@ -83,7 +85,7 @@ section_part (MarkupPart markup) = by markup
     by markup = refl
 section_part part = refl
 
--- What is referred to in parts: the ids of targets and of articles in them, and tags of sections. Links lead to targets below `count`, and to
+-- What is referred to in parts: the ids of targets and of articles in them, and tags of sections, and charts. Links lead to targets below `count`, and to
 -- these articles.
 pub record Refers (count : ℕ) (articles : List ℕ) (parts : List Part) (targets ids : List ℕ) (sections : List Part) : Type 0 where
   pub target_ids_are : target_ids parts ≡ targets
@@ -92,7 +94,7 @@ pub record Refers (count : ℕ) (articles : List ℕ) (parts : List Part) (targe
   pub article_links_lead : list_all (is_among articles) (article_links parts) ≡ true
   pub sections_are : flat_map section parts ≡ sections
 
--- The same without tags of sections.
+-- The same without tags of sections and without charts.
 abbrev pub Refer : ℕ → List ℕ → List Part → List ℕ → List ℕ → Type 0
 Refer count articles parts targets ids = Refers count articles parts targets ids []
 

@@ -1,21 +1,24 @@
 -- Rows of the definitions that state the laws.
-use Rattle.std.proofs.Common.{◌≡◌, ℕ, true, false, List, [], ◌∷◌, None, Some, pos, refl}
-use Rattle.std.specs.Prelude.{codes}
+use Rattle.std.proofs.Common.{◌≡◌, ℕ, true, false, List, [], ◌∷◌, Option, None, Some, pos, refl, inl, inr, arith, ◌++◌, length, length-append, ap}
+use Rattle.std.specs.Prelude.{codes, drop}
+use Rattle.std.proofs.lemmas.Option.{none-some, same_Some}
 use Rattle.redo_line.specs.declared.entry.Entry.TheVariants.{Text, Done, Closing, Note}
 use Rattle.redo_line.specs.declared.entry.How.TheVariants.{Made}
 use Rattle.redo_view.specs.declared.event.Opening.TheVariants.{NotOpened, OpensHere}
 use Rattle.redo_view.specs.Event.Event.{Requested, Mentioned, EntryShown}
 use Rattle.redo_html.specs.declared.chart.GroupKind.TheVariants.{Recipes}
 use Rattle.redo_html.specs.declared.markup.Markup.TheVariants as markup
-use Rattle.redo_html.specs.Chart.{Shape}
+use Rattle.redo_html.specs.Chart.{Drawing, Shape}
 use Rattle.redo_html.specs.Chart.Shape.{BarShape}
 use Rattle.redo_html.specs.Parts.{Part}
 use Rattle.redo_html.specs.Parts.Part.{MarkupPart, LogPart, NamePart, NumberPart, TitlePart, StylePart, ChartPart, MeterPart}
 use Rattle.redo_html.specs.Style.{plain_style}
+use Rattle.redo_outline.specs.declared.node.Node.{Node}
 use Rattle.redo_outline.specs.Contents.{Contents}
 use Rattle.redo_outline.specs.Contents.Contents.{Nothing, Shown, Opened}
-use Rattle.redo_page.specs.Laws.{PlacedLine, article_ids, article_links, blank_event, blanked, event_lines, is_among, is_increasing, lines_at, log_bytes, markups, numbers_from, placed_bytes, placed_lines, section_ids, section_links, target_ids, target_links, texts_of, unmoved_lines}
+use Rattle.redo_page.specs.Laws.{AreInOrderOfEnd, PlacedLine, article_ids, article_links, blank_event, blanked, event_lines, is_among, lines_at, log_bytes, markups, numbers_from, placed_bytes, placed_lines, section_ids, section_links, target_ids, target_links, texts_of, unmoved_lines, IsPartOf, charts, IsOwnTag}
 use Rattle.redo_page.specs.Tree.{Build, no_node}
+use Rattle.redo_page.proofs.OtherTags.{script_is_not_own}
 
 -- ---- parts
 
@@ -23,11 +26,14 @@ use Rattle.redo_page.specs.Tree.{Build, no_node}
 abbrev bar : ℕ → Shape
 bar place = BarShape (record { place = place; x = 1; y = 2; width = 3; height = 4; failed = false; title = codes "e"; label = None })
 
+abbrev drawing : Drawing
+drawing = record { height = 9; lanes = 1; layers = record { kind = Recipes; shapes = bar 11 ∷ bar 10 ∷ [] } ∷ [] }
+
 abbrev parts : List Part
 parts =
     MarkupPart (markup.TargetItem 3) ∷ MarkupPart (markup.Details 4) ∷ LogPart plain_style (codes "a\n") ∷ MarkupPart (markup.OpenDetails 5) ∷ MarkupPart (markup.TargetLink 6)
     ∷ NamePart (codes "b") ∷ MarkupPart (markup.OutputLink 7) ∷ NumberPart 9 ∷ MarkupPart (markup.Article 8) ∷ TitlePart (codes "c") ∷ StylePart ∷ LogPart plain_style (codes "d\n")
-    ∷ ChartPart (record { height = 9; lanes = 1; layers = record { kind = Recipes; shapes = bar 11 ∷ bar 10 ∷ [] } ∷ [] }) ∷ MeterPart 12 ∷ []
+    ∷ ChartPart drawing ∷ MeterPart 12 ∷ []
 
 target_ids_are : target_ids parts ≡ 3 ∷ 4 ∷ 5 ∷ []
 target_ids_are = refl
@@ -40,6 +46,9 @@ article_links_are = refl
 
 article_ids_are : article_ids parts ≡ 8 ∷ []
 article_ids_are = refl
+
+charts_are : charts parts ≡ drawing ∷ []
+charts_are = refl
 
 -- Tags that begin sections or lead to them, and others.
 abbrev framed : List Part
@@ -59,16 +68,76 @@ log_bytes_are = refl
 markups_are : markups parts ≡ markup.TargetItem 3 ∷ markup.Details 4 ∷ markup.OpenDetails 5 ∷ markup.TargetLink 6 ∷ markup.OutputLink 7 ∷ markup.Article 8 ∷ []
 markups_are = refl
 
+-- ---- parts of parts
+
+abbrev number : ℕ → Part
+number value = NumberPart value
+
+abbrev first_number : List Part → ℕ
+first_number (NumberPart value ∷ others) = value
+first_number others = 0
+
+no_part : IsPartOf (number 1 ∷ []) [] → ⊥
+no_part part = let count : length (part.before ++ (number 1 ∷ part.after)) ≡ 0 = ap length part.splits in omega (arith, count, length-append part.before (number 1 ∷ part.after))
+
+-- Parts in another order, and parts that are not next to each other.
+no_other_order : IsPartOf (number 1 ∷ number 2 ∷ []) (number 2 ∷ number 1 ∷ []) → ⊥
+no_other_order part = by part.before part.splits
+  where
+    by : (before : List Part) → before ++ (number 1 ∷ number 2 ∷ part.after) ≡ number 2 ∷ number 1 ∷ [] → ⊥
+    by [] splits = let first : 1 ≡ 2 = ap first_number splits in omega (arith, first)
+    by (other ∷ others) splits =
+        let count : length (other ∷ (others ++ (number 1 ∷ number 2 ∷ part.after))) ≡ 2 = ap length splits in
+        omega (arith, count, length-append others (number 1 ∷ number 2 ∷ part.after))
+
+no_gap : IsPartOf (number 1 ∷ number 2 ∷ []) (number 1 ∷ number 3 ∷ number 2 ∷ []) → ⊥
+no_gap part = by part.before part.splits
+  where
+    by : (before : List Part) → before ++ (number 1 ∷ number 2 ∷ part.after) ≡ number 1 ∷ number 3 ∷ number 2 ∷ [] → ⊥
+    by [] splits = let next : 2 ≡ 3 = ap (λ parts. first_number (drop 1 parts)) splits in omega (arith, next)
+    by (other ∷ []) splits = let next : 1 ≡ 3 = ap (λ parts. first_number (drop 1 parts)) splits in omega (arith, next)
+    by (other ∷ another ∷ others) splits =
+        let count : length (other ∷ another ∷ (others ++ (number 1 ∷ number 2 ∷ part.after))) ≡ 3 = ap length splits in
+        omega (arith, count, length-append others (number 1 ∷ number 2 ∷ part.after))
+
+-- ---- tags
+
+-- A page has no scripts.
+scripts_are_not_own : IsOwnTag (codes "script") → ⊥
+scripts_are_not_own = script_is_not_own
+
 -- ---- numbers
 
 numbers_are : numbers_from 2 3 ≡ 2 ∷ 3 ∷ 4 ∷ []
 numbers_are = refl
 
-increasing_are : is_increasing (1 ∷ 3 ∷ 4 ∷ []) ∷ is_increasing (1 ∷ 1 ∷ []) ∷ is_increasing (1 ∷ 3 ∷ 2 ∷ []) ∷ is_increasing (2 ∷ 3 ∷ 1 ∷ []) ∷ is_increasing [] ∷ [] ≡ true ∷ false ∷ false ∷ false ∷ true ∷ []
-increasing_are = refl
-
 among_are : is_among (1 ∷ 2 ∷ []) 2 ∷ is_among (1 ∷ 2 ∷ []) 3 ∷ [] ≡ true ∷ false ∷ []
 among_are = refl
+
+-- ---- what failed
+
+abbrev ended : Option ℕ → Node
+ended time = record no_node { ended = time }
+
+-- The last two ended at the same time, and it is unknown when the first two ended.
+abbrev nodes : List Node
+nodes = ended None ∷ ended None ∷ ended (Some 9) ∷ ended (Some 5) ∷ ended (Some 5) ∷ []
+
+in_order : AreInOrderOfEnd nodes (3 ∷ 4 ∷ 2 ∷ 0 ∷ 1 ∷ [])
+in_order =
+    ((inr (refl, omega arith), (inl (omega arith), (inl tt, (inl tt, tt)))), ((inl (omega arith), (inl tt, (inl tt, tt))), ((inl tt, (inl tt, tt)), ((inr (refl, omega arith), tt), (tt, tt)))))
+
+-- One that ended later, an unknown end before a known one, and equal ends not in the order of the tree.
+not_in_order :
+    ¬ AreInOrderOfEnd nodes (2 ∷ 3 ∷ []) × ¬ AreInOrderOfEnd nodes (0 ∷ 2 ∷ []) × ¬ AreInOrderOfEnd nodes (4 ∷ 3 ∷ []) × ¬ AreInOrderOfEnd nodes (1 ∷ 0 ∷ [])
+    × ¬ AreInOrderOfEnd nodes (3 ∷ 3 ∷ [])
+not_in_order = (
+  λ is. elim is.0.0 [ inl less ↦ omega (arith, less) | inr same ↦ let equal = same_Some 9 5 same.0 in omega (arith, equal) ],
+  λ is. elim is.0.0 [ inl less ↦ less | inr same ↦ none-some 9 same.0 ],
+  λ is. elim is.0.0 [ inl less ↦ omega (arith, less) | inr same ↦ omega (arith, same.1) ],
+  λ is. elim is.0.0 [ inl less ↦ less | inr same ↦ omega (arith, same.1) ],
+  λ is. elim is.0.0 [ inl less ↦ omega (arith, less) | inr same ↦ omega (arith, same.1) ],
+)
 
 -- ---- lines
 

@@ -8,6 +8,7 @@ mod ExcerptRows
 mod FailedIds
 mod FailedLines
 mod FailedNesting
+mod FailedOrder
 mod FailedRows
 mod FormLemmas
 mod FrameIds
@@ -15,10 +16,12 @@ mod FrameNesting
 mod FrameRows
 mod Ids
 mod JoinLemmas
+mod KeptLines
 mod LawRows
 mod LimitLemmas
 mod LimitRows
 mod Nesting
+mod OtherTags
 mod PageIds
 mod PageLemmas
 mod PageLines

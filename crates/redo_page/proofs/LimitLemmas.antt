@@ -1,10 +1,10 @@
 -- The highest level at which logs fit into a budget.
 use Rattle.std.proofs.Common.{◌≡◌, ℕ, zero, suc, ◌+◌, ◌-◌, length, ◌<◌, ◌≤◌, min, ◌⊎◌, inl, inr, Bool, true, false, List, [], ◌∷◌, ◌++◌, Some, refl, ◌∙◌, ap, arith}
 use Rattle.std.specs.Prelude.{if◌then◌else◌}
-use Rattle.std.proofs.lemmas.Bool.{cases_lt, leb-false, lt-leb}
+use Rattle.std.proofs.lemmas.Bool.{cases_lt, le-leb, leb-false, leb-true, lt-leb}
 use Rattle.redo_outline.specs.declared.node.Node.{Node}
 use Rattle.redo_page.specs.Excerpt.{last_where}
-use Rattle.redo_page.specs.Limits.{at_most, bytes_shown, fit_in, limit_if, limits_from}
+use Rattle.redo_page.specs.Limits.{at_most, bytes_shown, fit_in, highest_level, limit_if, limits_from}
 use Rattle.redo_page.specs.Tree.{Build, place_of}
 use Rattle.redo_trim.specs.declared.limit.Limit.{Limit}
 use Rattle.std.proofs.lemmas.List.{append_assoc}
@@ -35,6 +35,34 @@ module _ (passes : ℕ → Bool) where
       by before (inl above) = let same : suc high ≡ low = omega arith in ap (last_where passes) same
       by before (inr within) = ap (λ (b : Bool). if b then suc high else last_where passes high) (none (suc high) (omega arith)) ∙ before within
 
+  -- The last one passes, if 0 does.
+  pub last_passes : (n : ℕ) → passes 0 ≡ true → passes (last_where passes n) ≡ true
+  last_passes zero first = first
+  last_passes (suc n) first = by (passes (suc n)) refl (last_passes n first)
+    where
+      by : (is : Bool) → passes (suc n) ≡ is → passes (last_where passes n) ≡ true → passes (if is then suc n else last_where passes n) ≡ true
+      by true is before = is
+      by false is before = before
+
+  pub last_within : (n : ℕ) → last_where passes n ≤ n
+  last_within zero = omega arith
+  last_within (suc n) = by (passes (suc n)) (last_within n)
+    where
+      by : (is : Bool) → last_where passes n ≤ n → (if is then suc n else last_where passes n) ≤ suc n
+      by true less = omega arith
+      by false less = omega (arith, less)
+
+  -- None of the numbers after it passes.
+  pub none_after : (n higher : ℕ) → last_where passes n < higher → higher ≤ n → passes higher ≡ false
+  none_after zero higher after within = absurd (omega (arith, after, within))
+  none_after (suc n) higher after within = by (passes (suc n)) refl (none_after n higher) after (cases_lt n higher)
+    where
+      by : (is : Bool) → passes (suc n) ≡ is → (last_where passes n < higher → higher ≤ n → passes higher ≡ false) → (if is then suc n else last_where passes n) < higher
+          → (n < higher) ⊎ (higher ≤ n) → passes higher ≡ false
+      by true is before less where_is = absurd (omega (arith, less, within))
+      by false is before less (inl above) = let same : higher ≡ suc n = omega (arith, above, within) in ap passes same ∙ is
+      by false is before less (inr below) = before less below
+
 -- ---- levels
 
 module _ (budget : ℕ) (nodes : List Node) where
@@ -50,6 +78,23 @@ module _ (budget : ℕ) (nodes : List Node) where
   -- If a level fails, only lower ones count.
   pub lower_counts : (level above : ℕ) → fits level ≡ false → 0 < level → level ≤ above → last_where fits above ≡ last_where fits (level - 1)
   lower_counts level above fails some below = last_below fits (level - 1) above (omega arith) (λ n higher. higher_fails level n fails (omega arith))
+
+no_bytes : (nodes : List Node) → bytes_shown (Some 0) nodes ≡ 0
+no_bytes [] = refl
+no_bytes (node ∷ nodes) =
+    let others = no_bytes nodes in
+    let all = sum_by-cons (λ (n : Node). at_most (Some 0) n.bytes) node nodes in
+    let one : min node.bytes 0 ≡ 0 = omega arith in
+    omega (arith, others, all, one)
+
+pub highest_fits : (budget : ℕ) (nodes : List Node) → bytes_shown (Some (highest_level budget nodes)) nodes ≤ budget
+highest_fits budget nodes =
+    let none = no_bytes nodes in
+    leb-true (bytes_shown (Some (highest_level budget nodes)) nodes) budget
+    (last_passes (fits budget nodes) budget (le-leb (bytes_shown (Some 0) nodes) budget (omega (arith, none))))
+
+pub none_higher : (budget : ℕ) (nodes : List Node) (level : ℕ) → highest_level budget nodes < level → level ≤ budget → budget < bytes_shown (Some level) nodes
+none_higher budget nodes level above within = leb-false (bytes_shown (Some level) nodes) budget (none_after (fits budget nodes) budget level above within)
 
 -- ---- limits, one by one
 

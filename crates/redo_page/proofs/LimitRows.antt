@@ -27,6 +27,7 @@ printed number status bytes = record {
   fails_below = false;
   silent = 0;
   took = None;
+  ended = None;
 }
 
 abbrev node : ℕ → Node
@@ -55,6 +56,10 @@ levels_are :
     (highest_level 10 (node 20 ∷ node 3 ∷ []) ≡ 7) × (highest_level 10 (node 4 ∷ node 4 ∷ node 4 ∷ []) ≡ 3) × (highest_level 0 (node 5 ∷ []) ≡ 0)
     × (highest_level 2 (node 5 ∷ node 5 ∷ node 5 ∷ []) ≡ 0) × (highest_level 12 (node 3 ∷ node 3 ∷ []) ≡ 12)
 levels_are = (refl, refl, refl, refl, refl)
+
+-- The three smaller logs have 48 bytes, and 52 are left for the largest one, though a quarter of the budget is 25.
+uneven_level_is : highest_level 100 (node 100 ∷ node 30 ∷ node 10 ∷ node 8 ∷ []) ≡ 52
+uneven_level_is = refl
 
 -- A budget of 0 allows all bytes. So does one into which all logs fit, even exactly.
 no_levels_are :

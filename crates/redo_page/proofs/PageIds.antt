@@ -1,12 +1,12 @@
 -- The ids and the links of a page.
-use Rattle.std.proofs.Common.{◌≡◌, ℕ, zero, suc, ◌+◌, ◌<◌, ◌≤◌, Bool, true, false, List, [], ◌∷◌, ◌++◌, refl, sym, ◌∙◌, ap, arith}
-use Rattle.std.specs.Prelude.{◌==◌, ◌||◌, nat_lt, length, if◌then◌else◌}
+use Rattle.std.proofs.Common.{◌≡◌, ℕ, zero, suc, ◌+◌, ◌<◌, ◌≤◌, Bool, true, false, List, [], ◌∷◌, ◌++◌, map, refl, sym, ◌∙◌, ap, arith}
+use Rattle.std.specs.Prelude.{◌==◌, ◌||◌, nat_lt, length, if◌then◌else◌, ◌&&◌, is_some}
 use Rattle.std.specs.List.{flat_map, list_all, list_any}
 use Rattle.std.proofs.lemmas.Bool.{and_from, and_parts, eqb-false, ltb-true}
 use Rattle.std.proofs.lemmas.List.{append-nil, length-map}
 use Rattle.redo_logs.specs.Logs.{Log}
 use Rattle.redo_html.specs.declared.markup.Markup.{Markup}
-use Rattle.redo_html.specs.declared.markup.Markup.TheVariants.{FailedSection, SummarySection, TimelineSection, TreeSection}
+use Rattle.redo_html.specs.declared.markup.Markup.TheVariants.{FailedSection, SummarySection, TreeSection}
 use Rattle.redo_html.specs.Parts.{Part}
 use Rattle.redo_html.specs.Parts.Part.{MarkupPart}
 use Rattle.redo_page.specs.Targets.{parts_if}
@@ -14,26 +14,28 @@ use Rattle.std.proofs.lemmas.Grind.{flat_map-append}
 use Rattle.redo_outline.specs.declared.node.Node.{Node}
 use Rattle.redo_outline.specs.Contents.{Contents, contents_of}
 use Rattle.redo_outline.specs.Facts.{target_status}
-use Rattle.redo_outline.specs.Outline.{log_count, outline_of, with_duration}
-use Rattle.std.specs.Prelude.{None}
+use Rattle.redo_outline.specs.Outline.{log_count, outline_of, with_times}
+use Rattle.std.specs.Prelude.{None, Option, Some}
+use Rattle.redo_html.specs.Parts.Part.{ChartPart}
 use Rattle.redo_page.specs.declared.frame.Verdict.TheVariants.{Failed, Unfinished, Made}
 use Rattle.redo_page.specs.Frame.{command, footer_parts, head_parts, is_unfinished, title_text, verdict_of}
-use Rattle.redo_page.specs.Laws.{article_ids, article_links, is_among, numbers_from, section_id, section_ids, section_link, section_links, target_ids, target_links}
+use Rattle.redo_page.specs.Laws.{article_ids, article_links, charts, is_among, numbers_from, page_chart, part_chart, section_id, section_ids, section_link, section_links, target_ids, target_links}
 use Rattle.redo_page.specs.declared.frame.Verdict.{Verdict}
-use Rattle.redo_page.specs.Page.{Request, durations_of, heading_of, options_of, page_contents, page_events, page_facts, page_outline, page_parts, top_parts_of}
+use Rattle.redo_page.specs.Page.{Request, heading_of, options_of, page_contents, page_events, page_facts, page_outline, page_parts, run_times, top_parts_of}
 use Rattle.redo_page.specs.Tree.{articles, first_failures}
-use Rattle.redo_page.proofs.Ids.{Refers, bare_refers, section, then_refer}
+use Rattle.redo_page.proofs.Ids.{Refers, bare_refers, is_section, section, then_refer}
 use Rattle.redo_page.proofs.FrameIds.{footer_bare, head_bare, header_refers, links}
 use Rattle.redo_page.proofs.FailedIds.{failed_refers, failed_section}
 use Rattle.redo_page.proofs.SummaryIds.{summary_refers}
-use Rattle.redo_page.proofs.TimelineLemmas.{BarsLead, timeline_refers}
+use Rattle.redo_page.proofs.TimelineLemmas.{BarsLead, timeline_found, timeline_refers}
 use Rattle.redo_page.specs.Limits.{tree_limits}
 use Rattle.redo_trim.specs.declared.limit.Limit.{Limit}
 use Rattle.redo_trim.specs.Trim.{trim}
 use Rattle.redo_page.proofs.TreeIds.{nodes_counted, tree_refers}
 use Rattle.redo_summary.specs.Laws.{AreOfNodes}
 use Rattle.redo_page.specs.Timeline.{has_timeline}
-use Rattle.redo_summary.specs.Summary.{Facts, summary_of}
+use Rattle.redo_summary.specs.Summary.{Facts, is_timed, summary_of}
+use Rattle.redo_timeline.specs.declared.span.Window.{Window}
 use Rattle.redo_times.specs.declared.times.Times.{Times}
 use Rattle.redo_view.specs.Event.{Event}
 
@@ -77,9 +79,38 @@ section_link_part part = refl
 abbrev top_sections : Verdict → Bool → List Part → List Part
 top_sections verdict timed failed = links verdict timed ++ (failed ++ MarkupPart SummarySection ∷ [])
 
--- The tags of sections of a page.
-abbrev page_sections : Verdict → Bool → List Part → List Part
-page_sections verdict timed failed = top_sections verdict timed failed ++ ((parts_if timed (MarkupPart TimelineSection ∷ []) ++ MarkupPart TreeSection ∷ []) ++ [])
+-- The tags of sections of a page, and its charts.
+abbrev page_sections : Verdict → Bool → List Part → List Part → List Part
+page_sections verdict timed failed timeline = top_sections verdict timed failed ++ ((timeline ++ MarkupPart TreeSection ∷ []) ++ [])
+
+chart_part : (part : Part) → flat_map part_chart (section part) ≡ part_chart part
+chart_part (MarkupPart markup) = by (is_section markup)
+  where
+    by : (is : Bool) → flat_map part_chart (if is then MarkupPart markup ∷ [] else []) ≡ []
+    by true = refl
+    by false = refl
+chart_part part = refl
+
+-- The charts are the charts of the timeline.
+charts_found : (verdict : Verdict) (timed some : Bool) (timeline : List Part) → charts (page_sections verdict timed (parts_if some (MarkupPart FailedSection ∷ [])) timeline) ≡ charts timeline
+charts_found verdict timed some timeline = by verdict timed some
+  where
+    last : charts ((timeline ++ MarkupPart TreeSection ∷ []) ++ []) ≡ charts timeline
+    last = simp (flat_map-append, append-nil)
+
+    by : (verdict : Verdict) (timed some : Bool) → charts (page_sections verdict timed (parts_if some (MarkupPart FailedSection ∷ [])) timeline) ≡ charts timeline
+    by Failed true true = last
+    by Failed true false = last
+    by Failed false true = last
+    by Failed false false = last
+    by Unfinished true true = last
+    by Unfinished true false = last
+    by Unfinished false true = last
+    by Unfinished false false = last
+    by Made true true = last
+    by Made true false = last
+    by Made false true = last
+    by Made false false = last
 
 module _ (nodes : List Node) (facts : Facts) (places : AreOfNodes nodes facts) where
   top_refers : (title : List ℕ) (logs : List Log) (verdict : Verdict) (title_is heading : List ℕ)
@@ -90,18 +121,27 @@ module _ (nodes : List Node) (facts : Facts) (places : AreOfNodes nodes facts) w
       (then_refer (header_refers title logs verdict heading nodes facts) (then_refer (failed_refers logs nodes) (summary_refers (length nodes) (articles nodes) logs nodes facts places.longest places.warned)))
 
 -- There is a link to each section.
-sections_linked : (nodes : List Node) (timed : Bool) → section_links (page_sections (verdict_of nodes) timed (failed_section (first_failures nodes))) ≡ section_ids (page_sections (verdict_of nodes) timed (failed_section (first_failures nodes)))
-sections_linked nodes timed = by (nat_lt 0 (length (first_failures nodes))) (list_any is_unfinished nodes) timed
-  where
-    by : (some unfinished timed : Bool)
-        → section_links (page_sections (if some then Failed else if unfinished then Unfinished else Made) timed (parts_if some (MarkupPart FailedSection ∷ [])))
-        ≡ section_ids (page_sections (if some then Failed else if unfinished then Unfinished else Made) timed (parts_if some (MarkupPart FailedSection ∷ [])))
-    by true unfinished true = refl
-    by true unfinished false = refl
-    by false true true = refl
-    by false true false = refl
-    by false false true = refl
-    by false false false = refl
+module _ (logs : List Log) (nodes : List Node) (facts : Facts) where
+  -- The tags of sections of a page with this outcome, and its charts.
+  abbrev sections_of : Verdict → Bool → Bool → Option Window → List Part
+  sections_of verdict some timed window = page_sections verdict (is_some window && timed) (parts_if some (MarkupPart FailedSection ∷ [])) (timeline_found logs nodes facts timed window)
+
+  sections_linked :
+      section_links (page_sections (verdict_of nodes) (has_timeline facts) (failed_section (first_failures nodes)) (timeline_found logs nodes facts (is_timed facts) facts.window))
+      ≡ section_ids (page_sections (verdict_of nodes) (has_timeline facts) (failed_section (first_failures nodes)) (timeline_found logs nodes facts (is_timed facts) facts.window))
+  sections_linked = by (nat_lt 0 (length (first_failures nodes))) (list_any is_unfinished nodes) (is_timed facts) facts.window
+    where
+      by : (some unfinished timed : Bool) (window : Option Window)
+          → section_links (sections_of (if some then Failed else if unfinished then Unfinished else Made) some timed window) ≡ section_ids (sections_of (if some then Failed else if unfinished then Unfinished else Made) some timed window)
+      by true unfinished timed None = refl
+      by true unfinished true (Some window) = refl
+      by true unfinished false (Some window) = refl
+      by false true timed None = refl
+      by false true true (Some window) = refl
+      by false true false (Some window) = refl
+      by false false timed None = refl
+      by false false true (Some window) = refl
+      by false false false (Some window) = refl
 
 -- The times of shown targets lead to places of nodes.
 abbrev pub HavePlaces : Type 0
@@ -115,7 +155,7 @@ KeepLogs = (limits : List Limit) (contents : Contents) → log_count (trim limit
 pub outline_counted : (request : Request) (logs : List Log) (requested : List (List ℕ)) → length (page_outline request logs requested) ≡ log_count (contents_of (page_events request logs requested))
 outline_counted request logs requested =
     let events = page_events request logs requested in
-    length-map (outline_of logs events) (with_duration (durations_of request.times)) ∙ nodes_counted logs (target_status logs events) None 0 (contents_of events)
+    length-map (outline_of logs events) (with_times (map run_times request.times)) ∙ nodes_counted logs (target_status logs events) None 0 (contents_of events)
 
 module _ (have : HavePlaces) (lead : BarsLead) (keep : KeepLogs) (request : Request) (logs : List Log) (requested : List (List ℕ)) where
   abbrev parts : List Part
@@ -135,7 +175,7 @@ module _ (have : HavePlaces) (lead : BarsLead) (keep : KeepLogs) (request : Requ
   shown = page_contents request logs requested
 
   page_refers : Refers (length nodes) (articles nodes) parts (numbers_from 0 (log_count shown) ++ []) (((articles nodes ++ []) ++ []) ++ [])
-      (page_sections (verdict_of nodes) (has_timeline facts) (failed_section (first_failures nodes)))
+      (page_sections (verdict_of nodes) (has_timeline facts) (failed_section (first_failures nodes)) (timeline_found logs nodes facts (is_timed facts) facts.window))
   unfolding page_parts
   page_refers =
       let places = have nodes request.times in
@@ -161,4 +201,20 @@ module _ (have : HavePlaces) (lead : BarsLead) (keep : KeepLogs) (request : Requ
 
   pub page_section_links : section_links parts ≡ section_ids parts
   page_section_links =
-      in_sections section_link section_link_part parts ∙ ap section_links page_refers.sections_are ∙ sections_linked nodes (has_timeline facts) ∙ sym (ap section_ids page_refers.sections_are) ∙ sym (in_sections section_id section_id_part parts)
+      in_sections section_link section_link_part parts ∙ ap section_links page_refers.sections_are ∙ sections_linked logs nodes facts ∙ sym (ap section_ids page_refers.sections_are) ∙ sym (in_sections section_id section_id_part parts)
+
+  charts_are : charts parts ≡ charts (timeline_found logs nodes facts (is_timed facts) facts.window)
+  charts_are =
+      in_sections part_chart chart_part parts ∙ ap charts page_refers.sections_are
+      ∙ charts_found (verdict_of nodes) (has_timeline facts) (nat_lt 0 (length (first_failures nodes))) (timeline_found logs nodes facts (is_timed facts) facts.window)
+
+  pub page_has_chart : (window : Window) → facts.window ≡ Some window → is_timed facts ≡ true → charts parts ≡ page_chart request logs requested window ∷ []
+  page_has_chart window is timed = charts_are ∙ ap (λ (w : Option Window). charts (timeline_found logs nodes facts (is_timed facts) w)) is ∙ ap (λ (b : Bool). charts (timeline_found logs nodes facts b (Some window))) timed
+
+  pub page_has_no_chart : has_timeline facts ≡ false → charts parts ≡ []
+  page_has_no_chart none = charts_are ∙ by facts.window (is_timed facts) none
+    where
+      by : (window : Option Window) (timed : Bool) → (is_some window && timed) ≡ false → charts (timeline_found logs nodes facts timed window) ≡ []
+      by None timed none = refl
+      by (Some window) true none = absurd (cc)
+      by (Some window) false none = refl

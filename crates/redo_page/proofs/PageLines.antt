@@ -49,11 +49,15 @@ direct_lines Nothing = []
 direct_lines (Shown event rest) = event_lines event ++ direct_lines rest
 direct_lines (Opened event number inside rest) = direct_lines rest
 
--- Whether each log that is opened contains its lines. The event that opens it shows none.
+-- Whether each log that is opened contains these lines, by its number. The event that opens it shows none.
+abbrev pub Have : (ℕ → List (List ℕ)) → Contents → Type 0
+Have lines Nothing = Unit {0}
+Have lines (Shown event rest) = Have lines rest
+Have lines (Opened event number inside rest) = (event_lines event ≡ []) × (direct_lines inside ≡ lines number) × Have lines inside × Have lines rest
+
+-- Whether each log that is opened contains its lines.
 abbrev pub HaveLines : List Log → Contents → Type 0
-HaveLines logs Nothing = Unit {0}
-HaveLines logs (Shown event rest) = HaveLines logs rest
-HaveLines logs (Opened event number inside rest) = (event_lines event ≡ []) × (direct_lines inside ≡ lines_of_log number logs) × HaveLines logs inside × HaveLines logs rest
+HaveLines logs contents = Have (λ number. lines_of_log number logs) contents
 
 pub all_lines : (logs : List Log) (depth : ℕ) (around : Option ℕ) (place : ℕ) (contents : Contents) → HaveLines logs contents → texts_of (placed_lines around place contents) ≡ flat_map event_lines (events_of depth contents)
 all_lines logs depth around place Nothing opens = refl
@@ -215,12 +219,12 @@ before_later None place later before after = tt
 before_later (Some around) place later before after = omega arith
 
 -- The lines at the place of a log are the lines of this log.
-module _ (logs : List Log) (status : ℕ → Option ℤ) where
+module _ (lines : ℕ → List (List ℕ)) (logs : List Log) (status : ℕ → Option ℤ) where
   abbrev number_at : Option ℕ → ℕ → Contents → ℕ → ℕ
   number_at parent place contents k = (get_or (nodes_of logs status parent place contents) k no_node).number
 
-  opened_lines : (parent around : Option ℕ) (place : ℕ) (contents : Contents) → HaveLines logs contents → IsBefore around place → (k : ℕ) → k < log_count contents
-      → texts_at (place + k) around place contents ≡ lines_of_log (number_at parent place contents k) logs
+  pub opened_lines : (parent around : Option ℕ) (place : ℕ) (contents : Contents) → Have lines contents → IsBefore around place → (k : ℕ) → k < log_count contents
+      → texts_at (place + k) around place contents ≡ lines (number_at parent place contents k)
   opened_lines parent around place Nothing have before k below = absurd (omega arith)
   opened_lines parent around place (Shown event rest) have before k below =
       at-append (place + k) (placed_at around event) (placed_lines around place rest)
@@ -234,9 +238,9 @@ module _ (logs : List Log) (status : ℕ → Option ℤ) where
       split at = at-append at (placed_lines (Some place) (suc place) inside) (placed_lines around (suc place + log_count inside) rest)
 
       later : (j : ℕ) (is_in : Bool) → nat_lt j (log_count inside) ≡ is_in → suc j < suc (log_count inside + log_count rest)
-          → ((i : ℕ) → i < log_count inside → texts_at (suc place + i) (Some place) (suc place) inside ≡ lines_of_log (number_at (Some place) (suc place) inside i) logs)
-          → ((i : ℕ) → i < log_count rest → texts_at (suc place + log_count inside + i) around (suc place + log_count inside) rest ≡ lines_of_log (number_at parent (suc place + log_count inside) rest i) logs)
-          → texts_at (place + suc j) (Some place) (suc place) inside ++ texts_at (place + suc j) around (suc place + log_count inside) rest ≡ lines_of_log (number_at parent place (Opened event number inside rest) (suc j)) logs
+          → ((i : ℕ) → i < log_count inside → texts_at (suc place + i) (Some place) (suc place) inside ≡ lines (number_at (Some place) (suc place) inside i))
+          → ((i : ℕ) → i < log_count rest → texts_at (suc place + log_count inside + i) around (suc place + log_count inside) rest ≡ lines (number_at parent (suc place + log_count inside) rest i))
+          → texts_at (place + suc j) (Some place) (suc place) inside ++ texts_at (place + suc j) around (suc place + log_count inside) rest ≡ lines (number_at parent place (Opened event number inside rest) (suc j))
       later j true is below inner others =
           let less : j < log_count inside = ltb-true j (log_count inside) is in
           let counted = nodes_counted logs status (Some place) (suc place) inside in
@@ -245,19 +249,19 @@ module _ (logs : List Log) (status : ℕ → Option ℤ) where
           (outside_lines (place + suc j) around (suc place + log_count inside) rest false (before_differs around place (place + suc j) before (omega arith)) (inl (omega arith)))
           ∙ append-nil (texts_at (place + suc j) (Some place) (suc place) inside)
           ∙ ap (λ (n : ℕ). texts_at n (Some place) (suc place) inside) at ∙ inner j less
-          ∙ ap (λ (node : Node). lines_of_log node.number logs) (sym (get_or_append_left (nodes_of logs status (Some place) (suc place) inside) (nodes_of logs status parent (suc place + log_count inside) rest) no_node j (omega (arith, less, counted))))
+          ∙ ap (λ (node : Node). lines node.number) (sym (get_or_append_left (nodes_of logs status (Some place) (suc place) inside) (nodes_of logs status parent (suc place + log_count inside) rest) no_node j (omega (arith, less, counted))))
       later j false is below inner others =
           let more : log_count inside ≤ j = ltb-false j (log_count inside) is in
           let at : place + suc j ≡ suc place + log_count inside + (j - log_count inside) = omega arith in
           ap (λ t. t ++ texts_at (place + suc j) around (suc place + log_count inside) rest)
           (outside_lines (place + suc j) (Some place) (suc place) inside false (same_differs place (place + suc j) (λ equal. omega arith)) (inr (omega arith)))
           ∙ ap (λ (n : ℕ). texts_at n around (suc place + log_count inside) rest) at ∙ others (j - log_count inside) (omega arith)
-          ∙ ap (λ (node : Node). lines_of_log node.number logs) (sym (get_or-append_right (nodes_of logs status (Some place) (suc place) inside) (nodes_of logs status parent (suc place + log_count inside) rest) (log_count inside) j no_node (nodes_counted logs status (Some place) (suc place) inside) more))
+          ∙ ap (λ (node : Node). lines node.number) (sym (get_or-append_right (nodes_of logs status (Some place) (suc place) inside) (nodes_of logs status parent (suc place + log_count inside) rest) (log_count inside) j no_node (nodes_counted logs status (Some place) (suc place) inside) more))
 
       by : (k : ℕ) → k < suc (log_count inside + log_count rest)
-          → ((i : ℕ) → i < log_count inside → texts_at (suc place + i) (Some place) (suc place) inside ≡ lines_of_log (number_at (Some place) (suc place) inside i) logs)
-          → ((i : ℕ) → i < log_count rest → texts_at (suc place + log_count inside + i) around (suc place + log_count inside) rest ≡ lines_of_log (number_at parent (suc place + log_count inside) rest i) logs)
-          → texts_at (place + k) around place (Opened event number inside rest) ≡ lines_of_log (number_at parent place (Opened event number inside rest) k) logs
+          → ((i : ℕ) → i < log_count inside → texts_at (suc place + i) (Some place) (suc place) inside ≡ lines (number_at (Some place) (suc place) inside i))
+          → ((i : ℕ) → i < log_count rest → texts_at (suc place + log_count inside + i) around (suc place + log_count inside) rest ≡ lines (number_at parent (suc place + log_count inside) rest i))
+          → texts_at (place + k) around place (Opened event number inside rest) ≡ lines (number_at parent place (Opened event number inside rest) k)
       by zero below inner others =
           split (place + 0)
           ∙ ap (λ t. t ++ texts_at (place + 0) around (suc place + log_count inside) rest) (outside_lines (place + 0) (Some place) (suc place) inside true (eq-eqb place (place + 0) (omega arith)) (inl (omega arith)))
@@ -286,7 +290,7 @@ pub lines_of_place : (logs : List Log) (status : ℕ → Option ℤ) (contents :
 lines_of_place logs status contents place have below =
     let counted = nodes_counted logs status None 0 contents in
     let at : 0 + place ≡ place = omega arith in
-    printed_lines (number_at logs status None 0 contents place) logs ∙ sym (opened_lines logs status None None 0 contents have tt place (omega (arith, below, counted))) ∙ ap (λ (n : ℕ). texts_at n None 0 contents) at
+    printed_lines (number_at (λ (number : ℕ). lines_of_log number logs) logs status None 0 contents place) logs ∙ sym (opened_lines (λ (number : ℕ). lines_of_log number logs) logs status None None 0 contents have tt place (omega (arith, below, counted))) ∙ ap (λ (n : ℕ). texts_at n None 0 contents) at
 
 pub among_below : (count : ℕ) (numbers : List ℕ) (number : ℕ) → list_all (λ other. nat_lt other count) numbers ≡ true → is_among numbers number ≡ true → number < count
 among_below count [] number all among = absurd (cc)

@@ -1,5 +1,5 @@
 -- The tree and the articles are parts of a page.
-use Rattle.std.proofs.Common.{◌≡◌, ℕ, suc, Bool, true, false, List, [], ◌∷◌, ◌++◌, Some, refl, sym, ◌∙◌, ap, subst, inl, inr, ◌⊎◌, arith}
+use Rattle.std.proofs.Common.{◌≡◌, ℕ, suc, Bool, true, false, List, [], ◌∷◌, ◌++◌, Some, refl, sym, ◌∙◌, ap, inl, inr, ◌⊎◌, arith}
 use Rattle.std.specs.Prelude.{◌==◌, nat_lt, codes, drop, length, take}
 use Rattle.std.specs.List.{flat_map}
 use Rattle.std.proofs.lemmas.Bool.{eqb-true, lt-ltb, or_cases}
@@ -7,18 +7,17 @@ use Rattle.std.proofs.lemmas.List.{append_assoc, append-nil}
 use Rattle.redo_logs.specs.Logs.{Log}
 use Rattle.redo_html.specs.declared.markup.Markup.TheVariants as markup
 use Rattle.redo_html.specs.Parts.{Part}
-use Rattle.redo_html.specs.Parts.Part.{ChartPart, MarkupPart, NamePart}
+use Rattle.redo_html.specs.Parts.Part.{MarkupPart, NamePart}
 use Rattle.redo_outline.specs.declared.node.Node.{Node}
 use Rattle.redo_page.specs.declared.frame.Verdict.{Verdict}
 use Rattle.redo_page.specs.Failed.{article_parts, failed_above, failed_parts, is_unclosed, list_parts, more_parts, places_where, section_parts}
 use Rattle.redo_page.specs.Frame.{command, footer_parts, head_parts, header_parts, title_text, verdict_of}
-use Rattle.redo_page.specs.Laws.{IsPartOf, is_among, page_article, page_chart, page_tree}
-use Rattle.redo_page.specs.Timeline.{timeline_end, timeline_if, timeline_parts, timeline_section, timeline_start}
-use Rattle.redo_timeline.specs.declared.span.Window.{Window}
+use Rattle.redo_page.specs.Laws.{IsPartOf, is_among, page_article, page_tree}
+use Rattle.redo_page.specs.Timeline.{timeline_parts}
 use Rattle.redo_page.specs.Page.{Request, heading_of, options_of, page_facts, page_outline, page_parts, top_parts, top_parts_of}
 use Rattle.redo_page.specs.Summary.{summary_parts}
 use Rattle.redo_page.specs.Targets.{parts_if}
-use Rattle.redo_summary.specs.Summary.{Facts, is_timed}
+use Rattle.redo_summary.specs.Summary.{Facts}
 use Rattle.redo_page.specs.Tree.{articles, first_failures, max_articles}
 
 whole_part : (parts : List Part) → IsPartOf parts parts
@@ -89,12 +88,3 @@ module _ (request : Request) (logs : List Log) (requested : List (List ℕ)) whe
   page_has_article place among =
       let nodes = page_outline request logs requested in
       part_earlier ((timeline_parts logs nodes (page_facts request logs requested) ++ page_tree request logs requested) ++ footer) (top_has_article request.title logs (verdict_of nodes) (title_text request.title (verdict_of nodes) (heading_of nodes)) (heading_of nodes) nodes (page_facts request logs requested) place among)
-
-  pub page_has_chart : (window : Window) → (page_facts request logs requested).window ≡ Some window → is_timed (page_facts request logs requested) ≡ true → IsPartOf (ChartPart (page_chart request logs requested window) ∷ []) (page_parts request logs requested)
-  unfolding page_parts
-  page_has_chart window is timed =
-      let nodes = page_outline request logs requested in
-      let facts = page_facts request logs requested in
-      part_later (top_parts request.title logs nodes facts) (part_earlier footer (part_earlier (page_tree request logs requested)
-      (subst (IsPartOf (ChartPart (page_chart request logs requested window) ∷ [])) (sym (ap (timeline_if logs nodes facts) is ∙ ap (λ (b : Bool). parts_if b (timeline_section logs nodes facts window)) timed))
-      (part_later (timeline_start facts) (part_earlier (timeline_end facts) (whole_part (ChartPart (page_chart request logs requested window) ∷ [])))))))

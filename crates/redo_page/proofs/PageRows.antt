@@ -1,5 +1,5 @@
 -- Rows of whole pages, as the parts that are written. The model in tests/page gives the same tags and texts.
-use Rattle.std.proofs.Common.{Bor, ◌≡◌, ℕ, Bool, true, false, List, [], ◌∷◌, ◌++◌, map, None, Some, pos, length, replicate, refl}
+use Rattle.std.proofs.Common.{Bor, ◌≡◌, ℕ, Bool, true, false, List, [], ◌∷◌, ◌++◌, map, Option, None, Some, pos, length, replicate, refl}
 use Rattle.std.specs.Fmt.{digits}
 use Rattle.std.specs.List.{filter, flat_map, starts_with}
 use Rattle.std.specs.Prelude.{bytes_eq, codes, nat_eq, sum_by, take}
@@ -13,6 +13,7 @@ use Rattle.redo_view.specs.Event.Event.{Requested, Mentioned, EntryShown, LogEnd
 use Rattle.redo_outline.specs.Contents.{Contents}
 use Rattle.redo_outline.specs.Contents.Contents.{Nothing, Shown, Opened}
 use Rattle.redo_outline.specs.declared.node.Node.{Node}
+use Rattle.redo_outline.specs.declared.node.RunTimes.{RunTimes}
 use Rattle.redo_view.specs.Expansion.{show_log, show_log_within}
 use Rattle.redo_html.specs.Passage.{html_from}
 use Rattle.redo_html.specs.Shown.{is_odd, number_text, odd_text, picture}
@@ -24,11 +25,11 @@ use Rattle.redo_html.specs.declared.markup.Markup.TheVariants as markup
 use Rattle.redo_html.specs.Parts.{Part}
 use Rattle.redo_html.specs.Parts.Part.{MarkupPart, LogPart, NamePart, NumberPart, TitlePart, StylePart, ChartPart}
 use Rattle.redo_page.specs.Excerpt.{in_tree_parts}
-use Rattle.redo_page.specs.Failed.{article_of, article_parts, failed_parts, list_parts, more_parts, output_parts, path_parts, section_parts, whole_parts}
+use Rattle.redo_page.specs.Failed.{article_of, article_parts, article_row, cause_of_node, cause_parts, failed_parts, list_parts, more_parts, nothing_parts, output_parts, path_parts, row_parts, section_parts, whole_parts}
 use Rattle.redo_page.specs.Frame.{footer_parts, is_safe}
 use Rattle.redo_page.specs.Summary.{rank_parts, summary_parts, table_parts, tables_parts}
-use Rattle.redo_page.specs.Laws.{log_bytes, placed_lines}
-use Rattle.redo_page.specs.Page.{Request, body_parts, durations_of, options_of, page_contents, page_events, page_facts, page_html, page_outline, page_parts, request_of, top_parts_of, tree_contents}
+use Rattle.redo_page.specs.Laws.{article_ids, article_links, log_bytes, placed_lines}
+use Rattle.redo_page.specs.Page.{Request, body_parts, options_of, page_contents, page_events, page_facts, page_html, page_outline, page_parts, request_of, run_times, top_parts_of, tree_contents}
 use Rattle.redo_summary.specs.Summary.{Facts}
 use Rattle.redo_timeline.specs.declared.span.Window.{Window}
 use Rattle.redo_units.specs.Dates as dates
@@ -86,8 +87,8 @@ events_are = refl
 
 outline_is :
     page_outline (request [] false false) made (codes "a" ∷ [])
-    ≡ record { number = 0; parent = None; status = Some (pos 0); lines = 1; bytes = 2; warnings = 0; below = 1; children = 1; others = true; warnings_below = 0; fails_below = false; silent = 0; took = None }
-    ∷ record { number = 1; parent = Some 0; status = Some (pos 0); lines = 0; bytes = 0; warnings = 0; below = 0; children = 0; others = false; warnings_below = 0; fails_below = false; silent = 1; took = None }
+    ≡ record { number = 0; parent = None; status = Some (pos 0); lines = 1; bytes = 2; warnings = 0; below = 1; children = 1; others = true; warnings_below = 0; fails_below = false; silent = 0; took = None; ended = None }
+    ∷ record { number = 1; parent = Some 0; status = Some (pos 0); lines = 0; bytes = 0; warnings = 0; below = 0; children = 0; others = false; warnings_below = 0; fails_below = false; silent = 1; took = None; ended = None }
     ∷ []
 unfolding show_log show_log_within
 outline_is = refl
@@ -97,18 +98,26 @@ outline_is = refl
 abbrev ran : ℕ → ℕ → Times
 ran began ended = record { began = Some began; ended = Some ended }
 
--- Both times of a target are needed.
-durations_are : durations_of (ran 1000 5000 ∷ begun ∷ record { began = None; ended = Some 8 } ∷ ran 7 7 ∷ []) ≡ Some 4000 ∷ None ∷ None ∷ Some 0 ∷ []
-durations_are = refl
+abbrev run : Option ℕ → Option ℕ → RunTimes
+run took ended = record { took = took; ended = ended }
+
+-- Both times of a target are needed for how long it took.
+run_times_are :
+    map run_times (ran 1000 5000 ∷ begun ∷ record { began = None; ended = Some 8 } ∷ ran 7 7 ∷ [])
+    ≡ run (Some 4000) (Some 5000) ∷ run None None ∷ run None (Some 8) ∷ run (Some 0) (Some 7) ∷ []
+run_times_are = refl
 
 -- A target that ran another one. Nothing is known of the third one, which isn't shown.
 abbrev timed : Request
 timed = record (request [] false false) { times = ran 1795829211000 1795829213500 ∷ ran 1795829211200 1795829213000 ∷ [] }
 
--- How long each target took is in the outline.
+-- How long each target took, and when it ended, is in the outline.
+abbrev node_times : Node → RunTimes
+node_times node = run node.took node.ended
+
 timed_outline_is :
-    (map (λ (node : Node). node.took) (page_outline timed made (codes "a" ∷ [])) ≡ Some 2500 ∷ Some 1800 ∷ [])
-    × (map (λ (node : Node). node.took) (page_outline (record timed { times = begun ∷ ran 3 9 ∷ [] }) made (codes "a" ∷ [])) ≡ None ∷ Some 6 ∷ [])
+    (map node_times (page_outline timed made (codes "a" ∷ [])) ≡ run (Some 2500) (Some 1795829213500) ∷ run (Some 1800) (Some 1795829213000) ∷ [])
+    × (map node_times (page_outline (record timed { times = begun ∷ ran 3 9 ∷ [] }) made (codes "a" ∷ [])) ≡ run None None ∷ run (Some 6) (Some 9) ∷ [])
 unfolding show_log show_log_within
 timed_outline_is = (refl, refl)
 
@@ -263,6 +272,21 @@ failed_milestones :
     ≡ markup.Head ∷ markup.Header ∷ markup.Nav ∷ markup.Main ∷ markup.FailedSection ∷ markup.SummarySection ∷ markup.TreeSection ∷ markup.Footer ∷ markup.EndHtml ∷ []
 unfolding page_parts top_parts_of summary_parts tables_parts size_words footer_parts failed_parts section_parts list_parts more_parts article_parts article_of path_parts in_tree_parts output_parts whole_parts is_safe number_text digits show_log show_log_within
 failed_milestones = refl
+
+-- Two targets that failed. The second one ended first.
+abbrev both_failed : List Log
+both_failed =
+    log (codes "a") (Mention 9 Made (codes "b") ∷ Mention 9 Made (codes "c") ∷ []) ∷ log (codes "b") (Closing 9 (pos 2) ∷ [])
+    ∷ log (codes "c") (Closing 9 (pos 2) ∷ []) ∷ []
+
+abbrev both_ended : Request
+both_ended = record (request [] false false) { times = begun ∷ ran 1795829211000 1795829213500 ∷ ran 1795829211200 1795829213000 ∷ [] }
+
+failures_in_order :
+    (article_ids (page_parts both_ended both_failed (codes "a" ∷ [])) ≡ 2 ∷ 1 ∷ [])
+    × (article_links (page_parts both_ended both_failed (codes "a" ∷ [])) ≡ 2 ∷ 1 ∷ [])
+unfolding page_parts top_parts_of summary_parts tables_parts table_parts rank_parts size_words tenths_words duration_words dates.date_text_of dates.date_parts dates.period_of footer_parts failed_parts section_parts list_parts more_parts article_row row_parts cause_of_node cause_parts article_parts article_of path_parts in_tree_parts output_parts nothing_parts is_safe number_text digits show_log show_log_within
+failures_in_order = (refl, refl)
 
 -- If most times are known, there is a timeline.
 timed_milestones :

@@ -49,6 +49,7 @@ node number parent status fails_below = record {
   fails_below = fails_below;
   silent = 0;
   took = None;
+  ended = None;
 }
 
 abbrev logs : List Log

@@ -79,7 +79,7 @@ took_are = (refl, refl)
 
 -- It took 61 seconds and printed three lines, two of which are warnings. Four targets are below it, with one warning.
 abbrev node : Node
-node = record { number = 0; parent = None; status = Some (pos 5); lines = 3; bytes = 9; warnings = 2; below = 4; children = 1; others = true; warnings_below = 1; fails_below = false; silent = 0; took = Some 61000 }
+node = record { number = 0; parent = None; status = Some (pos 5); lines = 3; bytes = 9; warnings = 2; below = 4; children = 1; others = true; warnings_below = 1; fails_below = false; silent = 0; took = Some 61000; ended = None }
 
 facts_are :
     facts_parts node

@@ -1,6 +1,6 @@
 -- The timeline's elements nest, and its links lead to targets.
 use Rattle.std.proofs.Common.{◌≡◌, ℕ, ◌<◌, Bool, true, false, List, [], ◌∷◌, ◌++◌, Option, None, Some, refl, sym, ◌∙◌, ap}
-use Rattle.std.specs.Prelude.{◌==◌, ◌&&◌, codes, is_some, length, nat_lt, not}
+use Rattle.std.specs.Prelude.{◌==◌, codes, length, nat_lt, not}
 use Rattle.std.specs.List.{AllByRecursion, list_all}
 use Rattle.std.proofs.lemmas.Bool.{and_from, lt-ltb}
 use Rattle.std.proofs.lemmas.Grind.{flat_map-append}
@@ -17,7 +17,7 @@ use Rattle.redo_logs.specs.Logs.{Log}
 use Rattle.redo_outline.specs.declared.node.Node.{Node}
 use Rattle.redo_page.specs.Summary.{known_count}
 use Rattle.redo_page.specs.Targets.{parts_if}
-use Rattle.redo_page.specs.Timeline.{facts_drawing, has_timeline, marks_parts, timeline_end, timeline_if, timeline_parts, timeline_section, timeline_start}
+use Rattle.redo_page.specs.Timeline.{facts_drawing, marks_parts, timeline_end, timeline_if, timeline_parts, timeline_section, timeline_start}
 use Rattle.redo_summary.specs.Laws.{AreSpansBelow}
 use Rattle.redo_summary.specs.Summary.{Facts, is_timed}
 use Rattle.redo_timeline.specs.declared.span.Span.{Span}
@@ -53,6 +53,11 @@ abbrev pub BarsLead : Type 0
 BarsLead = (logs : List Log) (nodes : List Node) (window : Window) (parents recipes marks : List Span) (count : ℕ) → are_below count (parents ++ (recipes ++ marks)) ≡ true
     → list_all (λ link. nat_lt link count) (drawing_links (timeline_drawing logs nodes window parents recipes marks)) ≡ true
 
+-- The tag of the section, and the chart, if most times are known.
+abbrev pub timeline_found : List Log → List Node → Facts → Bool → Option Window → List Part
+timeline_found logs nodes facts timed None = []
+timeline_found logs nodes facts timed (Some window) = parts_if timed (MarkupPart TimelineSection ∷ ChartPart (facts_drawing logs nodes facts window) ∷ [])
+
 start_same : (marks known : ℕ) → Bare (marks_parts marks known)
 start_same marks known = bare_if (not (marks == 0)) _ refl
 
@@ -65,7 +70,7 @@ module _ (lead : BarsLead) (count : ℕ) (listed : List ℕ) (logs : List Log) (
       (list_all-append test facts.recipes facts.marks ∙ and_from (are_below count facts.recipes) (are_below count facts.marks) (below_test count facts.recipes recipes) (below_test count facts.marks marks))
 
   chart_refers : (window : Window) → are_below count (facts.parents ++ (facts.recipes ++ facts.marks)) ≡ true
-      → Refers count listed (MarkupPart TimelineSection ∷ ChartPart (facts_drawing logs nodes facts window) ∷ []) [] [] (MarkupPart TimelineSection ∷ [])
+      → Refers count listed (timeline_found logs nodes facts true (Some window)) [] [] (timeline_found logs nodes facts true (Some window))
   chart_refers window below = record {
     target_ids_are = refl;
     article_ids_are = refl;
@@ -74,19 +79,19 @@ module _ (lead : BarsLead) (count : ℕ) (listed : List ℕ) (logs : List Log) (
     sections_are = refl;
   }
 
-  section_refers : (window : Window) → are_below count (facts.parents ++ (facts.recipes ++ facts.marks)) ≡ true → Refers count listed (timeline_section logs nodes facts window) [] [] (MarkupPart TimelineSection ∷ [])
+  section_refers : (window : Window) → are_below count (facts.parents ++ (facts.recipes ++ facts.marks)) ≡ true → Refers count listed (timeline_section logs nodes facts window) [] [] (timeline_found logs nodes facts true (Some window))
   section_refers window below =
       same_refer {others = MarkupPart TimelineSection ∷ ChartPart (facts_drawing logs nodes facts window) ∷ []} (simp (flat_map-append, start_same (length facts.marks) (known_count facts))) (chart_refers window below)
 
   refers_if : (timed : Bool) (window : Window) → are_below count (facts.parents ++ (facts.recipes ++ facts.marks)) ≡ true
-      → Refers count listed (parts_if timed (timeline_section logs nodes facts window)) [] [] (parts_if timed (MarkupPart TimelineSection ∷ []))
+      → Refers count listed (parts_if timed (timeline_section logs nodes facts window)) [] [] (timeline_found logs nodes facts timed (Some window))
   refers_if true window below = section_refers window below
   refers_if false window below = bare_refers [] refl
 
   pub timeline_refers : AreSpansBelow count facts.parents → AreSpansBelow count facts.recipes → AreSpansBelow count facts.marks
-      → Refers count listed (timeline_parts logs nodes facts) [] [] (parts_if (has_timeline facts) (MarkupPart TimelineSection ∷ []))
+      → Refers count listed (timeline_parts logs nodes facts) [] [] (timeline_found logs nodes facts (is_timed facts) facts.window)
   timeline_refers parents recipes marks = by facts.window
     where
-      by : (window : Option Window) → Refers count listed (timeline_if logs nodes facts window) [] [] (parts_if (is_some window && is_timed facts) (MarkupPart TimelineSection ∷ []))
+      by : (window : Option Window) → Refers count listed (timeline_if logs nodes facts window) [] [] (timeline_found logs nodes facts (is_timed facts) window)
       by None = bare_refers [] refl
       by (Some window) = refers_if (is_timed facts) window (all_below parents recipes marks)

@@ -50,6 +50,7 @@ node number parent status = record {
   fails_below = false;
   silent = 0;
   took = None;
+  ended = None;
 }
 
 abbrev logs : List Log

@@ -1,6 +1,7 @@
 -- Rows of the tree, piece by piece, as the parts that are written.
 use Rattle.std.proofs.Common.{◌≡◌, ℕ, Bool, true, false, List, [], ◌∷◌, ◌++◌, Option, None, Some, ℤ, pos, negsuc, refl}
 use Rattle.std.specs.Prelude.{codes, drop}
+use Rattle.std.specs.declared.cmp.Ordering.TheVariants.{Less, Equal, Greater}
 use Rattle.redo_line.specs.declared.entry.Entry.TheVariants.{Text, Done, Closing, Note}
 use Rattle.redo_line.specs.declared.entry.How.TheVariants.{Made, Locked}
 use Rattle.redo_logs.specs.declared.log_state.LogState.TheVariants.{Ended}
@@ -20,7 +21,7 @@ use Rattle.redo_outline.specs.Contents.Contents.{Nothing, Shown, Opened}
 use Rattle.redo_page.specs.declared.block.Pending.{Pending}
 use Rattle.redo_page.specs.declared.block.Pending.TheVariants as pending
 use Rattle.redo_page.specs.declared.level.Level.{Level}
-use Rattle.redo_page.specs.Tree.{Build, after_item, after_log, after_shown, after_text, closing_parts, contents_parts, depth_parts, details_markup, done_parts, empty_start, entry_parts, failed_first, first_failures, flat_end, flat_start, group_end, group_left, group_parts, group_size, group_start, has_article, has_failed, has_one_child, heading_parts, is_empty, is_expanded, is_moved, is_moved_if, is_same_place, is_seen, is_silent, item_parts, level_of, log_end, log_start, mention_parts, moved_parts, nested_start, node_at, node_if, note_parts, opening_parts, opening_place, place_of, place_of_name, request_parts, section_end, section_start, seen_parts, shown_parts, is_in_level, text_parts, top_level, tree_parts}
+use Rattle.redo_page.specs.Tree.{Build, after_item, after_log, after_shown, after_text, closing_parts, contents_parts, depth_parts, details_markup, done_parts, empty_start, end_cmp, entry_parts, failed_first, failure_cmp, first_failures, flat_end, flat_start, group_end, group_left, group_parts, group_size, group_start, has_article, has_failed, has_one_child, heading_parts, is_empty, is_expanded, is_moved, is_moved_if, is_same_place, is_seen, is_silent, item_parts, level_of, log_end, log_start, mention_parts, moved_parts, nested_start, node_at, node_if, note_parts, opening_parts, opening_place, place_of, place_of_name, request_parts, section_end, section_start, seen_parts, shown_parts, is_in_level, text_parts, top_level, tree_parts}
 
 abbrev tag : Markup → Part
 tag markup = MarkupPart markup
@@ -43,7 +44,7 @@ abbrev logs : List Log
 logs = log (codes "a") ∷ log (codes "b") ∷ log (codes "c") ∷ []
 
 abbrev node : ℕ → Option ℕ → Option ℤ → ℕ → ℕ → Bool → Node
-node number parent status lines children others = record { number = number; parent = parent; status = status; lines = lines; bytes = lines; warnings = 0; below = 0; children = children; others = others; warnings_below = 0; fails_below = false; silent = 0; took = None }
+node number parent status lines children others = record { number = number; parent = parent; status = status; lines = lines; bytes = lines; warnings = 0; below = 0; children = children; others = others; warnings_below = 0; fails_below = false; silent = 0; took = None; ended = None }
 
 -- `c` is requested, and has two logs in it and something else. Of these `a` failed, and printed one line, and `b` has nothing in it.
 abbrev c : Node
@@ -82,6 +83,30 @@ failed_are :
     (has_failed a ≡ true) × (has_failed b ≡ false) × (has_failed (node 0 None None 0 0 false) ≡ false) × (failed_first a ≡ true) × (failed_first b ≡ false)
     × (has_failed (record b { fails_below = true }) ≡ false) × (failed_first (record a { fails_below = true }) ≡ false) × (first_failures (a ∷ b ∷ a ∷ []) ≡ 0 ∷ 2 ∷ [])
 failed_are = (refl, refl, refl, refl, refl, refl, refl, refl)
+
+-- A target that failed, and one that didn't.
+abbrev failed_at : Option ℕ → Node
+failed_at time = record a { ended = time }
+
+abbrev made_at : Option ℕ → Node
+made_at time = record b { ended = time }
+
+-- Targets that ended first are first, and targets with an unknown end are last. Others are in the order of the tree.
+order_is :
+    (first_failures (failed_at (Some 30) ∷ failed_at (Some 10) ∷ failed_at None ∷ made_at (Some 5) ∷ failed_at (Some 20) ∷ failed_at None ∷ failed_at (Some 10) ∷ []) ≡ 1 ∷ 6 ∷ 4 ∷ 0 ∷ 2 ∷ 5 ∷ [])
+    × (first_failures (failed_at None ∷ made_at None ∷ failed_at (Some 0) ∷ []) ≡ 2 ∷ 0 ∷ [])
+order_is = (refl, refl)
+
+ends_compared :
+    (end_cmp (Some 1) (Some 2) ≡ Less) × (end_cmp (Some 2) (Some 2) ≡ Equal) × (end_cmp (Some 2) (Some 1) ≡ Greater) × (end_cmp (Some 2) None ≡ Less)
+    × (end_cmp None (Some 2) ≡ Greater) × (end_cmp None None ≡ Equal)
+ends_compared = (refl, refl, refl, refl, refl, refl)
+
+-- Equal ends, and unknown ones, are compared by their places.
+failures_compared :
+    (failure_cmp (failed_at (Some 8) ∷ failed_at (Some 8) ∷ []) 0 1 ≡ Less) × (failure_cmp (failed_at None ∷ failed_at None ∷ []) 1 0 ≡ Greater)
+    × (failure_cmp (failed_at None ∷ failed_at (Some 8) ∷ []) 1 0 ≡ Less)
+failures_compared = (refl, refl, refl)
 
 empty_are : (is_empty b ≡ true) × (is_empty a ≡ false) × (is_empty (node 0 None None 0 1 false) ≡ false)
 empty_are = (refl, refl, refl)

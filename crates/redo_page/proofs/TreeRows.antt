@@ -194,7 +194,7 @@ groups = refl
 -- ---- limits
 
 abbrev node : Option ℤ → ℕ → ℕ → Bool → Node
-node status lines bytes fails_below = record { number = 0; parent = None; status = status; lines = lines; bytes = bytes; warnings = 0; below = 0; children = 0; others = true; warnings_below = 0; fails_below = fails_below; silent = 0; took = None }
+node status lines bytes fails_below = record { number = 0; parent = None; status = status; lines = lines; bytes = bytes; warnings = 0; below = 0; children = 0; others = true; warnings_below = 0; fails_below = fails_below; silent = 0; took = None; ended = None }
 
 -- Which targets have an article: those that failed, and none below them.
 abbrev failed : Node
@@ -205,6 +205,12 @@ articles_are :
     × (articles (failed ∷ failed ∷ failed ∷ failed ∷ failed ∷ failed ∷ failed ∷ failed ∷ failed ∷ failed ∷ failed ∷ []) ≡ 0 ∷ 1 ∷ 2 ∷ 3 ∷ 4 ∷ 5 ∷ 6 ∷ 7 ∷ 8 ∷ 9 ∷ [])
 articles_are = (refl, refl)
 
+-- The last one of eleven ended first.
+articles_in_order :
+    articles (failed ∷ failed ∷ failed ∷ failed ∷ failed ∷ failed ∷ failed ∷ failed ∷ failed ∷ failed ∷ record failed { ended = Some 5 } ∷ [])
+    ≡ 10 ∷ 0 ∷ 1 ∷ 2 ∷ 3 ∷ 4 ∷ 5 ∷ 6 ∷ 7 ∷ 8 ∷ []
+articles_in_order = refl
+
 -- Which outputs are short.
 short_are :
     (is_short (node None 0 0 false) ≡ false) × (is_short (node None 1 40000 false) ≡ true) × (is_short (node None 300 600 false) ≡ true)
@@ -214,7 +220,7 @@ short_are = (refl, refl, refl, refl, refl)
 -- What is known of a log that isn't there.
 none_there :
     node_at (failed ∷ []) 1
-    ≡ record { number = 0; parent = None; status = None; lines = 0; bytes = 0; warnings = 0; below = 0; children = 0; others = false; warnings_below = 0; fails_below = false; silent = 0; took = None }
+    ≡ record { number = 0; parent = None; status = None; lines = 0; bytes = 0; warnings = 0; below = 0; children = 0; others = false; warnings_below = 0; fails_below = false; silent = 0; took = None; ended = None }
 none_there = refl
 
 -- A log at depth 59 is nested, and one at depth 60 isn't. The output of the second one is in an article.

@@ -36,7 +36,7 @@ cut_to limit bytes = if nat_le (length bytes) limit then bytes else take (last_w
 abbrev pub max_excerpt_line : ℕ
 max_excerpt_line = 1000
 
--- The end of a line of an excerpt. What is cut is in the tree.
+-- The end of a line of an excerpt. What is cut is in the log.
 unfoldable pub excerpt_line_end : List ℕ → List ℕ
 excerpt_line_end line = if nat_le (length line) max_excerpt_line then codes "\n" else codes " ...\n"
 
@@ -76,11 +76,11 @@ stretches_from kept at (line ∷ lines) =
 unfoldable pub in_tree_parts : ℕ → List ℕ → List Part
 in_tree_parts place text = MarkupPart (markup.TargetLink place) ∷ NamePart text ∷ MarkupPart markup.EndLink ∷ []
 
--- How many lines are left out.
+-- How many lines are left out. They are in the log of the target, which may be cut in the tree.
 unfoldable pub left_out_parts : ℕ → ℕ → List Part
 left_out_parts place count =
     MarkupPart markup.CutParagraph ∷ NumberPart count ∷ NamePart (plural count (codes " more line: ") (codes " more lines: "))
-    ∷ (in_tree_parts place (codes "in the tree") ++ MarkupPart markup.EndParagraph ∷ [])
+    ∷ (in_tree_parts place (codes "in its log") ++ MarkupPart markup.EndParagraph ∷ [])
 
 abbrev pub stretch_parts : ℕ → Stretch → List Part
 stretch_parts place (Shown lines) = MarkupPart markup.Pre ∷ (flat_map excerpt_line_parts lines ++ MarkupPart markup.EndPre ∷ [])

@@ -1,6 +1,6 @@
 -- What the laws state.
-use Rattle.std.specs.Prelude.{◌≡◌, ◌⊎◌, ℕ, zero, suc, ◌+◌, ◌==◌, ◌&&◌, ◌||◌, Bool, true, not, nat_lt, List, [], ◌∷◌, ◌++◌, map, Option, None, Some, codes}
-use Rattle.std.specs.List.{filter, flat_map, list_all, list_any}
+use Rattle.std.specs.Prelude.{◌≡◌, ◌⊎◌, ℕ, zero, suc, ◌+◌, ◌<◌, ◌==◌, ◌||◌, Bool, true, not, List, [], ◌∷◌, ◌++◌, map, Option, None, Some, codes}
+use Rattle.std.specs.List.{AllByRecursion, filter, flat_map, list_any}
 use Rattle.redo_line.specs.declared.entry.Entry.TheVariants.{Text, Done, Note}
 use Rattle.redo_line.specs.Lines.{with_line_feed}
 use Rattle.redo_logs.specs.Logs.{Log, log_number}
@@ -8,20 +8,28 @@ use Rattle.redo_view.specs.Event.{Event}
 use Rattle.redo_view.specs.Event.Event.{Requested, Mentioned, EntryShown}
 use Rattle.redo_html.specs.declared.markup.Markup.{Markup}
 use Rattle.redo_html.specs.declared.markup.Markup.TheVariants.{FailedSection, SummarySection, TimelineSection, TreeSection, FailedLink, SummaryLink, TimelineLink, TreeLink, TargetLink, OutputLink, Article, TargetItem, Details, OpenDetails}
+use Rattle.redo_html.specs.declared.chart.GroupKind.{GroupKind}
 use Rattle.redo_html.specs.Chart.{Drawing, drawing_links}
 use Rattle.redo_html.specs.Html.{is_one_of}
 use Rattle.redo_html.specs.Laws.{IsChartTag, is_mark}
 use Rattle.redo_html.specs.Parts.{Part}
 use Rattle.redo_html.specs.Parts.Part.{MarkupPart, LogPart, ChartPart}
 use Rattle.redo_html.specs.Tags.{markup_text}
+use Rattle.redo_outline.specs.declared.node.Node.{Node}
 use Rattle.redo_outline.specs.Contents.{Contents, contents_of}
 use Rattle.redo_outline.specs.Contents.Contents.{Nothing, Shown, Opened}
 use Rattle.redo_outline.specs.Outline.{log_count}
 use Rattle.redo_page.specs.Failed.{article_parts}
 use Rattle.redo_page.specs.Page.{Request, options_of, page_contents, page_events, page_facts, page_outline}
 use Rattle.redo_page.specs.Timeline.{facts_drawing}
+use Rattle.redo_chart.specs.Laws.{DrawsAll, shapes_of}
+use Rattle.redo_summary.specs.Summary.{is_timed}
+use Rattle.redo_timeline.specs.declared.span.Span.{Span}
 use Rattle.redo_timeline.specs.declared.span.Window.{Window}
-use Rattle.redo_page.specs.Tree.{Build, articles, is_moved_if, is_same_place, tree_parts}
+use Rattle.redo_page.specs.Tree.{Build, articles, is_moved_if, is_same_place, node_at, tree_parts}
+use Rattle.redo_page.specs.Limits.{tree_limits}
+use Rattle.redo_trim.specs.declared.limit.Limit.{Limit}
+use Rattle.redo_trim.specs.Trim.{limit_of}
 
 -- ---- ids and links
 
@@ -86,13 +94,37 @@ abbrev pub numbers_from : ℕ → ℕ → List ℕ
 numbers_from first zero = []
 numbers_from first (suc count) = first ∷ numbers_from (suc first) count
 
--- Whether each number is less than all those after it: so there is none twice.
-abbrev pub is_increasing : List ℕ → Bool
-is_increasing [] = true
-is_increasing (number ∷ numbers) = list_all (nat_lt number) numbers && is_increasing numbers
-
 abbrev pub is_among : List ℕ → ℕ → Bool
 is_among numbers number = list_any (λ other. number == other) numbers
+
+-- ---- what failed
+
+-- Whether one target ended before another. A known end is before an unknown one.
+abbrev pub EndsBefore : Option ℕ → Option ℕ → Type 0
+EndsBefore (Some ended) (Some other) = ended < other
+EndsBefore (Some ended) None = Unit {0}
+EndsBefore None other = ⊥
+
+-- A target ended before another one; or their ends are equal, or both unknown, and it is before the other one in the tree.
+abbrev pub IsListedBefore : List Node → ℕ → ℕ → Type 0
+IsListedBefore nodes place other =
+    EndsBefore (node_at nodes place).ended (node_at nodes other).ended
+    ⊎ (((node_at nodes place).ended ≡ (node_at nodes other).ended) × (place < other))
+
+-- Each target is listed before all those that follow.
+abbrev pub AreInOrderOfEnd : List Node → List ℕ → Type 0
+AreInOrderOfEnd nodes [] = Unit {0}
+AreInOrderOfEnd nodes (place ∷ places) = AllByRecursion (IsListedBefore nodes place) places × AreInOrderOfEnd nodes places
+
+-- ---- charts
+
+-- The charts of parts.
+abbrev pub part_chart : Part → List Drawing
+part_chart (ChartPart drawing) = drawing ∷ []
+part_chart part = []
+
+abbrev pub charts : List Part → List Drawing
+charts parts = flat_map part_chart parts
 
 -- ---- text lines
 
@@ -147,6 +179,11 @@ module _ (request : Request) (logs : List Log) (requested : List (List ℕ)) whe
   abbrev pub kept_lines : List PlacedLine
   kept_lines = placed_lines None 0 (page_contents request logs requested)
 
+  -- The limit of the log at a place.
+  abbrev pub page_limit : ℕ → Limit
+  page_limit place =
+      limit_of (tree_limits logs (options_of request) (page_outline request logs requested) request.max_bytes) (node_at (page_outline request logs requested) place).number
+
   abbrev pub page_tree : List Part
   page_tree = tree_parts logs (options_of request) (page_outline request logs requested) (page_contents request logs requested)
 
@@ -156,6 +193,14 @@ module _ (request : Request) (logs : List Log) (requested : List (List ℕ)) whe
   -- The chart of a page with this window.
   abbrev pub page_chart : Window → Drawing
   page_chart window = facts_drawing logs (page_outline request logs requested) (page_facts request logs requested) window
+
+  -- Whether the page has a timeline, with this window.
+  abbrev pub HasTimeline : Window → Type 0
+  HasTimeline window = ((page_facts request logs requested).window ≡ Some window) × (is_timed (page_facts request logs requested) ≡ true)
+
+  -- Whether the chart draws these spans as its bars of one kind, in at most `max_lanes` lanes.
+  abbrev pub ChartDraws : Window → GroupKind → ℕ → List Span → Type 0
+  ChartDraws window kind max_lanes spans = DrawsAll logs (page_outline request logs requested) window kind max_lanes spans (shapes_of kind (page_chart window))
 
 -- Whether these parts are in others, next to each other.
 pub record IsPartOf (inner whole : List Part) : Type 0 where

@@ -1,5 +1,5 @@
 -- The page of a build.
-use Rattle.std.specs.Prelude.{ℕ, Bool, true, false, List, [], ◌++◌, Option, length, map}
+use Rattle.std.specs.Prelude.{ℕ, Bool, true, false, List, [], ◌++◌, length, map}
 use Rattle.std.specs.List.{flat_map}
 use Rattle.redo_logs.specs.Logs.{Log}
 use Rattle.redo_options.specs.declared.options.Options.{Options}
@@ -7,8 +7,9 @@ use Rattle.redo_view.specs.Event.{Event}
 use Rattle.redo_view.specs.Expansion.{shown_events}
 use Rattle.redo_html.specs.Parts.{Part, part_html}
 use Rattle.redo_outline.specs.declared.node.Node.{Node}
+use Rattle.redo_outline.specs.declared.node.RunTimes.{RunTimes}
 use Rattle.redo_outline.specs.Contents.{Contents, contents_of}
-use Rattle.redo_outline.specs.Outline.{outline_of, with_duration}
+use Rattle.redo_outline.specs.Outline.{outline_of, with_times}
 use Rattle.redo_page.specs.Failed.{failed_parts}
 use Rattle.redo_page.specs.Frame.{command, head_parts, header_parts, footer_parts, title_text, verdict_of, verdict_text}
 use Rattle.redo_page.specs.declared.frame.Verdict.{Verdict}
@@ -57,9 +58,9 @@ heading_of nodes = verdict_text (verdict_of nodes) nodes
 abbrev pub top_parts : List ℕ → List Log → List Node → Facts → List Part
 top_parts title logs nodes facts = top_parts_of title logs (verdict_of nodes) (title_text title (verdict_of nodes) (heading_of nodes)) (heading_of nodes) nodes facts
 
--- How long each target took, by the number of its log.
-abbrev pub durations_of : List Times → List (Option ℕ)
-durations_of times = map (λ (t : Times). time_between t.began t.ended) times
+-- How long a target took, and when it ended.
+abbrev pub run_times : Times → RunTimes
+run_times times = record { took = time_between times.began times.ended; ended = times.ended }
 
 -- What the tree shows, without the middle of long logs, so that it has about `budget` bytes of text lines.
 abbrev pub tree_contents : List Log → Options → ℕ → List (List ℕ) → List Node → Contents
@@ -74,7 +75,7 @@ module _ (request : Request) (logs : List Log) (requested : List (List ℕ)) whe
   page_events = shown_events logs (options_of request) requested
 
   abbrev pub page_outline : List Node
-  page_outline = map (with_duration (durations_of request.times)) (outline_of logs page_events)
+  page_outline = map (with_times (map run_times request.times)) (outline_of logs page_events)
 
   -- What the times of the shown targets say.
   abbrev pub page_facts : Facts

@@ -1,6 +1,9 @@
 -- The tree of a page: each log where its target is mentioned first, with what it contains.
 use Rattle.std.specs.Prelude.{ℕ, suc, ◌+◌, ◌-◌, ◌==◌, ◌||◌, ◌&&◌, not, nat_le, nat_lt, Bool, true, false, ℤ, List, [], ◌∷◌, ◌++◌, Option, None, Some, codes, bytes_eq, length, position, option_and_then, slice_index_or, take, if◌then◌else◌}
+use Rattle.std.specs.declared.cmp.Ordering.{Ordering}
+use Rattle.std.specs.declared.cmp.Ordering.TheVariants.{Less, Equal, Greater}
 use Rattle.std.specs.List.{list_any}
+use Rattle.std.specs.Ordering.{nat_cmp, ordering_then}
 use Rattle.redo_line.specs.declared.entry.Entry.{Entry}
 use Rattle.redo_line.specs.declared.entry.Entry.TheVariants.{Text, Done, Note}
 use Rattle.redo_line.specs.declared.entry.How.{How}
@@ -19,6 +22,7 @@ use Rattle.redo_outline.specs.Contents.{Contents}
 use Rattle.redo_outline.specs.Contents.Contents.{Nothing, Shown, Opened}
 use Rattle.redo_outline.specs.Facts.{is_failure}
 use Rattle.redo_outline.specs.Outline.{log_count}
+use Rattle.redo_timeline.specs.Order.{sort}
 use Rattle.redo_page.specs.declared.block.Pending.{Pending}
 use Rattle.redo_page.specs.declared.block.Pending.TheVariants as pending
 use Rattle.redo_page.specs.declared.level.Level.{Level}
@@ -27,7 +31,7 @@ use Rattle.redo_page.specs.Targets.{parts_if, name_parts, linked_parts, exit_par
 use Rattle.redo_outline.specs.Facts.{target_at}
 
 abbrev pub no_node : Node
-no_node = record { number = 0; parent = None; status = None; lines = 0; bytes = 0; warnings = 0; below = 0; children = 0; others = false; warnings_below = 0; fails_below = false; silent = 0; took = None }
+no_node = record { number = 0; parent = None; status = None; lines = 0; bytes = 0; warnings = 0; below = 0; children = 0; others = false; warnings_below = 0; fails_below = false; silent = 0; took = None; ended = None }
 
 abbrev pub node_at : List Node → ℕ → Node
 node_at nodes place = slice_index_or nodes place no_node
@@ -45,13 +49,25 @@ has_failed node = is_failure node.status
 abbrev pub failed_first : Node → Bool
 failed_first node = has_failed node && not node.fails_below
 
--- The places of the targets that failed first.
+-- The places of the targets that failed with none below them, in the order of the tree.
 abbrev pub first_failures_from : ℕ → List Node → List ℕ
 first_failures_from place [] = []
 first_failures_from place (node ∷ nodes) = (if failed_first node then place ∷ [] else []) ++ first_failures_from (suc place) nodes
 
+-- The target that ended first is first. Targets of which it is unknown when they ended are last.
+abbrev pub end_cmp : Option ℕ → Option ℕ → Ordering
+end_cmp (Some ended) (Some other) = nat_cmp ended other
+end_cmp (Some ended) None = Less
+end_cmp None (Some other) = Greater
+end_cmp None None = Equal
+
+-- Targets by when they ended, and then in the order of the tree.
+abbrev pub failure_cmp : List Node → ℕ → ℕ → Ordering
+failure_cmp nodes place other = ordering_then (end_cmp (node_at nodes place).ended (node_at nodes other).ended) (nat_cmp place other)
+
+-- The same places, in the order in which the targets ended.
 abbrev pub first_failures : List Node → List ℕ
-first_failures nodes = first_failures_from 0 nodes
+first_failures nodes = sort (failure_cmp nodes) (first_failures_from 0 nodes)
 
 -- The targets that have an article at the top of the page.
 abbrev pub max_articles : ℕ

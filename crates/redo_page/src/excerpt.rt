@@ -176,7 +176,7 @@ fn write_left_out<W: Sink>(place: usize, count: usize, page: &mut PageWriter<'_,
         Piece::Number(count as u64),
         Piece::Name(plural(count as u64, b" more line: ", b" more lines: ")),
     ]);
-    write_in_tree(place, b"in the tree", page);
+    write_in_tree(place, b"in its log", page);
     page.put(&[Piece::Markup(Markup::EndParagraph)]);
 }
 

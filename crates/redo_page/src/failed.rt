@@ -4,7 +4,8 @@ ghost use Rattle.std.specs.List.{flat_map};
 ghost use Rattle.redo_html.specs.declared.markup.Markup.TheVariants.{EndDetails, EndOrdered, Ordered, OrderedFrom};
 ghost use Rattle.redo_html.specs.Parts.Part.{MarkupPart};
 ghost use Rattle.redo_page.specs.Failed.{AreFailures, article_parts, article_row, cause_if, failed_above, failed_parts, is_unclosed, list_parts, more_parts, places_where, row_parts, section_parts, target_row, unlisted_parts};
-ghost use Rattle.redo_page.specs.Tree.{first_failures};
+ghost use Rattle.redo_page.specs.Tree.{end_cmp, failure_cmp, first_failures};
+ghost use Rattle.redo_timeline.specs.Order.{sort};
 ghost use Rattle.redo_page.specs.Private.Writing.{WroteParts};
 
 use crate::article::{write_article, write_cause, write_target};
@@ -16,6 +17,7 @@ use redo_html::{Markup, Piece};
 use redo_logs::LogTable;
 use redo_outline::Node;
 use std::alloc::{AllocError, Global};
+use std::cmp::Ordering;
 
 /// The first failures that have articles, at most.
 pub const MAX_ARTICLES: usize = 10;
@@ -25,7 +27,7 @@ const MAX_ROWS: usize = 200;
 /// The places of the targets that the section names.
 #[derive(Drop)]
 pub struct Failures {
-    /// Targets that failed without a failure below them. The first ten have articles.
+    /// Targets that failed without a failure below them, in the order in which they ended. The first ten have articles.
     pub first: Vec<usize>,
     /// Targets that failed with a failure below them.
     pub above: Vec<usize>,
@@ -57,7 +59,33 @@ fn first_failures(alloc: Global, nodes: &[Node]) -> Result<Vec<usize>, AllocErro
             places.push(place)?;
         }
     }
+    sort_by_end(nodes, &mut places);
     Ok(places)
+}
+
+// Sorts places of targets by when the targets ended.
+fn sort_by_end(nodes: &[Node], places: &mut Vec<usize>)
+    ensures { places.new.items ≡ sort (failure_cmp nodes.now) places.old.items }
+{
+    places.sort_unstable_by(|place, other| failure_cmp(nodes, *place, *other));
+}
+
+fn failure_cmp(nodes: &[Node], place: usize, other: usize) -> Ordering
+    ensures { result ≡ failure_cmp nodes.now place other }
+{
+    let by_end = end_cmp(node_at(nodes, place).ended, node_at(nodes, other).ended);
+    by_end.then(place.cmp(&other))
+}
+
+fn end_cmp(ended: Option<u64>, other: Option<u64>) -> Ordering
+    ensures { result ≡ end_cmp ended other }
+{
+    match (ended, other) {
+        (Some(ended), Some(other)) => ended.cmp(&other),
+        (Some(_), None) => Ordering::Less,
+        (None, Some(_)) => Ordering::Greater,
+        (None, None) => Ordering::Equal,
+    }
 }
 
 fn failures_above(alloc: Global, nodes: &[Node]) -> Result<Vec<usize>, AllocError>

@@ -1,6 +1,7 @@
 //! Laws about the definitions alone: their contracts are theorems, and their bodies are empty or cite laws of other crates.
-ghost use Rattle.std.specs.Prelude.{◌≡◌, ℕ, true, [], ◌∷◌, List, None, Some, length};
-ghost use Rattle.std.specs.List.{All, flat_map, list_all};
+ghost use Rattle.std.specs.Prelude.{◌≡◌, ℕ, true, [], ◌∷◌, ◌++◌, List, None, Some, length, nat_eq, ◌<◌, ◌≤◌, false, ◌^◌};
+ghost use Rattle.std.specs.List.{All, IsDistinct, flat_map, list_all};
+ghost use Rattle.std.specs.List.Sorted.{IsPermutation};
 ghost use Rattle.redo_html.specs.Html.{nests_in, read, tags_of, text_of};
 ghost use Rattle.redo_html.specs.Parts.{part_text, part_tokens};
 ghost use Rattle.redo_logs.specs.Logs.{Log};
@@ -8,17 +9,18 @@ ghost use Rattle.redo_options.specs.declared.options.Options.{Options};
 ghost use Rattle.redo_view.specs.View.{find_unknown};
 ghost use Rattle.redo_outline.specs.declared.node.Node.{Node};
 ghost use Rattle.redo_outline.specs.Contents.{Contents};
-ghost use Rattle.redo_page.specs.Laws.{HaveSameLogs, IsOwnTag, IsPartOf, article_ids, article_links, blanked, event_lines, is_among, is_increasing, kept_lines, lines_at, log_bytes, markups, numbers_from, page_article, page_chart, page_lines, page_tree, placed_bytes, section_ids, section_links, target_ids, target_links, texts_of, unmoved_lines};
+ghost use Rattle.redo_page.specs.Laws.{AreInOrderOfEnd, HaveSameLogs, IsOwnTag, IsPartOf, article_ids, article_links, blanked, event_lines, is_among, kept_lines, lines_at, log_bytes, markups, numbers_from, page_article, page_chart, page_lines, page_tree, placed_bytes, section_ids, section_links, target_ids, target_links, texts_of, unmoved_lines, charts, ChartDraws, HasTimeline, page_limit};
+ghost use Rattle.redo_page.specs.Failed.{failed_above, places_where};
+ghost use Rattle.redo_page.specs.Limits.{bytes_shown, highest_level};
 ghost use Rattle.redo_page.specs.Page.{Request, page_build, page_events, page_facts, page_html, page_outline, page_parts};
-ghost use Rattle.redo_page.specs.Tree.{articles, is_moved, tree_parts};
-ghost use Rattle.redo_chart.specs.Bands.{max_parent_lanes, max_recipe_lanes};
+ghost use Rattle.redo_page.specs.Tree.{articles, first_failures, has_failed, is_moved, tree_parts};
+ghost use Rattle.redo_chart.specs.Bands.{max_parent_lanes, max_recipe_lanes, max_mark_lanes};
 ghost use Rattle.redo_chart.specs.Laws.{DrawsAll, shapes_of};
-ghost use Rattle.redo_html.specs.declared.chart.GroupKind.TheVariants.{Parents, Recipes};
-ghost use Rattle.redo_html.specs.Parts.Part.{ChartPart};
+ghost use Rattle.redo_html.specs.declared.chart.GroupKind.TheVariants.{Parents, Recipes, Untimed};
+ghost use Rattle.redo_trim.specs.Laws.{head_and_tail};
 ghost use Rattle.redo_summary.specs.Laws.{AreSplit};
-ghost use Rattle.redo_summary.specs.Summary.{is_timed};
 ghost use Rattle.redo_timeline.specs.declared.span.Window.{Window};
-ghost use Rattle.redo_page.specs.Timeline.{facts_drawing};
+ghost use Rattle.redo_page.specs.Timeline.{facts_drawing, has_timeline};
 
 use redo_chart::{bars_lead_to_places, bars_say_when_targets_ran};
 use redo_html::{
@@ -27,7 +29,7 @@ use redo_html::{
 };
 use redo_outline::events_are_in_contents;
 use redo_summary::{places_are_of_nodes, spans_are_parents_or_recipes};
-use redo_trim::{trimmed_events_are_in_tree, unlimited_logs_are_whole};
+use redo_trim::{head_and_tail_are_kept, trimmed_events_are_in_tree, unlimited_logs_are_whole};
 use redo_view::logs_show_their_lines;
 
 /// A browser reads a page as its parts: each tag as itself, and everything else as text, in order.
@@ -57,7 +59,7 @@ pub fn links_lead_to_ids()
     ensures articles { (request : Request) (logs : List Log) (requested : List (List ℕ)) →
         article_ids (page_parts request logs requested) ≡ articles (page_outline request logs requested) }
     ensures articles_once { (request : Request) (logs : List Log) (requested : List (List ℕ)) →
-        is_increasing (article_ids (page_parts request logs requested)) ≡ true }
+        IsDistinct nat_eq (article_ids (page_parts request logs requested)) }
     ensures target_links { (request : Request) (logs : List Log) (requested : List (List ℕ)) →
         list_all (is_among (target_ids (page_parts request logs requested))) (target_links (page_parts request logs requested)) ≡ true }
     ensures article_links { (request : Request) (logs : List Log) (requested : List (List ℕ)) →
@@ -70,10 +72,18 @@ pub fn links_lead_to_ids()
     trimmed_events_are_in_tree();
 }
 
+/// Each target that failed is exactly once among the first failures or among those above them. The first failures are in the order in
+/// which the targets ended. Targets with an unknown end follow all others. Equal ends, and unknown ones, are in the order of the tree.
+pub fn failures_are_listed()
+    ensures listed { (nodes : List Node) →
+        IsPermutation (places_where has_failed 0 nodes) (first_failures nodes ++ places_where failed_above 0 nodes) }
+    ensures in_order { (nodes : List Node) → AreInOrderOfEnd nodes (first_failures nodes) }
+{}
+
 /// The contents of a page have the text lines of the events, each once and in order, if each requested target has a log. The tree shows
 /// those that are left of long logs, in order, except the lines of logs whose output is in an article. Such an article shows exactly the
-/// lines of its log. Nothing is left out if the number of bytes isn't limited. [`redo_trim::head_and_tail_are_kept`] states which lines
-/// of a long log are left.
+/// lines of its log. Nothing is left out if the number of bytes isn't limited, or if all logs together don't have more bytes. Otherwise,
+/// the head and the tail of each log are left, as the limit of this log says.
 pub fn lines_are_shown()
     ensures complete { (request : Request) (logs : List Log) (requested : List (List ℕ)) → find_unknown logs requested ≡ None →
         texts_of (page_lines request logs requested) ≡ flat_map event_lines (page_events request logs requested) }
@@ -82,6 +92,13 @@ pub fn lines_are_shown()
         ≡ placed_bytes (unmoved_lines (page_build request logs requested) (kept_lines request logs requested)) }
     ensures whole { (request : Request) (logs : List Log) (requested : List (List ℕ)) → request.max_bytes ≡ 0 →
         find_unknown logs requested ≡ None → kept_lines request logs requested ≡ page_lines request logs requested }
+    ensures fitting { (request : Request) (logs : List Log) (requested : List (List ℕ)) →
+        bytes_shown None (page_outline request logs requested) ≤ request.max_bytes → find_unknown logs requested ≡ None →
+        kept_lines request logs requested ≡ page_lines request logs requested }
+    ensures cut { (request : Request) (logs : List Log) (requested : List (List ℕ)) → request.max_bytes < 2 ^ 64 →
+        find_unknown logs requested ≡ None → (place : ℕ) → place < length (page_outline request logs requested) →
+        texts_of (lines_at place (kept_lines request logs requested))
+        ≡ head_and_tail (page_limit request logs requested place) (texts_of (lines_at place (page_lines request logs requested))) }
     ensures has_tree { (request : Request) (logs : List Log) (requested : List (List ℕ)) →
         IsPartOf (page_tree request logs requested) (page_parts request logs requested) }
     ensures articles { (request : Request) (logs : List Log) (requested : List (List ℕ)) → find_unknown logs requested ≡ None →
@@ -95,7 +112,15 @@ pub fn lines_are_shown()
     logs_show_their_lines();
     trimmed_events_are_in_tree();
     unlimited_logs_are_whole();
+    head_and_tail_are_kept();
 }
+
+/// Logs that have too many bytes together are cut at the highest level at which they show at most `budget` bytes.
+pub fn level_is_highest()
+    ensures fits { (budget : ℕ) (nodes : List Node) → bytes_shown (Some (highest_level budget nodes)) nodes ≤ budget }
+    ensures highest { (budget level : ℕ) (nodes : List Node) → highest_level budget nodes < level → level ≤ budget →
+        budget < bytes_shown (Some level) nodes }
+{}
 
 /// Each tag of a page is its own: none comes from a log or a name. The tags of the tree depend only on the outline, on which kind each event
 /// is, on numbers and on the lengths of text lines: they stay the same if targets are renamed, and notes and text lines are blanked.
@@ -111,21 +136,28 @@ pub fn tags_are_its_own()
     charts_have_no_text_in_tags();
 }
 
-/// If a page has a timeline, its chart shows when each target ran: the span of each shown target whose times are known is in exactly one
-/// bar. This bar includes the span, is at least 0.1 % of the chart wide, and says how long the span is, or how many targets it shows.
+/// If a page has a timeline, it has one chart, and otherwise none. The chart shows when each target ran: the span of each shown target
+/// whose times are known is in exactly one bar. This bar begins when the first of its spans began, and leads to the target of that one. It
+/// is as wide as the time until the last of them ended, but at least 0.1 % of the chart. What its tooltip says is `title_of` of its spans.
+/// The chart shows marks in the same way.
 pub fn times_are_shown()
     ensures chart { (request : Request) (logs : List Log) (requested : List (List ℕ)) (window : Window) →
-        (page_facts request logs requested).window ≡ Some window → is_timed (page_facts request logs requested) ≡ true →
-        IsPartOf (ChartPart (page_chart request logs requested window) ∷ []) (page_parts request logs requested) }
+        HasTimeline request logs requested window →
+        charts (page_parts request logs requested) ≡ page_chart request logs requested window ∷ [] }
+    ensures no_chart { (request : Request) (logs : List Log) (requested : List (List ℕ)) →
+        has_timeline (page_facts request logs requested) ≡ false → charts (page_parts request logs requested) ≡ [] }
     ensures spans { (request : Request) (logs : List Log) (requested : List (List ℕ)) →
         AreSplit (page_outline request logs requested) request.times (page_facts request logs requested) }
     ensures parents { (request : Request) (logs : List Log) (requested : List (List ℕ)) (window : Window) →
-        DrawsAll logs (page_outline request logs requested) window Parents max_parent_lanes (page_facts request logs requested).parents
-        (shapes_of Parents (page_chart request logs requested window)) }
+        ChartDraws request logs requested window Parents max_parent_lanes (page_facts request logs requested).parents }
     ensures recipes { (request : Request) (logs : List Log) (requested : List (List ℕ)) (window : Window) →
-        DrawsAll logs (page_outline request logs requested) window Recipes max_recipe_lanes (page_facts request logs requested).recipes
-        (shapes_of Recipes (page_chart request logs requested window)) }
+        ChartDraws request logs requested window Recipes max_recipe_lanes (page_facts request logs requested).recipes }
+    ensures marks { (request : Request) (logs : List Log) (requested : List (List ℕ)) (window : Window) →
+        ChartDraws request logs requested window Untimed max_mark_lanes (page_facts request logs requested).marks }
 {
     spans_are_parents_or_recipes();
     bars_say_when_targets_ran();
+    places_are_of_nodes();
+    bars_lead_to_places();
+    trimmed_events_are_in_tree();
 }

@@ -26,7 +26,8 @@ mod words;
 mod writer;
 
 pub use laws::{
-    lines_are_shown, links_lead_to_ids, page_is_read, tags_are_its_own, tags_nest, times_are_shown,
+    failures_are_listed, lines_are_shown, links_lead_to_ids, page_is_read, tags_are_its_own,
+    tags_nest, times_are_shown,
 };
 pub use page::{PageRequest, write_page};
 pub use redo_view::FormFault;

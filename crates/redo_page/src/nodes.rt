@@ -18,6 +18,7 @@ const NO_NODE: Node = Node {
     fails_below: false,
     silent: 0,
     took: None,
+    ended: None,
 };
 
 /// Returns what is known of the log at a place.

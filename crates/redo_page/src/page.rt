@@ -1,5 +1,5 @@
 //! The page of a build.
-ghost use Rattle.std.specs.Prelude.{◌≡◌, true, None, IfOk, length};
+ghost use Rattle.std.specs.Prelude.{◌≡◌, true, None, IfOk, length, map};
 ghost use Rattle.std.specs.List.{flat_map, list_all};
 ghost use Rattle.redo_device.specs.Sink.{Writes};
 ghost use Rattle.redo_html.specs.Parts.{part_html};
@@ -12,7 +12,7 @@ ghost use Rattle.redo_view.specs.Expansion.{shown_events};
 ghost use Rattle.redo_page.specs.Frame.{footer_parts};
 ghost use Rattle.redo_page.specs.Tree.{articles};
 ghost use Rattle.redo_page.specs.Failed.{AreFailures};
-ghost use Rattle.redo_page.specs.Page.{body_parts, durations_of, options_of, page_html, page_outline, request_of, top_parts_of};
+ghost use Rattle.redo_page.specs.Page.{body_parts, options_of, page_html, page_outline, request_of, run_times, top_parts_of};
 ghost use Rattle.redo_summary.specs.Targets.{time_between};
 ghost use Rattle.redo_page.specs.Private.PageTexts.{AreTexts};
 ghost use Rattle.redo_page.specs.Private.Writing.{WroteParts};
@@ -26,7 +26,7 @@ use crate::writer::PageWriter;
 use redo_device::{Broken, Sink};
 use redo_line::TargetName;
 use redo_logs::LogTable;
-use redo_outline::{Node, Outline};
+use redo_outline::{Node, Outline, RunTimes};
 use redo_summary::Summary;
 use redo_times::Times;
 use redo_view::{FormFault, Options, Render};
@@ -83,7 +83,7 @@ impl Render for PageRequest<'_> {
     }
 }
 
-// Makes the outline of what is shown, with how long each target took.
+// Makes the outline of what is shown, with how long each target took, and when it ended.
 fn outline_of(
     alloc: Global,
     table: &LogTable,
@@ -96,17 +96,26 @@ fn outline_of(
     requires options { options.now ≡ options_of (request_of request.now) }
     ensures { IfOk result (λ outline. outline ≡ page_outline (request_of request.now) table.now requested.now) }
 {
-    let durations = durations_of(alloc, request.times)?;
+    let times = all_run_times(alloc, request.times)?;
     let mut outline = Outline::new(alloc, table, options, requested)?;
-    outline.set_durations(&durations);
+    outline.set_times(&times);
     Ok(outline)
 }
 
-// Returns how long each target took, by the number of its log.
-fn durations_of(alloc: Global, times: &[Times]) -> Result<Vec<Option<u64>>, AllocError>
-    ensures { IfOk result (λ durations. durations.items ≡ durations_of times.now) }
+// Returns how long each target took, and when it ended, by the number of its log.
+fn all_run_times(alloc: Global, times: &[Times]) -> Result<Vec<RunTimes>, AllocError>
+    ensures { IfOk result (λ all. all.items ≡ map run_times times.now) }
 {
-    times.iter().map(|times| time_between(times)).collect(alloc)
+    times.iter().map(|times| run_times(times)).collect(alloc)
+}
+
+fn run_times(times: &Times) -> RunTimes
+    ensures { result ≡ run_times times.now }
+{
+    RunTimes {
+        took: time_between(times),
+        ended: times.ended,
+    }
 }
 
 fn time_between(times: &Times) -> Option<u64>

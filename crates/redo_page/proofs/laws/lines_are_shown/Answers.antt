@@ -1,20 +1,26 @@
-use Rattle.std.proofs.Common.{◌≡◌, ℕ, zero, suc, ◌<◌, true, List, [], ◌∷◌, Option, None, Some, length, map, refl, ◌∙◌, ap, sym, subst}
+use Rattle.std.proofs.Common.{◌≡◌, ℕ, zero, suc, ◌<◌, true, List, [], ◌∷◌, None, Some, length, map, refl, ◌∙◌, ap, sym, subst}
 use Rattle.std.proofs.lemmas.List.{length-map}
-use Rattle.redo_outline.specs.Outline.{outline_of, with_duration}
+use Rattle.redo_outline.specs.Outline.{outline_of, with_times}
 use Rattle.std.specs.List.{flat_map}
 use Rattle.std.proofs.lemmas.Bool.{and_parts}
 use Rattle.redo_line.specs.Lines.{with_line_feed}
 use Rattle.redo_logs.specs.Logs.{Log}
 use Rattle.redo_outline.specs.Contents.{contents_of}
 use Rattle.redo_outline.specs.declared.node.Node.{Node}
+use Rattle.redo_outline.specs.declared.node.RunTimes.{RunTimes}
 use Rattle.redo_outline.specs.Facts.{entries_at, target_status, texts_of}
 use Rattle.redo_view.specs.LogLines.{lines_left_after}
+use Rattle.redo_page.specs.Laws as laws
 use Rattle.redo_page.specs.Laws.{event_lines, lines_at, log_bytes, page_article, page_lines, placed_bytes, placed_lines}
-use Rattle.redo_page.specs.Page.{Request, durations_of, options_of, page_build, page_contents, page_events, page_outline}
+use Rattle.redo_page.specs.Page.{Request, options_of, page_build, page_contents, page_events, page_outline, run_times}
 use Rattle.redo_page.specs.Tree.{articles, has_article, is_moved, is_short, node_at}
 use Rattle.redo_page.specs.Limits.{tree_limits}
 use Rattle.redo_trim.specs.declared.limit.Limit.{Limit}
-use Rattle.redo_trim.specs.Trim.{trim}
+use Rattle.redo_trim.specs.Laws.{head_and_tail}
+use Rattle.redo_trim.specs.Trim.{limit_of, trim}
+use Rattle.redo_view.specs.Event.{Event}
+use Rattle.redo_page.proofs.KeptLines.{bytes_small, fitting_limits, limits_fit, lines_left, nodes_small}
+use Rattle.redo_page.proofs.PageIds.{outline_counted}
 use Rattle.redo_page.proofs.FailedIds.{articles_below}
 use Rattle.redo_page.proofs.TreeLines.{tree_text}
 use Rattle.redo_page.proofs.FailedLines.{article_text}
@@ -32,10 +38,10 @@ pub returns-clause-tree : goal.returns-clause-tree
 returns-clause-tree c = λ request logs requested. tree_text logs (options_of request) (page_outline request logs requested) (page_contents request logs requested)
 
 -- A node keeps its number.
-same_number : (durations : List (Option ℕ)) (nodes : List Node) (place : ℕ) → (node_at (map (with_duration durations) nodes) place).number ≡ (node_at nodes place).number
-same_number durations [] place = refl
-same_number durations (node ∷ nodes) zero = refl
-same_number durations (node ∷ nodes) (suc place) = same_number durations nodes place
+same_number : (times : List RunTimes) (nodes : List Node) (place : ℕ) → (node_at (map (with_times times) nodes) place).number ≡ (node_at nodes place).number
+same_number times [] place = refl
+same_number times (node ∷ nodes) zero = refl
+same_number times (node ∷ nodes) (suc place) = same_number times nodes place
 
 -- An article shows the lines of its log, if these are moved to it.
 moved_text : (request : Request) (logs : List Log) (requested : List (List ℕ)) → lines_left_after logs [] (page_events request logs requested) ≡ Some []
@@ -45,8 +51,8 @@ moved_text request logs requested shown place moved =
     let nodes = page_outline request logs requested in
     let parts = and_parts (has_article (page_build request logs requested) place) (is_short (node_at nodes place)) moved in
     article_text logs nodes place parts.1
-    ∙ ap (λ (number : ℕ). flat_map with_line_feed (texts_of (entries_at number logs))) (same_number (durations_of request.times) (outline_of logs events) place)
-    ∙ ap (flat_map with_line_feed) (lines_of_place logs (target_status logs events) (contents_of events) place (contents_have_lines logs events shown) (subst (λ (n : ℕ). place < n) (length-map (outline_of logs events) (with_duration (durations_of request.times))) (among_below (length nodes) (articles nodes) place (articles_below nodes) parts.0)))
+    ∙ ap (λ (number : ℕ). flat_map with_line_feed (texts_of (entries_at number logs))) (same_number (map run_times request.times) (outline_of logs events) place)
+    ∙ ap (flat_map with_line_feed) (lines_of_place logs (target_status logs events) (contents_of events) place (contents_have_lines logs events shown) (subst (λ (n : ℕ). place < n) (length-map (outline_of logs events) (with_times (map run_times request.times))) (among_below (length nodes) (articles nodes) place (articles_below nodes) parts.0)))
 
 pub returns-clause-articles : goal.returns-clause-articles
 returns-clause-articles c = λ request logs requested known place moved. moved_text request logs requested (c.logs_show_their_lines.ensures logs (options_of request) requested known) place moved
@@ -58,11 +64,35 @@ pub returns-clause-has_articles : goal.returns-clause-has_articles
 returns-clause-has_articles c = λ request logs requested place moved.
     page_has_article request logs requested place (and_parts (has_article (page_build request logs requested) place) (is_short (node_at (page_outline request logs requested) place)) moved).0
 
+-- Nothing is left out without limits.
+unlimited : (logs : List Log) (events : List Event) (limits : List Limit) → limits ≡ [] → trim [] [] (contents_of events) ≡ contents_of events → placed_lines None 0 (trim limits [] (contents_of events)) ≡ placed_lines None 0 (contents_of events)
+unlimited logs events limits none same = ap (λ (l : List Limit). placed_lines None 0 (trim l [] (contents_of events))) none ∙ ap (placed_lines None 0) same
+
 pub returns-clause-whole : goal.returns-clause-whole
-returns-clause-whole c = λ request logs requested unlimited known.
+returns-clause-whole c = λ request logs requested no_limit known.
     let events = page_events request logs requested in
     let nodes = page_outline request logs requested in
-    let no_limits : tree_limits logs (options_of request) nodes request.max_bytes ≡ [] = ap (tree_limits logs (options_of request) nodes) unlimited in
     let same = c.events_are_in_contents.ensures logs (options_of request) requested known in
-    ap (λ (limits : List Limit). placed_lines None 0 (trim limits [] (contents_of events))) no_limits
-    ∙ ap (placed_lines None 0) (sym (c.trimmed_events_are_in_tree.ensures.tree [] events same) ∙ ap contents_of (c.unlimited_logs_are_whole.ensures [] events tt))
+    unlimited logs events (tree_limits logs (options_of request) nodes request.max_bytes) (ap (tree_limits logs (options_of request) nodes) no_limit)
+    (sym (c.trimmed_events_are_in_tree.ensures.tree [] events same) ∙ ap contents_of (c.unlimited_logs_are_whole.ensures [] events tt))
+
+pub returns-clause-fitting : goal.returns-clause-fitting
+returns-clause-fitting c = λ request logs requested fit known.
+    let events = page_events request logs requested in
+    let nodes = page_outline request logs requested in
+    let same = c.events_are_in_contents.ensures logs (options_of request) requested known in
+    unlimited logs events (tree_limits logs (options_of request) nodes request.max_bytes) (fitting_limits logs (options_of request) nodes request.max_bytes fit)
+    (sym (c.trimmed_events_are_in_tree.ensures.tree [] events same) ∙ ap contents_of (c.unlimited_logs_are_whole.ensures [] events tt))
+
+pub returns-clause-cut : goal.returns-clause-cut
+returns-clause-cut c = λ request logs requested small known place below.
+    let events = page_events request logs requested in
+    let nodes = page_outline request logs requested in
+    let options = options_of request in
+    let status = target_status logs events in
+    let limits = tree_limits logs options nodes request.max_bytes in
+    let have = contents_have_lines logs events (c.logs_show_their_lines.ensures logs options requested known) in
+    let fit = limits_fit logs options nodes request.max_bytes small (bytes_small (map run_times request.times) (outline_of logs events) (nodes_small logs status None 0 (contents_of events))) in
+    lines_left logs limits (c.head_and_tail_are_kept.ensures.kept limits) fit status (contents_of events) have (c.trimmed_events_are_in_tree.ensures.logs limits (contents_of events)) place
+    (subst (λ (n : ℕ). place < n) (outline_counted request logs requested) below)
+    ∙ ap (λ (number : ℕ). head_and_tail (limit_of limits number) (laws.texts_of (lines_at place (page_lines request logs requested)))) (sym (same_number (map run_times request.times) (outline_of logs events) place))

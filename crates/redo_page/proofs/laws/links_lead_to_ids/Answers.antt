@@ -1,7 +1,8 @@
-use Rattle.std.proofs.Common.{◌∙◌, ap}
-use Rattle.redo_page.specs.Laws.{is_increasing}
+use Rattle.std.proofs.Common.{sym, subst}
+use Rattle.std.specs.Prelude.{nat_eq}
+use Rattle.std.specs.List.{IsDistinct}
 use Rattle.redo_page.specs.Page.{page_outline}
-use Rattle.redo_page.proofs.FailedIds.{articles_increase}
+use Rattle.redo_page.proofs.FailedOrder.{articles_distinct}
 use Rattle.redo_page.proofs.PageIds.{page_target_ids, page_article_ids, page_target_links, page_article_links, page_section_links}
 use Rattle.redo_page.proofs.laws.links_lead_to_ids.Goals as goal
 
@@ -12,7 +13,9 @@ pub returns-clause-articles : goal.returns-clause-articles
 returns-clause-articles c = page_article_ids c.places_are_of_nodes.ensures c.bars_lead_to_places.ensures c.trimmed_events_are_in_tree.ensures.logs
 
 pub returns-clause-articles_once : goal.returns-clause-articles_once
-returns-clause-articles_once c = λ request logs requested. ap is_increasing (page_article_ids c.places_are_of_nodes.ensures c.bars_lead_to_places.ensures c.trimmed_events_are_in_tree.ensures.logs request logs requested) ∙ articles_increase (page_outline request logs requested)
+returns-clause-articles_once c = λ request logs requested.
+    subst (IsDistinct nat_eq) (sym (page_article_ids c.places_are_of_nodes.ensures c.bars_lead_to_places.ensures c.trimmed_events_are_in_tree.ensures.logs request logs requested))
+    (articles_distinct (page_outline request logs requested))
 
 pub returns-clause-target_links : goal.returns-clause-target_links
 returns-clause-target_links c = page_target_links c.places_are_of_nodes.ensures c.bars_lead_to_places.ensures c.trimmed_events_are_in_tree.ensures.logs

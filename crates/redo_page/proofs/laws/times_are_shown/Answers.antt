@@ -1,9 +1,13 @@
 use Rattle.redo_page.specs.Page.{page_facts, page_outline}
-use Rattle.redo_page.proofs.PagePartLemmas.{page_has_chart}
+use Rattle.redo_page.proofs.PageIds.{page_has_chart, page_has_no_chart}
 use Rattle.redo_page.proofs.laws.times_are_shown.Goals as goal
 
 pub returns-clause-chart : goal.returns-clause-chart
-returns-clause-chart c = page_has_chart
+returns-clause-chart c = λ request logs requested window has.
+    page_has_chart c.places_are_of_nodes.ensures c.bars_lead_to_places.ensures c.trimmed_events_are_in_tree.ensures.logs request logs requested window has.0 has.1
+
+pub returns-clause-no_chart : goal.returns-clause-no_chart
+returns-clause-no_chart c = page_has_no_chart c.places_are_of_nodes.ensures c.bars_lead_to_places.ensures c.trimmed_events_are_in_tree.ensures.logs
 
 pub returns-clause-spans : goal.returns-clause-spans
 returns-clause-spans c = λ request logs requested. c.spans_are_parents_or_recipes.ensures (page_outline request logs requested) request.times
@@ -17,3 +21,8 @@ pub returns-clause-recipes : goal.returns-clause-recipes
 returns-clause-recipes c = λ request logs requested window.
     let facts = page_facts request logs requested in
     c.bars_say_when_targets_ran.ensures.recipes logs (page_outline request logs requested) window facts.parents facts.recipes facts.marks
+
+pub returns-clause-marks : goal.returns-clause-marks
+returns-clause-marks c = λ request logs requested window.
+    let facts = page_facts request logs requested in
+    c.bars_say_when_targets_ran.ensures.marks logs (page_outline request logs requested) window facts.parents facts.recipes facts.marks

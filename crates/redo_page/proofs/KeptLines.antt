@@ -1,0 +1,181 @@
+-- What is left of long logs: their heads and their tails.
+use Rattle.std.proofs.Common.{◌≡◌, ℕ, zero, suc, ◌+◌, ◌<◌, ◌≤◌, ◌^◌, Bool, true, false, ℤ, List, [], ◌∷◌, ◌++◌, Option, None, Some, get_or, length, map, max, refl, sym, ◌∙◌, ap, subst, arith}
+use Rattle.std.specs.Prelude.{◌&&◌, ◌==◌, ◌||◌, nat_lt, not, if◌then◌else◌}
+use Rattle.std.specs.List.{AllByRecursion}
+use Rattle.std.proofs.lemmas.Bool.{le-leb}
+use Rattle.std.proofs.lemmas.List.{map-append}
+use Rattle.redo_line.specs.declared.entry.Entry.TheVariants.{Text}
+use Rattle.redo_logs.specs.Logs.{Log}
+use Rattle.redo_view.specs.Event.{Event}
+use Rattle.redo_view.specs.Event.Event.{EntryShown}
+use Rattle.redo_view.specs.LogLines.{lines_of_log}
+use Rattle.redo_options.specs.declared.options.Options.{Options}
+use Rattle.redo_outline.specs.declared.node.Node.{Node}
+use Rattle.redo_outline.specs.Contents.{Contents}
+use Rattle.redo_outline.specs.Contents.Contents.{Nothing, Shown, Opened}
+use Rattle.redo_outline.specs.declared.node.RunTimes.{RunTimes}
+use Rattle.redo_outline.specs.Outline.{log_count, nodes_of, with_times}
+use Rattle.redo_trim.specs.declared.limit.Gauge.{Gauge}
+use Rattle.redo_trim.specs.declared.limit.Limit.{Limit}
+use Rattle.redo_trim.specs.Laws.{FitsInto64Bits, head_and_tail, lines_in}
+use Rattle.redo_trim.specs.Trim.{after_shown, gauge_of, kept, limit_of, no_limit, trim, with_shown_all}
+use Rattle.redo_page.specs.Laws.{lines_at, placed_lines, texts_of}
+use Rattle.redo_page.specs.Limits.{bytes_shown, fit_in, highest_level, limit_at, limit_if, limits_from, limits_of, min_level, place_limit, tree_limits}
+use Rattle.redo_page.specs.Tree.{Build, articles, is_moved, no_node, node_at, place_of}
+use Rattle.redo_page.proofs.LimitLemmas.{fits, last_within}
+use Rattle.redo_page.proofs.PageLines.{Have, HaveLines, direct_lines, opened_lines, texts_at}
+
+-- ---- numbers of logs
+
+-- The numbers of the logs that are opened in some contents.
+abbrev numbers_in : Contents → List ℕ
+numbers_in Nothing = []
+numbers_in (Shown event rest) = numbers_in rest
+numbers_in (Opened event number inside rest) = number ∷ (numbers_in inside ++ numbers_in rest)
+
+nodes_numbered : (logs : List Log) (status : ℕ → Option ℤ) (parent : Option ℕ) (place : ℕ) (contents : Contents) → map (λ (node : Node). node.number) (nodes_of logs status parent place contents) ≡ numbers_in contents
+nodes_numbered logs status parent place Nothing = refl
+nodes_numbered logs status parent place (Shown event rest) = nodes_numbered logs status parent place rest
+nodes_numbered logs status parent place (Opened event number inside rest) =
+    let others = nodes_of logs status parent (suc place + log_count inside) rest in
+    ap (λ t. number ∷ t)
+    (map-append (λ (node : Node). node.number) (nodes_of logs status (Some place) (suc place) inside) others
+    ∙ ap (λ t. t ++ map (λ (node : Node). node.number) others) (nodes_numbered logs status (Some place) (suc place) inside)
+    ∙ ap (λ t. numbers_in inside ++ t) (nodes_numbered logs status parent (suc place + log_count inside) rest))
+
+shown_numbers : (events : List Event) (rest : Contents) → numbers_in (with_shown_all events rest) ≡ numbers_in rest
+shown_numbers [] rest = refl
+shown_numbers (event ∷ events) rest = shown_numbers events rest
+
+number_at : (nodes : List Node) (place : ℕ) → get_or (map (λ (node : Node). node.number) nodes) place no_node.number ≡ (get_or nodes place no_node).number
+number_at [] place = refl
+number_at (node ∷ nodes) zero = refl
+number_at (node ∷ nodes) (suc place) = number_at nodes place
+
+-- The same number of logs is opened.
+abbrev pub KeepCount : List Limit → Contents → Type 0
+KeepCount limits contents = log_count (trim limits [] contents) ≡ log_count contents
+
+module _ (limits : List Limit) where
+  trimmed_numbers : (gauges : List Gauge) (contents : Contents) → numbers_in (trim limits gauges contents) ≡ numbers_in contents
+  trimmed_numbers gauges Nothing = refl
+  trimmed_numbers gauges (Shown event rest) = shown_numbers (kept gauges event) (trim limits (after_shown event gauges) rest) ∙ trimmed_numbers (after_shown event gauges) rest
+  trimmed_numbers gauges (Opened event number inside rest) =
+      ap (λ t. number ∷ (t ++ numbers_in (trim limits gauges rest))) (trimmed_numbers (gauge_of limits number ∷ gauges) inside) ∙ ap (λ t. number ∷ (numbers_in inside ++ t)) (trimmed_numbers gauges rest)
+
+  same_number : (logs : List Log) (status : ℕ → Option ℤ) (contents : Contents) (place : ℕ)
+      → (get_or (nodes_of logs status None 0 (trim limits [] contents)) place no_node).number ≡ (get_or (nodes_of logs status None 0 contents) place no_node).number
+  same_number logs status contents place =
+      sym (number_at (nodes_of logs status None 0 (trim limits [] contents)) place)
+      ∙ ap (λ (numbers : List ℕ). get_or numbers place no_node.number) (nodes_numbered logs status None 0 (trim limits [] contents) ∙ trimmed_numbers [] contents ∙ sym (nodes_numbered logs status None 0 contents))
+      ∙ number_at (nodes_of logs status None 0 contents) place
+
+-- ---- lines
+
+lines_same : (contents : Contents) → lines_in contents ≡ direct_lines contents
+lines_same Nothing = refl
+lines_same (Shown (EntryShown depth (Text line)) rest) = ap (λ t. line ∷ t) (lines_same rest)
+lines_same (Shown event rest) = lines_same rest
+lines_same (Opened event number inside rest) = lines_same rest
+
+module _ (logs : List Log) (limits : List Limit) (keep : (number : ℕ) (contents : Contents) (outer : List Gauge) → FitsInto64Bits (limit_of limits number) → lines_in (trim limits (gauge_of limits number ∷ outer) contents) ≡ head_and_tail (limit_of limits number) (lines_in contents)) (fit : (number : ℕ) → FitsInto64Bits (limit_of limits number)) where
+  -- What is left of a log.
+  abbrev left_of : ℕ → List (List ℕ)
+  left_of number = head_and_tail (limit_of limits number) (lines_of_log number logs)
+
+  shown_have : (events : List Event) (rest : Contents) → Have left_of rest → Have left_of (with_shown_all events rest)
+  shown_have [] rest have = have
+  shown_have (event ∷ events) rest have = shown_have events rest have
+
+  trimmed_have : (gauges : List Gauge) (contents : Contents) → HaveLines logs contents → Have left_of (trim limits gauges contents)
+  trimmed_have gauges Nothing have = tt
+  trimmed_have gauges (Shown event rest) have = shown_have (kept gauges event) (trim limits (after_shown event gauges) rest) (trimmed_have (after_shown event gauges) rest have)
+  trimmed_have gauges (Opened event number inside rest) have = (
+    have.0,
+    sym (lines_same (trim limits (gauge_of limits number ∷ gauges) inside)) ∙ keep number inside gauges (fit number) ∙ ap (head_and_tail (limit_of limits number)) (lines_same inside ∙ have.1),
+    trimmed_have (gauge_of limits number ∷ gauges) inside have.2,
+    trimmed_have gauges rest have.3,
+  )
+
+  -- Of the log at each place, the head and the tail are left.
+  pub lines_left : (status : ℕ → Option ℤ) (contents : Contents) → HaveLines logs contents → KeepCount limits contents → (place : ℕ) → place < log_count contents
+      → texts_of (lines_at place (placed_lines None 0 (trim limits [] contents)))
+      ≡ head_and_tail (limit_of limits (get_or (nodes_of logs status None 0 contents) place no_node).number) (texts_of (lines_at place (placed_lines None 0 contents)))
+  lines_left status contents have count place below =
+      let number = (get_or (nodes_of logs status None 0 contents) place no_node).number in
+      let at : 0 + place ≡ place = omega arith in
+      let back : place ≡ 0 + place = omega arith in
+      ap (λ (n : ℕ). texts_at n None 0 (trim limits [] contents)) back
+      ∙ opened_lines left_of logs status None None 0 (trim limits [] contents) (trimmed_have [] contents have) tt place (subst (λ (n : ℕ). place < n) (sym count) below)
+      ∙ ap left_of (same_number limits logs status contents place)
+      ∙ ap (head_and_tail (limit_of limits number))
+      (sym (opened_lines (λ (n : ℕ). lines_of_log n logs) logs status None None 0 contents have tt place below) ∙ ap (λ (n : ℕ). texts_at n None 0 contents) at)
+
+-- ---- limits fit into 64 bits
+
+abbrev pub IsSmall : ℕ → Type 0
+IsSmall number = number < 2 ^ 64
+
+abbrev pub AreSmall : List Node → Type 0
+AreSmall nodes = AllByRecursion (λ (node : Node). IsSmall node.bytes) nodes
+
+both_small : (nodes others : List Node) → AreSmall nodes → AreSmall others → AreSmall (nodes ++ others)
+both_small [] others first last = last
+both_small (node ∷ nodes) others first last = (first.0, both_small nodes others first.1 last)
+
+pub nodes_small : (logs : List Log) (status : ℕ → Option ℤ) (parent : Option ℕ) (place : ℕ) (contents : Contents) → AreSmall (nodes_of logs status parent place contents)
+nodes_small logs status parent place Nothing = tt
+nodes_small logs status parent place (Shown event rest) = nodes_small logs status parent place rest
+nodes_small logs status parent place (Opened event number inside rest) = (
+  omega arith,
+  both_small (nodes_of logs status (Some place) (suc place) inside) (nodes_of logs status parent (suc place + log_count inside) rest) (nodes_small logs status (Some place) (suc place) inside)
+      (nodes_small logs status parent (suc place + log_count inside) rest),
+)
+
+pub bytes_small : (times : List RunTimes) (nodes : List Node) → AreSmall nodes → (place : ℕ) → IsSmall (node_at (map (with_times times) nodes) place).bytes
+bytes_small times [] small place = omega arith
+bytes_small times (node ∷ nodes) small zero = small.0
+bytes_small times (node ∷ nodes) small (suc place) = bytes_small times nodes small.1 place
+
+no_limit_fits : FitsInto64Bits no_limit
+no_limit_fits = record { head = omega arith; tail = omega arith }
+
+module _ (build : Build) (small : (place : ℕ) → IsSmall (node_at build.nodes place).bytes) (level : ℕ) (low : IsSmall level) where
+  limit_fits : (bytes : ℕ) → IsSmall bytes → FitsInto64Bits (limit_at level bytes)
+  limit_fits bytes few = record { head = omega (arith, low); tail = omega (arith, few) }
+
+  place_fits : (place : ℕ) → FitsInto64Bits (place_limit build level place)
+  place_fits place = by (nat_lt level (node_at build.nodes place).bytes && not (is_moved build place))
+    where
+      by : (cut : Bool) → FitsInto64Bits (if cut then limit_at level (node_at build.nodes place).bytes else no_limit)
+      by true = limit_fits (node_at build.nodes place).bytes (small place)
+      by false = no_limit_fits
+
+  if_fits : (place : Option ℕ) → FitsInto64Bits (limit_if build level place)
+  if_fits None = no_limit_fits
+  if_fits (Some place) = place_fits place
+
+  each_fits : (first count number : ℕ) → FitsInto64Bits (limit_of (limits_from build level first count) number)
+  each_fits first zero number = no_limit_fits
+  each_fits first (suc count) zero = if_fits (place_of build.nodes first)
+  each_fits first (suc count) (suc number) = each_fits (suc first) count number
+
+pub limits_fit : (logs : List Log) (options : Options) (nodes : List Node) (budget : ℕ) → budget < 2 ^ 64 → ((place : ℕ) → IsSmall (node_at nodes place).bytes) → (number : ℕ) → FitsInto64Bits (limit_of (tree_limits logs options nodes budget) number)
+limits_fit logs options nodes budget small bytes number = by (budget == 0 || fit_in None budget nodes)
+  where
+    by : (none : Bool) → FitsInto64Bits (limit_of (limits_of (record { logs = logs; options = options; nodes = nodes; articles = articles nodes }) (if none then None else Some (max min_level (highest_level budget nodes))) (length logs)) number)
+    by true = no_limit_fits
+    by false =
+        let within = last_within (fits budget nodes) budget in
+        each_fits (record { logs = logs; options = options; nodes = nodes; articles = articles nodes }) bytes (max min_level (highest_level budget nodes)) (omega (arith, small, within)) 0 (length logs) number
+
+-- ---- nothing is cut if everything fits
+
+pub fitting_limits : (logs : List Log) (options : Options) (nodes : List Node) (budget : ℕ) → bytes_shown None nodes ≤ budget → tree_limits logs options nodes budget ≡ []
+fitting_limits logs options nodes budget fit = by (budget == 0) (fit_in None budget nodes) (le-leb (bytes_shown None nodes) budget fit)
+  where
+    by : (zero fits : Bool) → fits ≡ true
+        → limits_of (record { logs = logs; options = options; nodes = nodes; articles = articles nodes }) (if zero || fits then None else Some (max min_level (highest_level budget nodes))) (length logs) ≡ []
+    by true fits is = refl
+    by false true is = refl
+    by false false is = absurd (cc)
