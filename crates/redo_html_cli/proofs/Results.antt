@@ -1,65 +1,88 @@
--- What the times of logs and the results of showing them say about the page of a job.
-use Rattle.std.proofs.Common.{◌≡◌, false, List, [], ◌∷◌, length, map, Option, None, Some, Result, Ok, Err, IsErrAnd, arith, refl, sym, subst}
+-- What the times of logs and the results of writing them say about the page of a job.
+use Rattle.std.proofs.Common.{◌≡◌, ℕ, false, List, [], ◌∷◌, map, Option, None, Some, Result, Ok, Err, IsErrAnd, refl, sym, subst, unwrap_or}
 use Rattle.redo_device.specs.Feed.{Stream, SomeStream}
+use Rattle.redo_device.specs.Sink.{Output}
 use Rattle.redo_html_args.specs.Job.{PageParts}
 use Rattle.redo_index.specs.declared.index_entry.IndexEntry.{IndexEntry}
 use Rattle.redo_index.specs.Index.{listed_targets}
 use Rattle.redo_log_cli.specs.declared.failure.Failure.{Failure}
 use Rattle.redo_log_cli.specs.declared.failure.Failure.TheVariants.{Memory}
 use Rattle.redo_log_cli.specs.Failure.{IsIndexFailure}
+use Rattle.redo_log_cli.specs.Logs.{AllGive, Gives, known_logs, opaque_logs}
 use Rattle.redo_log_cli.specs.NamesFile.{byte_limit}
-use Rattle.redo_log_cli.specs.Shown.{directory_call}
-use Rattle.redo_log_cli.proofs.Results.{is_shown_failure}
-use Rattle.redo_run.specs.Rendered.{RenderCall}
+use Rattle.redo_log_cli.specs.Output.{IsClosedAfter}
+use Rattle.redo_log_cli.proofs.Results.{is_shown_failure, is_shown_flushed, is_unwritten}
 use Rattle.redo_times.specs.declared.times.Times.{Times}
 use Rattle.redo_times.specs.Readers.{AreTimesOfReaders, SomeStreams, times_of_all}
-use Rattle.redo_page.specs.Page.{page_html}
-use Rattle.redo_html_cli.specs.Private.Request.{request_for}
-use Rattle.redo_html_cli.specs.Private.Result.{AreTimesOfLogs, IsPageResult}
+use Rattle.redo_html_cli.specs.Page.{AreTimesOfLogs, IsPageWritten, page_call}
+use Rattle.redo_html_cli.specs.Private.Result.{IsPageResult}
 
 some_stream : (known : Option Stream) (P : Stream → Type 0) → SomeStream known P → (stream : Stream) × P stream
 some_stream None P given = given
 some_stream (Some stream) P given = (stream, given)
 
--- What holds of the streams of readers holds of some streams.
-any_streams : {A B : Type 0} (contents : A → Option Stream) (readers : List A) (others : List B) (P : List Stream → Type 0) → length readers ≡ length others
-    → SomeStreams (map contents readers) P → SomeStreams (map (λ other. None) others) P
-any_streams contents [] [] P same given = given
-any_streams contents [] (other ∷ others) P same given = absurd (omega (arith, same))
-any_streams contents (reader ∷ readers) [] P same given = absurd (omega (arith, same))
-any_streams contents (reader ∷ readers) (other ∷ others) P same given =
-    let first = some_stream (contents reader) (λ stream. SomeStreams (map contents readers) (λ streams. P (stream ∷ streams))) given in
-    (first.0, any_streams contents readers others (λ streams. P (first.0 ∷ streams)) (omega (arith, same)) first.1)
+-- What holds of the stream of a reader holds of the stream of the log that it gives.
+of_log : (known contents : Option Stream) (P Q : Stream → Type 0) → Gives known contents → ((stream : Stream) → P stream → Q stream) → SomeStream contents P → SomeStream known Q
+of_log None contents P Q gives weaker given = let found = some_stream contents P given in (found.0, weaker found.0 found.1)
+of_log (Some first) contents P Q gives weaker given = weaker first (subst (λ c. SomeStream c P) gives given)
 
--- The times of readers are times of logs.
-pub times_of_logs : {A : Type 0} (contents : A → Option Stream) (readers : List A) (index : List IndexEntry) (times : List Times) → length readers ≡ length index
-    → AreTimesOfReaders byte_limit (listed_targets index) (map contents readers) times → AreTimesOfLogs index times
-times_of_logs contents readers index times same given = any_streams contents readers index (λ streams. times ≡ times_of_all byte_limit (listed_targets index) streams) same given
+-- What holds of the streams of readers holds of the streams of the logs that they give.
+of_logs : (logs readers : List (Option Stream)) (P : List Stream → Type 0) → AllGive logs readers → SomeStreams readers P → SomeStreams logs P
+of_logs [] [] P give given = given
+of_logs [] (reader ∷ readers) P give given = absurd give
+of_logs (log ∷ logs) [] P give given = absurd give
+of_logs (log ∷ logs) (reader ∷ readers) P give given =
+    of_log log reader (λ stream. SomeStreams readers (λ streams. P (stream ∷ streams))) (λ stream. SomeStreams logs (λ streams. P (stream ∷ streams))) give.0
+    (λ stream some. of_logs logs readers (λ streams. P (stream ∷ streams)) give.1 some) given
 
-abbrev empty : Stream
-empty = record { bytes = []; fails = false }
+-- The times of readers are times of the logs that they give.
+pub times_of_logs : {A : Type 0} (contents : A → Option Stream) (known : ℕ → Option Stream) (index : List IndexEntry) (readers : List A) (times : List Times)
+    → AllGive (known_logs known index) (map contents readers) → AreTimesOfReaders byte_limit (listed_targets index) (map contents readers) times → AreTimesOfLogs known index times
+times_of_logs contents known index readers times give given = of_logs (known_logs known index) (map contents readers) (λ streams. times ≡ times_of_all byte_limit (listed_targets index) streams) give given
 
--- What holds of empty streams holds of some streams.
-empty_streams : (index : List IndexEntry) (P : List Stream → Type 0) → P (map (λ entry. empty) index) → SomeStreams (map (λ entry. None) index) P
-empty_streams [] P given = given
-empty_streams (entry ∷ index) P given = (empty, empty_streams index (λ streams. P (empty ∷ streams)) given)
+-- A stream of a log: the known one, if there is one.
+abbrev stream_or_empty : Option Stream → Stream
+stream_or_empty known = unwrap_or known (record { bytes = []; fails = false })
 
--- The page with these times.
-abbrev call_of : PageParts → List IndexEntry → List Times → RenderCall
-call_of job index times = directory_call (page_html (request_for job times)) index job.targets
+-- What holds of these streams holds of some streams.
+some_log : (known : Option Stream) (P : Stream → Type 0) → P (stream_or_empty known) → SomeStream known P
+some_log None P given = (stream_or_empty None, given)
+some_log (Some stream) P given = given
 
-abbrev no_times : List IndexEntry → List Times
-no_times index = times_of_all byte_limit (listed_targets index) (map (λ entry. empty) index)
+some_logs : (logs : List (Option Stream)) (P : List Stream → Type 0) → P (map stream_or_empty logs) → SomeStreams logs P
+some_logs [] P given = given
+some_logs (log ∷ logs) P given = some_log log (λ stream. SomeStreams logs (λ streams. P (stream ∷ streams))) (some_logs logs (λ streams. P (stream_or_empty log ∷ streams)) given)
 
--- A failure before the run is a result, whatever the times are.
-is_page_failure : (job : PageParts) (index : List IndexEntry) (failure : Failure) → IsIndexFailure failure → IsPageResult job index (Err failure)
-is_page_failure job index failure is = record {
-  times = no_times index;
-  are_times = empty_streams index (λ streams. no_times index ≡ times_of_all byte_limit (listed_targets index) streams) refl;
-  is_result = is_shown_failure (call_of job index (no_times index)) failure is;
+-- The times by these streams.
+abbrev some_times : (ℕ → Option Stream) → List IndexEntry → List Times
+some_times known index = times_of_all byte_limit (listed_targets index) (map stream_or_empty (known_logs known index))
+
+are_times : (known : ℕ → Option Stream) (index : List IndexEntry) → AreTimesOfLogs known index (some_times known index)
+are_times known index = some_logs (known_logs known index) (λ streams. some_times known index ≡ times_of_all byte_limit (listed_targets index) streams) refl
+
+-- Running out of memory before the run writes nothing, whatever the times are.
+pub is_out_of_memory : (first second : ℕ → Option Stream) (job : PageParts) (index : List IndexEntry) (output : Option Output) (result : Result (Unit {0}) Failure)
+    → IsErrAnd result (λ failure. failure ≡ Memory) → IsPageWritten first second job index output output result
+is_out_of_memory first second job index output result is = record {
+  times = some_times first index;
+  are_times = are_times first index;
+  is_result = is_unwritten (page_call second job index (some_times first index)) output result is;
 }
 
--- So is running out of memory.
-pub is_out_of_memory : (job : PageParts) (index : List IndexEntry) (result : Result (Unit {0}) Failure) → IsErrAnd result (λ failure. failure ≡ Memory) → IsPageResult job index result
-is_out_of_memory job index (Ok done) is = absurd is
-is_out_of_memory job index (Err failure) is = is_page_failure job index failure (subst IsIndexFailure (sym is) tt)
+-- So is running out of memory before anything is written, if nothing is known of the files.
+pub is_page_failure : (job : PageParts) (index : List IndexEntry) (result : Result (Unit {0}) Failure) → IsErrAnd result (λ failure. failure ≡ Memory) → IsPageResult job index result
+is_page_failure job index (Ok done) is = absurd is
+is_page_failure job index (Err failure) is = record {
+  times = some_times opaque_logs index;
+  are_times = are_times opaque_logs index;
+  is_result = is_shown_failure (page_call opaque_logs job index (some_times opaque_logs index)) failure (subst IsIndexFailure (sym is) tt);
+}
+
+-- What was written says this about the streams, and it still holds after a flush.
+pub is_page_flushed : (job : PageParts) (index : List IndexEntry) (before after : Option Output) (outcome result : Result (Unit {0}) Failure)
+    → IsClosedAfter outcome result → IsPageWritten opaque_logs opaque_logs job index before after outcome → IsPageResult job index result
+is_page_flushed job index before after outcome result closed given = record {
+  times = given.times;
+  are_times = given.are_times;
+  is_result = is_shown_flushed (page_call opaque_logs job index given.times) before after outcome result closed given.is_result;
+}

@@ -1,1 +1,3 @@
+pub mod Page
 pub mod Private
+pub mod Request

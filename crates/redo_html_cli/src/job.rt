@@ -2,12 +2,17 @@
 ghost use Rattle.std.specs.Prelude.{◌≡◌, ◌≢◌, IfErr, length};
 ghost use Rattle.redo_log_cli.specs.Failure.{IsReportable, status_of};
 ghost use Rattle.redo_page.specs.Page.{request_of};
-ghost use Rattle.redo_html_cli.specs.Private.Request.{request_for, title_for};
+ghost use Rattle.redo_html_cli.specs.Page.{IsPageWritten};
+ghost use Rattle.redo_html_cli.specs.Request.{request_for, title_for};
 ghost use Rattle.redo_html_cli.specs.Private.Result.{IsPageResult};
 
 use crate::times::read_log_times;
+use redo_device::Sink;
 use redo_html_args::PageJob;
-use redo_log_cli::{Failure, Index, Output, Shown, close_output, find_index, show_logs};
+use redo_log_cli::{
+    Failure, Index, LogFiles, OpenLog, Output, RegularLogFiles, Shown, buffered, close_output,
+    find_index, flush_after, write_logs,
+};
 use redo_page::PageRequest;
 use redo_times::Times;
 use std::io::Write;
@@ -59,7 +64,7 @@ pub fn show_job_in_file<R: Files<File: Send> + RandomSource + Threads + Wait + S
     }
 }
 
-// Writes the page of a job, from the log files that an index lists.
+// Writes the page of a job through a buffer, from the log files that an index lists.
 fn show_page<R: Files<File: Send> + Threads + Wait + Sync + AllocGlobal, W: Write>(
     rt: &R,
     job: &PageJob,
@@ -70,10 +75,32 @@ fn show_page<R: Files<File: Send> + Threads + Wait + Sync + AllocGlobal, W: Writ
     ensures reportable { IfErr result (IsReportable (length index.now) (length job.now.targets)) }
     ensures nonzero_status { IfErr result (λ failure. status_of failure ≢ 0) }
 {
-    let times = read_log_times(rt, job.dir(), index)?;
-    show_logs(
+    let regular_files = RegularLogFiles { rt, dir: job.dir() };
+    let files = LogFiles { rt, dir: job.dir() };
+    let mut buffer = buffered(rt.alloc(), out)?;
+    let outcome = write_job(rt, job, &regular_files, &files, index, &mut buffer);
+    flush_after(outcome, buffer)
+}
+
+/// Writes the page of a job, from the logs that an index lists. It reads when the targets began and ended from `first`,
+/// and then all logs from `second`. Nothing is written before that. `out` isn't flushed.
+pub fn write_job<T: Threads + Wait + Sync + AllocGlobal, F: OpenLog, S: OpenLog, W: Sink>(
+    rt: &T,
+    job: &PageJob,
+    first: &F,
+    second: &S,
+    index: &Index,
+    out: &mut W,
+) -> Result<(), Failure>
+    ensures written { IsPageWritten (F.known first.now) (S.known second.now) job.now index.now
+        (W.written out.old) (W.written out.new) result }
+    ensures reportable { IfErr result (IsReportable (length index.now) (length job.now.targets)) }
+    ensures nonzero_status { IfErr result (λ failure. status_of failure ≢ 0) }
+{
+    let times = read_log_times(rt.alloc(), first, index)?;
+    write_logs(
         rt,
-        job.dir(),
+        second,
         index,
         job.senders(),
         CAPACITY,

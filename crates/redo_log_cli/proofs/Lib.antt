@@ -1,2 +1,3 @@
 mod FileLemmas
+pub mod LogLemmas
 pub mod Results

@@ -4,22 +4,29 @@
 //! the text. [`fault_line`] and [`status`] return the error message and the exit status of a failure.
 //! The crate re-exports the index, the run and the arguments, which it builds on.
 //!
-//! Another program can write another text of the logs by [`show_directory`], and report by [`exit_status`]. To read the
-//! logs first, it calls [`find_index`], [`open_regular_log`] and [`show_logs`].
+//! Files are opaque, so [`write_job`] is generic over logs and a writer: its contract states the text that is written.
+//! Another program can write another text of the logs by [`write_logs`], over [`LogFiles`] and through [`buffered`], and
+//! report by [`exit_status`]. It reads the index by [`find_index`].
 #![tactic(auto)]
 
+mod buffer;
 mod directory;
 mod failure;
+mod job;
 mod log_file;
+mod logs;
 mod message;
 mod names_file;
 mod output;
 mod program;
 mod reports;
 
-pub use directory::{Shown, find_index, show_directory, show_logs};
+pub use buffer::{buffered, flush_after};
+pub use directory::{Shown, find_index};
 pub use failure::{Failure, status};
-pub use log_file::{LogFile, open_log, open_regular_log};
+pub use job::write_job;
+pub use log_file::{LogFile, LogFiles, RegularLogFiles};
+pub use logs::{OpenLog, open_logs, write_logs};
 pub use message::{fault_line, fault_line_as};
 pub use names_file::{MAX_BYTES, read_names};
 pub use output::{Output, close_output, create_output};

@@ -3,6 +3,7 @@ ghost use Rattle.std.specs.Fs.{IsFile, file_type};
 ghost use Rattle.std.specs.String.{string_bytes};
 ghost use Rattle.redo_log_cli.specs.Private.Opening.{IsLogFileOf, IsOutOfMemory, log_path};
 
+use crate::logs::OpenLog;
 use itoa::Buffer;
 use redo_line::{Broken, Feed, Reading};
 use std::alloc::{AllocError, Global};
@@ -36,28 +37,48 @@ impl<F: Read + Drop> Feed for LogFile<F> {
     }
 }
 
-/// Opens the log file with this number, `log.FID`, in a directory.
-pub fn open_log<R: Files + AllocGlobal>(
-    rt: &R,
-    dir: &str,
-    fid: u32,
-) -> Result<LogFile<R::File>, AllocError> {
-    let path = log_path(rt.alloc(), dir, fid)?;
-    log_file_of(fs::open(rt, path))
+/// The log files of a directory: `log.FID` for each number.
+#[derive(Drop)]
+pub struct LogFiles<'a, R> {
+    pub rt: &'a R,
+    pub dir: &'a str,
 }
 
-/// Opens the log file with this number if it is a regular file, or a symbolic link to one. Any other file is taken as
-/// missing and isn't opened, because a pipe can be read only once.
-pub fn open_regular_log<R: Files + AllocGlobal>(
-    rt: &R,
-    dir: &str,
-    fid: u32,
-) -> Result<LogFile<R::File>, AllocError> {
-    let path = log_path(rt.alloc(), dir, fid)?;
-    if is_regular(fs::metadata(rt, path.as_str()))? {
-        log_file_of(fs::open(rt, path))
-    } else {
-        Ok(LogFile::Missing)
+impl<R: Files<File: Send> + AllocGlobal> OpenLog for LogFiles<'_, R> {
+    ghost use Rattle.redo_log_cli.specs.Logs.{opaque_logs};
+
+    type Log = LogFile<R::File>;
+
+    ghost known = { λ files. opaque_logs };
+
+    fn open(&self, fid: u32) -> Result<LogFile<R::File>, AllocError> {
+        let path = log_path(self.rt.alloc(), self.dir, fid)?;
+        log_file_of(fs::open(self.rt, path))
+    }
+}
+
+/// The log files of a directory that are regular files, or symbolic links to one. Any other log is taken as missing and
+/// isn't opened, because a pipe can be read only once.
+#[derive(Drop)]
+pub struct RegularLogFiles<'a, R> {
+    pub rt: &'a R,
+    pub dir: &'a str,
+}
+
+impl<R: Files<File: Send> + AllocGlobal> OpenLog for RegularLogFiles<'_, R> {
+    ghost use Rattle.redo_log_cli.specs.Logs.{opaque_logs};
+
+    type Log = LogFile<R::File>;
+
+    ghost known = { λ files. opaque_logs };
+
+    fn open(&self, fid: u32) -> Result<LogFile<R::File>, AllocError> {
+        let path = log_path(self.rt.alloc(), self.dir, fid)?;
+        if is_regular(fs::metadata(self.rt, path.as_str()))? {
+            log_file_of(fs::open(self.rt, path))
+        } else {
+            Ok(LogFile::Missing)
+        }
     }
 }
 

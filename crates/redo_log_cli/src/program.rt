@@ -1,14 +1,11 @@
-ghost use Rattle.std.specs.Prelude.{◌≡◌, ◌≢◌, ◌⊎◌, IfErr, length};
-ghost use Rattle.redo_view.specs.Expansion.{expansion};
+ghost use Rattle.std.specs.Prelude.{◌≡◌, ◌⊎◌, IfErr};
 ghost use Rattle.redo_log_cli.specs.declared.failure.Failure.TheVariants.{Memory};
-ghost use Rattle.redo_log_cli.specs.Failure.{IsBeforeRun, IsReportable, IsStatus, status_of};
-ghost use Rattle.redo_log_cli.specs.Shown.{IsShowResult, directory_call};
+ghost use Rattle.redo_log_cli.specs.Failure.{IsBeforeRun, IsStatus, status_of};
 
-use crate::directory::{Shown, show_directory};
 use crate::failure::Failure;
+use crate::job::show_job;
 use crate::reports::{exit_status, print, report_before_run_as};
-use redo_args::{Job, WordsFault, help_text, read_words};
-use redo_view::PlainText;
+use redo_args::{WordsFault, help_text, read_words};
 use std::alloc::{AllocError, Global};
 use std::env;
 use std::io::{ErrorKind, Write};
@@ -67,31 +64,6 @@ pub fn command<
         Err(WordsFault::Help) => print_help(alloc, out, err),
         Err(fault) => report_before_run(alloc, &Failure::Words(fault), err),
     }
-}
-
-// Performs a job: shows the logs of its targets, from the files of its directory.
-fn show_job<R: Files<File: Send> + RandomSource + Threads + Wait + Sync + AllocGlobal, W: Write>(
-    rt: &R,
-    job: &Job,
-    out: &mut W,
-) -> Shown
-    ensures shown { IsShowResult (directory_call (λ logs requested. expansion logs job.now.options requested) result.index job.now.targets)
-        result.outcome }
-    ensures reportable { IfErr result.outcome (IsReportable (length result.index) (length job.now.targets)) }
-    ensures nonzero_status { IfErr result.outcome (λ failure. status_of failure ≢ 0) }
-{
-    let renderer = PlainText {
-        options: *job.options(),
-    };
-    show_directory(
-        rt,
-        job.dir(),
-        job.senders(),
-        job.capacity(),
-        &renderer,
-        job.targets(),
-        out,
-    )
 }
 
 // Writes the help text.

@@ -1,4 +1,4 @@
--- The results of reading the file `names`, and of flushing the writer.
+-- The result of reading the file `names`.
 use Rattle.std.specs.Prelude.{◌≡◌, ◌⊎◌, List, None, Result, Ok, Err}
 use Rattle.redo_line.specs.Fault.{end_fault}
 use Rattle.redo_device.specs.Feed.{Stream}
@@ -6,8 +6,6 @@ use Rattle.redo_line.specs.Lines.{all_lines}
 use Rattle.redo_index.specs.declared.index_fault.IndexFault.TheVariants as index
 use Rattle.redo_index.specs.declared.index_entry.IndexEntry.{IndexEntry}
 use Rattle.redo_index.specs.Index.{IsIndexOf, IsRejected}
-use Rattle.redo_run.specs.declared.run_fault.RunFault.{RunFault}
-use Rattle.redo_run.specs.declared.run_fault.RunFault.TheVariants.{Write}
 use Rattle.redo_log_cli.specs.declared.failure.Failure.{Failure}
 use Rattle.redo_log_cli.specs.declared.failure.Failure.TheVariants.{NamesRead, Index, Memory}
 use Rattle.redo_log_cli.specs.NamesFile.{CannotBeRead, byte_limit}
@@ -20,8 +18,3 @@ IsIndexResult (Err NamesRead) stream = CannotBeRead stream
 IsIndexResult (Err (Index fault)) stream = (end_fault byte_limit stream ≡ None) × ((fault ≡ index.OutOfMemory) ⊎ IsRejected (all_lines stream.bytes) fault)
 IsIndexResult (Err Memory) stream = Unit {0}
 IsIndexResult (Err other) stream = ⊥
-
--- Whether `result` is a result of flushing the writer if the run succeeded, or the fault of the run.
-abbrev pub IsFlushedAfter : Result (Unit {0}) RunFault → Result (Unit {0}) RunFault → Type 0
-IsFlushedAfter (Ok done) result = (result ≡ Ok tt) ⊎ (result ≡ Err Write)
-IsFlushedAfter (Err fault) result = result ≡ Err fault

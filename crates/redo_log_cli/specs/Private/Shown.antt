@@ -1,26 +1,20 @@
--- What came of showing the logs of a directory.
+-- What came of showing the logs of a directory, if nothing is known of its files and of the writer. This says nothing about
+-- the text that was written; `IsWriteResult` does.
 --
 -- The definitions take a call of `run_as`.
-use Rattle.std.specs.Prelude.{ℕ, List, None, Result, Ok, Err, map}
+use Rattle.std.specs.Prelude.{ℕ, List, Result, Ok, Err}
 use Rattle.redo_logs.specs.Logs.{Log}
 use Rattle.redo_index.specs.declared.index_entry.IndexEntry.{IndexEntry}
-use Rattle.redo_index.specs.Index.{listed_targets, must_close_flags}
 use Rattle.redo_run.specs.declared.run_fault.RunFault.{RunFault}
 use Rattle.redo_run.specs.declared.run_fault.RunFault.TheVariants.{Unknown, Stream as OfStream, OutOfMemory, Write}
 use Rattle.redo_run.specs.Rendered.{IsSomeRenderedFault, RenderCall, SomeRenderedText}
 use Rattle.redo_log_cli.specs.declared.failure.Failure.{Failure}
 use Rattle.redo_log_cli.specs.declared.failure.Failure.TheVariants.{Run}
-use Rattle.redo_log_cli.specs.NamesFile.{byte_limit}
+use Rattle.redo_log_cli.specs.Logs.{logs_call, opaque_logs}
 
 -- A call whose readers are the log files that an index lists. What a file gives is not known.
 abbrev pub directory_call : (List Log → List (List ℕ) → List ℕ) → List IndexEntry → List (List ℕ) → RenderCall
-directory_call text index arguments = record {
-  text = text;
-  targets = listed_targets index;
-  max_bytes = byte_limit;
-  arguments = arguments;
-  inputs = map (λ must_close. record { must_close = must_close; stream = None }) (must_close_flags index);
-}
+directory_call text index arguments = logs_call opaque_logs text index arguments
 
 -- The result of the call is a text.
 abbrev pub HasText : RenderCall → Type 0

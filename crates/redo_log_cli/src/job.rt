@@ -1,0 +1,91 @@
+//! Performs a job: shows the logs of its targets.
+ghost use Rattle.std.specs.Prelude.{◌≢◌, IfErr, length};
+ghost use Rattle.redo_view.specs.Expansion.{expansion};
+ghost use Rattle.redo_log_cli.specs.Failure.{IsReportable, status_of};
+ghost use Rattle.redo_log_cli.specs.Logs.{IsWriteResult, logs_call};
+ghost use Rattle.redo_log_cli.specs.Private.Shown.{IsShowResult, directory_call};
+
+use crate::buffer::{buffered, flush_after};
+use crate::directory::{Shown, find_index};
+use crate::failure::Failure;
+use crate::log_file::LogFiles;
+use crate::logs::{OpenLog, write_logs};
+use redo_args::Job;
+use redo_index::Index;
+use redo_line::Sink;
+use redo_view::PlainText;
+use std::io::Write;
+use std::random::RandomSource;
+use std::rt::Files;
+use std::sync::Wait;
+use std::thread::Threads;
+
+/// Writes the text of a job, from the logs that an index lists. Nothing is written before all logs were read. `out`
+/// isn't flushed.
+pub fn write_job<T: Threads + Wait + Sync + AllocGlobal, L: OpenLog, W: Sink>(
+    rt: &T,
+    job: &Job,
+    logs: &L,
+    index: &Index,
+    out: &mut W,
+) -> Result<(), Failure>
+    ensures written { IsWriteResult
+        (logs_call (L.known logs.now) (λ logs requested. expansion logs job.now.options requested) index.now job.now.targets)
+        (W.written out.old) (W.written out.new) result }
+    ensures reportable { IfErr result (IsReportable (length index.now) (length job.now.targets)) }
+    ensures nonzero_status { IfErr result (λ failure. status_of failure ≢ 0) }
+{
+    let renderer = PlainText {
+        options: *job.options(),
+    };
+    write_logs(
+        rt,
+        logs,
+        index,
+        job.senders(),
+        job.capacity(),
+        &renderer,
+        job.targets(),
+        out,
+    )
+}
+
+// Writes the text of a job, from the files of its directory.
+pub fn show_job<
+    R: Files<File: Send> + RandomSource + Threads + Wait + Sync + AllocGlobal,
+    W: Write,
+>(rt: &R, job: &Job, out: &mut W) -> Shown
+    ensures shown { IsShowResult (directory_call (λ logs requested. expansion logs job.now.options requested) result.index job.now.targets)
+        result.outcome }
+    ensures reportable { IfErr result.outcome (IsReportable (length result.index) (length job.now.targets)) }
+    ensures nonzero_status { IfErr result.outcome (λ failure. status_of failure ≢ 0) }
+{
+    match find_index(rt, job.dir()) {
+        Ok(index) => {
+            let outcome = show_logs(rt, job, &index, out);
+            Shown { index, outcome }
+        }
+        Err(failure) => Shown {
+            index: Index::new(rt.alloc()),
+            outcome: Err(failure),
+        },
+    }
+}
+
+// Writes the text of a job through a buffer, from the log files that an index lists.
+fn show_logs<R: Files<File: Send> + Threads + Wait + Sync + AllocGlobal, W: Write>(
+    rt: &R,
+    job: &Job,
+    index: &Index,
+    out: &mut W,
+) -> Result<(), Failure>
+    ensures shown { IsShowResult (directory_call (λ logs requested. expansion logs job.now.options requested) index.now job.now.targets)
+        result }
+    ensures reportable { IfErr result (IsReportable (length index.now) (length job.now.targets)) }
+    ensures nonzero_status { IfErr result (λ failure. status_of failure ≢ 0) }
+{
+    let files = LogFiles { rt, dir: job.dir() };
+    let mut buffer = buffered(rt.alloc(), out)?;
+    let outcome = write_job(rt, job, &files, index, &mut buffer);
+    flush_after(outcome, buffer)
+}
