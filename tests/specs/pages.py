@@ -13,6 +13,8 @@ sys.path.insert(0, os.path.join(TOP, "tests/definition_mutants"))
 from kept import crates_kept, kept  # noqa: E402
 
 GUARANTEES, MUTANTS, KILLERS = "docs/guarantees.md", "docs/mutants.md", "tests/specs/killers.txt"
+# The directories of a crate with its mutants: those that `rt ci` tries, and those that tests/mutants/run tries.
+FOLDERS = ("must-fail", "mutants")
 PART = re.compile(r"^(<!-- generated: ([\w ]+) -->\n)(.*?)(^<!-- end -->$)", re.M | re.S)
 TABLE = re.compile(r"^Guarantee \| Clause \| Definition\n[-|]+\n((?:.* \| .*\n?)+)", re.M)
 LAWS = "## What each law rules out"
@@ -48,9 +50,10 @@ def mutants():
     """Returns the mutants of all crates, each with the file that it changes."""
     found = {}
     for crate in sorted(os.listdir(os.path.join(TOP, "crates"))):
-        for edit in files(f"crates/{crate}/must-fail", ".edit"):
-            changed = re.findall(r"^file: (?:src/)?(\S+)", read("crates", crate, "must-fail", edit), re.M)
-            found[crate, edit.removesuffix(".edit")] = ", ".join(f"`{file}`" for file in dict.fromkeys(changed))
+        for folder in FOLDERS:
+            for edit in files(f"crates/{crate}/{folder}", ".edit"):
+                changed = re.findall(r"^file: (?:src/)?(\S+)", read("crates", crate, folder, edit), re.M)
+                found[crate, edit.removesuffix(".edit")] = ", ".join(f"`{file}`" for file in dict.fromkeys(changed))
     return found
 
 
@@ -128,7 +131,7 @@ def faults_of_mutants(specs):
     """Returns the mutants without a line in killers.txt, the lines without a mutant, and what is stale in docs/mutants.md."""
     (killed, faults), there = killers(), mutants()
     faults += [f"{KILLERS}: {crate} has no mutant {name}" for crate, name in killed if (crate, name) not in there]
-    faults += [f"{KILLERS} lacks {crate}/must-fail/{name}.edit" for crate, name in there if (crate, name) not in killed]
+    faults += [f"{KILLERS} lacks {crate}: {name}" for crate, name in there if (crate, name) not in killed]
     faults += [f"{KILLERS}: {name}: {fault}" for (_, name), cell in killed.items() for fault in unknown(cell)]
     return faults + list(stale(specs, MUTANTS, ("mutants", "counts")))
 
