@@ -155,7 +155,7 @@ def bar_html(kind, drawn):
     else:
         fill = b"currentColor" if kind == "parents" and not bar.failed else b"#fff"
         shape = b"".join([b"<svg ", where, b">", title, b'<rect width="100%%" height="%d"%s></rect>' % (drawn.height, failed),
-                          b'<text x="4" y="%d" fill="%s">' % (max(0, drawn.height - 5), fill), words(drawn.label), b"</text></svg>"])
+                          b'<text x="4" y="%d" fill="%s">' % (drawn.height // 4 * 3, fill), words(drawn.label), b"</text></svg>"])
     return b'<a href="#t%d" tabindex="-1">' % bar.place + shape + b"</a>"
 
 

@@ -90,7 +90,9 @@ class Build:
             closed = [entry.status for entry in self.logs[shown.target].entries if isinstance(entry, Closed)]
             shown.status = closed[0] if closed else self.done.get(shown.target)
             shown.began, shown.ended = times.get(shown.target, (None, None))
-        self.first = [shown for shown in self.order if shown.failed and not any(under.failed for under in shown.under())]
+        without_cause = [shown for shown in self.order if shown.failed and not any(under.failed for under in shown.under())]
+        ended = sorted((shown for shown in without_cause if shown.ended is not None), key=lambda shown: (shown.ended, shown.place))
+        self.first = ended + [shown for shown in without_cause if shown.ended is None]
 
     @property
     def order(self):
@@ -394,7 +396,7 @@ class Page:
             if last is None or last + 1 < at:
                 if last is not None:
                     left = at - last - 1
-                    self.put(b'</pre><p class="cut">', many(left, b" more line: ", b" more lines: "), b'<a href="#t%d">in the tree</a></p>' % shown.place)
+                    self.put(b'</pre><p class="cut">', many(left, b" more line: ", b" more lines: "), b'<a href="#t%d">in its log</a></p>' % shown.place)
                 self.put(b"<pre>\n")
             self.put(passage(cut_to(1000, lines[at]), colours=True)[0], b"\n" if len(lines[at]) <= 1000 else b" ...\n")
             last = at

@@ -282,6 +282,38 @@ for count, wanted in [(300, []), (301, [*range(1, 11), None, *range(272, 302)])]
     failed = made_page({b"all": record(b"do", 1, b"a"), b"a": numbered(1, count) + record(b"done", 2, b"1 a")}, max_bytes=1)
     article = [int(number) for number in re.findall(rb"^0*([0-9]+)$", part(failed, b"<article", b"</article>"), re.M)]
     check(("an output in an article", count), (told(failed), article), (wanted, [*range(1, 301)] if count == 300 else [*range(1, 11), *range(242, 302)]))
+# The others are in the log. The tree shows fewer of them, because the log is cut.
+check("what an excerpt leaves out", part(failed, b'<p class="cut">', b"</p>"), b'231 more lines: <a href="#t1">in its log</a>')
+
+# ---- what failed -----------------------------------------------------------------------------------------------------
+
+
+def listed(page):
+    """The targets in the list of articles, those that have articles, and those of the list of others, by their places."""
+    failed = part(page, b'<section id="failed"', b"</section>")
+    return tuple([int(place) for place in re.findall(pattern, text)] for pattern, text in [
+        (rb'href="#f([0-9]+)"', part(failed, b'<ol class="list">', b"</ol>")), (rb'<article id="f([0-9]+)"', failed),
+        (rb'href="#t([0-9]+)"', part(failed, b" more that failed</summary>", b"</details>") or b"")])
+
+
+# Targets a to g failed at these seconds. At 0 and later, times count. The failure of g counts, but h, which it ran, failed before it.
+ENDS = {b"a": 6, b"b": 4, b"c": b"1", b"d": 2, b"e": 4, b"f": b"1", b"g": 7}
+FAILED = {b"all": b"".join(record(b"do", 1, name) for name in ENDS), **{name: record(b"done", end, b"1 " + name) for name, end in ENDS.items()}}
+FAILED[b"g"] = record(b"do", 2, b"h") + FAILED[b"g"]
+FAILED[b"h"] = record(b"done", 5, b"2 h")
+# d, b and e, h, a, and then c and f, of which it is unknown when they ended.
+check("failures in order", listed(made_page(FAILED)), ([4, 2, 5, 8, 1, 3, 6],) * 2 + ([],))
+# The end counts, and not when a target began.
+check("the beginning doesn't count", listed(made_page({
+    b"all": record(b"do", 1, b"a") + record(b"do", 2, b"b"), b"a": record(b"done", 9, b"1 a"), b"b": record(b"done", 8, b"1 b")}))[1], [2, 1])
+# Only the log around them says when these ended, in hundredths of a second.
+check("ends in another log", listed(made_page({
+    b"all": record(b"done", b"1600000003.02", b"1 a") + record(b"done", b"1600000003.01", b"1 b") + record(b"do", 1, b"a") + record(b"do", 1, b"b"),
+    b"a": b"", b"b": b""}))[1], [2, 1])
+# The tenth one by its end is the last one with an article.
+TWELVE_FAILED = {b"all": b"".join(record(b"do", 0, b"t%d" % place) for place in range(1, 13)),
+                 **{b"t%d" % place: record(b"done", 20 - place, b"1 t%d" % place) for place in range(1, 13)}}
+check("ten failures have articles", listed(made_page(TWELVE_FAILED)), ([*range(12, 2, -1)],) * 2 + ([2, 1],))
 
 # ---- pages -----------------------------------------------------------------------------------------------------------
 
@@ -349,7 +381,7 @@ check("tables of ten", summary.partition(b"</dl>")[2],
 def labelled(place, x, y, width, height, title, fill, label, failed=False):
     of_failed = b' class="f" fill="#c62828"' if failed else b""
     return (b'<a href="#t%d" tabindex="-1"><svg x="%s" y="%d" width="%s" height="%d"><title>%s</title><rect width="100%%" height="%d"%s></rect>'
-            b'<text x="4" y="%d" fill="%s">%s</text></svg></a>' % (place, x, y, width, height, title, height, of_failed, height - 5, fill, label))
+            b'<text x="4" y="%d" fill="%s">%s</text></svg></a>' % (place, x, y, width, height, title, height, of_failed, {12: 9, 16: 12}[height], fill, label))
 
 
 # One lane of parents at 20, two of recipes from 40 on, marks at 6 + 40 + 2 * 18 = 82: the height is 88.
