@@ -98,11 +98,17 @@ def kinds_of(folder, name):
 
 
 def wait_until(what, holds):
-    for _ in range(3000):
+    if not becomes(holds, 3000):
+        raise TimeoutError(what)
+
+
+def becomes(holds, most):
+    """Looks every 10 ms whether this holds, at most so many times. Returns whether it did."""
+    for _ in range(most):
         if holds():
-            return
+            return True
         time.sleep(0.01)
-    raise TimeoutError(what)
+    return False
 
 
 def files_of(folder):
@@ -277,7 +283,9 @@ def refusals(checks, at):
     ends = sorted(line for line in said.splitlines(keepends=True) if line not in ways)
     checks.expect("a cycle of two that run", ends, sorted(failed(("x", 1), ("y", 1), ("all", 1)).splitlines(keepends=True)))
 
-    folder = project(at("late"), all_do="(sleep 0.3; redo-ifchange x || echo $? >status) 2>said &\n", x_do="echo x\n", y_do="until [ -e status ]; do sleep 0.01; done\n")
+    # The background process waits until the log of its script is closed.
+    late = "until grep -qs '^@@REDO:done:' .redo/log.*; do sleep 0.01; done; redo-ifchange x || { echo $? >new; mv new status; }"
+    folder = project(at("late"), all_do=f"({late}) 2>said &\n", x_do="echo x\n", y_do="until [ -e status ]; do sleep 0.01; done\n")
     checks.expect("asked when the script has ended: redo", redo(folder, "-j2", "all", "y"), (0, "", ""))
     said = "redo: the script that this belongs to has ended, or its redo has\n"
     checks.expect("asked when the script has ended", (text_of(folder, "said"), text_of(folder, "status")), (said, "1\n"))
@@ -296,9 +304,12 @@ def refusals(checks, at):
 
 
 def logs(checks, at):
+    # The second part of a line is printed when the log has the first one.
+    until = "until grep -qsx {} .redo/log.*; do sleep 0.01; done\n".format
+    parts = f"printf '@@REDO:do:7:1@@ x\\n@@RE' >&2; {until('@@RE')}printf 'DO:bad\\n@@REDO:\\n@@' >&2\n"
     folder = project(
         at("lines"),
-        all_do="echo $$ >process; printf one >&2; redo-ifchange a b\nprintf '@@REDO:do:7:1@@ x\\n@@RE' >&2; sleep 0.1; printf 'DO:bad\\n@@REDO:\\n@@' >&2\nredo-ifchange a\nprintf two >&2",
+        all_do=f"echo $$ >process; printf one >&2; redo-ifchange a b\n{parts}redo-ifchange a\nprintf two >&2",
         a_do="echo opened >/dev/stderr; echo piped | tee /dev/stderr >/dev/null; exec 2>/dev/stderr; echo last >/proc/self/fd/2\n",
         b_do="echo b\n",
     )
@@ -312,8 +323,9 @@ def logs(checks, at):
     times = [float(when) for _, when in records]
     checks.expect("and of their time", (sorted(times), 0 <= times[0] - began, times[-1] <= time.time()), (times, True, True))
 
-    loop = "(trap 'echo pipe >broken' PIPE; echo begun >&2; until [ -e go ]; do echo more >&2; sleep 0.01; done; echo end >&2; echo ended >ended) &\n"
-    folder = project(at("left"), all_do="redo-ifchange a\nredo-ifchange b\n", a_do=loop + "sleep 0.2\n",
+    loop = "trap 'echo pipe >broken' PIPE; echo begun >&2; until [ -e go ]; do echo more >&2; sleep 0.01; done; echo end >&2"
+    behind = f"({loop}; echo ended >new; mv new ended) &\n{until('more')}"
+    folder = project(at("left"), all_do="redo-ifchange a\nredo-ifchange b\n", a_do=behind,
                      b_do="sleep 0.2; touch go; until [ -e ended ]; do sleep 0.01; done\n")  # fmt: skip
     checks.expect("a process that is left behind: redo", redo(folder), (0, "", ""))
     checks.expect("a process that is left behind", bool(re.fullmatch(r"begun\n(more\n)+done 0 a\n", kinds_of(folder, "a"))), True)
@@ -401,7 +413,7 @@ def is_running(process):
     try:
         with open(f"/proc/{process}/stat", encoding="utf-8") as file:
             return file.read().rpartition(")")[2].split()[0] != "Z"
-    except FileNotFoundError:
+    except (FileNotFoundError, ProcessLookupError):  # it may end between opening and reading
         return False
 
 
@@ -411,7 +423,8 @@ def of_a_terminal():
 
 
 def signals(checks, at):
-    script = "echo half >$3; echo half; echo $1 begun >&2; sh -c 'echo $$ >$0.process; exec sleep 60' $1; echo no >&2\n"
+    sleeping = "sh -c 'echo $$ >$0.new; mv $0.new $0.process; exec sleep 60' $1"
+    script = f"echo half >$3; echo half; echo $1 begun >&2; {sleeping}; echo no >&2\n"
     for what, number, end in (
         ("by the terminal", signal.SIGINT, os.killpg),
         ("the first redo alone", signal.SIGINT, os.kill),
@@ -420,11 +433,11 @@ def signals(checks, at):
         folder = project(at(what), all_do="echo $$ >all.process; redo-ifchange x y\n", x_do=script, y_do="redo-ifchange z\n", z_do=script)
         build = started(folder, "-j4", preexec_fn=of_a_terminal)
         wait_until(what, lambda: all(os.path.exists(os.path.join(folder, f"{name}.process")) for name in "xz"))
-        time.sleep(0.2)
         end(build.pid, number)
-        checks.expect(f"{what}: redo", build.wait(timeout=20), -number)
-        left = [name for name in ("all", "x", "z") if is_running(text_of(folder, f"{name}.process").strip())]
-        checks.expect(f"{what}: what still runs", left, [])
+        checks.expect(f"{what}: redo", build.wait(timeout=50), -number)
+        # A process that has got the signal may end a little later than redo. Without it, it would run for a minute.
+        processes = [text_of(folder, f"{name}.process").strip() for name in ("all", "x", "z")]
+        checks.expect(f"{what}: all have ended", becomes(lambda: not any(map(is_running, processes)), 1000), True)
         checks.expect(f"{what}: what is left", [name for name in files_of(folder) if not name.endswith((".do", ".process"))], [])
         text = re.sub(r"redo *[a-z]+ \(exit -\d+\)\n|redo: .*\n", "", shown(folder, "-r", "all"))
         checks.expect(f"{what}: its captures", text, "redo  all\nredo    x\nx begun\nredo    y\nredo      z\nz begun\n")
@@ -492,7 +505,7 @@ def at_once(checks, at):
     wait_until("begun", lambda: os.path.exists(os.path.join(folder, "begun")))
     checks.expect("two at once: the second", redo(folder, "all"), (1, "", f"redo: another redo makes targets of {folder}\n"))
     write(os.path.join(folder, "go"), "")
-    checks.expect("two at once: the first", (first.communicate(timeout=20)[1], first.wait()), ("", 0))
+    checks.expect("two at once: the first", (first.communicate(timeout=60)[1], first.wait()), ("", 0))
     checks.expect("two at once: made once", shown(folder, "-r", "all"), "redo  all\nredo    x\nmade\n")
 
 
@@ -562,7 +575,7 @@ def marks(checks, at):
     checks.expect("and needs no end", shown(folder, "-r", "all"), "redo  all\nredo    b\nredo      d\nd\n")
     write(os.path.join(folder, f".redo/log.{listed(folder)['c'][1]}"), "")
     write(os.path.join(folder, "go"), "")
-    checks.expect("the second build", (build.communicate(timeout=20)[1], build.wait()), ("", 0))
+    checks.expect("the second build", (build.communicate(timeout=60)[1], build.wait()), ("", 0))
     checks.expect("has marked the others", unmarked(folder), [])
     checks.expect("a log that was damaged, of a target that was not made", shown(folder, "-r", "all"), (4, "redo-log: c: not closed\n"))
     checks.expect("and is made now", (redo(folder, "c"), shown(folder, "c")), ((0, "", ""), "redo  c\n"))

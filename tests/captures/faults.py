@@ -415,8 +415,8 @@ def few_descriptors(checks, at):
 
 def still_there(pipe):
     """Waits until all processes that inherited the other end of a pipe have ended, and closes it. Kills the processes that are still
-    running, and returns their number."""
-    if select.select([pipe], [], [], MOST / 4)[0]:
+    running, and returns their number. If the machine stops with all its processes, the stop counts as one second."""
+    if any(select.select([pipe], [], [], 1)[0] for _ in range(MOST // 4)):
         os.close(pipe)
         return 0
     name, left = os.readlink(f"/proc/self/fd/{pipe}"), set()
@@ -424,8 +424,11 @@ def still_there(pipe):
         process = int(descriptor.split("/")[2])
         with contextlib.suppress(OSError):
             if process != os.getpid() and os.readlink(descriptor) == name:
-                os.kill(process, signal.SIGKILL)
                 left.add(process)
+    # Once the process that reads what others print is killed, they end by themselves. So all are found before.
+    for process in left:
+        with contextlib.suppress(OSError):
+            os.kill(process, signal.SIGKILL)
     os.close(pipe)
     return len(left)
 

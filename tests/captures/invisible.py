@@ -646,8 +646,10 @@ print(os.waitstatus_to_exitcode(os.wait()[1]))
 """
 MANY = "N = $(shell seq 300)\nall: $(N); @cat $(N) | wc -l\n$(N): ; @echo $@ >$@; echo said $@ >&2\n"
 MANY_LOGS = "redo  all\n" + "".join(f"redo    {n}\nsaid {n}\n" for n in range(1, 301))
-DAEMON = "all: ; @(trap '' HUP; await go; echo late >&2; echo $$? >end) & echo begun\n"
-SESSION = "all: ; @setsid sh -c 'echo in >&2; echo out'; ps -o stat= -p $$$$ | tr -d '+s '\n"
+# The file `end` exists only when it is complete.
+DAEMON = "all: ; @(trap '' HUP; await go; echo late >&2; echo $$? >new; mv new end) & echo begun\n"
+# ps may find that the shell still runs, and doesn't wait for ps yet. Then it looks again.
+SESSION = "all: ; @setsid sh -c 'echo in >&2; echo out'; until ps -o stat= -p $$$$ | tr -d '+s ' | grep -v '^[RD]'; do :; done\n"
 TEXTS = {
     **{f"-O{kind}": Case(SYNC, f"$C make -j1 -O{kind}") for kind in KINDS},
     "-w --trace": Case("all: a\n\t@echo all; true\na: ; @echo a\n", "$C make -w --trace"),

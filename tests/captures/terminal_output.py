@@ -182,6 +182,12 @@ def summaries(checks, at):
     checks.expect("without a name", make(folder, options=["--summary="])[0::2], (2, "redo-log-capture: --summary: no file given\n"))
 
 
+def signal_group(group, kind):
+    """Sends a signal to all processes of a group. They are stopped until all have it, so none sees another one end before."""
+    for each in (signal.SIGSTOP, kind, signal.SIGCONT):
+        os.killpg(group, each)
+
+
 def interrupted(checks, at):
     """Targets that ran when a build was interrupted or killed are named, and aren't reported as failed."""
     makefile = "all: a b c\na: ; @exit $(A)\nb c: a ; @touch begun.$@; exec sleep 60\n"
@@ -192,7 +198,7 @@ def interrupted(checks, at):
             build = subprocess.Popen(command, cwd=folder, env=environment(), stderr=subprocess.PIPE, text=True, preexec_fn=of_a_terminal)
             wait_for(os.path.join(folder, "begun.b"))
             wait_for(os.path.join(folder, "begun.c"))
-            (os.killpg if to == "group" else os.kill)(build.pid, kind)
+            (signal_group if to == "group" else os.kill)(build.pid, kind)
             told = build.communicate(timeout=30)[1]
             own = [re.sub(r"\d+\.\d s", "N s", line) for line in told.splitlines() if line.startswith("redo-log-capture")]
             lines = [f"{what}; running: b (N s), c (N s); show their logs: redo-log b c", "show all logs: redo-log -r all"]

@@ -35,6 +35,7 @@ class Chromium:
         self.session = self.call("Target.attachToTarget", targetId=self.first_page(), flatten=True)["sessionId"]
         for domain in ("Page", "Runtime", "Log", "Network"):
             self.call(f"{domain}.enable")
+        self.call("Page.setLifecycleEventsEnabled", enabled=True)
 
     def __enter__(self):
         return self
@@ -79,23 +80,26 @@ class Chromium:
                 return message["result"]
             self.events.append(message)
 
-    def wait_for(self, method):
+    def wait_for(self, method, **parameters):
         until = time.monotonic() + self.deadline
         while True:
             for place, event in enumerate(self.events):
-                if event.get("method") == method:
+                if event.get("method") == method and parameters.items() <= event["params"].items():
                     return self.events.pop(place)
             self.events.append(self.receive(until))
+
+    def go(self, url):
+        """Goes to a page, and waits until this page is loaded. A busy browser may report the end of an earlier one meanwhile."""
+        loader = self.call("Page.navigate", url=url)["loaderId"]
+        self.wait_for("Page.lifecycleEvent", loaderId=loader, name="load")
 
     def load(self, url, width=1280, height=900, dark=False):
         """Loads a page in a window of this size. Returns what the browser reported meanwhile: errors, warnings and requests."""
         self.call("Emulation.setDeviceMetricsOverride", width=width, height=height, deviceScaleFactor=1, mobile=False)
         self.call("Emulation.setEmulatedMedia", features=[{"name": "prefers-color-scheme", "value": "dark" if dark else "light"}])
-        self.call("Page.navigate", url="about:blank")
-        self.wait_for("Page.loadEventFired")
+        self.go("about:blank")
         self.events.clear()
-        self.call("Page.navigate", url=url)
-        self.wait_for("Page.loadEventFired")
+        self.go(url)
         reports = [event for event in self.events if event.get("method") in ("Log.entryAdded", "Runtime.exceptionThrown", "Runtime.consoleAPICalled")]
         requests = [event["params"]["request"]["url"] for event in self.events if event.get("method") == "Network.requestWillBeSent"]
         self.events.clear()
