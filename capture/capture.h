@@ -83,8 +83,8 @@ struct target {
   int is_in_run, is_started, is_mentioned; /* is_mentioned: as a prerequisite, in the log of another target */
   struct target *parent;                 /* the target whose recipe runs the make that makes this one; may be NULL */
   pid_t process;                         /* of the last line */
-  const struct make *first_make;         /* the first make that ran it; lines that other makes run don't change its end */
-  pid_t end_process;
+  const struct make *first_make;         /* the make that began its log; lines that other makes run don't change its end */
+  pid_t end_process;                     /* of the line of the first make that was the last to end so far; 0 before */
   int64_t start_time, end_time;
   int status;                     /* as a shell reports it; -1 while a line runs */
   unsigned running_lines;         /* number of lines that run */
@@ -250,7 +250,7 @@ void end_line(struct make *make, pid_t process, int status, int64_t time, int is
 /* Ends a line that make couldn't start. */
 void fail_line(struct target *target, const struct make *make, pid_t process, int64_t time);
 /* Begins the log of a target, before its first line starts. */
-void begin_target(struct target *target, struct target *parent, int64_t time);
+void begin_target(struct target *target, const struct make *make, struct target *parent, int64_t time);
 /* Writes the records at the start of the log, once its first line has a process. Mentions the target in the log of its parent. */
 void start_target(struct target *target, const char *directory, const char *prerequisites, pid_t process);
 

@@ -4,7 +4,7 @@
      start NUMBER PROCESS HEAD                     its first line started; the first HEAD bytes of its log are records
      needed NUMBER                                 a log mentions it as a prerequisite
      line NUMBER PROCESS                           a line began, after its first
-     ended NUMBER PROCESS TIME STATUS              a line ended; PROCESS and TIME are those of the target's end so far
+     ended NUMBER PROCESS TIME STATUS              a line ended; the target's end so far has this PROCESS and TIME
      mention NUMBER START END                      these bytes of its log are a provisional record
    `.capture/closed` has a line for each closed log: its number and its name. */
 #define _GNU_SOURCE

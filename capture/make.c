@@ -70,7 +70,7 @@ static struct target *recipe_target(struct make *make, struct recipe_entry *reci
 struct target *begin_recipe(struct make *make, struct recipe_entry *recipe, int64_t time) {
   struct target *target = recipe_target(make, recipe);
   if (!target) return &no_target;
-  if (!target->is_in_run) begin_target(target, parent_target(make), time);
+  if (!target->is_in_run) begin_target(target, make, parent_target(make), time);
   return target;
 }
 

@@ -53,12 +53,12 @@ static void mention_prerequisites(struct header *header, const char *directory, 
 }
 
 /* Writes the journal before the existing log is truncated. */
-void begin_target(struct target *target, struct target *parent, int64_t time) {
+void begin_target(struct target *target, const struct make *make, struct target *parent, int64_t time) {
   if (target->number == 0 && add_to_index(target) < 0) return;
   if (parent && parent->name[0] == '/' && target->name[0] != '/') parent = NULL;
   if (write_journal("target %u %lld %u %s\n", target->number, (long long)time, parent ? parent->number : 0, target->name) < 0) return;
   target->is_in_run = 1, target->is_started = target->is_closed = target->is_mentioned = 0, target->status = -1;
-  target->parent = parent, target->start_time = time, target->first_make = NULL, target->end_process = 0;
+  target->parent = parent, target->start_time = time, target->first_make = make, target->end_process = 0;
   begin_log(target);
   if (parent_of(target) != target) open_log(parent_of(target));
 }
@@ -89,13 +89,12 @@ void begin_line(struct make *make, struct target *target, struct command command
   if (target->is_in_run && target->process != process && target->status >= 0)
     write_journal("line %u %d\n", target->number, (int)process);
   target->process = process, target->status = -1;
-  if (!target->first_make) target->first_make = make;
   if (pipe) start_pipe(pipe, target);
 }
 
 static int shell_status(int status) { return WIFSIGNALED(status) ? 128 + WTERMSIG(status) : WEXITSTATUS(status); }
 
-/* If several makes run one target, only the first make changes its end: other logs have the start of the first one already. */
+/* If several makes run one target, only the first make changes its end, because other logs have its start by this make. */
 static void end_target_line(struct target *target, const struct make *make, pid_t process, int status, int64_t time) {
   target->status = status;
   if (make == target->first_make || target->end_process == 0) target->end_process = process, target->end_time = time;
