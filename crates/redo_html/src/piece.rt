@@ -3,13 +3,13 @@ ghost use Rattle.std.specs.Prelude.{map};
 ghost use Rattle.std.specs.List.{flat_map};
 ghost use Rattle.redo_device.specs.Sink.{Writes};
 ghost use Rattle.redo_html.specs.Parts.{part_html, part_of};
-ghost use Rattle.redo_html.specs.Parts.Part.{TitlePart};
+ghost use Rattle.redo_html.specs.Parts.Part.{StylePart, TitlePart};
 
 use crate::chart::{Chart, write_chart, write_meter};
 use crate::markup::{Markup, write_markup, write_number};
 use crate::passage::{write_log_text, write_name, write_title_text};
 use crate::style::Style;
-use crate::style_sheet::style_element;
+use crate::style_sheet::STYLE_SHEET;
 use redo_device::{Broken, Sink, push_all};
 
 /// A piece of a page.
@@ -52,7 +52,7 @@ fn write_piece<W: Sink>(piece: Piece<'_>, out: &mut W) -> Result<(), Broken>
         Piece::Name(name) => write_name(name, out),
         Piece::Number(number) => write_number(number, out),
         Piece::Title(title) => write_title(title, out),
-        Piece::StyleSheet => push_all(out, style_element()),
+        Piece::StyleSheet => write_style_sheet(out),
         Piece::Chart(chart) => write_chart(chart, out),
         Piece::Meter(width) => write_meter(width, out),
     }
@@ -64,4 +64,12 @@ fn write_title<W: Sink>(title: &[u8], out: &mut W) -> Result<(), Broken>
     push_all(out, b"<title>")?;
     write_title_text(title, out)?;
     push_all(out, b"</title>")
+}
+
+fn write_style_sheet<W: Sink>(out: &mut W) -> Result<(), Broken>
+    ensures { Writes (W.written out.old) (W.written out.new) (part_html StylePart) result }
+{
+    push_all(out, b"<style>")?;
+    push_all(out, STYLE_SHEET)?;
+    push_all(out, b"</style>")
 }

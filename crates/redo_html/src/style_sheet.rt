@@ -1,9 +1,7 @@
 //! The style sheet of a page.
-ghost use Rattle.std.specs.Prelude.{◌≡◌};
-ghost use Rattle.redo_html.specs.Parts.{part_html};
-ghost use Rattle.redo_html.specs.Parts.Part.{StylePart};
 
-const STYLE_ELEMENT: &[u8] = b"<style>\
+/// The style sheet. It loads nothing. The definitions cite it, and the tests have a copy of their own.
+pub const STYLE_SHEET: &[u8] = b"\
     :root{color-scheme:light dark;--bg:#fff;--fg:#1c2128;--dim:#59636e;--line:#d8dee4;--soft:#f6f8fa;--link:#0550ae;--bad:#c3212b;--good:#1a7f37;--bar:#3a6ea5;--bar2:#2c5885;--wrap:#d0d9e4;--odd:#8a4600;--oddbg:#fff3d6;--r:#c3212b;--g:#1a7f37;--y:#7d5300;--b:#0550ae;--m:#8250b3;--c:#0b6a75}\n\
     @media (prefers-color-scheme:dark){:root{--bg:#0f1318;--fg:#dfe5ec;--dim:#98a2ae;--line:#2e353e;--soft:#171c23;--link:#7cb7ff;--bad:#ff7b72;--good:#56d364;--bar:#4178b3;--bar2:#376799;--wrap:#2b3440;--odd:#f0b45a;--oddbg:#33270f;--r:#ff7b72;--g:#56d364;--y:#e3b341;--b:#7cb7ff;--m:#d2a8ff;--c:#56d4dd}}\n\
     *{box-sizing:border-box}\n\
@@ -81,11 +79,4 @@ const STYLE_ELEMENT: &[u8] = b"<style>\
     .s>summary{color:var(--dim);font-size:.88rem}\n\
     footer{border-top:1px solid var(--line);color:var(--dim);font-size:.85rem;padding-bottom:2rem}\n\
     @media (max-width:40rem){header,nav ul,main,footer{padding:0 .8rem}header{padding-top:.8rem}h1{font-size:1.3rem}nav ul{gap:0 1rem}pre{font-size:11.5px;padding:.4rem .5rem}article{padding:.1rem .6rem .5rem}dl div{min-width:6rem;padding:.35rem .6rem}td.m{width:16%}.tree ul{margin-left:.2rem;padding-left:.35rem}.tree ul ul ul ul ul ul{margin-left:0;padding-left:0;border-left:0}.tree li>pre{margin-left:-1.1rem}}\n\
-    @media print{:root{color-scheme:light;--bg:#fff;--fg:#000;--dim:#444;--line:#bbb;--soft:#fff;--link:#000;--bad:#b3151f;--good:#1a7f37;--odd:#6b3600;--oddbg:#fff;--bar:#3a6ea5;--bar2:#2c5885;--wrap:#d0d9e4;--r:#b3151f;--g:#1a7f37;--y:#6b4700;--b:#0550ae;--m:#6f3fa0;--c:#0b6a75}nav{display:none}header,main,footer{max-width:none;padding:0}body{font-size:10pt}pre{content-visibility:visible;font-size:8pt}.tree>li>details>ul>li{content-visibility:visible}tr,dl div{break-inside:avoid}h2,h3,summary{break-after:avoid}.scroll{overflow:hidden}.scroll>svg{min-width:0;width:100%}*{print-color-adjust:exact;-webkit-print-color-adjust:exact}}\n</style>";
-
-/// Returns the element `style` with the style sheet.
-pub fn style_element() -> &'static [u8]
-    ensures { result.now ≡ part_html StylePart }
-{
-    STYLE_ELEMENT
-}
+    @media print{:root{color-scheme:light;--bg:#fff;--fg:#000;--dim:#444;--line:#bbb;--soft:#fff;--link:#000;--bad:#b3151f;--good:#1a7f37;--odd:#6b3600;--oddbg:#fff;--bar:#3a6ea5;--bar2:#2c5885;--wrap:#d0d9e4;--r:#b3151f;--g:#1a7f37;--y:#6b4700;--b:#0550ae;--m:#6f3fa0;--c:#0b6a75}nav{display:none}header,main,footer{max-width:none;padding:0}body{font-size:10pt}pre{content-visibility:visible;font-size:8pt}.tree>li>details>ul>li{content-visibility:visible}tr,dl div{break-inside:avoid}h2,h3,summary{break-after:avoid}.scroll{overflow:hidden}.scroll>svg{min-width:0;width:100%}*{print-color-adjust:exact;-webkit-print-color-adjust:exact}}\n";

@@ -1,6 +1,6 @@
 -- The ids and the links of the section on what failed.
 use Rattle.std.proofs.Common.{◌≡◌, ℕ, zero, suc, ◌+◌, Bool, true, false, List, [], ◌∷◌, ◌++◌, Option, None, Some, refl, sym, ◌∙◌, ap, arith}
-use Rattle.std.specs.Prelude.{◌==◌, nat_lt, codes, drop, length, take, if◌then◌else◌}
+use Rattle.std.specs.Prelude.{◌==◌, nat_lt, drop, length, take, if◌then◌else◌}
 use Rattle.std.specs.List.{flat_map, list_all}
 use Rattle.std.proofs.lemmas.Bool.{and_from, and_parts, eq-eqb, lt-ltb, or_left, or_right}
 use Rattle.std.proofs.lemmas.Grind.{flat_map-append}
@@ -15,6 +15,7 @@ use Rattle.redo_html.specs.Parts.Part.{MarkupPart, LogPart, NamePart, NumberPart
 use Rattle.redo_html.specs.Style.{plain_style}
 use Rattle.redo_line.specs.Lines.{with_line_feed}
 use Rattle.redo_outline.specs.declared.node.Node.{Node}
+use Rattle.redo_page.specs.declared.labels.TheConstants.{COUNT_NOT_CLOSED, FAILED_WITH_THESE, MIDDLE_DOT, MORE_FAILED, PLACE_IN_TREE, WHAT_FAILED}
 use Rattle.redo_page.specs.Errors.{cause_of}
 use Rattle.redo_page.specs.Excerpt.{Stretch, error_position, excerpt_line_parts, excerpt_parts, in_tree_parts, is_kept, left_out_parts, stretch_parts, stretches_from}
 use Rattle.redo_page.specs.Excerpt.Stretch.{Shown, LeftOut}
@@ -83,7 +84,7 @@ articles_below nodes = all_take (λ number. nat_lt number (length nodes)) max_ar
 
 pub article_took_bare : (took : Option ℕ) → Bare (article_took took)
 article_took_bare None = refl
-article_took_bare (Some ms) = words_bare [] (NamePart (32 ∷ 0xC2 ∷ 0xB7 ∷ 32 ∷ []) ∷ []) (duration_words ms) refl refl
+article_took_bare (Some ms) = words_bare [] (NamePart MIDDLE_DOT.now ∷ []) (duration_words ms) refl refl
 
 pub path_bare : (logs : List Log) (nodes : List Node) (levels : ℕ) (place : Option ℕ) → Bare (path_parts logs nodes levels place)
 unfolding path_parts
@@ -160,10 +161,10 @@ module _ (count : ℕ) (listed : List ℕ) where
     unfolding article_parts article_of
     article_refers place below =
         let node = node_at nodes place in
-        same_refer {others = MarkupPart (markup.Article place) ∷ (in_tree_parts place (codes "its place in the tree") ++ output_parts logs place node)}
+        same_refer {others = MarkupPart (markup.Article place) ∷ (in_tree_parts place PLACE_IN_TREE.now ++ output_parts logs place node)}
         (simp (flat_map-append, append-nil, badge_bare node.status, article_took_bare node.took, path_bare logs nodes (max_path logs nodes) node.parent))
         (then_refer {parts = MarkupPart (markup.Article place) ∷ []} (record { target_ids_are = refl; article_ids_are = refl; target_links_lead = refl; article_links_lead = refl; sections_are = refl })
-        (then_refer (in_tree_refers place (codes "its place in the tree") below) (output_refers place node below)))
+        (then_refer (in_tree_refers place PLACE_IN_TREE.now below) (output_refers place node below)))
 
     articles_refer : (places : List ℕ) → AreBelow count places → Refer count listed (flat_map (article_parts logs nodes) places) [] places
     articles_refer [] below = bare_refers [] refl
@@ -209,7 +210,7 @@ module _ (count : ℕ) (listed : List ℕ) where
         more_same rows unlisted unlisted_is =
             ap (λ t. t ++ references (rows ++ (MarkupPart markup.EndOrdered ∷ (unlisted ++ MarkupPart markup.EndDetails ∷ [])))) (sym (append-nil (reference (MarkupPart list))) ∙ bare) ∙ simp (flat_map-append, append-nil, unlisted_is)
 
-    section_same : (a b c d e : List Part) → references (MarkupPart markup.FailedSection ∷ MarkupPart markup.FailedHeading ∷ NamePart (codes "What failed") ∷ MarkupPart markup.EndHeading ∷ (a ++ (b ++ (c ++ (d ++ (e ++ MarkupPart markup.EndSection ∷ []))))))
+    section_same : (a b c d e : List Part) → references (MarkupPart markup.FailedSection ∷ MarkupPart markup.FailedHeading ∷ NamePart WHAT_FAILED.now ∷ MarkupPart markup.EndHeading ∷ (a ++ (b ++ (c ++ (d ++ (e ++ MarkupPart markup.EndSection ∷ []))))))
         ≡ references (MarkupPart markup.FailedSection ∷ (a ++ (b ++ (c ++ (d ++ e)))))
     section_same a b c d e = simp (flat_map-append, append-nil)
 
@@ -218,15 +219,15 @@ module _ (count : ℕ) (listed : List ℕ) where
     unfolding section_parts
     section_refers shown others above unclosed shown_below among others_below above_below unclosed_below =
         let articles_shown = flat_map (article_parts logs nodes) shown in
-        let more = more_parts logs nodes (markup.OrderedFrom (suc max_articles)) true (codes " more that failed") others in
-        let with_these = more_parts logs nodes markup.Ordered false (codes " above these, which failed with them") above in
-        let not_closed = more_parts logs nodes markup.Ordered false (codes " not closed") unclosed in
+        let more = more_parts logs nodes (markup.OrderedFrom (suc max_articles)) true MORE_FAILED.now others in
+        let with_these = more_parts logs nodes markup.Ordered false FAILED_WITH_THESE.now above in
+        let not_closed = more_parts logs nodes markup.Ordered false COUNT_NOT_CLOSED.now unclosed in
         same_refer {others = MarkupPart markup.FailedSection ∷ (list_parts logs nodes shown ++ (articles_shown ++ (more ++ (with_these ++ not_closed))))} (section_same (list_parts logs nodes shown) articles_shown more with_these not_closed)
         (then_refer {parts = MarkupPart markup.FailedSection ∷ []} (record { target_ids_are = refl; article_ids_are = refl; target_links_lead = refl; article_links_lead = refl; sections_are = refl })
         (then_refer (list_refers shown among)
         (then_refer (articles_refer shown shown_below)
-        (then_refer (more_refers (markup.OrderedFrom (suc max_articles)) true refl (codes " more that failed") others others_below)
-        (then_refer (more_refers markup.Ordered false refl (codes " above these, which failed with them") above above_below) (more_refers markup.Ordered false refl (codes " not closed") unclosed unclosed_below))))))
+        (then_refer (more_refers (markup.OrderedFrom (suc max_articles)) true refl MORE_FAILED.now others others_below)
+        (then_refer (more_refers markup.Ordered false refl FAILED_WITH_THESE.now above above_below) (more_refers markup.Ordered false refl COUNT_NOT_CLOSED.now unclosed unclosed_below))))))
 
 -- The section, if a target failed.
 abbrev pub failed_section : List ℕ → List Part

@@ -1,6 +1,6 @@
 -- The text lines in articles.
 use Rattle.std.proofs.Common.{◌≡◌, ℕ, Bool, true, false, List, [], ◌∷◌, ◌++◌, refl, ◌∙◌, ap}
-use Rattle.std.specs.Prelude.{◌==◌, ◌&&◌, not, nat_le, codes, if◌then◌else◌}
+use Rattle.std.specs.Prelude.{◌==◌, ◌&&◌, not, nat_le, if◌then◌else◌}
 use Rattle.std.specs.List.{flat_map}
 use Rattle.std.proofs.lemmas.Bool.{and_parts, not-true}
 use Rattle.std.proofs.lemmas.Grind.{flat_map-append}
@@ -13,6 +13,7 @@ use Rattle.redo_html.specs.Lines.{line_parts, style_after}
 use Rattle.redo_html.specs.Parts.Part.{MarkupPart}
 use Rattle.redo_html.specs.Style.{plain_style}
 use Rattle.redo_outline.specs.declared.node.Node.{Node}
+use Rattle.redo_page.specs.declared.labels.TheConstants.{PLACE_IN_TREE}
 use Rattle.redo_page.specs.Excerpt.{excerpt_parts, in_tree_parts}
 use Rattle.redo_page.specs.Failed.{article_of, article_parts, max_path, nothing_parts, output_parts, printed_by, whole_parts}
 use Rattle.redo_page.specs.Laws.{log_bytes, log_text}
@@ -48,7 +49,7 @@ pub article_text : (logs : List Log) (nodes : List Node) (place : ℕ) → is_sh
 unfolding article_parts article_of
 article_text logs nodes place short =
     let node = node_at nodes place in
-    let link = in_tree_parts place (codes "its place in the tree") in
+    let link = in_tree_parts place PLACE_IN_TREE.now in
     same_text (article_parts logs nodes place) (MarkupPart (markup.Article place) ∷ (link ++ output_parts logs place node))
     (simp (flat_map-append, append-nil, badge_bare node.status, article_took_bare node.took, path_bare logs nodes (max_path logs nodes) node.parent))
-    ∙ flat_map-append log_text link (output_parts logs place node) ∙ ap (λ t. t ++ log_bytes (output_parts logs place node)) (in_tree_text place (codes "its place in the tree")) ∙ output_text logs place node short
+    ∙ flat_map-append log_text link (output_parts logs place node) ∙ ap (λ t. t ++ log_bytes (output_parts logs place node)) (in_tree_text place PLACE_IN_TREE.now) ∙ output_text logs place node short

@@ -12,6 +12,7 @@ use Rattle.redo_html.specs.Parts.Part.{MarkupPart, NamePart, NumberPart}
 use Rattle.redo_html.specs.Style.{plain_style}
 use Rattle.redo_line.specs.Lines.{with_line_feed}
 use Rattle.redo_outline.specs.declared.node.Node.{Node}
+use Rattle.redo_page.specs.declared.labels.TheConstants.{COUNT_NOT_CLOSED, FAILED_WITH_THESE, MIDDLE_DOT, MORE_FAILED, PLACE_IN_TREE}
 use Rattle.redo_page.specs.Errors.{cause_of}
 use Rattle.redo_page.specs.Excerpt.{Stretch, error_position, excerpt_line_parts, excerpt_parts, in_tree_parts, is_kept, left_out_parts, stretch_parts, stretches_from}
 use Rattle.redo_page.specs.Excerpt.Stretch.{Shown, LeftOut}
@@ -84,7 +85,7 @@ module _ (logs : List Log) where
 
 article_took_nests : (took : Option ℕ) → Nest (article_took took)
 article_took_nests None = record { leads = λ around tags. refl }
-article_took_nests (Some ms) = words_nest {inside = []} [] (NamePart (32 ∷ 0xC2 ∷ 0xB7 ∷ 32 ∷ []) ∷ []) (duration_words ms) (record { leads = λ around tags. refl }) (record { leads = λ around tags. refl })
+article_took_nests (Some ms) = words_nest {inside = []} [] (NamePart MIDDLE_DOT.now ∷ []) (duration_words ms) (record { leads = λ around tags. refl }) (record { leads = λ around tags. refl })
 
 module _ (logs : List Log) (nodes : List Node) where
   path_nests : (levels : ℕ) (place : Option ℕ) → Nest (path_parts logs nodes levels place)
@@ -98,7 +99,7 @@ module _ (logs : List Log) (nodes : List Node) where
   article_nests place =
       let node = node_at nodes place in
       record {
-        leads = λ around tags. simp (joined, (badge_nests node.status).leads, (article_took_nests node.took).leads, (path_nests (max_path logs nodes) node.parent).leads, (in_tree_nests place (codes "its place in the tree")).leads, (output_nests logs place node).leads);
+        leads = λ around tags. simp (joined, (badge_nests node.status).leads, (article_took_nests node.took).leads, (path_nests (max_path logs nodes) node.parent).leads, (in_tree_nests place PLACE_IN_TREE.now).leads, (output_nests logs place node).leads);
       }
 
   -- ---- lists
@@ -131,9 +132,9 @@ module _ (logs : List Log) (nodes : List Node) where
       joined,
       (list_nests articles).leads,
       (nest_each (article_parts logs nodes) article_nests articles).leads,
-      (more_nest {list = markup.OrderedFrom (suc max_articles)} true (record { leads = λ around tags. refl }) (codes " more that failed") others).leads,
-      (more_nest {list = markup.Ordered} false (record { leads = λ around tags. refl }) (codes " above these, which failed with them") above).leads,
-      (more_nest {list = markup.Ordered} false (record { leads = λ around tags. refl }) (codes " not closed") unclosed).leads,
+      (more_nest {list = markup.OrderedFrom (suc max_articles)} true (record { leads = λ around tags. refl }) MORE_FAILED.now others).leads,
+      (more_nest {list = markup.Ordered} false (record { leads = λ around tags. refl }) FAILED_WITH_THESE.now above).leads,
+      (more_nest {list = markup.Ordered} false (record { leads = λ around tags. refl }) COUNT_NOT_CLOSED.now unclosed).leads,
     );
   }
 

@@ -19,7 +19,8 @@ use Rattle.redo_outline.specs.declared.node.Node.{Node}
 use Rattle.redo_page.specs.Errors.{begins_with}
 use Rattle.redo_page.specs.Excerpt.{cut_to, excerpt_line_end, excerpt_line_parts, excerpt_parts, in_tree_parts, left_out_parts}
 use Rattle.redo_page.specs.declared.failed.Failures.{Failures}
-use Rattle.redo_page.specs.Failed.{AreFailures, article_of, article_parts, article_row, article_took, cause_of_node, cause_parts, failed_above, failed_parts, is_unclosed, list_parts, more_above, more_parts, nothing_parts, output_parts, path_parts, path_separator, places_where, row_parts, section_parts, target_row, unlisted_parts, whole_parts}
+use Rattle.redo_page.specs.declared.labels.TheConstants.{MORE_ABOVE, PATH_SEPARATOR}
+use Rattle.redo_page.specs.Failed.{AreFailures, article_of, article_parts, article_row, article_took, cause_of_node, cause_parts, failed_above, failed_parts, is_unclosed, list_parts, more_parts, nothing_parts, output_parts, path_parts, places_where, row_parts, section_parts, target_row, unlisted_parts, whole_parts}
 use Rattle.redo_page.specs.Laws.{target_links}
 use Rattle.redo_units.specs.Durations.{duration_words}
 
@@ -334,11 +335,11 @@ no_path : path_parts logs chain 4 None ≡ []
 unfolding path_parts
 no_path = refl
 
-separator_is : path_separator ≡ 32 ∷ (encode_utf8 0x203A ++ 32 ∷ [])
+separator_is : PATH_SEPARATOR.now ≡ 32 ∷ (encode_utf8 0x203A ++ 32 ∷ [])
 unfolding encode_utf8
 separator_is = refl
 
-more_is : more_above ≡ encode_utf8 0x2026 ++ path_separator
+more_is : MORE_ABOVE.now ≡ encode_utf8 0x2026 ++ 32 ∷ (encode_utf8 0x203A ++ 32 ∷ [])
 unfolding encode_utf8
 more_is = refl
 

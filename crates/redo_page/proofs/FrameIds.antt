@@ -1,12 +1,13 @@
 -- The frame of a page has no ids of targets and articles, and no links to them.
 use Rattle.std.proofs.Common.{◌≡◌, ℕ, ◌/◌, Bool, true, false, List, [], ◌∷◌, ◌++◌, ℤ, Option, None, Some, refl, sym, ◌∙◌}
-use Rattle.std.specs.Prelude.{◌==◌, codes, not, is_none, length}
+use Rattle.std.specs.Prelude.{◌==◌, not, is_none, length}
 use Rattle.std.proofs.lemmas.Grind.{flat_map-append}
 use Rattle.redo_logs.specs.Logs.{Log}
 use Rattle.redo_html.specs.declared.markup.Markup.TheVariants.{FailedLink, SummaryLink, TimelineLink, TreeLink, MetaParagraph, EndParagraph}
 use Rattle.redo_html.specs.Parts.{Part}
 use Rattle.redo_html.specs.Parts.Part.{MarkupPart, NamePart}
 use Rattle.redo_outline.specs.declared.node.Node.{Node}
+use Rattle.redo_page.specs.declared.labels.TheConstants.{BUILD_TOOK}
 use Rattle.redo_page.specs.declared.frame.Verdict.{Verdict}
 use Rattle.redo_page.specs.declared.frame.Verdict.TheVariants.{Failed, Unfinished, Made}
 use Rattle.redo_page.specs.Frame.{began_parts, date_parts, head_parts, requested_parts, root_parts, timeline_nav, title_parts, failed_nav, header_parts, footer_parts}
@@ -79,8 +80,8 @@ date_bare (Some date) = refl
 began_bare : (window : Option Window) (took : ℕ) → Bare (began_parts window took)
 began_bare None took = refl
 began_bare (Some window) took =
-    bare_then (MarkupPart MetaParagraph ∷ date_parts (date_text_of (window.began / 1000))) (NamePart (codes "took ") ∷ (words_parts (duration_words took) ++ MarkupPart EndParagraph ∷ [])) (date_bare (date_text_of (window.began / 1000)))
-    (words_bare (NamePart (codes "took ") ∷ []) (MarkupPart EndParagraph ∷ []) (duration_words took) refl refl)
+    bare_then (MarkupPart MetaParagraph ∷ date_parts (date_text_of (window.began / 1000))) (NamePart BUILD_TOOK.now ∷ (words_parts (duration_words took) ++ MarkupPart EndParagraph ∷ [])) (date_bare (date_text_of (window.began / 1000)))
+    (words_bare (NamePart BUILD_TOOK.now ∷ []) (MarkupPart EndParagraph ∷ []) (duration_words took) refl refl)
 
 header_same : (title : List ℕ) (logs : List Log) (verdict : Verdict) (heading : List ℕ) (nodes : List Node) (facts : Facts) → references (header_parts title logs verdict heading nodes facts) ≡ links verdict (has_timeline facts)
 header_same title logs verdict heading nodes facts =

@@ -5,6 +5,7 @@ use Rattle.redo_html.specs.declared.markup.Markup.TheVariants as markup
 use Rattle.redo_html.specs.Parts.Part.{MarkupPart, NamePart}
 use Rattle.redo_logs.specs.Logs.{Log}
 use Rattle.redo_outline.specs.declared.node.Node.{Node}
+use Rattle.redo_page.specs.declared.labels.TheConstants.{BUILD_TOOK}
 use Rattle.redo_page.specs.declared.frame.Verdict.{Verdict}
 use Rattle.redo_page.specs.declared.frame.Verdict.TheVariants.{Failed, Unfinished, Made}
 use Rattle.redo_page.specs.Frame.{began_parts, date_parts, head_parts, requested_parts, root_parts, timeline_nav, title_parts, failed_nav, header_parts, footer_parts}
@@ -45,7 +46,7 @@ began_nests None took = record { leads = λ around tags. refl }
 began_nests (Some window) took =
     then_lead {middle = codes "p" ∷ []} {parts = MarkupPart markup.MetaParagraph ∷ []} (record { leads = λ around tags. refl })
     (then_lead (lead_in (codes "p" ∷ []) (date_nests (date_text_of (window.began / 1000))))
-    (lead_through (codes "p" ∷ []) (NamePart (codes "took ") ∷ []) (MarkupPart markup.EndParagraph ∷ []) (duration_words took) (record { leads = λ around tags. refl }) (record { leads = λ around tags. refl })))
+    (lead_through (codes "p" ∷ []) (NamePart BUILD_TOOK.now ∷ []) (MarkupPart markup.EndParagraph ∷ []) (duration_words took) (record { leads = λ around tags. refl }) (record { leads = λ around tags. refl })))
 
 timeline_nav_nests : (timed : Bool) → Nest (timeline_nav timed)
 timeline_nav_nests timed = nest_if timed (record { leads = λ around tags. refl })

@@ -1,6 +1,6 @@
 -- The tree and the articles are parts of a page.
 use Rattle.std.proofs.Common.{◌≡◌, ℕ, suc, Bool, true, false, List, [], ◌∷◌, ◌++◌, Some, refl, sym, ◌∙◌, ap, inl, inr, ◌⊎◌, arith}
-use Rattle.std.specs.Prelude.{◌==◌, nat_lt, codes, drop, length, take}
+use Rattle.std.specs.Prelude.{◌==◌, nat_lt, drop, length, take}
 use Rattle.std.specs.List.{flat_map}
 use Rattle.std.proofs.lemmas.Bool.{eqb-true, lt-ltb, or_cases}
 use Rattle.std.proofs.lemmas.List.{append_assoc, append-nil}
@@ -9,6 +9,7 @@ use Rattle.redo_html.specs.declared.markup.Markup.TheVariants as markup
 use Rattle.redo_html.specs.Parts.{Part}
 use Rattle.redo_html.specs.Parts.Part.{MarkupPart, NamePart}
 use Rattle.redo_outline.specs.declared.node.Node.{Node}
+use Rattle.redo_page.specs.declared.labels.TheConstants.{COUNT_NOT_CLOSED, FAILED_WITH_THESE, MORE_FAILED, WHAT_FAILED}
 use Rattle.redo_page.specs.declared.frame.Verdict.{Verdict}
 use Rattle.redo_page.specs.Failed.{article_parts, failed_above, failed_parts, is_unclosed, list_parts, more_parts, places_where, section_parts}
 use Rattle.redo_page.specs.Frame.{command, footer_parts, head_parts, header_parts, title_text, verdict_of}
@@ -48,11 +49,11 @@ part_among f (other ∷ numbers) number among = by (part_among f numbers number)
 section_has_article : (logs : List Log) (nodes : List Node) (shown others above unclosed : List ℕ) (place : ℕ) → is_among shown place ≡ true → IsPartOf (article_parts logs nodes place) (section_parts logs nodes shown others above unclosed)
 unfolding section_parts
 section_has_article logs nodes shown others above unclosed place among =
-    part_later (MarkupPart markup.FailedSection ∷ MarkupPart markup.FailedHeading ∷ NamePart (codes "What failed") ∷ MarkupPart markup.EndHeading ∷ [])
+    part_later (MarkupPart markup.FailedSection ∷ MarkupPart markup.FailedHeading ∷ NamePart WHAT_FAILED.now ∷ MarkupPart markup.EndHeading ∷ [])
     (part_later (list_parts logs nodes shown)
-    (part_earlier (more_parts logs nodes (markup.OrderedFrom (suc max_articles)) true (codes " more that failed") others
-    ++ (more_parts logs nodes markup.Ordered false (codes " above these, which failed with them") above
-    ++ (more_parts logs nodes markup.Ordered false (codes " not closed") unclosed ++ MarkupPart markup.EndSection ∷ [])))
+    (part_earlier (more_parts logs nodes (markup.OrderedFrom (suc max_articles)) true MORE_FAILED.now others
+    ++ (more_parts logs nodes markup.Ordered false FAILED_WITH_THESE.now above
+    ++ (more_parts logs nodes markup.Ordered false COUNT_NOT_CLOSED.now unclosed ++ MarkupPart markup.EndSection ∷ [])))
     (part_among (article_parts logs nodes) shown place among)))
 
 failed_has_article : (logs : List Log) (nodes : List Node) (place : ℕ) → is_among (articles nodes) place ≡ true → IsPartOf (article_parts logs nodes place) (failed_parts logs nodes)

@@ -1,6 +1,6 @@
 -- The links of the summary.
 use Rattle.std.proofs.Common.{◌≡◌, ℕ, Bool, true, false, List, [], ◌∷◌, ◌++◌, Some, refl, sym, ◌∙◌, ap}
-use Rattle.std.specs.Prelude.{◌==◌, ◌<◌, ◌&&◌, codes, is_some, length, nat_lt, not, if◌then◌else◌}
+use Rattle.std.specs.Prelude.{◌==◌, ◌<◌, ◌&&◌, is_some, length, nat_lt, not, if◌then◌else◌}
 use Rattle.std.specs.List.{AllByRecursion, flat_map}
 use Rattle.std.proofs.lemmas.Bool.{lt-ltb}
 use Rattle.std.proofs.lemmas.List.{append-nil}
@@ -12,6 +12,7 @@ use Rattle.redo_html.specs.Parts.{Part}
 use Rattle.redo_html.specs.Parts.Part.{MarkupPart, NamePart, NumberPart}
 use Rattle.redo_outline.specs.declared.node.Node.{Node}
 use Rattle.redo_outline.specs.Facts.{target_at}
+use Rattle.redo_page.specs.declared.labels.TheConstants.{AT_MOST, AT_ONCE, FAILED, FEW_TIMES_OF, LOGS, LONGEST, MOST_WARNINGS, NO_TIMES, OF, SUM_OF_TIMES, TARGETS, TIMES_UNKNOWN, TOOK, WARNED_LINES}
 use Rattle.redo_page.specs.declared.summary.Measure.{Measure}
 use Rattle.redo_page.specs.declared.summary.Measure.TheVariants.{Milliseconds, Count}
 use Rattle.redo_page.specs.Failed.{failed_above, places_where}
@@ -38,20 +39,20 @@ failed_bare first above = bare_if (not (above == 0)) _ refl
 
 tiles_bare : (facts : Facts) (targets first above : ℕ) → Bare (tiles facts targets first above)
 tiles_bare facts targets first above =
-    let sum = tile (codes "Sum of times") (words_parts (duration_words facts.sum)) in
-    let at_once = tile (codes "At once") (at_once_parts facts) in
+    let sum = tile SUM_OF_TIMES.now (words_parts (duration_words facts.sum)) in
+    let at_once = tile AT_ONCE.now (at_once_parts facts) in
     let timed = took_tile facts ++ timed_tiles facts in
-    let logs = tile (codes "Logs") (words_parts (size_words facts.bytes)) in
-    let warnings = tile (codes "Lines with warning:") (NumberPart facts.warnings ∷ []) in
-    let failed = tile (codes "Failed") (failed_counts first above) in
-    bare_then (tile (codes "Targets") (NumberPart targets ∷ [])) (failed ++ (warnings ++ (logs ++ timed))) (tile_bare (codes "Targets") (NumberPart targets ∷ []) refl)
-    (bare_then failed (warnings ++ (logs ++ timed)) (tile_bare (codes "Failed") (failed_counts first above) (failed_bare first above))
-    (bare_then warnings (logs ++ timed) (tile_bare (codes "Lines with warning:") (NumberPart facts.warnings ∷ []) refl)
-    (bare_then logs timed (tile_bare (codes "Logs") (words_parts (size_words facts.bytes)) (plain_bare (size_words facts.bytes)))
-    (bare_then (took_tile facts) (timed_tiles facts) (bare_if (is_some facts.window) (tile (codes "Took") (words_parts (duration_words facts.took))) (tile_bare (codes "Took") (words_parts (duration_words facts.took)) (plain_bare (duration_words facts.took))))
+    let logs = tile LOGS.now (words_parts (size_words facts.bytes)) in
+    let warnings = tile WARNED_LINES.now (NumberPart facts.warnings ∷ []) in
+    let failed = tile FAILED.now (failed_counts first above) in
+    bare_then (tile TARGETS.now (NumberPart targets ∷ [])) (failed ++ (warnings ++ (logs ++ timed))) (tile_bare TARGETS.now (NumberPart targets ∷ []) refl)
+    (bare_then failed (warnings ++ (logs ++ timed)) (tile_bare FAILED.now (failed_counts first above) (failed_bare first above))
+    (bare_then warnings (logs ++ timed) (tile_bare WARNED_LINES.now (NumberPart facts.warnings ∷ []) refl)
+    (bare_then logs timed (tile_bare LOGS.now (words_parts (size_words facts.bytes)) (plain_bare (size_words facts.bytes)))
+    (bare_then (took_tile facts) (timed_tiles facts) (bare_if (is_some facts.window) (tile TOOK.now (words_parts (duration_words facts.took))) (tile_bare TOOK.now (words_parts (duration_words facts.took)) (plain_bare (duration_words facts.took))))
     (bare_if (is_timed facts) (sum ++ at_once)
-    (bare_then sum at_once (tile_bare (codes "Sum of times") (words_parts (duration_words facts.sum)) (plain_bare (duration_words facts.sum)))
-    (tile_bare (codes "At once") (at_once_parts facts) (words_bare [] (NamePart (codes ", at most ") ∷ NumberPart facts.most ∷ []) (tenths_words facts.sum facts.took) refl refl))))))))
+    (bare_then sum at_once (tile_bare SUM_OF_TIMES.now (words_parts (duration_words facts.sum)) (plain_bare (duration_words facts.sum)))
+    (tile_bare AT_ONCE.now (at_once_parts facts) (words_bare [] (NamePart AT_MOST.now ∷ NumberPart facts.most ∷ []) (tenths_words facts.sum facts.took) refl refl))))))))
 
 measure_bare : (measure : Measure) (value : ℕ) → Bare (measure_parts measure value)
 measure_bare Milliseconds value = plain_bare (duration_words value)
@@ -60,9 +61,9 @@ measure_bare Count value = refl
 why_bare : (facts : Facts) → Bare (why_parts facts)
 why_bare facts = bare_if (not (is_timed facts)) _ (by (known_count facts == 0))
   where
-    by : (none : Bool) → Bare (MarkupPart markup.QuietParagraph ∷ ((if none then NamePart (codes "There is no timeline: the logs do not say when the targets ran.") ∷ []
-        else NamePart (codes "There is no timeline: the logs of ") ∷ NumberPart (length facts.marks) ∷ NamePart (codes " of ") ∷ NumberPart (known_count facts)
-        ∷ NamePart (codes " targets do not say when they began, or when they ended.") ∷ []) ++ MarkupPart markup.EndParagraph ∷ []))
+    by : (none : Bool) → Bare (MarkupPart markup.QuietParagraph ∷ ((if none then NamePart NO_TIMES.now ∷ []
+        else NamePart FEW_TIMES_OF.now ∷ NumberPart (length facts.marks) ∷ NamePart OF.now ∷ NumberPart (known_count facts)
+        ∷ NamePart TIMES_UNKNOWN.now ∷ []) ++ MarkupPart markup.EndParagraph ∷ []))
     by true = refl
     by false = refl
 
@@ -87,8 +88,8 @@ module _ (count : ℕ) (listed : List ℕ) (logs : List Log) (nodes : List Node)
   unfolding tables_parts
   tables_refer longest warned longest_below warned_below =
       refer_if (not (length longest == 0 && length warned == 0))
-      (same_refer {others = table_parts logs nodes Milliseconds (codes "Longest") longest ++ table_parts logs nodes Count (codes "Most warnings") warned} (simp (flat_map-append, append-nil))
-      (then_refer (table_refers Milliseconds (codes "Longest") longest longest_below) (table_refers Count (codes "Most warnings") warned warned_below)))
+      (same_refer {others = table_parts logs nodes Milliseconds LONGEST.now longest ++ table_parts logs nodes Count MOST_WARNINGS.now warned} (simp (flat_map-append, append-nil))
+      (then_refer (table_refers Milliseconds LONGEST.now longest longest_below) (table_refers Count MOST_WARNINGS.now warned warned_below)))
 
   longest_below : (facts : Facts) → AreRanksBelow count facts.longest → AreRanksBelow count (shown_longest facts)
   longest_below facts below = by (is_timed facts)

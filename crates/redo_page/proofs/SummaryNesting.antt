@@ -7,6 +7,7 @@ use Rattle.redo_html.specs.Parts.{Part}
 use Rattle.redo_html.specs.Parts.Part.{MarkupPart, NamePart, NumberPart}
 use Rattle.redo_outline.specs.declared.node.Node.{Node}
 use Rattle.redo_outline.specs.Facts.{target_at}
+use Rattle.redo_page.specs.declared.labels.TheConstants.{AT_ONCE, FAILED, FEW_TIMES_OF, LOGS, LONGEST, MOST_WARNINGS, NO_TIMES, OF, SUMMARY, SUM_OF_TIMES, TARGETS, TIMES_UNKNOWN, TOOK, WARNED_LINES}
 use Rattle.redo_page.specs.declared.summary.Measure.{Measure}
 use Rattle.redo_page.specs.declared.summary.Measure.TheVariants.{Milliseconds, Count}
 use Rattle.redo_page.specs.Failed.{failed_above, places_where}
@@ -37,14 +38,14 @@ number_nests number = record { leads = λ around tags. refl }
 
 tiles_nest : (facts : Facts) (targets first above : ℕ) → Nest (tiles facts targets first above)
 tiles_nest facts targets first above =
-    then_lead (tile_nests (codes "Targets") (NumberPart targets ∷ []) (number_nests targets))
-    (then_lead (tile_nests (codes "Failed") (failed_counts first above) (failed_nest first above))
-    (then_lead (tile_nests (codes "Lines with warning:") (NumberPart facts.warnings ∷ []) (number_nests facts.warnings))
-    (then_lead (tile_nests (codes "Logs") (words_parts (size_words facts.bytes)) (plain_nests (size_words facts.bytes)))
-    (then_lead (nest_if (is_some facts.window) (tile_nests (codes "Took") (words_parts (duration_words facts.took)) (plain_nests (duration_words facts.took))))
+    then_lead (tile_nests TARGETS.now (NumberPart targets ∷ []) (number_nests targets))
+    (then_lead (tile_nests FAILED.now (failed_counts first above) (failed_nest first above))
+    (then_lead (tile_nests WARNED_LINES.now (NumberPart facts.warnings ∷ []) (number_nests facts.warnings))
+    (then_lead (tile_nests LOGS.now (words_parts (size_words facts.bytes)) (plain_nests (size_words facts.bytes)))
+    (then_lead (nest_if (is_some facts.window) (tile_nests TOOK.now (words_parts (duration_words facts.took)) (plain_nests (duration_words facts.took))))
     (nest_if (is_timed facts)
-    (then_lead (tile_nests (codes "Sum of times") (words_parts (duration_words facts.sum)) (plain_nests (duration_words facts.sum)))
-    (tile_nests (codes "At once") (at_once_parts facts) (then_lead (plain_nests (tenths_words facts.sum facts.took)) (record { leads = λ around tags. refl })))))))))
+    (then_lead (tile_nests SUM_OF_TIMES.now (words_parts (duration_words facts.sum)) (plain_nests (duration_words facts.sum)))
+    (tile_nests AT_ONCE.now (at_once_parts facts) (then_lead (plain_nests (tenths_words facts.sum facts.took)) (record { leads = λ around tags. refl })))))))))
 
 measure_nests : (measure : Measure) (value : ℕ) → Nest (measure_parts measure value)
 measure_nests Milliseconds value = plain_nests (duration_words value)
@@ -56,9 +57,9 @@ why_nests facts =
     (then_lead {middle = codes "p" ∷ []} {parts = MarkupPart markup.QuietParagraph ∷ []} (record { leads = λ around tags. refl })
     (then_lead (lead_in (codes "p" ∷ []) (unknown_nests (known_count facts == 0))) (record { leads = λ around tags. refl })))
   where
-    unknown_nests : (none : Bool) → Nest (if none then NamePart (codes "There is no timeline: the logs do not say when the targets ran.") ∷ []
-        else NamePart (codes "There is no timeline: the logs of ") ∷ NumberPart (length facts.marks) ∷ NamePart (codes " of ") ∷ NumberPart (known_count facts)
-        ∷ NamePart (codes " targets do not say when they began, or when they ended.") ∷ [])
+    unknown_nests : (none : Bool) → Nest (if none then NamePart NO_TIMES.now ∷ []
+        else NamePart FEW_TIMES_OF.now ∷ NumberPart (length facts.marks) ∷ NamePart OF.now ∷ NumberPart (known_count facts)
+        ∷ NamePart TIMES_UNKNOWN.now ∷ [])
     unknown_nests true = record { leads = λ around tags. refl }
     unknown_nests false = record { leads = λ around tags. refl }
 
@@ -82,13 +83,13 @@ module _ (logs : List Log) (nodes : List Node) where
   tables_nest longest warned =
       nest_if (not (length longest == 0 && length warned == 0))
       (then_lead {middle = codes "div" ∷ []} {parts = MarkupPart markup.Columns ∷ []} (record { leads = λ around tags. refl })
-      (then_lead (lead_in (codes "div" ∷ []) (table_nests Milliseconds (codes "Longest") longest))
-      (then_lead (lead_in (codes "div" ∷ []) (table_nests Count (codes "Most warnings") warned)) (record { leads = λ around tags. refl }))))
+      (then_lead (lead_in (codes "div" ∷ []) (table_nests Milliseconds LONGEST.now longest))
+      (then_lead (lead_in (codes "div" ∷ []) (table_nests Count MOST_WARNINGS.now warned)) (record { leads = λ around tags. refl }))))
 
   pub summary_nests : (facts : Facts) → Nest (summary_parts logs nodes facts)
   unfolding summary_parts
   summary_nests facts =
-      then_lead {middle = codes "dl" ∷ codes "section" ∷ []} {parts = MarkupPart markup.SummarySection ∷ MarkupPart markup.SummaryHeading ∷ NamePart (codes "Summary") ∷ MarkupPart markup.EndHeading ∷ MarkupPart markup.DescriptionList ∷ []} (record { leads = λ around tags. refl })
+      then_lead {middle = codes "dl" ∷ codes "section" ∷ []} {parts = MarkupPart markup.SummarySection ∷ MarkupPart markup.SummaryHeading ∷ NamePart SUMMARY.now ∷ MarkupPart markup.EndHeading ∷ MarkupPart markup.DescriptionList ∷ []} (record { leads = λ around tags. refl })
       (then_lead (lead_in (codes "dl" ∷ codes "section" ∷ []) (tiles_nest facts (length nodes) (length (first_failures nodes)) (length (places_where failed_above 0 nodes))))
       (then_lead {middle = codes "section" ∷ []} {parts = MarkupPart markup.EndDescriptionList ∷ []} (record { leads = λ around tags. refl })
       (then_lead (lead_in (codes "section" ∷ []) (tables_nest (shown_longest facts) facts.warned))

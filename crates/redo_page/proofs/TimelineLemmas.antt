@@ -15,6 +15,7 @@ use Rattle.redo_html.specs.Parts.{Part}
 use Rattle.redo_html.specs.Parts.Part.{ChartPart, MarkupPart, NamePart}
 use Rattle.redo_logs.specs.Logs.{Log}
 use Rattle.redo_outline.specs.declared.node.Node.{Node}
+use Rattle.redo_page.specs.declared.labels.TheConstants.{TIMELINE}
 use Rattle.redo_page.specs.Summary.{known_count}
 use Rattle.redo_page.specs.Targets.{parts_if}
 use Rattle.redo_page.specs.Timeline.{facts_drawing, marks_parts, timeline_end, timeline_if, timeline_parts, timeline_section, timeline_start}
@@ -32,7 +33,7 @@ marks_nest marks known = nest_if (not (marks == 0)) (record { leads = λ around 
 
 start_leads : (facts : Facts) → Leads [] (timeline_start facts) (codes "div" ∷ codes "section" ∷ [])
 start_leads facts =
-    then_lead {middle = codes "section" ∷ []} {parts = MarkupPart markup.TimelineSection ∷ MarkupPart markup.TimelineHeading ∷ NamePart (codes "Timeline") ∷ MarkupPart markup.EndHeading ∷ []} (record { leads = λ around tags. refl })
+    then_lead {middle = codes "section" ∷ []} {parts = MarkupPart markup.TimelineSection ∷ MarkupPart markup.TimelineHeading ∷ NamePart TIMELINE.now ∷ MarkupPart markup.EndHeading ∷ []} (record { leads = λ around tags. refl })
     (then_lead {others = MarkupPart markup.TimelineScroll ∷ []} (lead_in (codes "section" ∷ []) (marks_nest (length facts.marks) (known_count facts))) (record { leads = λ around tags. refl }))
 
 pub timeline_nests : (logs : List Log) (nodes : List Node) (facts : Facts) → Nest (timeline_parts logs nodes facts)

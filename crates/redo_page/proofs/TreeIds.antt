@@ -20,6 +20,7 @@ use Rattle.redo_outline.specs.declared.node.Node.{Node}
 use Rattle.redo_outline.specs.Contents.{Contents}
 use Rattle.redo_outline.specs.Contents.Contents.{Nothing, Shown, Opened}
 use Rattle.redo_outline.specs.Outline.{log_count, nodes_of}
+use Rattle.redo_page.specs.declared.labels.TheConstants.{SHOWN_ABOVE}
 use Rattle.redo_page.specs.declared.block.Pending.{Pending}
 use Rattle.redo_page.specs.declared.block.Pending.TheVariants as pending
 use Rattle.redo_page.specs.declared.level.Level.{Level}
@@ -139,7 +140,7 @@ module _ (build : Build) where
   moved_refers : (place : ℕ) → InTree (moved_parts build place) []
   moved_refers place = by (has_article build place) (is_short (node_at build.nodes place)) refl
     where
-      by : (has short : Bool) → has_article build place ≡ has → InTree (parts_if (has && short) (MarkupPart markup.NoteItem ∷ MarkupPart (markup.OutputLink place) ∷ NamePart (codes "What it printed is shown above") ∷ MarkupPart markup.EndLink ∷ MarkupPart markup.EndItem ∷ [])) []
+      by : (has short : Bool) → has_article build place ≡ has → InTree (parts_if (has && short) (MarkupPart markup.NoteItem ∷ MarkupPart (markup.OutputLink place) ∷ NamePart SHOWN_ABOVE.now ∷ MarkupPart markup.EndLink ∷ MarkupPart markup.EndItem ∷ [])) []
       by true true is = same_refer {others = MarkupPart (markup.OutputLink place) ∷ []} refl (article_link_refers place is)
       by true false is = bare_refers [] refl
       by false short is = bare_refers [] refl

@@ -5,6 +5,7 @@ use Rattle.redo_html.specs.declared.markup.Markup.TheVariants as markup
 use Rattle.redo_html.specs.Parts.{Part}
 use Rattle.redo_html.specs.Parts.Part.{MarkupPart, LogPart, NamePart, NumberPart}
 use Rattle.redo_html.specs.Style.{plain_style}
+use Rattle.redo_page.specs.declared.labels.TheConstants.{IN_ITS_LOG, MORE_LINE, MORE_LINES}
 use Rattle.redo_page.specs.declared.cause.WordState.{WordState}
 use Rattle.redo_page.specs.declared.cause.WordState.TheVariants.{Outside}
 use Rattle.redo_page.specs.Errors.{is_error, is_in_sequence, state_after}
@@ -79,8 +80,8 @@ in_tree_parts place text = MarkupPart (markup.TargetLink place) ∷ NamePart tex
 -- How many lines are left out. They are in the log of the target, which may be cut in the tree.
 unfoldable pub left_out_parts : ℕ → ℕ → List Part
 left_out_parts place count =
-    MarkupPart markup.CutParagraph ∷ NumberPart count ∷ NamePart (plural count (codes " more line: ") (codes " more lines: "))
-    ∷ (in_tree_parts place (codes "in its log") ++ MarkupPart markup.EndParagraph ∷ [])
+    MarkupPart markup.CutParagraph ∷ NumberPart count ∷ NamePart (plural count MORE_LINE.now MORE_LINES.now)
+    ∷ (in_tree_parts place IN_ITS_LOG.now ++ MarkupPart markup.EndParagraph ∷ [])
 
 abbrev pub stretch_parts : ℕ → Stretch → List Part
 stretch_parts place (Shown lines) = MarkupPart markup.Pre ∷ (flat_map excerpt_line_parts lines ++ MarkupPart markup.EndPre ∷ [])

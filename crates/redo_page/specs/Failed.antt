@@ -10,6 +10,7 @@ use Rattle.redo_html.specs.Parts.Part.{MarkupPart, LogPart, NamePart, NumberPart
 use Rattle.redo_html.specs.Style.{plain_style}
 use Rattle.redo_outline.specs.declared.node.Node.{Node}
 use Rattle.redo_outline.specs.Facts.{entries_at, texts_of}
+use Rattle.redo_page.specs.declared.labels.TheConstants.{AND, COUNT_NOT_CLOSED, FAILED_WITH_THESE, MIDDLE_DOT, MORE_ABOVE, MORE_FAILED, MORE_IN_TREE, NOTHING_CAPTURED, NO_FAILURE_BELOW, PATH_SEPARATOR, PLACE_IN_TREE, WHAT_FAILED}
 use Rattle.redo_page.specs.declared.failed.Failures.{Failures}
 use Rattle.redo_page.specs.Errors.{cause_of}
 use Rattle.redo_page.specs.Excerpt.{cut_to, excerpt_parts, in_tree_parts}
@@ -47,12 +48,12 @@ unfoldable pub whole_parts : List (List ℕ) → List Part
 whole_parts lines = MarkupPart markup.Pre ∷ (line_parts plain_style lines ++ MarkupPart markup.EndPre ∷ [])
 
 abbrev pub no_failure_below : ℕ → List ℕ
-no_failure_below below = if below == 0 then [] else codes " No target below it failed: make or redo reported the cause on the terminal."
+no_failure_below below = if below == 0 then [] else NO_FAILURE_BELOW.now
 
 -- Instead of the output of a target that printed nothing.
 unfoldable pub nothing_parts : Node → List Part
 nothing_parts node =
-    MarkupPart markup.QuietParagraph ∷ NamePart (codes "It printed nothing that was captured.") ∷ NamePart (no_failure_below node.below) ∷ MarkupPart markup.EndParagraph ∷ []
+    MarkupPart markup.QuietParagraph ∷ NamePart NOTHING_CAPTURED.now ∷ NamePart (no_failure_below node.below) ∷ MarkupPart markup.EndParagraph ∷ []
 
 -- ---- causes
 
@@ -64,15 +65,6 @@ unfoldable pub cause_parts : Option (List ℕ) → List Part
 cause_parts None = []
 cause_parts (Some line) = NamePart (codes " ") ∷ MarkupPart markup.Code ∷ LogPart plain_style (cut_to max_cause line) ∷ MarkupPart markup.EndCode ∷ []
 
--- ---- paths
-
--- In UTF-8, with a space on each side.
-abbrev pub path_separator : List ℕ
-path_separator = 0x20 ∷ 0xE2 ∷ 0x80 ∷ 0xBA ∷ 0x20 ∷ []
-
-abbrev pub more_above : List ℕ
-more_above = 0xE2 ∷ 0x80 ∷ 0xA6 ∷ path_separator
-
 -- ---- lists
 
 -- The maximum number of targets that a list names.
@@ -82,7 +74,7 @@ max_rows = 200
 unfoldable pub unlisted_parts : ℕ → List Part
 unlisted_parts count =
     parts_if (nat_lt max_rows count)
-    (MarkupPart markup.QuietParagraph ∷ NamePart (codes "and ") ∷ NumberPart (count - max_rows) ∷ NamePart (codes " more, in the tree") ∷ MarkupPart markup.EndParagraph ∷ [])
+    (MarkupPart markup.QuietParagraph ∷ NamePart AND.now ∷ NumberPart (count - max_rows) ∷ NamePart MORE_IN_TREE.now ∷ MarkupPart markup.EndParagraph ∷ [])
 
 module _ (logs : List Log) where
   -- What a target printed.
@@ -113,7 +105,7 @@ module _ (logs : List Log) where
 -- How long a target took, before its path.
 abbrev pub article_took : Option ℕ → List Part
 article_took None = []
-article_took (Some ms) = words_parts (duration_words ms) ++ (NamePart (32 ∷ 0xC2 ∷ 0xB7 ∷ 32 ∷ []) ∷ [])
+article_took (Some ms) = words_parts (duration_words ms) ++ (NamePart MIDDLE_DOT.now ∷ [])
 
 module _ (logs : List Log) (nodes : List Node) where
   -- ---- articles
@@ -121,9 +113,9 @@ module _ (logs : List Log) (nodes : List Node) where
   -- The logs around a target, at most `levels` of them, the outermost first, with `›` (U+203A) after each; `…` (U+2026) if there are more.
   unfoldable pub path_parts : ℕ → Option ℕ → List Part
   path_parts levels None = []
-  path_parts zero (Some place) = NamePart more_above ∷ []
+  path_parts zero (Some place) = NamePart MORE_ABOVE.now ∷ []
   path_parts (suc levels) (Some place) =
-      path_parts levels (node_at nodes place).parent ++ (name_parts (name_of logs (node_at nodes place)) ++ NamePart path_separator ∷ [])
+      path_parts levels (node_at nodes place).parent ++ (name_parts (name_of logs (node_at nodes place)) ++ NamePart PATH_SEPARATOR.now ∷ [])
 
   abbrev pub max_path : ℕ
   max_path = 4
@@ -136,7 +128,7 @@ module _ (logs : List Log) (nodes : List Node) where
       ++ (MarkupPart markup.EndTitle3 ∷ MarkupPart markup.MetaParagraph
       ∷ (article_took node.took
       ++ (path_parts max_path node.parent
-      ++ (in_tree_parts place (codes "its place in the tree")
+      ++ (in_tree_parts place PLACE_IN_TREE.now
       ++ (MarkupPart markup.EndParagraph ∷ (output_parts logs place node ++ MarkupPart markup.EndArticle ∷ []))))))))
 
   -- Where a target that failed is, and what it printed.
@@ -166,12 +158,12 @@ module _ (logs : List Log) (nodes : List Node) where
 
   unfoldable pub section_parts : List ℕ → List ℕ → List ℕ → List ℕ → List Part
   section_parts articles others above unclosed =
-      MarkupPart markup.FailedSection ∷ MarkupPart markup.FailedHeading ∷ NamePart (codes "What failed") ∷ MarkupPart markup.EndHeading
+      MarkupPart markup.FailedSection ∷ MarkupPart markup.FailedHeading ∷ NamePart WHAT_FAILED.now ∷ MarkupPart markup.EndHeading
       ∷ (list_parts articles
       ++ (flat_map article_parts articles
-      ++ (more_parts (markup.OrderedFrom (suc max_articles)) true (codes " more that failed") others
-      ++ (more_parts markup.Ordered false (codes " above these, which failed with them") above
-      ++ (more_parts markup.Ordered false (codes " not closed") unclosed ++ MarkupPart markup.EndSection ∷ [])))))
+      ++ (more_parts (markup.OrderedFrom (suc max_articles)) true MORE_FAILED.now others
+      ++ (more_parts markup.Ordered false FAILED_WITH_THESE.now above
+      ++ (more_parts markup.Ordered false COUNT_NOT_CLOSED.now unclosed ++ MarkupPart markup.EndSection ∷ [])))))
 
   -- If no target failed, there is no such section.
   unfoldable pub failed_parts : List Part

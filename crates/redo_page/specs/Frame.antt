@@ -9,6 +9,7 @@ use Rattle.redo_html.specs.Parts.{Part}
 use Rattle.redo_html.specs.Parts.Part.{MarkupPart, NamePart, NumberPart, TitlePart, StylePart}
 use Rattle.redo_html.specs.Shown.{number_text}
 use Rattle.redo_outline.specs.declared.node.Node.{Node}
+use Rattle.redo_page.specs.declared.labels.TheConstants.{ALL_LOGS, AS_ONE_TEXT, BUILD_TOOK, FAILED_SIGN, LOGS_IN, LOG_IN, MADE_BY, MADE_SIGN, MIDDLE_DOT, OF, PROGRAM, SUMMARY, TARGETS_BEGUN, TARGETS_FAILED, TARGETS_MADE, TARGET_BEGUN, TARGET_FAILED, TARGET_MADE, TIMELINE, UNFINISHED_SIGN, WHAT_FAILED}
 use Rattle.redo_page.specs.declared.frame.Verdict.{Verdict}
 use Rattle.redo_page.specs.declared.frame.Verdict.TheVariants.{Failed, Unfinished, Made}
 use Rattle.redo_page.specs.Targets.{parts_if, badge_parts, name_parts, plural}
@@ -32,21 +33,21 @@ abbrev pub counted_text : ℕ → List ℕ → List ℕ → List ℕ
 counted_text number one many = number_text number ++ plural number one many
 
 abbrev pub failed_text : ℕ → ℕ → List ℕ
-failed_text failures targets = number_text failures ++ (codes " of " ++ counted_text targets (codes " target failed") (codes " targets failed"))
+failed_text failures targets = number_text failures ++ (OF.now ++ counted_text targets TARGET_FAILED.now TARGETS_FAILED.now)
 
 abbrev pub verdict_of : List Node → Verdict
 verdict_of nodes = if nat_lt 0 (length (first_failures nodes)) then Failed else if list_any is_unfinished nodes then Unfinished else Made
 
 abbrev pub verdict_text : Verdict → List Node → List ℕ
 verdict_text Failed nodes = failed_text (length (first_failures nodes)) (length nodes)
-verdict_text Unfinished nodes = counted_text (length nodes) (codes " target begun, not ended") (codes " targets begun, not ended")
-verdict_text Made nodes = counted_text (length nodes) (codes " target made, none failed") (codes " targets made, none failed")
+verdict_text Unfinished nodes = counted_text (length nodes) TARGET_BEGUN.now TARGETS_BEGUN.now
+verdict_text Made nodes = counted_text (length nodes) TARGET_MADE.now TARGETS_MADE.now
 
 -- A ballot cross (U+2717), an ellipsis (U+2026) or a check mark (U+2713), in UTF-8.
 abbrev pub sign_text : Verdict → List ℕ
-sign_text Failed = 0xE2 ∷ 0x9C ∷ 0x97 ∷ []
-sign_text Unfinished = 0xE2 ∷ 0x80 ∷ 0xA6 ∷ []
-sign_text Made = 0xE2 ∷ 0x9C ∷ 0x93 ∷ []
+sign_text Failed = FAILED_SIGN.now
+sign_text Unfinished = UNFINISHED_SIGN.now
+sign_text Made = MADE_SIGN.now
 
 abbrev pub body_markup : Verdict → Markup
 body_markup Failed = markup.BodyBad
@@ -55,7 +56,7 @@ body_markup Made = markup.BodyGood
 
 -- A title before the heading, if there is one, with a middle dot (U+00B7) between them.
 abbrev pub titled : List ℕ → List ℕ → List ℕ
-titled title heading = if length title == 0 then heading else title ++ ((32 ∷ 0xC2 ∷ 0xB7 ∷ 32 ∷ []) ++ heading)
+titled title heading = if length title == 0 then heading else title ++ (MIDDLE_DOT.now ++ heading)
 
 -- The text of the element `title`. It begins with the sign, so that it is seen in a row of tabs.
 abbrev pub title_text : List ℕ → Verdict → List ℕ → List ℕ
@@ -79,33 +80,33 @@ title_parts title = parts_if (not (length title == 0)) (MarkupPart markup.Paragr
 -- When a build began, if this has a date.
 abbrev pub date_parts : Option (List ℕ) → List Part
 date_parts None = []
-date_parts (Some date) = NamePart date ∷ NamePart (32 ∷ 0xC2 ∷ 0xB7 ∷ 32 ∷ []) ∷ []
+date_parts (Some date) = NamePart date ∷ NamePart MIDDLE_DOT.now ∷ []
 
 -- When a build began, and how long it took, if any time is known.
 abbrev pub began_parts : Option Window → ℕ → List Part
 began_parts None took = []
 began_parts (Some window) took =
-    MarkupPart markup.MetaParagraph ∷ (date_parts (date_text_of (window.began / 1000)) ++ (NamePart (codes "took ") ∷ (words_parts (duration_words took) ++ MarkupPart markup.EndParagraph ∷ [])))
+    MarkupPart markup.MetaParagraph ∷ (date_parts (date_text_of (window.began / 1000)) ++ (NamePart BUILD_TOOK.now ∷ (words_parts (duration_words took) ++ MarkupPart markup.EndParagraph ∷ [])))
 
 abbrev pub nav_item : Markup → List ℕ → List Part
 nav_item link text = MarkupPart markup.Item ∷ MarkupPart link ∷ NamePart text ∷ MarkupPart markup.EndLink ∷ MarkupPart markup.EndItem ∷ []
 
 abbrev pub failed_nav : Verdict → List Part
-failed_nav Failed = nav_item markup.FailedLink (codes "What failed")
+failed_nav Failed = nav_item markup.FailedLink WHAT_FAILED.now
 failed_nav Unfinished = []
 failed_nav Made = []
 
 -- A page has a timeline only if most times are known.
 abbrev pub timeline_nav : Bool → List Part
-timeline_nav timed = parts_if timed (nav_item markup.TimelineLink (codes "Timeline"))
+timeline_nav timed = parts_if timed (nav_item markup.TimelineLink TIMELINE.now)
 
 -- Links to the sections of the page.
 abbrev pub nav_parts : Verdict → Bool → List Part
 nav_parts verdict timed =
     MarkupPart markup.Nav ∷ MarkupPart markup.Unordered
     ∷ (failed_nav verdict
-    ++ (nav_item markup.SummaryLink (codes "Summary")
-    ++ (timeline_nav timed ++ (nav_item markup.TreeLink (codes "All logs") ++ (MarkupPart markup.EndUnordered ∷ MarkupPart markup.EndNav ∷ MarkupPart markup.Main ∷ [])))))
+    ++ (nav_item markup.SummaryLink SUMMARY.now
+    ++ (timeline_nav timed ++ (nav_item markup.TreeLink ALL_LOGS.now ++ (MarkupPart markup.EndUnordered ∷ MarkupPart markup.EndNav ∷ MarkupPart markup.Main ∷ [])))))
 
 abbrev pub top_heading_parts : Verdict → List ℕ → List Part
 top_heading_parts verdict heading =
@@ -149,11 +150,11 @@ command dir options requested =
     codes "redo-log -r" ++ (flag options.unchanged (codes " -u") ++ (flag options.debug_locks (codes " --debug-locks") ++ (codes " --dir=" ++ (quoted dir ++ flat_map argument requested))))
 
 abbrev pub log_count_parts : ℕ → List Part
-log_count_parts logs = NumberPart logs ∷ NamePart (plural logs (codes " log in ") (codes " logs in ")) ∷ []
+log_count_parts logs = NumberPart logs ∷ NamePart (plural logs LOG_IN.now LOGS_IN.now) ∷ []
 
 unfoldable pub footer_parts : List ℕ → List ℕ → ℕ → List Part
 footer_parts dir command logs =
-    MarkupPart markup.EndMain ∷ MarkupPart markup.Footer ∷ MarkupPart markup.Paragraph ∷ NamePart (codes "Made by ") ∷ MarkupPart markup.Code ∷ NamePart (codes "redo-log-html") ∷ MarkupPart markup.EndCode ∷ NamePart (codes " of ")
+    MarkupPart markup.EndMain ∷ MarkupPart markup.Footer ∷ MarkupPart markup.Paragraph ∷ NamePart MADE_BY.now ∷ MarkupPart markup.Code ∷ NamePart PROGRAM.now ∷ MarkupPart markup.EndCode ∷ NamePart OF.now
     ∷ (log_count_parts logs
-    ++ (MarkupPart markup.Code ∷ NamePart dir ∷ MarkupPart markup.EndCode ∷ NamePart (codes ". As one text: ") ∷ MarkupPart markup.Code ∷ NamePart command ∷ MarkupPart markup.EndCode
+    ++ (MarkupPart markup.Code ∷ NamePart dir ∷ MarkupPart markup.EndCode ∷ NamePart AS_ONE_TEXT.now ∷ MarkupPart markup.Code ∷ NamePart command ∷ MarkupPart markup.EndCode
     ∷ MarkupPart markup.EndParagraph ∷ MarkupPart markup.EndFooter ∷ MarkupPart markup.EndBody ∷ MarkupPart markup.EndHtml ∷ NamePart (codes "\n") ∷ []))

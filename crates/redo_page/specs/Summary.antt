@@ -1,5 +1,5 @@
 -- The summary of a build: the section that says how much there was, and what took long.
-use Rattle.std.specs.Prelude.{ℕ, ◌+◌, ◌*◌, ◌/◌, max, min, ◌==◌, ◌&&◌, not, Bool, List, [], ◌∷◌, ◌++◌, Option, None, Some, is_some, length, codes, if◌then◌else◌}
+use Rattle.std.specs.Prelude.{ℕ, ◌+◌, ◌*◌, ◌/◌, max, min, ◌==◌, ◌&&◌, not, Bool, List, [], ◌∷◌, ◌++◌, Option, None, Some, is_some, length, if◌then◌else◌}
 use Rattle.std.specs.List.{flat_map}
 use Rattle.redo_logs.specs.Logs.{Log}
 use Rattle.redo_html.specs.declared.markup.Markup.TheVariants as markup
@@ -7,6 +7,7 @@ use Rattle.redo_html.specs.Parts.{Part}
 use Rattle.redo_html.specs.Parts.Part.{MarkupPart, MeterPart, NamePart, NumberPart}
 use Rattle.redo_outline.specs.declared.node.Node.{Node}
 use Rattle.redo_outline.specs.Facts.{saturated, target_at}
+use Rattle.redo_page.specs.declared.labels.TheConstants.{ABOVE, AND_COUNT, AT_MOST, AT_ONCE, FAILED, FEW_TIMES_OF, LOGS, LONGEST, MOST_WARNINGS, NO_TIMES, OF, SUMMARY, SUM_OF_TIMES, TARGETS, TIMES_UNKNOWN, TOOK, WARNED_LINES}
 use Rattle.redo_page.specs.declared.summary.Measure.{Measure}
 use Rattle.redo_page.specs.declared.summary.Measure.TheVariants.{Milliseconds, Count}
 use Rattle.redo_page.specs.Failed.{failed_above, places_where}
@@ -31,7 +32,7 @@ abbrev pub tile : List ℕ → List Part → List Part
 tile term description = tile_start term ++ (description ++ tile_end)
 
 abbrev pub above_parts : ℕ → List Part
-above_parts above = parts_if (not (above == 0)) (NamePart (codes ", and ") ∷ NumberPart above ∷ NamePart (codes " above") ∷ [])
+above_parts above = parts_if (not (above == 0)) (NamePart AND_COUNT.now ∷ NumberPart above ∷ NamePart ABOVE.now ∷ [])
 
 -- How many targets failed, and how many of those above them.
 abbrev pub failed_counts : ℕ → ℕ → List Part
@@ -39,22 +40,22 @@ failed_counts first above = (NumberPart first ∷ []) ++ above_parts above
 
 -- How many recipes ran at once, on average and at most.
 abbrev pub at_once_parts : Facts → List Part
-at_once_parts facts = words_parts (tenths_words facts.sum facts.took) ++ (NamePart (codes ", at most ") ∷ NumberPart facts.most ∷ [])
+at_once_parts facts = words_parts (tenths_words facts.sum facts.took) ++ (NamePart AT_MOST.now ∷ NumberPart facts.most ∷ [])
 
 abbrev pub took_tile : Facts → List Part
-took_tile facts = parts_if (is_some facts.window) (tile (codes "Took") (words_parts (duration_words facts.took)))
+took_tile facts = parts_if (is_some facts.window) (tile TOOK.now (words_parts (duration_words facts.took)))
 
 -- What needs most times.
 abbrev pub timed_tiles : Facts → List Part
 timed_tiles facts =
-    parts_if (is_timed facts) (tile (codes "Sum of times") (words_parts (duration_words facts.sum)) ++ tile (codes "At once") (at_once_parts facts))
+    parts_if (is_timed facts) (tile SUM_OF_TIMES.now (words_parts (duration_words facts.sum)) ++ tile AT_ONCE.now (at_once_parts facts))
 
 abbrev pub tiles : Facts → ℕ → ℕ → ℕ → List Part
 tiles facts targets first above =
-    tile (codes "Targets") (NumberPart targets ∷ [])
-    ++ (tile (codes "Failed") (failed_counts first above)
-    ++ (tile (codes "Lines with warning:") (NumberPart facts.warnings ∷ [])
-    ++ (tile (codes "Logs") (words_parts (size_words facts.bytes))
+    tile TARGETS.now (NumberPart targets ∷ [])
+    ++ (tile FAILED.now (failed_counts first above)
+    ++ (tile WARNED_LINES.now (NumberPart facts.warnings ∷ [])
+    ++ (tile LOGS.now (words_parts (size_words facts.bytes))
     ++ (took_tile facts ++ timed_tiles facts))))
 
 -- ---- tables
@@ -77,9 +78,9 @@ known_count facts = saturated (length facts.parents + length facts.recipes + len
 
 abbrev pub unknown_parts : ℕ → ℕ → List Part
 unknown_parts unknown targets =
-    if targets == 0 then NamePart (codes "There is no timeline: the logs do not say when the targets ran.") ∷ []
-    else NamePart (codes "There is no timeline: the logs of ") ∷ NumberPart unknown ∷ NamePart (codes " of ") ∷ NumberPart targets
-    ∷ NamePart (codes " targets do not say when they began, or when they ended.") ∷ []
+    if targets == 0 then NamePart NO_TIMES.now ∷ []
+    else NamePart FEW_TIMES_OF.now ∷ NumberPart unknown ∷ NamePart OF.now ∷ NumberPart targets
+    ∷ NamePart TIMES_UNKNOWN.now ∷ []
 
 -- Why there is no timeline, unless there is one.
 abbrev pub why_parts : Facts → List Part
@@ -116,11 +117,11 @@ module _ (logs : List Log) (nodes : List Node) where
   unfoldable pub tables_parts : List Rank → List Rank → List Part
   tables_parts longest warned =
       parts_if (not (length longest == 0 && length warned == 0))
-      (MarkupPart markup.Columns ∷ (table_parts Milliseconds (codes "Longest") longest ++ (table_parts Count (codes "Most warnings") warned ++ MarkupPart markup.EndDiv ∷ [])))
+      (MarkupPart markup.Columns ∷ (table_parts Milliseconds LONGEST.now longest ++ (table_parts Count MOST_WARNINGS.now warned ++ MarkupPart markup.EndDiv ∷ [])))
 
   unfoldable pub summary_parts : Facts → List Part
   summary_parts facts =
-      MarkupPart markup.SummarySection ∷ MarkupPart markup.SummaryHeading ∷ NamePart (codes "Summary") ∷ MarkupPart markup.EndHeading ∷ MarkupPart markup.DescriptionList
+      MarkupPart markup.SummarySection ∷ MarkupPart markup.SummaryHeading ∷ NamePart SUMMARY.now ∷ MarkupPart markup.EndHeading ∷ MarkupPart markup.DescriptionList
       ∷ (tiles facts (length nodes) (length (first_failures nodes)) (length (places_where failed_above 0 nodes))
       ++ (MarkupPart markup.EndDescriptionList
       ∷ (tables_parts (shown_longest facts) facts.warned

@@ -7,6 +7,7 @@ use Rattle.redo_html.specs.Parts.{Part}
 use Rattle.redo_html.specs.Parts.Part.{MarkupPart, NamePart, NumberPart}
 use Rattle.redo_outline.specs.declared.node.Node.{Node}
 use Rattle.redo_outline.specs.Facts.{is_failure}
+use Rattle.redo_page.specs.declared.labels.TheConstants.{BELOW, EXIT, LINE, LINES, LOCKED, MADE, NOT_CLOSED, UNCHANGED, UNLOCKED, WAITING, WARNING, WARNINGS, WITH}
 use Rattle.redo_page.specs.Words.{words_parts}
 use Rattle.redo_units.specs.Durations.{duration_words}
 
@@ -27,10 +28,10 @@ magnitude (negsuc value) = suc value
 
 -- The badge of a target that failed, or of which no record says how it ended.
 abbrev pub exit_parts : ℤ → List Part
-exit_parts status = NamePart (codes " ") ∷ MarkupPart ExitBadge ∷ NamePart (codes "exit ") ∷ NamePart (sign status) ∷ NumberPart (magnitude status) ∷ MarkupPart EndBadge ∷ []
+exit_parts status = NamePart (codes " ") ∷ MarkupPart ExitBadge ∷ NamePart EXIT.now ∷ NamePart (sign status) ∷ NumberPart (magnitude status) ∷ MarkupPart EndBadge ∷ []
 
 abbrev pub badge_parts : Option ℤ → List Part
-badge_parts None = NamePart (codes " ") ∷ MarkupPart OpenBadge ∷ NamePart (codes "not closed") ∷ MarkupPart EndBadge ∷ []
+badge_parts None = NamePart (codes " ") ∷ MarkupPart OpenBadge ∷ NamePart NOT_CLOSED.now ∷ MarkupPart EndBadge ∷ []
 badge_parts (Some status) = parts_if (is_failure (Some status)) (exit_parts status)
 
 -- A word that depends on a number.
@@ -41,20 +42,20 @@ plural number one many = if number == 1 then one else many
 abbrev pub lines_parts : ℕ → List Part
 lines_parts lines =
     parts_if (not (lines == 0))
-    (NamePart (codes " ") ∷ MarkupPart Small ∷ NumberPart lines ∷ NamePart (plural lines (codes " line") (codes " lines")) ∷ MarkupPart EndSmall ∷ [])
+    (NamePart (codes " ") ∷ MarkupPart Small ∷ NumberPart lines ∷ NamePart (plural lines LINE.now LINES.now) ∷ MarkupPart EndSmall ∷ [])
 
 abbrev pub warnings_parts : ℕ → List Part
 warnings_parts warnings =
     parts_if (not (warnings == 0))
-    (NamePart (codes " ") ∷ MarkupPart Small ∷ MarkupPart Warnings ∷ NumberPart warnings ∷ NamePart (plural warnings (codes " warning") (codes " warnings")) ∷ MarkupPart EndWarnings ∷ MarkupPart EndSmall ∷ [])
+    (NamePart (codes " ") ∷ MarkupPart Small ∷ MarkupPart Warnings ∷ NumberPart warnings ∷ NamePart (plural warnings WARNING.now WARNINGS.now) ∷ MarkupPart EndWarnings ∷ MarkupPart EndSmall ∷ [])
 
 abbrev pub below_parts : ℕ → List Part
-below_parts below = parts_if (not (below == 0)) (NamePart (codes " ") ∷ MarkupPart Small ∷ NumberPart below ∷ NamePart (codes " below") ∷ MarkupPart EndSmall ∷ [])
+below_parts below = parts_if (not (below == 0)) (NamePart (codes " ") ∷ MarkupPart Small ∷ NumberPart below ∷ NamePart BELOW.now ∷ MarkupPart EndSmall ∷ [])
 
 abbrev pub warnings_below_parts : ℕ → List Part
 warnings_below_parts warnings =
     parts_if (not (warnings == 0))
-    (NamePart (codes " ") ∷ MarkupPart Small ∷ NamePart (codes "with ") ∷ MarkupPart Warnings ∷ NumberPart warnings ∷ NamePart (plural warnings (codes " warning") (codes " warnings")) ∷ MarkupPart EndWarnings ∷ MarkupPart EndSmall ∷ [])
+    (NamePart (codes " ") ∷ MarkupPart Small ∷ NamePart WITH.now ∷ MarkupPart Warnings ∷ NumberPart warnings ∷ NamePart (plural warnings WARNING.now WARNINGS.now) ∷ MarkupPart EndWarnings ∷ MarkupPart EndSmall ∷ [])
 
 -- How long a target took, if this is known.
 abbrev pub took_parts : Option ℕ → List Part
@@ -69,11 +70,11 @@ facts_parts node =
 
 -- What was done about a target's lock, as a word.
 abbrev pub how_word : How → List ℕ
-how_word Made = codes "made"
-how_word Waiting = codes "waiting"
-how_word Locked = codes "locked"
-how_word Unlocked = codes "unlocked"
-how_word Unchanged = codes "unchanged"
+how_word Made = MADE.now
+how_word Waiting = WAITING.now
+how_word Locked = LOCKED.now
+how_word Unlocked = UNLOCKED.now
+how_word Unchanged = UNCHANGED.now
 
 abbrev pub how_parts : Bool → How → List Part
 how_parts shown how = parts_if shown (NamePart (codes " ") ∷ MarkupPart Small ∷ NamePart (how_word how) ∷ MarkupPart EndSmall ∷ [])

@@ -1,5 +1,5 @@
 -- The timeline of a build: the section with a bar for each target.
-use Rattle.std.specs.Prelude.{ℕ, ◌==◌, ◌&&◌, Bool, not, is_some, List, [], ◌∷◌, ◌++◌, Option, None, Some, length, codes, if◌then◌else◌}
+use Rattle.std.specs.Prelude.{ℕ, ◌==◌, ◌&&◌, Bool, not, is_some, List, [], ◌∷◌, ◌++◌, Option, None, Some, length, if◌then◌else◌}
 use Rattle.redo_logs.specs.Logs.{Log}
 use Rattle.redo_chart.specs.Timeline.{timeline_drawing}
 use Rattle.redo_html.specs.Chart.{Drawing}
@@ -7,6 +7,7 @@ use Rattle.redo_html.specs.declared.markup.Markup.TheVariants as markup
 use Rattle.redo_html.specs.Parts.{Part}
 use Rattle.redo_html.specs.Parts.Part.{ChartPart, MarkupPart, NamePart, NumberPart}
 use Rattle.redo_outline.specs.declared.node.Node.{Node}
+use Rattle.redo_page.specs.declared.labels.TheConstants.{BARS_LEAD, MARKS_OF, MARKS_UNKNOWN, OF, PALE_BARS, TIMELINE}
 use Rattle.redo_page.specs.Summary.{known_count}
 use Rattle.redo_page.specs.Targets.{parts_if}
 use Rattle.redo_summary.specs.Summary.{Facts, is_timed}
@@ -20,21 +21,21 @@ has_timeline facts = is_some facts.window && is_timed facts
 abbrev pub marks_parts : ℕ → ℕ → List Part
 marks_parts marks known =
     parts_if (not (marks == 0))
-    (MarkupPart markup.QuietParagraph ∷ NamePart (codes "The logs of ") ∷ NumberPart marks ∷ NamePart (codes " of ") ∷ NumberPart known
-    ∷ NamePart (codes " targets do not say when they began, or when they ended. These are marks in the last row.") ∷ MarkupPart markup.EndParagraph ∷ [])
+    (MarkupPart markup.QuietParagraph ∷ NamePart MARKS_OF.now ∷ NumberPart marks ∷ NamePart OF.now ∷ NumberPart known
+    ∷ NamePart MARKS_UNKNOWN.now ∷ MarkupPart markup.EndParagraph ∷ [])
 
 abbrev pub timeline_start : Facts → List Part
 timeline_start facts =
-    (MarkupPart markup.TimelineSection ∷ MarkupPart markup.TimelineHeading ∷ NamePart (codes "Timeline") ∷ MarkupPart markup.EndHeading ∷ [])
+    (MarkupPart markup.TimelineSection ∷ MarkupPart markup.TimelineHeading ∷ NamePart TIMELINE.now ∷ MarkupPart markup.EndHeading ∷ [])
     ++ (marks_parts (length facts.marks) (known_count facts) ++ (MarkupPart markup.TimelineScroll ∷ []))
 
 -- What pale bars are, if there are any.
 abbrev pub pale_text : Bool → List ℕ
-pale_text pale = if pale then codes " Pale bars are recipes that ran others. They don't count in the sum of times." else []
+pale_text pale = if pale then PALE_BARS.now else []
 
 abbrev pub timeline_end : Facts → List Part
 timeline_end facts =
-    MarkupPart markup.EndDiv ∷ MarkupPart markup.QuietParagraph ∷ NamePart (codes "A bar leads to its log.") ∷ NamePart (pale_text (not (length facts.parents == 0)))
+    MarkupPart markup.EndDiv ∷ MarkupPart markup.QuietParagraph ∷ NamePart BARS_LEAD.now ∷ NamePart (pale_text (not (length facts.parents == 0)))
     ∷ MarkupPart markup.EndParagraph ∷ MarkupPart markup.EndSection ∷ []
 
 module _ (logs : List Log) (nodes : List Node) (facts : Facts) where

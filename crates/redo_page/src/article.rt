@@ -11,6 +11,9 @@ ghost use Rattle.redo_page.specs.Private.Writing.{WroteParts};
 
 use crate::cause::find_cause;
 use crate::excerpt::{cut_to, write_excerpt, write_in_tree};
+use crate::labels::{
+    MIDDLE_DOT, MORE_ABOVE, NO_FAILURE_BELOW, NOTHING_CAPTURED, PATH_SEPARATOR, PLACE_IN_TREE,
+};
 use crate::nodes::{is_short, node_at};
 use crate::printed::Printed;
 use crate::targets::{write_badge, write_name};
@@ -54,11 +57,7 @@ fn write_whole<W: Sink>(table: &LogTable, number: u32, page: &mut PageWriter<'_,
 fn no_failure_below(below: usize) -> &'static [u8]
     ensures { result.now ≡ no_failure_below below }
 {
-    if below == 0 {
-        b""
-    } else {
-        b" No target below it failed: make or redo reported the cause on the terminal."
-    }
+    if below == 0 { b"" } else { NO_FAILURE_BELOW }
 }
 
 #[tactic(auto, using(crate::proofs::WriterLemmas::wrote_then), unfolding(crate::specs::Failed::nothing_parts))]
@@ -67,7 +66,7 @@ fn write_nothing<W: Sink>(node: &Node, page: &mut PageWriter<'_, W>)
 {
     page.put(&[
         Piece::Markup(Markup::QuietParagraph),
-        Piece::Name(b"It printed nothing that was captured."),
+        Piece::Name(NOTHING_CAPTURED),
         Piece::Name(no_failure_below(node.below)),
         Piece::Markup(Markup::EndParagraph),
     ])
@@ -138,13 +137,13 @@ fn write_path<W: Sink>(
         return;
     };
     if levels == 0 {
-        page.put(&[Piece::Name(b"\xe2\x80\xa6 \xe2\x80\xba ")]);
+        page.put(&[Piece::Name(MORE_ABOVE)]);
         return;
     }
     let node = node_at(nodes, place);
     write_path(table, nodes, levels - 1, node.parent, page);
     write_target(table, node.number, page);
-    page.put(&[Piece::Name(b" \xe2\x80\xba ")]);
+    page.put(&[Piece::Name(PATH_SEPARATOR)]);
 }
 
 // Writes how long a target took, if this is known.
@@ -155,7 +154,7 @@ fn write_took<W: Sink>(took: Option<u64>, page: &mut PageWriter<'_, W>)
         return;
     };
     write_words(&duration(ms), page);
-    page.put(&[Piece::Name(b" \xc2\xb7 ")]);
+    page.put(&[Piece::Name(MIDDLE_DOT)]);
 }
 
 fn write_article_of<W: Sink>(
@@ -179,7 +178,7 @@ fn write_article_of<W: Sink>(
     ]);
     write_took(node.took, page);
     write_path(table, nodes, MAX_PATH, node.parent, page);
-    write_in_tree(place, b"its place in the tree", page);
+    write_in_tree(place, PLACE_IN_TREE, page);
     page.put(&[Piece::Markup(Markup::EndParagraph)]);
     write_output(table, place, node, page);
     page.put(&[Piece::Markup(Markup::EndArticle)]);

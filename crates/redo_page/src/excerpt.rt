@@ -6,6 +6,7 @@ ghost use Rattle.redo_page.specs.Private.Excerpting.{better, change_parts, end_p
 ghost use Rattle.redo_page.specs.Private.Writing.{WroteParts};
 
 use crate::cause::{WordState, is_error};
+use crate::labels::{IN_ITS_LOG, MORE_LINE, MORE_LINES};
 use crate::printed::Printed;
 use crate::targets::plural;
 use crate::writer::PageWriter;
@@ -174,9 +175,9 @@ fn write_left_out<W: Sink>(place: usize, count: usize, page: &mut PageWriter<'_,
     page.put(&[
         Piece::Markup(Markup::CutParagraph),
         Piece::Number(count as u64),
-        Piece::Name(plural(count as u64, b" more line: ", b" more lines: ")),
+        Piece::Name(plural(count as u64, MORE_LINE, MORE_LINES)),
     ]);
-    write_in_tree(place, b"in its log", page);
+    write_in_tree(place, IN_ITS_LOG, page);
     page.put(&[Piece::Markup(Markup::EndParagraph)]);
 }
 

@@ -1,5 +1,5 @@
 //! What failed: the section at the top of a page.
-ghost use Rattle.std.specs.Prelude.{◌≡◌, ◌∷◌, ◌++◌, true, false, IfOk, [], codes, drop, take};
+ghost use Rattle.std.specs.Prelude.{◌≡◌, ◌∷◌, ◌++◌, true, false, IfOk, [], drop, take};
 ghost use Rattle.std.specs.List.{flat_map};
 ghost use Rattle.redo_html.specs.declared.markup.Markup.TheVariants.{EndDetails, EndOrdered, Ordered, OrderedFrom};
 ghost use Rattle.redo_html.specs.Parts.Part.{MarkupPart};
@@ -7,8 +7,12 @@ ghost use Rattle.redo_page.specs.Failed.{AreFailures, article_parts, article_row
 ghost use Rattle.redo_page.specs.Tree.{end_cmp, failure_cmp, first_failures};
 ghost use Rattle.redo_timeline.specs.Order.{sort};
 ghost use Rattle.redo_page.specs.Private.Writing.{WroteParts};
+ghost use Rattle.redo_page.specs.declared.labels.TheConstants.{COUNT_NOT_CLOSED, FAILED_WITH_THESE, MORE_FAILED};
 
 use crate::article::{write_article, write_cause, write_target};
+use crate::labels::{
+    AND, COUNT_NOT_CLOSED, FAILED_WITH_THESE, MORE_FAILED, MORE_IN_TREE, WHAT_FAILED,
+};
 use crate::nodes::{has_failed, node_at};
 use crate::targets::write_badge;
 use crate::writer::PageWriter;
@@ -254,9 +258,9 @@ fn write_unlisted<W: Sink>(count: usize, page: &mut PageWriter<'_, W>)
     }
     page.put(&[
         Piece::Markup(Markup::QuietParagraph),
-        Piece::Name(b"and "),
+        Piece::Name(AND),
         Piece::Number((count - MAX_ROWS) as u64),
-        Piece::Name(b" more, in the tree"),
+        Piece::Name(MORE_IN_TREE),
         Piece::Markup(Markup::EndParagraph),
     ])
 }
@@ -320,10 +324,10 @@ fn write_others<W: Sink>(
     page: &mut PageWriter<'_, W>,
 )
     ensures { WroteParts W.written page.old page.new
-        (more_parts table.now nodes.now (OrderedFrom 11) true (codes " more that failed") places.now) }
+        (more_parts table.now nodes.now (OrderedFrom 11) true MORE_FAILED.now places.now) }
 {
     let list = Markup::OrderedFrom(11);
-    write_more(table, nodes, list, true, b" more that failed", places, page)
+    write_more(table, nodes, list, true, MORE_FAILED, places, page)
 }
 
 fn write_above<W: Sink>(
@@ -333,9 +337,9 @@ fn write_above<W: Sink>(
     page: &mut PageWriter<'_, W>,
 )
     ensures { WroteParts W.written page.old page.new
-        (more_parts table.now nodes.now Ordered false (codes " above these, which failed with them") places.now) }
+        (more_parts table.now nodes.now Ordered false FAILED_WITH_THESE.now places.now) }
 {
-    let heading = b" above these, which failed with them";
+    let heading = FAILED_WITH_THESE;
     write_more(table, nodes, Markup::Ordered, false, heading, places, page)
 }
 
@@ -345,10 +349,10 @@ fn write_unclosed<W: Sink>(
     places: &[usize],
     page: &mut PageWriter<'_, W>,
 )
-    ensures { WroteParts W.written page.old page.new (more_parts table.now nodes.now Ordered false (codes " not closed") places.now) }
+    ensures { WroteParts W.written page.old page.new (more_parts table.now nodes.now Ordered false COUNT_NOT_CLOSED.now places.now) }
 {
     let list = Markup::Ordered;
-    write_more(table, nodes, list, false, b" not closed", places, page)
+    write_more(table, nodes, list, false, COUNT_NOT_CLOSED, places, page)
 }
 
 fn write_section<W: Sink>(
@@ -365,7 +369,7 @@ fn write_section<W: Sink>(
     page.put(&[
         Piece::Markup(Markup::FailedSection),
         Piece::Markup(Markup::FailedHeading),
-        Piece::Name(b"What failed"),
+        Piece::Name(WHAT_FAILED),
         Piece::Markup(Markup::EndHeading),
     ]);
     write_list(table, nodes, articles, page);

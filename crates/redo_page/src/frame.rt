@@ -7,6 +7,11 @@ ghost use Rattle.redo_page.specs.Frame.{argument, began_parts, body_markup, comm
 ghost use Rattle.redo_page.specs.Tree.{first_failures};
 ghost use Rattle.redo_units.specs.Dates.{date_text_of};
 
+use crate::labels::{
+    ALL_LOGS, AS_ONE_TEXT, BUILD_TOOK, FAILED_SIGN, LOG_IN, LOGS_IN, MADE_BY, MADE_SIGN,
+    MIDDLE_DOT, OF, PROGRAM, SUMMARY, TARGET_BEGUN, TARGET_FAILED, TARGET_MADE, TARGETS_BEGUN,
+    TARGETS_FAILED, TARGETS_MADE, TIMELINE, UNFINISHED_SIGN, WHAT_FAILED,
+};
 use crate::targets::{plural, write_badge, write_name};
 use crate::timeline::has_timeline;
 use crate::words::write_words;
@@ -53,9 +58,9 @@ impl Verdict {
         ensures { result.now ≡ sign_text self }
     {
         match self {
-            Verdict::Failed => b"\xe2\x9c\x97",
-            Verdict::Unfinished => b"\xe2\x80\xa6",
-            Verdict::Made => b"\xe2\x9c\x93",
+            Verdict::Failed => FAILED_SIGN,
+            Verdict::Unfinished => UNFINISHED_SIGN,
+            Verdict::Made => MADE_SIGN,
         }
     }
 
@@ -77,18 +82,8 @@ impl Verdict {
         let targets = nodes.len() as u64;
         match self {
             Verdict::Failed => failed_text(alloc, failures as u64, targets),
-            Verdict::Unfinished => counted_text(
-                alloc,
-                targets,
-                b" target begun, not ended",
-                b" targets begun, not ended",
-            ),
-            Verdict::Made => counted_text(
-                alloc,
-                targets,
-                b" target made, none failed",
-                b" targets made, none failed",
-            ),
+            Verdict::Unfinished => counted_text(alloc, targets, TARGET_BEGUN, TARGETS_BEGUN),
+            Verdict::Made => counted_text(alloc, targets, TARGET_MADE, TARGETS_MADE),
         }
     }
 }
@@ -105,8 +100,8 @@ fn failed_text(alloc: Global, failures: u64, targets: u64) -> Result<Vec<u8>, Al
     ensures { IfOk result (λ text. text.items ≡ failed_text failures targets) }
 {
     let mut buffer = Buffer::new();
-    let targets = counted_text(alloc, targets, b" target failed", b" targets failed")?;
-    let of_targets = join(alloc, b" of ", &targets)?;
+    let targets = counted_text(alloc, targets, TARGET_FAILED, TARGETS_FAILED)?;
+    let of_targets = join(alloc, OF, &targets)?;
     join(alloc, buffer.format(failures).as_bytes(), &of_targets)
 }
 
@@ -141,7 +136,7 @@ fn titled(alloc: Global, title: &[u8], heading: &[u8]) -> Result<Vec<u8>, AllocE
     if title.is_empty() {
         return heading.to_vec(alloc);
     }
-    let rest = join(alloc, b" \xc2\xb7 ", heading)?;
+    let rest = join(alloc, MIDDLE_DOT, heading)?;
     join(alloc, title, &rest)
 }
 
@@ -227,7 +222,7 @@ fn write_date<W: Sink>(secs: u64, page: &mut PageWriter<'_, W>)
     ensures { WroteParts W.written page.old page.new (date_parts (date_text_of secs)) }
 {
     if let Some(text) = date(secs) {
-        page.put(&[Piece::Name(&text), Piece::Name(b" \xc2\xb7 ")]);
+        page.put(&[Piece::Name(&text), Piece::Name(MIDDLE_DOT)]);
     }
 }
 
@@ -240,7 +235,7 @@ fn write_began<W: Sink>(window: Option<Window>, took: u64, page: &mut PageWriter
     };
     page.put(&[Piece::Markup(Markup::MetaParagraph)]);
     write_date(window.began / 1000, page);
-    page.put(&[Piece::Name(b"took ")]);
+    page.put(&[Piece::Name(BUILD_TOOK)]);
     write_words(&duration(took), page);
     page.put(&[Piece::Markup(Markup::EndParagraph)]);
 }
@@ -249,7 +244,7 @@ fn write_timeline_nav<W: Sink>(timed: bool, page: &mut PageWriter<'_, W>)
     ensures { WroteParts W.written page.old page.new (timeline_nav timed) }
 {
     if timed {
-        write_nav_item(Markup::TimelineLink, b"Timeline", page);
+        write_nav_item(Markup::TimelineLink, TIMELINE, page);
     }
 }
 
@@ -259,9 +254,9 @@ fn write_nav<W: Sink>(verdict: Verdict, timed: bool, page: &mut PageWriter<'_, W
 {
     page.put(&[Piece::Markup(Markup::Nav), Piece::Markup(Markup::Unordered)]);
     write_failed_nav(verdict, page);
-    write_nav_item(Markup::SummaryLink, b"Summary", page);
+    write_nav_item(Markup::SummaryLink, SUMMARY, page);
     write_timeline_nav(timed, page);
-    write_nav_item(Markup::TreeLink, b"All logs", page);
+    write_nav_item(Markup::TreeLink, ALL_LOGS, page);
     page.put(&[
         Piece::Markup(Markup::EndUnordered),
         Piece::Markup(Markup::EndNav),
@@ -273,7 +268,7 @@ fn write_failed_nav<W: Sink>(verdict: Verdict, page: &mut PageWriter<'_, W>)
     ensures { WroteParts W.written page.old page.new (failed_nav verdict) }
 {
     match verdict {
-        Verdict::Failed => write_nav_item(Markup::FailedLink, b"What failed", page),
+        Verdict::Failed => write_nav_item(Markup::FailedLink, WHAT_FAILED, page),
         Verdict::Unfinished => {}
         Verdict::Made => {}
     }
@@ -320,7 +315,7 @@ fn write_log_count<W: Sink>(logs: usize, page: &mut PageWriter<'_, W>)
     let logs = logs as u64;
     page.put(&[
         Piece::Number(logs),
-        Piece::Name(plural(logs, b" log in ", b" logs in ")),
+        Piece::Name(plural(logs, LOG_IN, LOGS_IN)),
     ])
 }
 
@@ -337,18 +332,18 @@ pub fn write_footer<'a, W: Sink>(
         Piece::Markup(Markup::EndMain),
         Piece::Markup(Markup::Footer),
         Piece::Markup(Markup::Paragraph),
-        Piece::Name(b"Made by "),
+        Piece::Name(MADE_BY),
         Piece::Markup(Markup::Code),
-        Piece::Name(b"redo-log-html"),
+        Piece::Name(PROGRAM),
         Piece::Markup(Markup::EndCode),
-        Piece::Name(b" of "),
+        Piece::Name(OF),
     ]);
     write_log_count(logs, page);
     page.put(&[
         Piece::Markup(Markup::Code),
         Piece::Name(dir),
         Piece::Markup(Markup::EndCode),
-        Piece::Name(b". As one text: "),
+        Piece::Name(AS_ONE_TEXT),
         Piece::Markup(Markup::Code),
         Piece::Name(command),
         Piece::Markup(Markup::EndCode),

@@ -9,6 +9,7 @@ ghost use Rattle.redo_page.specs.Tree.{after_shown, done_parts, entry_parts, is_
 
 use crate::block::Pending;
 use crate::build::BuildRef;
+use crate::labels::NEEDS;
 use crate::level::Level;
 use crate::targets::{write_exit, write_how, write_linked, write_name};
 use crate::writer::PageWriter;
@@ -67,7 +68,7 @@ fn write_done<W: Sink>(
 )
     ensures { WroteParts W.written page.old page.new (done_parts (build_value build.now) status name.now) }
 {
-    page.put(&[Piece::Markup(Markup::NoteItem), Piece::Name(b"needs ")]);
+    page.put(&[Piece::Markup(Markup::NoteItem), Piece::Name(NEEDS)]);
     write_linked(build.place_of_name(name), name.bytes(), page);
     write_exit(status, page);
     page.put(&[Piece::Markup(Markup::EndItem)])

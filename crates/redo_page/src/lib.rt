@@ -9,6 +9,7 @@ mod excerpt;
 mod failed;
 mod frame;
 mod items;
+mod labels;
 mod laws;
 mod level;
 mod limits;

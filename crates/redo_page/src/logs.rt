@@ -9,6 +9,7 @@ ghost use Rattle.redo_page.specs.Tree.{after_log, closing_parts, depth_parts, de
 use crate::block::Pending;
 use crate::build::{BuildRef, is_empty, is_silent};
 use crate::items::write_end;
+use crate::labels::{END_OF, LEVEL, SHOWN_ABOVE, SILENT_TARGETS};
 use crate::level::Level;
 use crate::targets::{write_facts, write_how, write_name};
 use crate::writer::PageWriter;
@@ -53,7 +54,7 @@ fn write_moved<W: Sink>(build: &BuildRef<'_>, place: usize, page: &mut PageWrite
     page.put(&[
         Piece::Markup(Markup::NoteItem),
         Piece::Markup(Markup::OutputLink(place as u64)),
-        Piece::Name(b"What it printed is shown above"),
+        Piece::Name(SHOWN_ABOVE),
         Piece::Markup(Markup::EndLink),
         Piece::Markup(Markup::EndItem),
     ])
@@ -78,7 +79,7 @@ fn write_depth<W: Sink>(depth: usize, page: &mut PageWriter<'_, W>)
     page.put(&[
         Piece::Name(b" "),
         Piece::Markup(Markup::Small),
-        Piece::Name(b"level "),
+        Piece::Name(LEVEL),
         Piece::Number(depth as u64),
         Piece::Markup(Markup::EndSmall),
         Piece::Markup(Markup::EndItem),
@@ -104,7 +105,7 @@ fn write_flat_start<W: Sink>(
 fn write_flat_end<W: Sink>(build: &BuildRef<'_>, place: usize, page: &mut PageWriter<'_, W>)
     ensures { WroteParts W.written page.old page.new (flat_end (build_value build.now) place) }
 {
-    page.put(&[Piece::Markup(Markup::NoteItem), Piece::Name(b"end of ")]);
+    page.put(&[Piece::Markup(Markup::NoteItem), Piece::Name(END_OF)]);
     write_name(build.target(build.node(place).number), page);
     page.put(&[Piece::Markup(Markup::EndItem)])
 }
@@ -212,7 +213,7 @@ fn write_group<W: Sink>(size: usize, page: &mut PageWriter<'_, W>)
         Piece::Markup(Markup::QuietDetails),
         Piece::Markup(Markup::Summary),
         Piece::Number(size as u64),
-        Piece::Name(b" targets that printed nothing"),
+        Piece::Name(SILENT_TARGETS),
         Piece::Markup(Markup::EndSummary),
         Piece::Markup(Markup::Unordered),
     ])

@@ -1,5 +1,5 @@
 //! The summary of a build: how much there was, and what took long.
-ghost use Rattle.std.specs.Prelude.{◌≡◌, ◌∷◌, [], codes, map};
+ghost use Rattle.std.specs.Prelude.{◌≡◌, ◌∷◌, [], map};
 ghost use Rattle.std.specs.List.{flat_map};
 ghost use Rattle.redo_page.specs.Failed.{AreFailures};
 ghost use Rattle.redo_html.specs.Parts.Part.{NumberPart};
@@ -7,8 +7,13 @@ ghost use Rattle.redo_page.specs.Summary.{above_parts, at_once_parts, failed_cou
 ghost use Rattle.redo_page.specs.Words.{words_parts};
 ghost use Rattle.redo_units.specs.Words.{word_of};
 ghost use Rattle.redo_page.specs.Private.Writing.{WroteParts};
+ghost use Rattle.redo_page.specs.declared.labels.TheConstants.{AT_ONCE, FAILED};
 
 use crate::failed::Failures;
+use crate::labels::{
+    ABOVE, AND_COUNT, AT_MOST, AT_ONCE, FAILED, FEW_TIMES_OF, LOGS, LONGEST, MOST_WARNINGS,
+    NO_TIMES, OF, SUM_OF_TIMES, SUMMARY, TARGETS, TIMES_UNKNOWN, TOOK, WARNED_LINES,
+};
 use crate::nodes::node_at;
 use crate::targets::{write_badge, write_linked};
 use crate::words::write_words;
@@ -70,9 +75,9 @@ fn write_words_tile<W: Sink>(term: &[u8], words: &[Word], page: &mut PageWriter<
 
 // Writes how many targets failed, and how many of those above them.
 fn write_failed_tile<W: Sink>(first: usize, above: usize, page: &mut PageWriter<'_, W>)
-    ensures { WroteParts W.written page.old page.new (tile (codes "Failed") (failed_counts first above)) }
+    ensures { WroteParts W.written page.old page.new (tile FAILED.now (failed_counts first above)) }
 {
-    write_tile_start(b"Failed", page);
+    write_tile_start(FAILED, page);
     page.put(&[Piece::Number(first as u64)]);
     write_above(above, page);
     write_tile_end(page);
@@ -85,9 +90,9 @@ fn write_above<W: Sink>(above: usize, page: &mut PageWriter<'_, W>)
         return;
     }
     page.put(&[
-        Piece::Name(b", and "),
+        Piece::Name(AND_COUNT),
         Piece::Number(above as u64),
-        Piece::Name(b" above"),
+        Piece::Name(ABOVE),
     ]);
 }
 
@@ -95,20 +100,17 @@ fn write_took_tile<W: Sink>(summary: &Summary, page: &mut PageWriter<'_, W>)
     ensures { WroteParts W.written page.old page.new (took_tile summary.now) }
 {
     if summary.window().is_some() {
-        write_words_tile(b"Took", &duration(summary.took()), page);
+        write_words_tile(TOOK, &duration(summary.took()), page);
     }
 }
 
 // Writes how many recipes ran at once, on average and at most.
 fn write_at_once_tile<W: Sink>(summary: &Summary, page: &mut PageWriter<'_, W>)
-    ensures { WroteParts W.written page.old page.new (tile (codes "At once") (at_once_parts summary.now)) }
+    ensures { WroteParts W.written page.old page.new (tile AT_ONCE.now (at_once_parts summary.now)) }
 {
-    write_tile_start(b"At once", page);
+    write_tile_start(AT_ONCE, page);
     write_words(&tenths(summary.sum(), summary.took()), page);
-    page.put(&[
-        Piece::Name(b", at most "),
-        Piece::Number(summary.most() as u64),
-    ]);
+    page.put(&[Piece::Name(AT_MOST), Piece::Number(summary.most() as u64)]);
     write_tile_end(page);
 }
 
@@ -116,7 +118,7 @@ fn write_timed_tiles<W: Sink>(summary: &Summary, page: &mut PageWriter<'_, W>)
     ensures { WroteParts W.written page.old page.new (timed_tiles summary.now) }
 {
     if summary.is_timed() {
-        write_words_tile(b"Sum of times", &duration(summary.sum()), page);
+        write_words_tile(SUM_OF_TIMES, &duration(summary.sum()), page);
         write_at_once_tile(summary, page);
     }
 }
@@ -130,10 +132,10 @@ fn write_tiles<W: Sink>(
 )
     ensures { WroteParts W.written page.old page.new (tiles summary.now targets first above) }
 {
-    write_number_tile(b"Targets", targets as u64, page);
+    write_number_tile(TARGETS, targets as u64, page);
     write_failed_tile(first, above, page);
-    write_number_tile(b"Lines with warning:", summary.warnings(), page);
-    write_words_tile(b"Logs", &size(summary.bytes()), page);
+    write_number_tile(WARNED_LINES, summary.warnings(), page);
+    write_words_tile(LOGS, &size(summary.bytes()), page);
     write_took_tile(summary, page);
     write_timed_tiles(summary, page);
 }
@@ -264,15 +266,8 @@ fn write_tables<W: Sink>(
         return;
     }
     page.put(&[Piece::Markup(Markup::Columns)]);
-    write_table(
-        table,
-        nodes,
-        Measure::Milliseconds,
-        b"Longest",
-        longest,
-        page,
-    );
-    write_table(table, nodes, Measure::Count, b"Most warnings", warned, page);
+    write_table(table, nodes, Measure::Milliseconds, LONGEST, longest, page);
+    write_table(table, nodes, Measure::Count, MOST_WARNINGS, warned, page);
     page.put(&[Piece::Markup(Markup::EndDiv)]);
 }
 
@@ -303,16 +298,14 @@ fn write_unknown<W: Sink>(unknown: u64, targets: u64, page: &mut PageWriter<'_, 
     ensures { WroteParts W.written page.old page.new (unknown_parts unknown targets) }
 {
     if targets == 0 {
-        page.put(&[Piece::Name(
-            b"There is no timeline: the logs do not say when the targets ran.",
-        )]);
+        page.put(&[Piece::Name(NO_TIMES)]);
     } else {
         page.put(&[
-            Piece::Name(b"There is no timeline: the logs of "),
+            Piece::Name(FEW_TIMES_OF),
             Piece::Number(unknown),
-            Piece::Name(b" of "),
+            Piece::Name(OF),
             Piece::Number(targets),
-            Piece::Name(b" targets do not say when they began, or when they ended."),
+            Piece::Name(TIMES_UNKNOWN),
         ]);
     }
 }
@@ -347,7 +340,7 @@ pub fn write_summary<W: Sink>(
     page.put(&[
         Piece::Markup(Markup::SummarySection),
         Piece::Markup(Markup::SummaryHeading),
-        Piece::Name(b"Summary"),
+        Piece::Name(SUMMARY),
         Piece::Markup(Markup::EndHeading),
         Piece::Markup(Markup::DescriptionList),
     ]);

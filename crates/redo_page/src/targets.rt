@@ -1,8 +1,12 @@
 //! How targets are shown: names, statuses and counts.
-ghost use Rattle.std.specs.Prelude.{◌≡◌, codes};
+ghost use Rattle.std.specs.Prelude.{◌≡◌};
 ghost use Rattle.redo_page.specs.Private.Writing.{WroteParts};
 ghost use Rattle.redo_page.specs.Targets.{name_parts, sign, magnitude, exit_parts, badge_parts, plural, lines_parts, warnings_parts, below_parts, warnings_below_parts, facts_parts, how_word, how_parts, linked_parts, took_parts};
 
+use crate::labels::{
+    BELOW, EXIT, LINE, LINES, LOCKED, MADE, NOT_CLOSED, UNCHANGED, UNLOCKED, WAITING, WARNING,
+    WARNINGS, WITH,
+};
 use crate::words::write_words;
 use crate::writer::PageWriter;
 use redo_device::Sink;
@@ -59,7 +63,7 @@ pub fn write_exit<W: Sink>(status: i32, page: &mut PageWriter<'_, W>)
     page.put(&[
         Piece::Name(b" "),
         Piece::Markup(Markup::ExitBadge),
-        Piece::Name(b"exit "),
+        Piece::Name(EXIT),
         Piece::Name(sign_of(status)),
         Piece::Number(magnitude_of(status)),
         Piece::Markup(Markup::EndBadge),
@@ -74,7 +78,7 @@ pub fn write_badge<W: Sink>(status: Option<i32>, page: &mut PageWriter<'_, W>)
         None => page.put(&[
             Piece::Name(b" "),
             Piece::Markup(Markup::OpenBadge),
-            Piece::Name(b"not closed"),
+            Piece::Name(NOT_CLOSED),
             Piece::Markup(Markup::EndBadge),
         ]),
         Some(0) => {}
@@ -99,7 +103,7 @@ fn write_lines<W: Sink>(lines: u64, page: &mut PageWriter<'_, W>)
         Piece::Name(b" "),
         Piece::Markup(Markup::Small),
         Piece::Number(lines),
-        Piece::Name(plural(lines, b" line", b" lines")),
+        Piece::Name(plural(lines, LINE, LINES)),
         Piece::Markup(Markup::EndSmall),
     ])
 }
@@ -115,7 +119,7 @@ fn write_warnings<W: Sink>(warnings: u64, page: &mut PageWriter<'_, W>)
         Piece::Markup(Markup::Small),
         Piece::Markup(Markup::Warnings),
         Piece::Number(warnings),
-        Piece::Name(plural(warnings, b" warning", b" warnings")),
+        Piece::Name(plural(warnings, WARNING, WARNINGS)),
         Piece::Markup(Markup::EndWarnings),
         Piece::Markup(Markup::EndSmall),
     ])
@@ -131,7 +135,7 @@ fn write_below<W: Sink>(below: usize, page: &mut PageWriter<'_, W>)
         Piece::Name(b" "),
         Piece::Markup(Markup::Small),
         Piece::Number(below as u64),
-        Piece::Name(b" below"),
+        Piece::Name(BELOW),
         Piece::Markup(Markup::EndSmall),
     ])
 }
@@ -145,10 +149,10 @@ fn write_warnings_below<W: Sink>(warnings: u64, page: &mut PageWriter<'_, W>)
     page.put(&[
         Piece::Name(b" "),
         Piece::Markup(Markup::Small),
-        Piece::Name(b"with "),
+        Piece::Name(WITH),
         Piece::Markup(Markup::Warnings),
         Piece::Number(warnings),
-        Piece::Name(plural(warnings, b" warning", b" warnings")),
+        Piece::Name(plural(warnings, WARNING, WARNINGS)),
         Piece::Markup(Markup::EndWarnings),
         Piece::Markup(Markup::EndSmall),
     ])
@@ -181,11 +185,11 @@ fn word_of(how: How) -> &'static [u8]
     ensures { result.now ≡ how_word how }
 {
     match how {
-        How::Made => b"made",
-        How::Waiting => b"waiting",
-        How::Locked => b"locked",
-        How::Unlocked => b"unlocked",
-        How::Unchanged => b"unchanged",
+        How::Made => MADE,
+        How::Waiting => WAITING,
+        How::Locked => LOCKED,
+        How::Unlocked => UNLOCKED,
+        How::Unchanged => UNCHANGED,
     }
 }
 

@@ -9,6 +9,7 @@ ghost use Rattle.redo_view.specs.Form.{FormWrites};
 ghost use Rattle.redo_page.specs.Timeline.{facts_drawing, has_timeline, marks_parts, pale_text, timeline_end, timeline_parts, timeline_section, timeline_start};
 ghost use Rattle.redo_page.specs.Private.Writing.{WroteParts};
 
+use crate::labels::{BARS_LEAD, MARKS_OF, MARKS_UNKNOWN, OF, PALE_BARS, TIMELINE};
 use crate::summary::known_count;
 use crate::writer::PageWriter;
 use redo_device::{Broken, Sink};
@@ -36,13 +37,11 @@ fn write_marks<W: Sink>(marks: u64, known: u64, page: &mut PageWriter<'_, W>)
     }
     page.put(&[
         Piece::Markup(Markup::QuietParagraph),
-        Piece::Name(b"The logs of "),
+        Piece::Name(MARKS_OF),
         Piece::Number(marks),
-        Piece::Name(b" of "),
+        Piece::Name(OF),
         Piece::Number(known),
-        Piece::Name(
-            b" targets do not say when they began, or when they ended. These are marks in the last row.",
-        ),
+        Piece::Name(MARKS_UNKNOWN),
         Piece::Markup(Markup::EndParagraph),
     ]);
 }
@@ -53,7 +52,7 @@ fn put_start<W: Sink>(summary: &Summary, page: &mut PageWriter<'_, W>)
     page.put(&[
         Piece::Markup(Markup::TimelineSection),
         Piece::Markup(Markup::TimelineHeading),
-        Piece::Name(b"Timeline"),
+        Piece::Name(TIMELINE),
         Piece::Markup(Markup::EndHeading),
     ]);
     write_marks(summary.marks().len() as u64, known_count(summary), page);
@@ -72,11 +71,7 @@ fn write_start<W: Sink>(summary: &Summary, out: &mut W) -> Result<(), Broken>
 fn pale_text(pale: bool) -> &'static [u8]
     ensures { result.now ≡ pale_text pale }
 {
-    if pale {
-        b" Pale bars are recipes that ran others. They don't count in the sum of times."
-    } else {
-        b""
-    }
+    if pale { PALE_BARS } else { b"" }
 }
 
 // Writes what follows the chart.
@@ -87,7 +82,7 @@ fn write_end<W: Sink>(summary: &Summary, out: &mut W) -> Result<(), Broken>
         &[
             Piece::Markup(Markup::EndDiv),
             Piece::Markup(Markup::QuietParagraph),
-            Piece::Name(b"A bar leads to its log."),
+            Piece::Name(BARS_LEAD),
             Piece::Name(pale_text(!summary.parents().is_empty())),
             Piece::Markup(Markup::EndParagraph),
             Piece::Markup(Markup::EndSection),

@@ -22,6 +22,7 @@ ghost use Rattle.redo_page.specs.Tree.{after_shown, articles, log_start, section
 use crate::block::Pending;
 use crate::build::BuildRef;
 use crate::items::{after_shown, write_end, write_shown};
+use crate::labels::{ALL_LOGS, TREE_IS};
 use crate::level::{Level, OpenLog};
 use crate::limits::{level_for, limits_of};
 use crate::logs::{after_log, group_left, write_log_end, write_log_start};
@@ -252,12 +253,10 @@ fn write_section_start<W: Sink>(out: &mut W) -> Result<(), Broken>
         &[
             Piece::Markup(Markup::TreeSection),
             Piece::Markup(Markup::TreeHeading),
-            Piece::Name(b"All logs"),
+            Piece::Name(ALL_LOGS),
             Piece::Markup(Markup::EndHeading),
             Piece::Markup(Markup::QuietParagraph),
-            Piece::Name(
-                b"Each log is shown where its target is first mentioned. Logs of targets that failed are open.",
-            ),
+            Piece::Name(TREE_IS),
             Piece::Markup(Markup::EndParagraph),
             Piece::Markup(Markup::Tree),
         ],

@@ -2,6 +2,7 @@ use Rattle.std.proofs.Common.{ap, ◌∷◌, [], ◌++◌, ◌∙◌}
 use Rattle.std.specs.Prelude.{codes}
 use Rattle.redo_html.specs.Parts.Part.{NumberPart}
 use Rattle.redo_units.specs.Sizes.{size_words}
+use Rattle.redo_page.specs.declared.labels.TheConstants.{FAILED, LOGS, TARGETS, WARNED_LINES}
 use Rattle.redo_page.specs.Summary.{failed_counts, tile, timed_tiles, took_tile}
 use Rattle.redo_page.specs.Words.{words_parts}
 use Rattle.redo_page.proofs.PartLoops.{wrote_as}
@@ -13,9 +14,9 @@ returns g c =
     let facts = c.args.summary.now in
     let bytes = c.size.ensures ∙ ap size_words c.bytes.ensures in
     wrote_as g.W.Sink.written c.args.page.now c.write_timed_tiles.new.page _ _
-    (λ i. tile (codes "Targets") (NumberPart c.args.targets ∷ [])
-    ++ (tile (codes "Failed") (failed_counts c.args.first c.args.above)
-    ++ (tile (codes "Lines with warning:") (NumberPart (c.warnings.ensures i) ∷ [])
-    ++ (tile (codes "Logs") (words_parts (bytes i)) ++ (took_tile facts ++ timed_tiles facts)))))
+    (λ i. tile TARGETS.now (NumberPart c.args.targets ∷ [])
+    ++ (tile FAILED.now (failed_counts c.args.first c.args.above)
+    ++ (tile WARNED_LINES.now (NumberPart (c.warnings.ensures i) ∷ [])
+    ++ (tile LOGS.now (words_parts (bytes i)) ++ (took_tile facts ++ timed_tiles facts)))))
     (wrote_then c.write_number_tile.ensures (wrote_then c.write_failed_tile.ensures (wrote_then c.write_number_tile-2.ensures
     (wrote_then c.write_words_tile.ensures (wrote_then c.write_took_tile.ensures c.write_timed_tiles.ensures)))))

@@ -1,0 +1,160 @@
+//! The texts of a page that only people read. The definitions cite them too, so each one is written once.
+//!
+//! What programs read is spelled out where it is defined: the command for a shell, prefixes of notes, words of errors.
+
+// The sections: their headings, and the links to them.
+pub const WHAT_FAILED: &[u8] = b"What failed";
+
+pub const SUMMARY: &[u8] = b"Summary";
+
+pub const TIMELINE: &[u8] = b"Timeline";
+
+pub const ALL_LOGS: &[u8] = b"All logs";
+
+// Words of several sections.
+pub const OF: &[u8] = b" of ";
+
+pub const MIDDLE_DOT: &[u8] = b" \xc2\xb7 ";
+
+// The heading.
+pub const TARGET_FAILED: &[u8] = b" target failed";
+
+pub const TARGETS_FAILED: &[u8] = b" targets failed";
+
+pub const TARGET_BEGUN: &[u8] = b" target begun, not ended";
+
+pub const TARGETS_BEGUN: &[u8] = b" targets begun, not ended";
+
+pub const TARGET_MADE: &[u8] = b" target made, none failed";
+
+pub const TARGETS_MADE: &[u8] = b" targets made, none failed";
+
+pub const FAILED_SIGN: &[u8] = b"\xe2\x9c\x97";
+
+pub const UNFINISHED_SIGN: &[u8] = b"\xe2\x80\xa6";
+
+pub const MADE_SIGN: &[u8] = b"\xe2\x9c\x93";
+
+pub const BUILD_TOOK: &[u8] = b"took ";
+
+// The end.
+pub const MADE_BY: &[u8] = b"Made by ";
+
+pub const PROGRAM: &[u8] = b"redo-log-html";
+
+pub const LOG_IN: &[u8] = b" log in ";
+
+pub const LOGS_IN: &[u8] = b" logs in ";
+
+pub const AS_ONE_TEXT: &[u8] = b". As one text: ";
+
+// Targets.
+pub const EXIT: &[u8] = b"exit ";
+
+pub const NOT_CLOSED: &[u8] = b"not closed";
+
+pub const LINE: &[u8] = b" line";
+
+pub const LINES: &[u8] = b" lines";
+
+pub const WARNING: &[u8] = b" warning";
+
+pub const WARNINGS: &[u8] = b" warnings";
+
+pub const BELOW: &[u8] = b" below";
+
+pub const WITH: &[u8] = b"with ";
+
+pub const MADE: &[u8] = b"made";
+
+pub const WAITING: &[u8] = b"waiting";
+
+pub const LOCKED: &[u8] = b"locked";
+
+pub const UNLOCKED: &[u8] = b"unlocked";
+
+pub const UNCHANGED: &[u8] = b"unchanged";
+
+// What failed.
+pub const NOTHING_CAPTURED: &[u8] = b"It printed nothing that was captured.";
+
+pub const NO_FAILURE_BELOW: &[u8] =
+    b" No target below it failed: make or redo reported the cause on the terminal.";
+
+pub const PATH_SEPARATOR: &[u8] = b" \xe2\x80\xba ";
+
+pub const MORE_ABOVE: &[u8] = b"\xe2\x80\xa6 \xe2\x80\xba ";
+
+pub const PLACE_IN_TREE: &[u8] = b"its place in the tree";
+
+pub const MORE_LINE: &[u8] = b" more line: ";
+
+pub const MORE_LINES: &[u8] = b" more lines: ";
+
+pub const IN_ITS_LOG: &[u8] = b"in its log";
+
+pub const MORE_FAILED: &[u8] = b" more that failed";
+
+pub const FAILED_WITH_THESE: &[u8] = b" above these, which failed with them";
+
+pub const COUNT_NOT_CLOSED: &[u8] = b" not closed";
+
+pub const AND: &[u8] = b"and ";
+
+pub const MORE_IN_TREE: &[u8] = b" more, in the tree";
+
+// Summary.
+pub const TARGETS: &[u8] = b"Targets";
+
+pub const FAILED: &[u8] = b"Failed";
+
+pub const AND_COUNT: &[u8] = b", and ";
+
+pub const ABOVE: &[u8] = b" above";
+
+pub const WARNED_LINES: &[u8] = b"Lines with warning:";
+
+pub const LOGS: &[u8] = b"Logs";
+
+pub const TOOK: &[u8] = b"Took";
+
+pub const SUM_OF_TIMES: &[u8] = b"Sum of times";
+
+pub const AT_ONCE: &[u8] = b"At once";
+
+pub const AT_MOST: &[u8] = b", at most ";
+
+pub const LONGEST: &[u8] = b"Longest";
+
+pub const MOST_WARNINGS: &[u8] = b"Most warnings";
+
+pub const NO_TIMES: &[u8] = b"There is no timeline: the logs do not say when the targets ran.";
+
+pub const FEW_TIMES_OF: &[u8] = b"There is no timeline: the logs of ";
+
+pub const TIMES_UNKNOWN: &[u8] = b" targets do not say when they began, or when they ended.";
+
+// Timeline.
+pub const MARKS_OF: &[u8] = b"The logs of ";
+
+pub const MARKS_UNKNOWN: &[u8] =
+    b" targets do not say when they began, or when they ended. These are marks in the last row.";
+
+pub const BARS_LEAD: &[u8] = b"A bar leads to its log.";
+
+pub const PALE_BARS: &[u8] =
+    b" Pale bars are recipes that ran others. They don't count in the sum of times.";
+
+// All logs.
+pub const TREE_IS: &[u8] =
+    b"Each log is shown where its target is first mentioned. Logs of targets that failed are open.";
+
+pub const SILENT_TARGETS: &[u8] = b" targets that printed nothing";
+
+pub const LEVEL: &[u8] = b"level ";
+
+pub const END_OF: &[u8] = b"end of ";
+
+pub const SHOWN_ABOVE: &[u8] = b"What it printed is shown above";
+
+pub const NEEDS: &[u8] = b"needs ";
