@@ -59,7 +59,7 @@ install-capture:
 	$(CC) -std=gnu11 -Wall -Wextra -DVERSION='"$(VERSION)"' $(CFLAGS) $(STATIC) $(LDFLAGS) -o '$(DEST)/bin/redo-log-capture' capture/*.c
 	$(CC) $(HOOK_FLAGS) -o '$(DEST)/libexec/redo-log/capture.so' capture/hook/*.c
 	chmod 755 '$(DEST)/bin/redo-log-capture' '$(DEST)/libexec/redo-log/capture.so'
-	install -D -m 644 -t '$(DEST)/libexec/redo-log' capture/capture.mk
+	install -D -m 644 -t '$(DEST)/libexec/redo-log' capture/capture.def
 	install -D -m 644 docs/redo-log-capture.1 '$(DEST)/share/man/man1/redo-log-capture.1'
 	install -D -m 644 shell/redo-log-capture.bash '$(DEST)/share/bash-completion/completions/redo-log-capture'
 	install -D -m 644 shell/_redo-log-capture '$(DEST)/$(ZSH_FUNCTIONS)/_redo-log-capture'

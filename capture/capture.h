@@ -20,6 +20,15 @@ void warn_once(const char *message);
 _Noreturn void die(int status, const char *format, ...) __attribute__((format(printf, 2, 3)));
 /* Returns a word, quoted for a shell if necessary. */
 char *shell_quote(const char *word);
+struct command {
+  char *bytes; /* the arguments, each followed by a NUL; the last NUL is missing if the command was truncated */
+  size_t size;
+};
+/* Gets a text piece by piece. */
+typedef void text_sink(const char *bytes, size_t size, void *to);
+/* Passes on a command as a user would type it: what a shell runs, or the arguments. Returns whether the command was truncated.
+   Doesn't allocate. */
+int format_command(const struct command *command, text_sink *add, void *to);
 
 /* memory.c: memory */
 
@@ -34,14 +43,44 @@ void *grow_array(void *array, size_t count, size_t *capacity, size_t element_siz
 FILE *xopen_memstream(char **bytes, size_t *size);
 void xclose_memstream(FILE *stream);
 
+/* text.c: text that grows */
+
+/* All bytes are 0 at first. None of these functions returns if memory can't be allocated. */
+struct text {
+  char *bytes;
+  size_t size, capacity;
+};
+/* Makes room for at least this many more bytes. */
+void reserve_text(struct text *text, size_t size);
+void add_text(struct text *text, const char *bytes, size_t size);
+void add_string(struct text *text, const char *string);
+void add_number(struct text *text, int64_t number);
+/* Adds a time in the form that records use. */
+void add_time(struct text *text, int64_t time);
+
+/* buffer.c: what is about to be written */
+
+enum { MAX_BUFFERED = 65536 }; /* in bytes */
+struct write_buffer {
+  char *bytes;
+  size_t size, capacity;
+};
+/* Returns -1, and adds nothing, if the buffer would get too large or memory can't be allocated. */
+int add_to_buffer(struct write_buffer *buffer, const char *bytes, size_t size);
+/* Empties a buffer and frees its memory. */
+void clear_buffer(struct write_buffer *buffer);
+
 /* io.c: descriptors */
 
-/* Writes all bytes, even to a nonblocking pipe. Returns -1 and sets errno on failure. */
+/* Writes all bytes, even to a nonblocking pipe. Returns -1 and sets errno on failure. Signals are forwarded while nobody reads standard
+   error; if one of them stops the build, the rest isn't written. */
 int write_all(int file, const char *bytes, size_t size);
 /* Reads a file to its end and appends a NUL. Returns NULL and sets errno on failure. */
 char *read_all(int file, size_t *size);
 /* Opens /dev/null for each closed standard descriptor, so that no other file gets its number. */
 void reserve_standard_fds(void);
+/* Closes all descriptors in this range. */
+void close_range_of_descriptors(unsigned first, unsigned last);
 /* Writes `count` random hexadecimal digits and a NUL. */
 void random_hex(char *digits, size_t count);
 
@@ -65,13 +104,22 @@ const char *normalize_listed_name(const char *name);
 /* Returns a name as it is written in the log of `log_owner`; NULL if `log_owner` is outside of the base directory and the name
    isn't. */
 char *name_in_log(const char *name, const char *log_owner);
+/* Adds a name as it is written in the log of `log_owner`, which may mention it. */
+void add_name_in_log(struct text *text, const char *name, const char *log_owner);
 /* Returns a target's name as it is written in its own log. */
 const char *name_in_own_log(const char *name);
+/* Returns an absolute path in normal form relative to the base directory, which itself is "". Outside, the path stays absolute. */
+const char *relative_to_base(const char *path);
 
 /* target.c: the table of targets */
 
 struct range {
   off_t start, end;
+};
+/* What processes that have ended took, with the children that they waited for: processor time in microseconds, and the most memory
+   of any one of them in kilobytes. */
+struct usage {
+  int64_t user_us, system_us, peak_kb;
 };
 struct target {
   char *name;
@@ -86,13 +134,28 @@ struct target {
   const struct make *first_make;         /* the make that began its log; lines that other makes run don't change its end */
   pid_t end_process;                     /* of the line of the first make that was the last to end so far; 0 before */
   int64_t start_time, end_time;
+  char *directory;    /* of the make that began its log */
+  struct usage usage; /* of its lines that have ended */
   int status;                     /* as a shell reports it; -1 while a line runs */
   unsigned running_lines;         /* number of lines that run */
+  int failed_status;              /* of an earlier recipe of the same double-colon rules that failed; otherwise 0 */
+  const struct make *last_make;   /* the make that ran the last line, and its number of the recipe */
+  uint32_t last_recipe;
   int is_interrupted;             /* the last line failed after a signal had stopped the build */
-  int has_text, has_failed_child; /* has_failed_child: a target whose parent this is has failed */
+  int has_text, has_failed_child; /* has_failed_child: a target whose parent this is has failed in the latest line */
+  int has_running_child;          /* set by progress.c: a target whose parent this is runs */
+  unsigned line_count;            /* the number of lines of the recipe that began so far in this run */
+  unsigned failed_line;           /* line_count when a line failed last */
+  unsigned failed_in_line;        /* the parent's line_count at the time when this target failed last */
 
-  int log_fd, is_mid_line, is_log_lost, is_unwritable;
-  off_t header_size, size, shown_size; /* sizes in the log: the records at its start, all of it, the prefix that was printed */
+  int log_fd, is_mid_line, is_log_lost, is_unwritable, is_full; /* is_full: it gets no more text */
+  int is_begun_anew, is_new;        /* the log must be emptied when it is opened; no file has its name yet */
+  const struct pipe *mid_line_pipe; /* from which its last text came; NULL if the pipe is closed */
+  struct write_buffer buffer;       /* the end of the log, which isn't written yet */
+  struct target *next_dirty;
+  int is_dirty;
+  /* Sizes in the log: the records at its start, all of it, what is written, the prefix that was printed. */
+  off_t header_size, size, written_size, shown_size;
   struct range *mentions;       /* the provisional records */
   size_t mention_count, mention_capacity;
   char *child_records; /* records of the targets that sub-makes of its recipe made */
@@ -125,19 +188,27 @@ int read_index(void);
 int relist_targets(void);
 /* Writes the index if it has changed. If `with_flags` is set, each closed log gets the must-close flag. Returns -1 on failure. */
 int write_index(int with_flags);
-/* Gives a target a number and appends its line to the index. Returns -1 on failure. */
+/* Gives a target a number and a line in the index, which flush_index writes. Returns -1 on failure. */
 int add_to_index(struct target *target);
+/* Appends the lines of new targets to `names`. */
+void flush_index(void);
+/* Returns the target of a number; NULL if no line has it. */
+struct target *find_listed_target(unsigned long number);
 void close_index(void);
 
 /* check.c: checks before the build starts */
 
 /* Exits if the directory can't be written or isn't a capture directory. */
 void check_directory(void);
+/* Exits if a file of the directory isn't a regular file that can be written. */
+void check_files(void);
 /* Returns why a directory can't be created or written; NULL if it can. */
 const char *why_not_writable(const char *path);
 
 /* directory.c: the capture directory */
 
+/* The capture directory unless --dir names another one. shell/launcher and the completions look for it too. */
+#define DEFAULT_DIRECTORY ".redo-log"
 /* The directory as the command line names it, its absolute path, and its descriptor while it is open. */
 extern const char *directory_name;
 extern char *directory_path;
@@ -148,25 +219,38 @@ void set_directory(const char *name);
    be written; then nothing is captured. */
 int open_directory(void);
 int is_capturing(void);
+/* Whether this run captures nothing, because another run has locked the directory or it can't be written. */
+int is_dropped(void);
 /* Opens the directory to finish the logs of an earlier run. */
 void open_interrupted_run(void);
 /* If somebody has removed the directory, forgets all that was captured. The next recipe creates the directory again. */
 void check_removal(void);
-/* Opens a file of the directory. Doesn't block on a FIFO. */
+/* Opens a file of the directory or of its `.capture`. Fails with ELOOP if it is a symbolic link. Doesn't block on a FIFO. */
 int open_in_directory(const char *name, int flags);
+/* Opens or creates a file to append to it. One that has another link is replaced by a copy, so that the other one stays unchanged. */
+int open_to_append(const char *name);
 /* Returns the contents of a file of the directory; NULL if it doesn't exist or can't be read. */
 char *read_file(const char *name, size_t *size);
 /* Replaces a file atomically. On failure, prints a message and returns -1. */
 int replace_file(const char *name, const char *bytes, size_t size);
 /* Prints that a file can't be written, with the cause in errno. For a full device it prints one line. */
 void report_write_error(const char *name);
+/* If the directory was moved while the build ran, messages name its new path from now on. */
+void find_moved_directory(void);
 void close_directory(void);
 
 /* journal.c: the run journal, for --finish and for the next run */
 
 /* These return -1 if the journal can't be written. */
 int begin_journal(void);
-int write_journal(const char *format, ...) __attribute__((format(printf, 1, 2)));
+/* Adds that a target began. It is buffered until flush_begun_targets, which is called before logs are emptied. */
+void begin_in_journal(const struct target *target);
+int flush_begun_targets(void);
+/* Adds another event, once the log has what the event says. It is buffered until flush_journal, which is called when logs are
+   written. */
+void write_journal(const char *format, ...) __attribute__((format(printf, 1, 2)));
+void add_to_journal(const char *lines, size_t size);
+void flush_journal(void);
 int end_journal(void);
 void close_journal(void);
 /* Whether there is a journal, and whether its run was finished. */
@@ -180,17 +264,27 @@ int write_closed(void);
 
 /* log.c: the logs */
 
-/* Begins an empty log. An existing one is emptied or replaced. */
-void begin_log(struct target *target);
+/* Begins an empty log. An existing one is emptied or replaced. `is_new`: there is none. */
+void begin_log(struct target *target, int is_new);
 void append_header(struct target *target, const char *records, size_t size);
-/* Appends output of a recipe. Output that can't be written goes to standard error. */
-void append_text(struct target *target, const char *bytes, size_t size);
+/* Appends output of a recipe. A line that would be a record gets a space before it. If another pipe left an unended line, that line is
+   ended. Output that can't be written, or for which the log has no space, goes to standard error. */
+void append_text(struct target *target, const char *bytes, size_t size, const struct pipe *from);
 void complete_line(struct target *target);
 /* Appends a provisional record to the log of the parent. */
 void mention_in_parent(struct target *target, const char *record);
-/* Returns a descriptor of the log, or -1. */
+/* Writes what is buffered for one log, or for all logs. If `can_begin` isn't set, the journal can't be written, and no log may be
+   begun. */
+int flush_log(struct target *target);
+void flush_logs(int can_begin);
+void forget_logs(void);
+/* If somebody has removed the log, closes it. What is written next creates it again. */
+void detect_lost_log(struct target *target);
+/* Writes what is buffered, and returns a descriptor of the log, or -1. */
 int open_log(struct target *target);
 void close_log(struct target *target);
+/* Closes a log when logs are flushed next, if too many are open. */
+void close_log_soon(struct target *target);
 /* Closes the descriptors of all logs, so that other files can be opened. A log is opened again when it is written. */
 void close_all_logs(void);
 const char *log_file_name(unsigned number);
@@ -207,9 +301,12 @@ struct source {
 /* pipe.c: the output of recipes */
 
 struct pipe;
-/* Takes ownership of the descriptor. Nothing is read before start_pipe. */
+/* Takes ownership of the descriptor. Nothing is read before start_pipe. If memory can't be allocated, takes one of some pipes that are
+   kept for this; if there is none left, copies the output to standard error, and returns NULL. */
 struct pipe *new_pipe(int descriptor, struct target *target);
 void start_pipe(struct pipe *pipe, struct target *target);
+/* Lets the loop wait for pipes that were started and have not ended since. */
+void watch_pipes(void);
 void close_pipe(struct pipe *pipe);
 /* Reads what the pipe contains; if `waits_for_more` is set, also what arrives shortly. At the end of input, when no process can
    write to it any more, closes the pipe and returns 1. */
@@ -230,12 +327,9 @@ void free_closed_pipes(void);
 /* recipe.c: recipes and their lines */
 
 struct make;
-struct command {
-  char *bytes; /* the arguments, each followed by a NUL; the last NUL is missing if the command was truncated */
-  size_t size;
-};
 struct line {
   struct make *make;
+  uint32_t recipe; /* its number in this make */
   pid_t process;
   struct target *target;
   struct pipe *pipe;
@@ -245,24 +339,64 @@ struct line {
 };
 extern struct line *lines; /* the lines that run now */
 /* Takes ownership of the command and of its pipe, which may be NULL. */
-void begin_line(struct make *make, struct target *target, struct command command, int64_t time, pid_t process, struct pipe *pipe);
-void end_line(struct make *make, pid_t process, int status, int64_t time, int is_shown);
+void begin_line(struct make *make, uint32_t recipe, struct target *target, struct command command, int64_t time, pid_t process,
+                struct pipe *pipe);
+/* How a line ended. `is_stopping`: a signal stops its make. */
+struct line_end {
+  int wait_status; /* as waitpid returns it */
+  int is_stopping;
+  int64_t time;
+  struct usage usage;
+};
+/* Returns the line, or NULL if the process is no line. */
+struct line *find_line(const struct make *make, pid_t process);
+void end_line(struct line *line, struct line_end end, int is_shown);
 /* Ends a line that make couldn't start. */
-void fail_line(struct target *target, const struct make *make, pid_t process, int64_t time);
-/* Begins the log of a target, before its first line starts. */
-void begin_target(struct target *target, const struct make *make, struct target *parent, int64_t time);
-/* Writes the records at the start of the log, once its first line has a process. Mentions the target in the log of its parent. */
-void start_target(struct target *target, const char *directory, const char *prerequisites, pid_t process);
+void fail_line(struct make *make, uint32_t recipe, struct target *target, pid_t process, int64_t time);
+/* Begins the log of a target, whose first line has a process now, with the records at its start. Mentions the target in the log of its
+   parent. */
+void begin_target(struct target *target, struct make *make, struct target *parent, const char *prerequisites, int64_t time,
+                  pid_t process);
+/* Whether a signal stopped make while one of its lines ran. */
+extern int was_stopped;
+
+/* facts.c: the facts of recipes, the file `facts` */
+
+/* Whether the commands of all lines are recorded, and not only the commands of lines that failed. */
+extern int records_all_commands;
+/* Opens the file before the logs of the run begin. If this or a write fails, prints a message, and nothing is recorded. */
+void open_facts(void);
+/* Begins the facts of a target again. */
+void begin_facts(const struct target *target);
+void record_command(const struct target *target, const struct command *command);
+/* Records what the lines of the target that have ended took. */
+void record_usage(const struct target *target);
+/* Returns milliseconds of processor time; -1 if no line has ended. */
+int64_t processor_time_ms(const struct target *target);
+/* Writes which targets have begun. Called before logs are emptied. */
+void flush_begun_facts(void);
+/* Writes all facts. Called when logs are written. */
+void flush_facts(void);
+/* Drops superseded facts at the end of the run, if they are more than half of the file. */
+void compact_facts(void);
+void close_facts(void);
 
 /* make.c: the makes of a build */
 
 /* Returns NULL if the socket can't be added to the loop. */
 struct make *accept_make(int descriptor);
+/* Whether standard error of this make is redirected, so that its recipes have no text. */
+int is_redirected(const struct make *make);
 struct make *make_from_notes(struct source *notes);
 void disconnect_make(struct make *make);
-void close_makes(void);
+/* The number of connections that have not sent HELLO. Any user can connect. drop_pending_make closes the oldest one, unless HELLO is there
+   now; it returns 0 if there is none. */
+size_t count_pending_makes(void);
+int drop_pending_make(void);
 /* When memory has run out, sends a reply to all makes that wait for one. */
 void reply_to_all(void);
+/* Lets makes wait for a reply to each line from now on, because descriptors or memory run out. */
+void ask_makes(void);
 
 /* make_messages.c: the messages of makes */
 
@@ -281,32 +415,57 @@ void show_output(const struct line *line, int status);
 /* Adds a source to the loop. Returns -1 if it can't be polled, or memory can't be allocated. */
 int watch_source(struct source *source);
 void close_source(struct source *source);
+void close_unwatched(struct source *source);
 /* Listens for makes; format_run_variable returns the value of CAPTURE_RUN for them. */
 void listen_for_makes(void);
 char *format_run_variable(void);
 int is_run_token(const char *bytes);
 /* Lets the loop read messages that need no reply, and pipes, a little later. */
 void defer_reading(void);
+/* Whether this is one of the last descriptors, which are needed to open logs and other files. */
+int is_among_last_descriptors(int latest);
+/* How many logs may stay open although no line of their recipes runs. */
+size_t max_open_logs(void);
+/* Whether the process has so few descriptors left that makes should wait for a reply to each line. */
+int is_short_of_descriptors(int latest);
+/* Writes what is buffered to the capture directory. */
+void flush_captures(void);
 /* Serves the build until the command has ended. */
 void serve_command(void);
-void close_server(void);
 /* If set, nothing more is captured, and the build goes on. */
 extern int is_out_of_memory;
 /* Calls `step`. Returns -1 if memory runs out. */
 int try_step(void (*step)(void));
 
+/* progress.c: the lines of --progress */
+
+/* From now on, a line is due every `seconds` seconds. */
+void start_progress(int seconds);
+/* Returns in how many milliseconds the next line is due; -1 if there are no lines. */
+int progress_wait_ms(void);
+/* Prints a line if it is due. Doesn't allocate. */
+void print_progress(void);
+
 /* command.c: the command, and signals */
 
 extern int command_status, command_signal; /* the status as a shell reports it; the signal that ended the command, or 0 */
-/* The signal to this process that stopped the build, or 0, and its time. */
+/* The signal to this process that asked the build to stop, or 0, and its time. The build may go on. */
 extern int stop_signal;
 extern int64_t stop_time;
 void block_signals(void);
 int open_signal_fd(void);
+int get_signal_fd(void);
 void start_command(char **command);
 /* Handles the signals that have arrived. Returns 1 once the command has ended. */
 int handle_signals(void);
+/* Whether a call of handle_signals has found that the command has ended. Writing to standard error may call it. */
+int has_command_ended(void);
 _Noreturn void exec_command(char **command);
+/* Once the command has ended, runs a program with these words, and waits for it. A signal that asks this process to end is passed on.
+   Returns the status as waitpid does, or -1 with errno if the program can't be run. */
+int run_program(char **words);
+/* Returns the path of a program in one of the directories of PATH, or NULL. */
+char *find_in_path(const char *name);
 _Noreturn void die_cannot_run(const char *command, int error);
 _Noreturn void exit_like_command(void);
 const char *signal_name(int signal);
@@ -321,11 +480,23 @@ void finish(int status, int must_close);
 void report(const char *command, int is_quiet);
 void write_summary(const char *path);
 
-/* capture_mk.c: the path of capture.mk, and the temporary directory that it may need */
+/* page.c: the page that redo-log-html writes when the build has ended */
 
-char *find_capture_mk(void);
-void remove_link_directory(void);
+/* Exits if there is no such program. */
+void prepare_page(const char *path);
+/* Prints a message if the page can't be written. Doesn't allocate. */
+void write_page(const char *path);
+
+/* capture_def.c: the path of capture.def, and the temporary directory that it may need */
+
+/* Returns the path of this program. */
+char *program_path(void);
+/* Returns the path of capture.def as makes shall read it. Exits if it or capture.so can't be read. */
+char *find_capture_def(void);
+void remove_temporary_directory(void);
 
 /* launcher.c: redo-log-capture --recipe */
 
 _Noreturn void launch(char **command);
+/* Whether the server that CAPTURE_RUN names listens. */
+int is_run_alive(void);

@@ -29,6 +29,9 @@ static int has_ended, signal_fd = -1, witness_socket = -1;
 static sigset_t blocked, former_mask;
 static struct rlimit former_files, former_file_size;
 static struct sigaction former_pipe, former_size;
+static sigset_t ignored; /* signals that were ignored when this program began, as under nohup: the build ignores them too */
+
+static int is_stop_request(int kind) { return kind == SIGHUP || kind == SIGINT || kind == SIGQUIT || kind == SIGTERM; }
 
 static void raise_limit(int resource, struct rlimit *former_limit) {
   getrlimit(resource, former_limit);
@@ -50,7 +53,12 @@ void block_signals(void) {
   struct sigaction by_default = {.sa_handler = SIG_DFL};
   sigemptyset(&blocked);
   sigaddset(&blocked, SIGCHLD);
-  for (int i = 0; i < FORWARDED_COUNT; i++) sigaddset(&blocked, forwarded_signals[i]);
+  sigemptyset(&ignored);
+  for (int i = 0; i < FORWARDED_COUNT; i++) {
+    struct sigaction former;
+    sigaddset(&blocked, forwarded_signals[i]);
+    if (sigaction(forwarded_signals[i], NULL, &former) == 0 && former.sa_handler == SIG_IGN) sigaddset(&ignored, forwarded_signals[i]);
+  }
   sigprocmask(SIG_BLOCK, &blocked, &former_mask);
   sigaction(SIGCHLD, &by_default, NULL);
   raise_limits();
@@ -61,8 +69,20 @@ int open_signal_fd(void) {
   return signal_fd;
 }
 
+int get_signal_fd(void) { return signal_fd; }
+
 void die_cannot_run(const char *name, int error) {
   die(error == ENOENT ? 127 : 126, "%s: %s", name, error == ENOENT ? "not found" : strerror(error));
+}
+
+char *find_in_path(const char *name) {
+  const char *path = getenv("PATH");
+  for (const char *part = path ? path : ""; *part; part += strcspn(part, ":"), part += *part == ':') {
+    char *candidate = xasprintf("%.*s/%s", (int)strcspn(part, ":"), part, name);
+    if (access(candidate, X_OK) == 0) return candidate;
+    free(candidate);
+  }
+  return NULL;
 }
 
 void exec_command(char **words) {
@@ -123,22 +143,44 @@ static void kill_witness(void) {
   witness_pid = 0;
 }
 
-void start_command(char **words) {
+/* Starts a process that runs these words. Returns -1 if none can be created. Sets `*exec_error` if it can't run them. */
+static pid_t start_child(char **words, int *exec_error) {
   int failure[2], error;
-  if (pipe2(failure, O_CLOEXEC) < 0) die(1, "cannot start %s: %s", words[0], strerror(errno));
-  pid_t parent = getpid();
-  command_pid = fork();
-  if (command_pid == 0) exec_child(words, parent, failure[1]);
-  if (command_pid < 0) die(126, "cannot start %s: %s", words[0], strerror(errno));
+  *exec_error = 0;
+  if (pipe2(failure, O_CLOEXEC) < 0) return -1;
+  pid_t parent = getpid(), child = fork();
+  if (child == 0) exec_child(words, parent, failure[1]);
+  error = errno;
   close(failure[1]);
   ssize_t size;
-  while ((size = read(failure[0], &error, sizeof error)) < 0 && errno == EINTR) continue;
+  while (child > 0 && (size = read(failure[0], exec_error, sizeof *exec_error)) < 0 && errno == EINTR) continue;
   close(failure[0]);
-  if (size == sizeof error) {
-    waitpid(command_pid, NULL, 0);
-    die_cannot_run(words[0], error);
-  }
+  if (child > 0 && *exec_error) waitpid(child, NULL, 0);
+  errno = error;
+  return child;
+}
+
+void start_command(char **words) {
+  int exec_error;
+  command_pid = start_child(words, &exec_error);
+  if (command_pid < 0) die(126, "cannot start %s: %s", words[0], strerror(errno));
+  if (exec_error) die_cannot_run(words[0], exec_error);
   start_witness();
+}
+
+int run_program(char **words) {
+  struct pollfd ready = {signal_fd, POLLIN, 0};
+  struct signalfd_siginfo info;
+  int exec_error, status = -1;
+  pid_t process = start_child(words, &exec_error);
+  if (process >= 0 && exec_error) errno = exec_error;
+  if (process < 0 || exec_error) return -1;
+  while (waitpid(process, &status, WNOHANG) == 0) {
+    poll(&ready, 1, -1);
+    while (read(signal_fd, &info, sizeof info) == sizeof info)
+      if (is_stop_request(info.ssi_signo)) kill(process, info.ssi_signo);
+  }
+  return status;
 }
 
 /* Whether the whole group got this signal, including the command. */
@@ -152,24 +194,33 @@ static int is_group_signal(const struct signalfd_siginfo *info) {
 
 static void handle_signal(const struct signalfd_siginfo *info) {
   int kind = info->ssi_signo;
-  if ((kind == SIGHUP || kind == SIGINT || kind == SIGQUIT || kind == SIGTERM) && !stop_signal)
+  if (is_stop_request(kind) && !stop_signal && !sigismember(&ignored, kind))
     stop_signal = kind, stop_time = wall_clock_ms();
   if (!is_group_signal(info)) kill(command_pid, kind);
 }
 
-static void reap_command(void) {
-  int status;
-  if (has_ended || waitpid(command_pid, &status, WNOHANG) != command_pid) return;
+static void end_command(int status) {
   has_ended = 1;
   command_signal = WIFSIGNALED(status) ? WTERMSIG(status) : 0;
   command_status = command_signal ? 128 + command_signal : WEXITSTATUS(status);
   kill_witness();
 }
 
+/* Processes whose parents have ended become children of the first process of a container, which may be this one. */
+static void reap_children(void) {
+  int status;
+  for (pid_t process; !has_ended && (process = waitpid(-1, &status, WNOHANG)) > 0;) {
+    if (process == witness_pid) witness_pid = 0;
+    if (process == command_pid) end_command(status);
+  }
+}
+
+int has_command_ended(void) { return has_ended; }
+
 int handle_signals(void) {
   struct signalfd_siginfo info;
-  while (read(signal_fd, &info, sizeof info) == sizeof info) {
-    if (info.ssi_signo == SIGCHLD) reap_command();
+  while (signal_fd >= 0 && read(signal_fd, &info, sizeof info) == sizeof info) {
+    if (info.ssi_signo == SIGCHLD) reap_children();
     else if (!has_ended) handle_signal(&info);
   }
   return has_ended;

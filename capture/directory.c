@@ -3,6 +3,7 @@
 #include "capture.h"
 #include <errno.h>
 #include <fcntl.h>
+#include <limits.h>
 #include <stdlib.h>
 #include <string.h>
 #include <sys/file.h>
@@ -15,7 +16,10 @@ int directory_fd = -1, failed_writes;
 
 /* DROPPED: another run has locked the directory, or it can't be written. */
 static enum { CLOSED, OPEN, DROPPED } state;
+static int state_fd = -1; /* of `.capture` */
 static int lock_fd = -1, lock_error, last_error;
+static char last_name[64]; /* of the file that couldn't be written last */
+static struct stat lock_file;
 
 void set_directory(const char *name) {
   directory_name = name;
@@ -23,15 +27,42 @@ void set_directory(const char *name) {
 }
 
 int is_capturing(void) { return state == OPEN; }
+int is_dropped(void) { return state == DROPPED; }
+
+/* Returns the descriptor of the directory that has this file. Sets the file's name there. */
+static int locate(const char *path, const char **name) {
+  int is_state = strncmp(path, ".capture/", 9) == 0;
+  *name = is_state ? path + 9 : path;
+  return is_state ? state_fd : directory_fd;
+}
+
+/* Follows no link, which could lead to a file that somebody else wants to have written. */
+static int open_file(const char *path, int flags) {
+  const char *name;
+  int directory = locate(path, &name);
+  return openat(directory, name, flags | O_CLOEXEC | O_NOFOLLOW, 0666);
+}
 
 /* Opening fails with EWOULDBLOCK if another process, such as a file server, has a lease on the file. The second call waits until
    the lease ends. */
 int open_in_directory(const char *name, int flags) {
-  int file = openat(directory_fd, name, flags | O_CLOEXEC | O_NONBLOCK, 0666);
-  if (file < 0 && errno == EWOULDBLOCK) return openat(directory_fd, name, flags | O_CLOEXEC, 0666);
+  int file = open_file(name, flags | O_NONBLOCK);
+  if (file < 0 && errno == EWOULDBLOCK) return open_file(name, flags);
   if (file >= 0 || (errno != EMFILE && errno != ENFILE)) return file;
   close_all_logs();
-  return openat(directory_fd, name, flags | O_CLOEXEC | O_NONBLOCK, 0666);
+  return open_file(name, flags | O_NONBLOCK);
+}
+
+int open_to_append(const char *name) {
+  struct stat found;
+  size_t size;
+  int file = open_in_directory(name, O_RDWR | O_APPEND | O_CREAT);
+  if (file < 0 || fstat(file, &found) < 0 || found.st_nlink < 2) return file;
+  char *bytes = read_all(file, &size);
+  int error = bytes ? replace_file(name, bytes, size) : -1;
+  free(bytes);
+  close(file);
+  return error ? -1 : open_in_directory(name, O_RDWR | O_APPEND);
 }
 
 char *read_file(const char *name, size_t *size) {
@@ -41,14 +72,11 @@ char *read_file(const char *name, size_t *size) {
   return bytes;
 }
 
-/* Whether somebody has removed or replaced the directory. */
+/* Whether somebody has removed the directory, or its lock. If it was only moved, its files are still found by its descriptor. */
 static int is_removed(void) {
-  struct stat opened, found;
-  char *path = xasprintf("%s/.capture/lock", directory_path);
-  int error = stat(path, &found) < 0 ? errno : 0;
-  free(path);
-  if (error) return error == ENOENT || error == ENOTDIR || error == ESTALE;
-  return fstat(lock_fd, &opened) == 0 && (found.st_dev != opened.st_dev || found.st_ino != opened.st_ino);
+  struct stat found;
+  if (fstatat(state_fd, "lock", &found, AT_SYMLINK_NOFOLLOW) < 0) return errno == ENOENT || errno == ESTALE;
+  return found.st_dev != lock_file.st_dev || found.st_ino != lock_file.st_ino;
 }
 
 /* Prints one line for consecutive failures of a full device, and none for a directory that is gone, which check_removal reports.
@@ -60,61 +88,92 @@ void report_write_error(const char *name) {
     return;
   }
   failed_writes += error != EISDIR && error != ELOOP && error != ENXIO;
-  if (error != last_error || !is_general) warn("cannot write %s/%s: %s", directory_path, name, strerror(error));
+  const char *cause = error == ELOOP ? "it is a symbolic link" : strerror(error);
+  int is_repeated = error == last_error && (is_general || strcmp(name, last_name) == 0);
+  if (!is_repeated) warn("cannot write %s/%s: %s", directory_path, name, cause);
+  snprintf(last_name, sizeof last_name, "%s", name);
   last_error = error;
 }
 
-int replace_file(const char *name, const char *bytes, size_t size) {
-  int file = open_in_directory(".capture/new", O_WRONLY | O_CREAT | O_TRUNC);
+/* Creates `.capture/new`. An existing one isn't written, because it may have another link. */
+static int create_new_file(void) {
+  int file = open_in_directory(".capture/new", O_WRONLY | O_CREAT | O_EXCL);
+  if (file >= 0 || errno != EEXIST || unlinkat(state_fd, "new", 0) < 0) return file;
+  return open_in_directory(".capture/new", O_WRONLY | O_CREAT | O_EXCL);
+}
+
+int replace_file(const char *path, const char *bytes, size_t size) {
+  const char *name;
+  int file = create_new_file(), directory = locate(path, &name);
   int is_written = file >= 0 && write_all(file, bytes, size) == 0;
   if (file >= 0 && close(file) < 0) is_written = 0;
-  if (is_written && renameat(directory_fd, ".capture/new", directory_fd, name) == 0) return 0;
-  report_write_error(name);
+  if (is_written && renameat(state_fd, "new", directory, name) == 0) return 0;
+  report_write_error(path);
   return -1;
 }
 
-/* Creates the directory and its ancestors. A new one gets a .gitignore, so that git ignores it. */
+/* Creates the directory and its ancestors. Returns 0 or the error, which is EEXIST if the directory exists. Its name is relative to
+   the directory in which the run began, even if that was renamed. */
 static int make_directories(void) {
-  struct stat found;
-  int is_new = stat(directory_path, &found) < 0;
-  char *path = xasprintf("%s/.capture", directory_path);
+  char *path = xasprintf("%s/", directory_name);
+  int error = EEXIST;
   for (char *slash = path + 1; (slash = strchr(slash, '/')); *slash++ = '/') {
     *slash = 0;
-    mkdir(path, 0777); /* if this fails, the last mkdir fails too */
+    error = mkdir(path, 0777) < 0 ? errno : 0;
   }
-  lock_error = mkdir(path, 0777) < 0 && errno != EEXIST ? errno : 0;
-  if (lock_error && lock_error != ENOENT) warn("cannot write %s: %s", path, strerror(lock_error)), failed_writes++;
   free(path);
-  if (!lock_error) directory_fd = open(directory_path, O_RDONLY | O_DIRECTORY | O_CLOEXEC);
-  if (!lock_error && directory_fd < 0) lock_error = errno;
-  if (lock_error) return -1;
-  int ignored = is_new ? open_in_directory(".gitignore", O_WRONLY | O_CREAT | O_EXCL) : -1;
-  if (ignored >= 0) write_all(ignored, "*\n", 2), close(ignored);
-  return 0;
+  return error;
+}
+
+/* Opens the directory and `.capture`. Returns 0 or the error. */
+static int open_directories(void) {
+  directory_fd = open(directory_name, O_RDONLY | O_DIRECTORY | O_CLOEXEC);
+  if (directory_fd < 0 || (mkdirat(directory_fd, ".capture", 0777) < 0 && errno != EEXIST)) return errno;
+  state_fd = openat(directory_fd, ".capture", O_RDONLY | O_NOFOLLOW | O_NONBLOCK | O_CLOEXEC);
+  return state_fd < 0 ? errno : 0;
+}
+
+/* Opens the lock and locks it. Returns 0; 1 if another process has locked it; -1 on failure. A lock with another link is replaced,
+   so that the file elsewhere stays unchanged. Another run may do the same: once locked, the lock must still be in its place. */
+static int lock_directory(void) {
+  struct stat found;
+  for (int tries = 0; tries < 100; tries++) {
+    lock_fd = open_in_directory(".capture/lock", O_RDWR | O_CREAT);
+    if (lock_fd < 0) return -1;
+    if (flock(lock_fd, LOCK_EX | LOCK_NB) < 0 && errno == EWOULDBLOCK) return 1;
+    int is_in_place = fstat(lock_fd, &lock_file) == 0 && fstatat(state_fd, "lock", &found, AT_SYMLINK_NOFOLLOW) == 0 &&
+                      found.st_dev == lock_file.st_dev && found.st_ino == lock_file.st_ino;
+    if (is_in_place && lock_file.st_nlink < 2) return 0;
+    if (is_in_place) unlinkat(state_fd, "lock", 0);
+    close(lock_fd);
+  }
+  lock_fd = -1, errno = EMLINK;
+  return -1;
 }
 
 /* Returns the process that has the lock, or -1 if this one has it. Other runs aren't noticed if the file system has no locks. */
 static int acquire_lock(void) {
   char owner[32] = "", *line = xasprintf("%d\n", (int)getpid());
-  lock_fd = open_in_directory(".capture/lock", O_RDWR | O_CREAT);
+  int is_locked = lock_directory();
   lock_error = errno;
-  int is_locked = lock_fd >= 0 && flock(lock_fd, LOCK_EX | LOCK_NB) < 0 && errno == EWOULDBLOCK;
-  if (is_locked) {
+  if (is_locked == 1) {
     ssize_t size = pread(lock_fd, owner, sizeof owner - 1, 0);
     owner[size > 0 ? size : 0] = 0;
-  } else if (lock_fd >= 0 && (ftruncate(lock_fd, 0) < 0 || write_all(lock_fd, line, strlen(line)) < 0)) {
+  } else if (is_locked == 0 && (ftruncate(lock_fd, 0) < 0 || write_all(lock_fd, line, strlen(line)) < 0)) {
     failed_writes++; /* another run can't report which process has the lock */
   }
   free(line);
-  return is_locked ? atoi(owner) : -1;
+  return is_locked == 1 ? atoi(owner) : -1;
 }
 
 void close_directory(void) {
+  close_facts();
   close_index();
   close_journal();
   if (lock_fd >= 0) close(lock_fd);
+  if (state_fd >= 0) close(state_fd);
   if (directory_fd >= 0) close(directory_fd);
-  lock_fd = directory_fd = -1;
+  lock_fd = state_fd = directory_fd = -1;
 }
 
 static int give_up_directory(void) {
@@ -130,20 +189,33 @@ static int begin_run(void) {
   read_closed();
   run_target->is_closed = 0;
   if (write_index(0) < 0 || write_closed() < 0 || begin_journal() < 0) return -1;
+  open_facts();
   if (unlinkat(directory_fd, "log.1", 0) < 0 && errno != ENOENT) report_write_error("log.1"), run_target->is_unwritable = 1;
   return 0;
 }
 
+/* A new directory gets a .gitignore, so that git ignores it. */
+static void ignore_directory(void) {
+  int ignored = open_in_directory(".gitignore", O_WRONLY | O_CREAT | O_EXCL);
+  if (ignored >= 0) write_all(ignored, "*\n", 2), close(ignored);
+}
+
 int open_directory(void) {
+  struct stat found;
   if (state != CLOSED) return state == OPEN ? 0 : -1;
-  int owner = make_directories() < 0 ? 0 : acquire_lock();
-  if (lock_fd < 0 && lock_error == ENOENT) { /* somebody is removing the directory: the next line tries again */
+  int is_new = stat(directory_name, &found) < 0;
+  int error = make_directories(), owner = 0;
+  if (!error || error == EEXIST) error = open_directories();
+  if (!error && is_new) ignore_directory();
+  if (!error) owner = acquire_lock(), error = lock_fd < 0 ? lock_error : 0;
+  if (error == ENOENT) { /* somebody is removing the directory: the next line tries again */
     close_directory();
     return -1;
   }
-  if (lock_fd < 0 && directory_fd >= 0) errno = lock_error, report_write_error(".capture/lock");
+  if (error && directory_fd < 0) warn("cannot write %s: %s", directory_path, strerror(error)), failed_writes++;
+  if (error && directory_fd >= 0) errno = error, report_write_error(state_fd < 0 ? ".capture" : ".capture/lock");
   if (owner > 0) warn("%s is in use by another build, process %d: this build is not captured", directory_name, owner);
-  if (owner >= 0 || lock_fd < 0) return give_up_directory();
+  if (owner >= 0 || error) return give_up_directory();
   state = OPEN;
   if (begin_run() == 0) return 0;
   check_removal();
@@ -154,10 +226,15 @@ int open_directory(void) {
 }
 
 void open_interrupted_run(void) {
-  directory_fd = open(directory_path, O_RDONLY | O_DIRECTORY | O_CLOEXEC);
-  if (directory_fd < 0 || read_journal_state() == NO_JOURNAL) die(1, "%s: nothing was captured there", directory_name);
+  struct stat found;
+  char *state_directory = xasprintf("%s/.capture", directory_name);
+  check_files();
+  if (stat(state_directory, &found) < 0 || open_directories() || read_journal_state() == NO_JOURNAL)
+    die(1, "%s: nothing was captured there", directory_name);
+  free(state_directory);
   int owner = acquire_lock();
   if (owner > 0) die(1, "%s is in use by another build, process %d", directory_name, owner);
+  if (lock_fd < 0) die(1, "cannot write %s/%s: %s", directory_name, ".capture/lock", strerror(lock_error));
   state = OPEN;
   run_target = add_target("all");
   if (read_index() < 0) exit(1);
@@ -170,4 +247,14 @@ void check_removal(void) {
   clear_targets();
   close_directory();
   state = CLOSED;
+}
+
+void find_moved_directory(void) {
+  struct stat opened, found;
+  if (state != OPEN || fstat(directory_fd, &opened) < 0) return;
+  if (stat(directory_name, &found) == 0 && found.st_dev == opened.st_dev && found.st_ino == opened.st_ino) return;
+  char path[PATH_MAX], *descriptor = xasprintf("/proc/self/fd/%d", directory_fd);
+  ssize_t size = readlink(descriptor, path, sizeof path);
+  if (size > 0 && size < PATH_MAX) directory_name = directory_path = xasprintf("%.*s", (int)size, path);
+  free(descriptor);
 }

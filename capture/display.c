@@ -1,4 +1,5 @@
-/* What is printed on standard error while the build runs: the output of a failed recipe, as soon as it has failed. */
+/* What is printed on standard error while the build runs: the output of a failed recipe, as soon as it has failed. Nothing here
+   allocates memory, so that a block is whole even if there is little. */
 #define _GNU_SOURCE
 #include "capture.h"
 #include "protocol.h"
@@ -8,7 +9,32 @@
 
 int show_mode = SHOW_FAILED, captures_output;
 
+/* The most of a command that a block shows: three lines of a terminal. */
+enum { MAX_COMMAND_LINES = 3, MAX_COMMAND_BYTES = 240 };
+
 static struct target *last_shown;
+
+/* The part of a block that isn't written yet. A block that fits is written at once. */
+static char unwritten[1 << 16];
+static size_t unwritten_size;
+
+static void write_unwritten(void) {
+  write_all(2, unwritten, unwritten_size);
+  unwritten_size = 0;
+}
+
+/* Adds a line, or a part of one, to the block. A longer block is written in pieces that end with a line if possible. */
+static void add_to_block(const char *bytes, size_t size) {
+  if (size > sizeof unwritten - unwritten_size) write_unwritten();
+  while (size > 0) {
+    size_t part = size < sizeof unwritten - unwritten_size ? size : sizeof unwritten - unwritten_size;
+    memcpy(unwritten + unwritten_size, bytes, part);
+    bytes += part, size -= part, unwritten_size += part;
+    if (size > 0) write_unwritten();
+  }
+}
+
+static void add_text_to_block(const char *text) { add_to_block(text, strlen(text)); }
 
 /* Visits each text line of a log from a position on. A line that is longer than the buffer is visited in parts; `is_start` is set
    for the first one. */
@@ -68,52 +94,61 @@ static void classify_line(const char *bytes, size_t size, int is_start, void *to
   if (!is_start || !is_make_message(bytes, size)) content->has_other = 1;
 }
 
-static void print_line(const char *bytes, size_t size, int is_start, void *to) {
-  (void)is_start;
-  fwrite(bytes, 1, size, to);
+static void add_line(const char *bytes, size_t size, int is_start, void *to) {
+  (void)is_start, (void)to;
+  add_to_block(bytes, size);
 }
 
-static int is_shell(const char *word) {
-  static const char *const shells[] = {"sh", "bash", "dash", "ash", "ksh", "mksh", "zsh", "busybox", NULL};
-  for (int i = 0; shells[i]; i++)
-    if (strcmp(base_name(word), shells[i]) == 0) return 1;
-  return 0;
-}
+/* The first bytes of a command. */
+struct excerpt {
+  char bytes[MAX_COMMAND_BYTES];
+  size_t size;
+  int line_feeds, is_cut;
+};
 
-/* Prints the command as a user would type it: what a shell runs, or the arguments. */
-static void print_command(const struct command *command, FILE *to) {
-  const char *end = command->bytes + command->size, *last = NULL, *flags = NULL;
-  int is_cut = command->size == 0 || end[-1] != 0, has_shell = 0, count = 0;
-  char *copy = xasprintf("%s", ""), *word;
-  copy = memcpy(xrealloc(copy, command->size + 1), command->bytes, command->size);
-  copy[command->size] = 0;
-  for (word = copy; word < copy + command->size; word += strlen(word) + 1) {
-    if (count++ < 2) has_shell |= is_shell(word);
-    flags = last, last = word;
+static void add_to_excerpt(const char *bytes, size_t size, void *to) {
+  struct excerpt *excerpt = to;
+  for (size_t i = 0; i < size && !excerpt->is_cut; i++) {
+    if (excerpt->size == MAX_COMMAND_BYTES || excerpt->line_feeds == MAX_COMMAND_LINES) excerpt->is_cut = 1;
+    else if (bytes[i] != '\n' || ++excerpt->line_feeds < MAX_COMMAND_LINES) excerpt->bytes[excerpt->size++] = bytes[i];
   }
-  if (has_shell && flags && *flags == '-' && flags[strlen(flags) - 1] == 'c') {
-    fprintf(to, "%s", last);
-  } else {
-    for (word = copy; word < copy + command->size; word += strlen(word) + 1) {
-      char *written = shell_quote(word);
-      fprintf(to, "%s%s", word == copy ? "" : " ", written);
-      free(written);
-    }
-  }
-  fprintf(to, "%s\n", is_cut ? " .." : "");
-  free(copy);
 }
 
-/* A recipe that failed only because a sub-make did has no head, because make's own line states the failure. */
-static void print_header(const struct line *line, int status, const struct content *content, FILE *to) {
+/* Returns the size without a UTF-8 character of which the end is missing. */
+static size_t complete_size(const char *bytes, size_t size) {
+  size_t end = size;
+  while (end > 0 && size - end < 3 && (bytes[end - 1] & 0xC0) == 0x80) end--;
+  unsigned char lead = end > 0 ? bytes[end - 1] : 0;
+  size_t length = lead >= 0xF0 ? 4 : lead >= 0xE0 ? 3 : lead >= 0xC0 ? 2 : 1;
+  return end > 0 && end - 1 + length > size ? end - 1 : size;
+}
+
+static void add_command(const struct command *command) {
+  struct excerpt excerpt = {.size = 0};
+  int is_truncated = format_command(command, add_to_excerpt, &excerpt);
+  if (excerpt.is_cut) excerpt.size = complete_size(excerpt.bytes, excerpt.size);
+  add_to_block(excerpt.bytes, excerpt.size);
+  add_text_to_block(is_truncated || excerpt.is_cut ? " ..\n" : "\n");
+}
+
+/* Relative paths in the output can't be followed without the directory of the make, if that isn't the base directory. */
+static void add_target_line(const struct target *target, int status) {
+  const char *directory = target->directory ? relative_to_base(target->directory) : "";
+  char words[32] = "";
+  if (status != 0) snprintf(words, sizeof words, " (exit %d)", status);
+  add_text_to_block("redo-log-capture: ");
+  add_text_to_block(target->name);
+  add_text_to_block(words);
+  if (*directory) add_text_to_block(", in "), add_text_to_block(directory);
+  add_text_to_block("\n");
+}
+
+/* A recipe that failed only because a sub-make did has no head, because the sub-make's line in the output states the failure. */
+static void add_head(const struct line *line, int status, const struct content *content) {
   struct target *target = line->target;
-  if (status != 0 && target->has_failed_child && !content->has_other) return;
-  if (status != 0) {
-    fprintf(to, "redo-log-capture: %s (exit %d)\n", target->name, status);
-    print_command(&line->command, to);
-  } else if (target != last_shown) {
-    fprintf(to, "redo-log-capture: %s\n", target->name);
-  }
+  if (status != 0 && target->has_failed_child && content->has_text && !content->has_other) return;
+  if (status != 0 || target != last_shown) add_target_line(target, status);
+  if (status != 0) add_command(&line->command);
 }
 
 /* Prints a block in one piece. It has no text if the log can't be read or written any more. */
@@ -124,14 +159,9 @@ void show_output(const struct line *line, int status) {
   if (target->log_fd >= 0 || target->size > target->shown_size)
     for_each_text_line(target, target->shown_size, classify_line, &content);
   if (status == 0 && !content.has_text) return;
-  char *block;
-  size_t size;
-  FILE *stream = xopen_memstream(&block, &size);
-  print_header(line, status, &content, stream);
-  if (content.has_text) for_each_text_line(target, target->shown_size, print_line, stream);
-  xclose_memstream(stream);
-  write_all(2, block, size);
-  free(block);
+  add_head(line, status, &content);
+  if (content.has_text) for_each_text_line(target, target->shown_size, add_line, NULL);
+  write_unwritten();
   target->shown_size = target->size;
   last_shown = target;
 }

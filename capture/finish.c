@@ -69,8 +69,8 @@ static void add_closing_record(struct target *target) {
   struct stat found = {.st_size = 0};
   char last = '\n';
   if (open_log(target) < 0) return;
-  if (fstat(target->log_fd, &found) == 0 && found.st_size > 0 && pread(target->log_fd, &last, 1, found.st_size - 1) < 1)
-    last = '\n';
+  int is_known = fstat(target->log_fd, &found) == 0 && found.st_size == target->written_size && !target->is_mid_line;
+  if (!is_known && found.st_size > 0 && pread(target->log_fd, &last, 1, found.st_size - 1) < 1) last = '\n';
   char *record = xasprintf("%s@@REDO:done:%d:%s@@ %d %s\n", last == '\n' ? "" : "\n", (int)target->end_process,
                            format_time(target->end_time), target->status, name_in_own_log(target->name));
   target->is_closed = write_all(target->log_fd, record, strlen(record)) == 0;
@@ -87,8 +87,10 @@ static void finish_log(struct target *target) {
   if (target->child_records_stream) xclose_memstream(target->child_records_stream);
   target->child_records_stream = NULL;
   if (target->is_unwritable) return;
-  int error = fstatat(directory_fd, log_file_name(target->number), &found, 0) < 0 ? errno : 0,
-      is_file = !error && S_ISREG(found.st_mode);
+  if (target->log_fd >= 0 && (fstat(target->log_fd, &found) < 0 || found.st_nlink == 0)) close_log(target);
+  int error = 0;
+  if (target->log_fd < 0 && fstatat(directory_fd, log_file_name(target->number), &found, AT_SYMLINK_NOFOLLOW) < 0) error = errno;
+  int is_file = !error && S_ISREG(found.st_mode);
   if (has_ended && (!is_file || target->is_log_lost)) count_lost(target);
   if (!is_file && error != ENOENT) return;
   if (error || target->is_log_lost) target->header_size = target->mention_count = 0;
@@ -113,7 +115,6 @@ static void end_run_log(int status) {
 
 static void finish_run(int status) {
   size_t count;
-  close_all_logs();
   if (relist_targets() < 0) return;
   /* Before the journal ends, the list of closed logs must lose those that were begun again, because the journal no longer names
      them afterwards. Before any log is closed, the journal must end, so that no log is closed twice. */
@@ -126,6 +127,7 @@ static void finish_run(int status) {
   write_closed();
   report_lost();
   free(sorted);
+  compact_facts();
 }
 
 /* If the run was finished before, only the must-close flags are left to write. */

@@ -18,6 +18,7 @@ static unsigned last_number;
 static char *index_text;
 static size_t index_size;
 static int index_fd = -1;
+static struct write_buffer new_lines; /* not written yet */
 
 static struct target **target_slot(unsigned number) {
   if (number >= number_capacity) {
@@ -146,6 +147,11 @@ int relist_targets(void) {
   return 0;
 }
 
+static void close_index_fd(void) {
+  if (index_fd >= 0) close(index_fd);
+  index_fd = -1;
+}
+
 int write_index(int with_flags) {
   int error = 0;
   char *names;
@@ -155,7 +161,7 @@ int write_index(int with_flags) {
     fprintf(stream, "%s%u %s\n", with_flags && listed[i]->is_closed ? "!" : "", listed[i]->number, listed[i]->name);
   xclose_memstream(stream);
   if (!index_text || size != index_size || memcmp(index_text, names, size) != 0) {
-    close_index();
+    close_index_fd();
     error = replace_file("names", names, size);
   }
   free(index_text);
@@ -163,9 +169,11 @@ int write_index(int with_flags) {
   return error;
 }
 
+struct target *find_listed_target(unsigned long number) { return number < number_capacity ? targets_by_number[number] : NULL; }
+
 void close_index(void) {
-  if (index_fd >= 0) close(index_fd);
-  index_fd = -1;
+  close_index_fd();
+  clear_buffer(&new_lines);
 }
 
 /* Returns the lowest number that no line and no log has; 0 if there is none. */
@@ -182,24 +190,37 @@ static int ends_mid_line(const struct stat *found) {
   return pread(index_fd, &last, 1, found->st_size - 1) == 1 && last != '\n';
 }
 
-static int append_line(unsigned number, const char *name) {
+/* Writes all lines or none. */
+static int append_lines(const char *lines, size_t size) {
   struct stat found;
-  if (index_fd >= 0 && (fstat(index_fd, &found) < 0 || found.st_nlink == 0)) close_index();
-  if (index_fd < 0) index_fd = open_in_directory("names", O_RDWR | O_APPEND | O_CREAT);
-  if (index_fd < 0 || fstat(index_fd, &found) < 0) return -1;
-  char *line = xasprintf("%s%u %s\n", ends_mid_line(&found) ? "\n" : "", number, name);
-  size_t size = strlen(line);
-  int error = write_all(index_fd, line, size);
-  free(line);
-  if (error && ftruncate(index_fd, found.st_size) < 0) close_index();
-  index_size = found.st_size + (error ? 0 : size);
+  if (index_fd >= 0 && (fstat(index_fd, &found) < 0 || found.st_nlink != 1)) close_index_fd();
+  int is_opened = index_fd < 0;
+  if (is_opened) index_fd = open_to_append("names");
+  if (index_fd < 0 || (is_opened && fstat(index_fd, &found) < 0)) return -1;
+  int is_mid_line = ends_mid_line(&found), error = 0;
+  if (is_mid_line) error = write_all(index_fd, "\n", 1);
+  if (!error) error = write_all(index_fd, lines, size);
+  if (error && ftruncate(index_fd, found.st_size) < 0) close_index_fd();
+  index_size = found.st_size + (error ? 0 : size + is_mid_line);
   return error;
+}
+
+/* Lines that can't be written now are written when the run ends. */
+void flush_index(void) {
+  size_t size = new_lines.size;
+  new_lines.size = 0;
+  if (size > 0 && append_lines(new_lines.bytes, size) < 0) report_write_error("names");
 }
 
 int add_to_index(struct target *target) {
   unsigned number = last_number < MAX_LOGS ? last_number + 1 : find_unused_number();
   if (number == 0) return -1;
-  if (append_line(number, target->name) < 0) return report_write_error("names"), -1;
+  char *line = xasprintf("%u %s\n", number, target->name);
+  size_t size = strlen(line);
+  int error = 0;
+  if (add_to_buffer(&new_lines, line, size) < 0) flush_index(), error = append_lines(line, size);
+  free(line);
+  if (error) return report_write_error("names"), -1;
   if (number > last_number) last_number = number;
   add_line(target, number);
   return 0;

@@ -1,5 +1,5 @@
-/* The run journal, `.capture/run`. Its first line is `running PROCESS`, or `ended PROCESS` once the run is finished. Then it has a
-   line for each event:
+/* The run journal, `.capture/run`. Once the run is finished, it is one line, `ended PROCESS TARGETS`, with the number of targets that
+   began. Before, its first line is `running PROCESS`, and it has a line for each event:
      target NUMBER TIME PARENT NAME                a target began; PARENT is the number of its parent, or 0
      start NUMBER PROCESS HEAD                     its first line started; the first HEAD bytes of its log are records
      needed NUMBER                                 a log mentions it as a prerequisite
@@ -17,38 +17,75 @@
 #include <unistd.h>
 
 static int journal_fd = -1;
+/* Targets that began are written before their logs are emptied, and all other events after what they say of the logs is written there.
+   So --finish finds no log of an earlier run where the journal says that the log has ended. */
+static struct write_buffer begun, events;
 
-static int write_first_line(const char *state) {
-  char *line = xasprintf("%s %d\n", state, (int)getpid());
+static int replace_journal(char *line) {
   int error = replace_file(".capture/run", line, strlen(line));
   free(line);
   return error;
 }
 
 int begin_journal(void) {
-  if (write_first_line("running") < 0) return -1;
+  if (replace_journal(xasprintf("running %d\n", (int)getpid())) < 0) return -1;
   journal_fd = open_in_directory(".capture/run", O_WRONLY | O_APPEND);
   if (journal_fd < 0) report_write_error(".capture/run");
   return journal_fd < 0 ? -1 : 0;
 }
 
-int end_journal(void) { return write_first_line("ended"); }
+int end_journal(void) {
+  size_t count = 0;
+  for (size_t i = 0; i < target_count; i++) count += targets[i]->is_in_run;
+  return replace_journal(xasprintf("ended %d %zu\n", (int)getpid(), count));
+}
 
 void close_journal(void) {
   if (journal_fd >= 0) close(journal_fd);
   journal_fd = -1;
+  clear_buffer(&begun);
+  clear_buffer(&events);
 }
 
-int write_journal(const char *format, ...) {
+static int append_events(const char *lines, size_t size) {
+  if (size == 0 || journal_fd < 0 || write_all(journal_fd, lines, size) == 0) return 0;
+  report_write_error(".capture/run");
+  return -1;
+}
+
+static int flush_events(struct write_buffer *buffer) {
+  size_t size = buffer->size;
+  buffer->size = 0;
+  return append_events(buffer->bytes, size);
+}
+
+int flush_begun_targets(void) { return flush_events(&begun); }
+
+void flush_journal(void) { flush_events(&events); }
+
+void begin_in_journal(const struct target *target) {
+  char *line = xasprintf("target %u %lld %u %s\n", target->number, (long long)target->start_time,
+                         target->parent ? target->parent->number : 0, target->name);
+  size_t size = strlen(line);
+  if (add_to_buffer(&begun, line, size) < 0 && flush_begun_targets() == 0) append_events(line, size);
+  free(line);
+}
+
+void add_to_journal(const char *lines, size_t size) {
+  if (add_to_buffer(&events, lines, size) == 0) return;
+  flush_captures();
+  append_events(lines, size);
+}
+
+void write_journal(const char *format, ...) {
   char *lines;
   va_list values;
   va_start(values, format);
-  int size = vasprintf(&lines, format, values), error = -1;
+  int size = vasprintf(&lines, format, values);
   va_end(values);
-  if (size >= 0) error = write_all(journal_fd, lines, size);
-  if (size >= 0) free(lines);
-  if (error) report_write_error(".capture/run");
-  return error;
+  if (size < 0) return;
+  add_to_journal(lines, size);
+  free(lines);
 }
 
 enum journal_state read_journal_state(void) {
@@ -70,7 +107,7 @@ static void parse_target_event(const char *line) {
   unsigned number, parent;
   int name = 0;
   int64_t time;
-  if (sscanf(line, "target %u %" SCNd64 " %u %n", &number, &time, &parent, &name) != 3 || !name || !line[name]) return;
+  if (sscanf(line, "target %u %" SCNd64 " %u%n", &number, &time, &parent, &name) != 3 || line[name] != ' ' || !line[++name]) return;
   if (number == 0 || number > MAX_LOGS) return;
   if (number >= journal_target_capacity) {
     unsigned capacity = 2 * number + 16;
@@ -117,7 +154,7 @@ void read_journal(void) {
 static void mark_closed(const char *line) {
   unsigned number;
   int name = 0;
-  if (sscanf(line, "%u %n", &number, &name) != 1 || !name) return;
+  if (sscanf(line, "%u%n", &number, &name) != 1 || line[name++] != ' ') return;
   struct target *target = find_target(line + name);
   if (target && target->number == number) target->is_closed = 1;
 }
@@ -125,7 +162,7 @@ static void mark_closed(const char *line) {
 static void mark_reopened(const char *line) {
   unsigned number;
   int name = 0;
-  if (sscanf(line, "target %u %*d %*u %n", &number, &name) != 1 || !name) return;
+  if (sscanf(line, "target %u %*d %*u%n", &number, &name) != 1 || !name || line[name++] != ' ') return;
   struct target *target = find_target(line + name);
   if (target) target->is_closed = 0;
 }

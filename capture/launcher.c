@@ -44,6 +44,15 @@ static ssize_t receive(void *bytes, size_t size) {
   return received;
 }
 
+/* Waits for the reply to a message. Returns -1 on failure. */
+static int receive_reply(void) {
+  struct reply reply;
+  do
+    if (receive(&reply, sizeof reply) != sizeof reply) return -1;
+  while (reply.kind == ASK);
+  return reply.value;
+}
+
 /* Returns part `number` of CAPTURE_RUN, counted from 0, and its size; NULL if there is none. */
 static const char *variable_part(const char *variable, int number, size_t *size) {
   for (; variable && number > 0; number--) {
@@ -54,26 +63,42 @@ static const char *variable_part(const char *variable, int number, size_t *size)
   return variable;
 }
 
+/* Connects to the server that CAPTURE_RUN names. Returns -1 and sets errno on failure. */
+static int connect_to_server(const char *variable) {
+  size_t size = 0;
+  const char *name = variable_part(variable, 0, &size);
+  struct sockaddr_un listener = {.sun_family = AF_UNIX};
+  if (!name || size > MAX_SOCKET_NAME) return errno = EINVAL, -1;
+  memcpy(listener.sun_path + 1, name, size);
+  int file = socket(AF_UNIX, SOCK_SEQPACKET | SOCK_CLOEXEC, 0);
+  if (file < 0 || connect(file, (struct sockaddr *)&listener, offsetof(struct sockaddr_un, sun_path) + 1 + size) == 0) return file;
+  int error = errno;
+  close(file);
+  errno = error;
+  return -1;
+}
+
+int is_run_alive(void) {
+  int file = connect_to_server(getenv(RUN_VARIABLE));
+  if (file >= 0) close(file);
+  return file >= 0 || errno != ECONNREFUSED;
+}
+
 static int connect_to_run(void) {
   const char *variable = getenv(RUN_VARIABLE), *working_directory = getcwd(NULL, 0);
-  size_t name_size = 0, token_size = 0, size;
-  const char *name = variable_part(variable, 0, &name_size), *token = variable_part(variable, 1, &token_size),
-             *user = variable_part(variable, 2, &size);
+  size_t token_size = 0, size;
+  const char *token = variable_part(variable, 1, &token_size), *user = variable_part(variable, 2, &size);
   const char *parent = variable_part(variable, 3, &size);
-  struct sockaddr_un listener = {.sun_family = AF_UNIX};
   struct hello hello = {.kind = HELLO, .pid = getpid()};
   struct ucred other = {0};
   socklen_t other_size = sizeof other;
   run_directory = variable_part(variable, 6, &size);
-  if (!run_directory || !working_directory || name_size > MAX_SOCKET_NAME || token_size != TOKEN_SIZE) return -1;
+  if (!run_directory || !working_directory || token_size != TOKEN_SIZE) return -1;
   run_address = xasprintf("%.*s", (int)(parent - variable), variable);
-  memcpy(listener.sun_path + 1, name, name_size);
   memcpy(hello.token, token, TOKEN_SIZE);
   sscanf(parent, "%u.%u", &hello.parent_make, &hello.parent_recipe);
-  run_socket = socket(AF_UNIX, SOCK_SEQPACKET | SOCK_CLOEXEC, 0);
-  if (run_socket < 0 ||
-      connect(run_socket, (struct sockaddr *)&listener, offsetof(struct sockaddr_un, sun_path) + 1 + name_size) < 0)
-    return -1;
+  run_socket = connect_to_server(variable);
+  if (run_socket < 0) return -1;
   if (getsockopt(run_socket, SOL_SOCKET, SO_PEERCRED, &other, &other_size) < 0 || other.uid != strtoul(user, NULL, 10)) return -1;
   int pair[2];
   if (socketpair(AF_UNIX, SOCK_SEQPACKET | SOCK_CLOEXEC, 0, pair) < 0) return -1;
@@ -87,8 +112,8 @@ static int connect_to_run(void) {
 static int announce_command(const char *target, const char *prerequisites, char **command) {
   struct names names = {NAMES};
   struct recipe recipe = {RECIPE, 1};
-  struct line_message line = {LINE, 1, wall_clock_ms()};
-  char *words, reply = 0;
+  struct line_message line = {LINE, 1, wall_clock_ms(), 1, 0};
+  char *words;
   size_t size, left = strlen(prerequisites);
   int pair[2];
   if (pipe2(pair, O_CLOEXEC) < 0 || strlen(target) >= MAX_BODY) return -1;
@@ -99,10 +124,11 @@ static int announce_command(const char *target, const char *prerequisites, char 
   for (; !error && left > MAX_BODY; prerequisites += MAX_BODY, left -= MAX_BODY)
     error = send_message(notes_socket, &names, sizeof names, prerequisites, MAX_BODY, -1);
   if (!error) error = send_message(notes_socket, &recipe, sizeof recipe, prerequisites, left, -1);
-  if (!error) error = send_message(run_socket, &line, sizeof line, words, size < MAX_BODY ? size : MAX_BODY, pair[0]);
-  if (error || receive(&reply, 1) != 1) reply = 0;
+  if (size > MAX_BODY) size = words[MAX_BODY - 1] ? MAX_BODY : MAX_BODY - 1; /* without the last NUL */
+  if (!error) error = send_message(run_socket, &line, sizeof line, words, size, pair[0]);
+  int reply = error ? -1 : receive_reply();
   close(pair[0]);
-  if (reply) return pair[1];
+  if (reply == CAPTURED) return pair[1];
   close(pair[1]);
   return -1;
 }
@@ -132,21 +158,26 @@ static pid_t spawn_command(char **command, int pipe, const sigset_t *former_mask
   if (welcome.captures_output) posix_spawn_file_actions_adddup2(&actions, pipe, 1);
   int error = posix_spawnp(&process, command[0], &actions, &attributes, command, environ);
   if (!error) return process;
-  struct failed failed = {FAILED, wall_clock_ms()};
+  struct failed failed = {FAILED, 0, wall_clock_ms()};
   send_message(notes_socket, &failed, sizeof failed, NULL, 0, -1);
   die_cannot_run(command[0], error);
 }
 
-/* Waits for the command. Forwards signals, except signals from a terminal, which reach the command too. */
-static int wait_for_command(pid_t process, const sigset_t *blocked) {
+/* Waits for the command. Forwards signals, except signals from a terminal, which reach the command too. Sets `is_stopping` if a signal
+   that wasn't ignored before has arrived. */
+static int wait_for_command(pid_t process, const sigset_t *blocked, struct rusage *usage, int *is_stopping) {
   siginfo_t info;
   int status;
   for (;;) {
     int kind = sigwaitinfo(blocked, &info);
-    if (kind == SIGCHLD && waitpid(process, &status, WNOHANG) == process) return status;
+    if (kind == SIGCHLD && wait4(process, &status, WNOHANG, usage) == process) return status;
+    struct sigaction former;
+    if (kind > 0 && kind != SIGCHLD && sigaction(kind, NULL, &former) == 0 && former.sa_handler != SIG_IGN) *is_stopping = 1;
     if (kind > 0 && kind != SIGCHLD && info.si_code != SI_KERNEL) kill(process, kind);
   }
 }
+
+static int64_t microseconds(struct timeval time) { return (int64_t)time.tv_sec * 1000000 + time.tv_usec; }
 
 static _Noreturn void exit_like(int status) {
   struct rlimit none = {0, 0};
@@ -163,7 +194,7 @@ static _Noreturn void exit_like(int status) {
 }
 
 void launch(char **command) {
-  char *target = getenv("CAPTURE"), *colon = target ? strstr(target, " : ") : NULL, reply;
+  char *target = getenv("CAPTURE"), *colon = target ? strstr(target, " : ") : NULL;
   sigset_t blocked, former_mask;
   if (colon == target) colon = NULL;
   if (!colon || connect_to_run() < 0) exec_command(command);
@@ -179,11 +210,14 @@ void launch(char **command) {
   struct started started = {STARTED, spawn_command(command, pipe, &former_mask)};
   send_message(notes_socket, &started, sizeof started, NULL, 0, -1);
   close(pipe);
-  struct ended ended = {
-      .kind = ENDED, .pid = started.pid, .status = wait_for_command(started.pid, &blocked), .time = wall_clock_ms()};
+  struct rusage usage;
+  int is_stopping = 0;
+  struct ended ended = {.kind = ENDED, .pid = started.pid};
+  ended.status = wait_for_command(started.pid, &blocked, &usage, &is_stopping), ended.stopping = is_stopping ? STOPPING : NOT_STOPPING;
+  ended.time = wall_clock_ms(), ended.peak_kb = usage.ru_maxrss;
+  ended.user_us = microseconds(usage.ru_utime), ended.system_us = microseconds(usage.ru_stime);
   ended.wants_reply = welcome.show_mode == SHOW_ALL || (welcome.show_mode == SHOW_FAILED && ended.status != 0);
-  if (send_message(ended.wants_reply ? run_socket : notes_socket, &ended, sizeof ended, NULL, 0, -1) == 0 && ended.wants_reply &&
-      receive(&reply, 1) < 0)
-    reply = 0;
+  if (send_message(ended.wants_reply ? run_socket : notes_socket, &ended, sizeof ended, NULL, 0, -1) == 0 && ended.wants_reply)
+    receive_reply();
   exit_like(ended.status);
 }

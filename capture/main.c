@@ -6,7 +6,10 @@
 #include <fcntl.h>
 #include <stdlib.h>
 #include <string.h>
+#include <sys/stat.h>
 #include <unistd.h>
+
+enum { PROGRESS_SECONDS = 60, MAX_PROGRESS_SECONDS = 86400 };
 
 static const char help[] =
     "Runs a build by GNU make, and captures what each recipe prints on standard error as a log for redo-log.\n"
@@ -18,11 +21,14 @@ static const char help[] =
     "  <COMMAND>...  A make command, or a command that runs make\n"
     "\n"
     "Options:\n"
-    "      --dir <DIR>       The capture directory [default: capture]\n"
+    "      --dir <DIR>       The capture directory [default: .redo-log]\n"
     "      --both            Capture standard output too\n"
+    "      --commands        Record the command of every line; by default, those of lines that failed are recorded\n"
     "      --live            Print the output of every recipe, whenever a line of it ends\n"
     "      --quiet           Print no output of recipes; by default, the output of failed recipes is printed\n"
-    "      --summary <FILE>  Write a line per target to FILE: status, seconds, log number, name\n"
+    "      --summary <FILE>  Write a line per target to FILE: status, seconds, log number, name, processor time, memory\n"
+    "      --html <FILE>     Write a page of the build to FILE with redo-log-html\n"
+    "      --progress[=<S>]  Print a line about the build every S seconds [default: 60]\n"
     "      --must-close      Set the must-close flag of closed logs: redo-log then rejects truncated copies of them\n"
     "      --finish          Finish the logs of a build that was killed\n"
     "  -h, --help            Print help\n"
@@ -30,16 +36,16 @@ static const char help[] =
     "\n"
     "Example:\n"
     "  redo-log-capture make -j8 all      captures a build\n"
-    "  redo-log -r all                    shows it, if the capture directory is `capture`\n"
+    "  redo-log -r all                    shows it\n"
     "\n"
     "Exit status: the command's; otherwise\n"
-    "    1  the captures or the summary can't be written\n"
+    "    1  the captures, the summary or the page can't be written\n"
     "    2  the command line is invalid\n"
     "  126  the command can't be run\n"
     "  127  the command isn't found\n";
 
-static const char *summary;
-static int must_close, is_quiet;
+static const char *summary, *page;
+static int must_close, is_quiet, progress_seconds;
 
 static _Noreturn void print_and_exit(const char *message) { exit(fputs(message, stdout) < 0 || fflush(stdout) != 0); }
 
@@ -51,41 +57,37 @@ static _Noreturn void finish_interrupted(const char *name) {
   exit(failed_writes ? 1 : 0);
 }
 
-/* Sets the variable `_` to the path of the command, as a shell does. */
+/* bash sets the variable `_` to the path of the command that it runs. If it is the path of this program, the command gets its own. */
 static void set_last_argument(const char *command) {
-  const char *path = getenv("PATH");
-  if (!getenv("_")) return;
-  if (strchr(command, '/')) setenv("_", command, 1);
-  for (const char *part = path ? path : ""; !strchr(command, '/') && *part; part += strcspn(part, ":"), part += *part == ':') {
-    char *candidate = xasprintf("%.*s/%s", (int)strcspn(part, ":"), part, command);
-    if (access(candidate, X_OK) == 0) {
-      setenv("_", candidate, 1);
-      return;
-    }
-    free(candidate);
-  }
+  struct stat named, own;
+  const char *value = getenv("_");
+  if (!value || stat(value, &named) < 0 || stat(program_path(), &own) < 0) return;
+  if (named.st_dev != own.st_dev || named.st_ino != own.st_ino) return;
+  const char *path = strchr(command, '/') ? command : find_in_path(command);
+  if (path) setenv("_", path, 1);
 }
 
 /* Listens for the makes of the build, and sets the variables that they need. */
 static void prepare_environment(const char *command) {
-  char *capture_mk = find_capture_mk();
+  char *capture_def = find_capture_def();
   const char *other_makefiles = getenv("MAKEFILES");
-  if (other_makefiles && strncmp(other_makefiles, capture_mk, strlen(capture_mk)) == 0)
-    other_makefiles += strlen(capture_mk) + strspn(other_makefiles + strlen(capture_mk), " ");
+  if (other_makefiles && strncmp(other_makefiles, capture_def, strlen(capture_def)) == 0)
+    other_makefiles += strlen(capture_def) + strspn(other_makefiles + strlen(capture_def), " ");
   listen_for_makes();
-  setenv("MAKEFILES", other_makefiles && *other_makefiles ? xasprintf("%s %s", capture_mk, other_makefiles) : capture_mk, 1);
+  setenv("MAKEFILES", other_makefiles && *other_makefiles ? xasprintf("%s %s", capture_def, other_makefiles) : capture_def, 1);
   setenv(RUN_VARIABLE, format_run_variable(), 1);
   set_last_argument(command);
 }
 
-/* Whether this process belongs to a build that is captured to the same directory. */
+/* Whether this process belongs to a build that is captured to the same directory. A shell or server that was started in a build may have
+   the variable of a build that has ended. */
 static int is_within_run(void) {
   const char *run = getenv(RUN_VARIABLE);
   for (int part = 0; run && part < 6; part++) {
     run = strchr(run, ':');
     if (run) run++;
   }
-  return run && strcmp(run, directory_path) == 0;
+  return run && strcmp(run, directory_path) == 0 && is_run_alive();
 }
 
 static const char *command_name;
@@ -94,27 +96,48 @@ static void finish_capture(void) {
   check_removal();
   if (is_capturing()) finish(command_status, must_close);
   check_removal();
+  find_moved_directory();
   report(command_name, is_quiet);
   if (summary) write_summary(summary);
+}
+
+static int parse_seconds(const char *text) {
+  size_t digits = strspn(text, "0123456789");
+  int seconds = digits > 0 && digits < 6 && !text[digits] ? atoi(text) : 0;
+  if (seconds < 1 || seconds > MAX_PROGRESS_SECONDS) die(2, "--progress: not a number of seconds from 1 to 86400: %s", text);
+  return seconds;
+}
+
+/* Exits if the build can't write this file when it has ended. */
+static void check_output_file(const char *path) {
+  struct stat found;
+  int is_replaced = lstat(path, &found) < 0 || S_ISREG(found.st_mode); /* otherwise it is written, such as a pipe */
+  char *checked = is_replaced ? xasprintf("%.*s.", (int)(base_name(path) - path), path) : xasprintf("%s", path);
+  int error = faccessat(AT_FDCWD, checked, is_replaced ? W_OK | X_OK : W_OK, AT_EACCESS) < 0 ? errno : 0;
+  if (!is_replaced && error == ENOENT) error = 0; /* a link to a file that doesn't exist yet */
+  if (!is_replaced && stat(path, &found) == 0 && S_ISDIR(found.st_mode)) error = EISDIR;
+  if (error) die(1, "cannot write %s: %s", path, strerror(error));
+  free(checked);
 }
 
 static _Noreturn void capture_build(char **command, const char *name) {
   set_directory(name);
   if (is_within_run()) exec_command(command);
   check_directory();
-  char *parent_directory = summary ? xasprintf("%.*s.", (int)(base_name(summary) - summary), summary) : NULL;
-  if (parent_directory && faccessat(AT_FDCWD, parent_directory, W_OK | X_OK, AT_EACCESS) < 0)
-    die(1, "cannot write %s: %s", summary, strerror(errno));
+  if (summary) check_output_file(summary);
+  if (page) check_output_file(page), prepare_page(page);
+  if (progress_seconds) start_progress(progress_seconds);
   block_signals();
   prepare_environment(command[0]);
   start_command(command);
   serve_command();
-  remove_link_directory();
+  remove_temporary_directory();
   command_name = command[0];
   if (is_out_of_memory || try_step(finish_capture) < 0)
     warn("out of memory: finish the captures with redo-log-capture --dir %s --finish", directory_name);
-  close_directory();
   drain_in_background();
+  if (page) write_page(page);
+  close_directory();
   exit_like_command();
 }
 
@@ -123,13 +146,14 @@ int main(int count, char **arguments) {
   if (count > 2 && strcmp(arguments[1], "--recipe") == 0) launch(arguments + 2);
   set_base_dir();
 
-  const char *name = "capture";
+  const char *name = DEFAULT_DIRECTORY;
   int is_finish = 0;
   for (arguments++; *arguments && **arguments == '-'; arguments++) {
     char *argument = *arguments;
     if (strcmp(argument, "-h") == 0 || strcmp(argument, "--help") == 0) print_and_exit(help);
     if (strcmp(argument, "-V") == 0 || strcmp(argument, "--version") == 0) print_and_exit("redo-log-capture " VERSION "\n");
     if (strcmp(argument, "--both") == 0) captures_output = 1;
+    else if (strcmp(argument, "--commands") == 0) records_all_commands = 1;
     else if (strcmp(argument, "--live") == 0) show_mode = SHOW_ALL;
     else if (strcmp(argument, "--quiet") == 0) show_mode = SHOW_NOTHING, is_quiet = 1;
     else if (strcmp(argument, "--must-close") == 0) must_close = 1;
@@ -138,13 +162,19 @@ int main(int count, char **arguments) {
     else if (strncmp(argument, "--dir=", 6) == 0) name = argument + 6;
     else if (strcmp(argument, "--summary") == 0) summary = arguments[1] ? *++arguments : "";
     else if (strncmp(argument, "--summary=", 10) == 0) summary = argument + 10;
+    else if (strcmp(argument, "--progress") == 0) progress_seconds = PROGRESS_SECONDS;
+    else if (strncmp(argument, "--progress=", 11) == 0) progress_seconds = parse_seconds(argument + 11);
+    else if (strcmp(argument, "--html") == 0) page = arguments[1] ? *++arguments : "";
+    else if (strncmp(argument, "--html=", 7) == 0) page = argument + 7;
     else if (strcmp(argument, "--") == 0) { arguments++; break; }
     else die(2, "%s: unknown option; try --help", argument);
   }
   if (!*name) die(2, "--dir: no directory given");
   if (summary && !*summary) die(2, "--summary: no file given");
+  if (page && !*page) die(2, "--html: no file given");
   if (is_finish && *arguments) die(2, "--finish: takes no command: %s", *arguments);
   if (is_finish && summary) die(2, "--finish: writes no summary");
+  if (is_finish && page) die(2, "--finish: writes no page");
   if (is_finish) finish_interrupted(name);
   if (!*arguments) die(2, "no command given; try --help");
   capture_build(arguments, name);

@@ -7,20 +7,21 @@ struct recipe_entry {
   char *names;
   size_t size;
   struct target *target;
+  int has_begun; /* a line of it has begun, or could not be started */
 };
 
 /* A line that make is about to start. */
 struct announcement {
-  int is_set;
+  int is_set, is_captured;
   struct pipe *pipe;
   uint32_t recipe;
   int64_t time;
-  struct target *target;
   struct command command;
 };
 
 struct make {
   struct source source, notes; /* its sockets */
+  struct make *next_open, *previous_open; /* in the list of connected makes */
   uint32_t number, parent_make, parent_recipe;
   pid_t process;
   char *directory; /* NULL until HELLO has arrived */
@@ -29,7 +30,9 @@ struct make {
   size_t recipe_count, recipe_capacity;
   char *names; /* of the recipe that is being sent */
   size_t names_size;
-  uint32_t latest_recipe; /* the recipe of which a line may begin next */
+  /* Recipes of which make may start the next line: the one of which a line has just ended, and the one of which make could not
+     start the last line; otherwise 0. */
+  uint32_t ended_recipe, failed_recipe;
   struct announcement announced;
 };
 
@@ -38,12 +41,18 @@ extern struct target no_target;
 
 /* Returns NULL if there is no such recipe. */
 struct recipe_entry *find_recipe(struct make *make, uint32_t number);
-/* Sends a reply. Returns -1 on failure. */
-int reply(struct make *make, const void *bytes, size_t size);
-/* Returns the target of a recipe, and begins its log if that hasn't begun. */
-struct target *begin_recipe(struct make *make, struct recipe_entry *recipe, int64_t time);
-/* Writes the records at the start of a target's log. */
-void start_recipe(struct make *make, struct recipe_entry *recipe, pid_t process);
+/* Sends the reply to a message other than HELLO. Returns -1 on failure. */
+int reply(struct make *make, uint32_t value);
+int send_to_make(struct make *make, const void *bytes, size_t size);
+/* Begins the log of a recipe's target if that hasn't begun. Returns the target, or no_target. */
+struct target *begin_recipe(struct make *make, uint32_t number, int64_t time, pid_t process);
+int makes_are_asked(void);
 void clear_announcement(struct make *make);
 /* Starts the announced line with its process, which is make's own if no other one was reported. */
 void start_line(struct make *make, pid_t process);
+/* Makes sure that the log of the recipe that runs this make begins first, and returns its target, or NULL. */
+struct target *parent_target(struct make *make);
+/* Handles one message that needs no reply. Returns 0 if there is none now. */
+int receive_note(struct make *make);
+/* Handles what the sub-makes of a recipe sent before they ended. */
+void receive_from_sub_makes(struct make *make, uint32_t recipe);

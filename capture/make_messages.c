@@ -12,12 +12,15 @@
 
 /* In bytes: MAX_NAMES, the names of one recipe, and MAX_NAME, the name of one target. */
 enum { MAX_NAMES = 256 << 20, MAX_NAME = 4096 };
+/* How often it is tried to receive a message. */
+enum { MAX_TRIES = 20 };
 /* In milliseconds since 1970: the year 5138. */
 #define MAX_TIME ((int64_t)100000000000000)
 
-/* Replaces an invalid time by the current time, and an invalid process by 0. */
+/* Replaces an invalid time by the current time, and an invalid process or amount by 0. */
 static int64_t valid_time(int64_t time) { return time >= 0 && time < MAX_TIME ? time : wall_clock_ms(); }
 static pid_t valid_process(pid_t process) { return process > 0 ? process : 0; }
+static int64_t valid_amount(int64_t amount) { return amount >= 0 && amount < MAX_TIME ? amount : 0; }
 
 static int handle_hello(struct make *make, const char *message, size_t size, int *notes) {
   struct hello hello;
@@ -29,8 +32,9 @@ static int handle_hello(struct make *make, const char *message, size_t size, int
   make->notes.fd = *notes, *notes = -1;
   if (watch_source(&make->notes) < 0) return -1;
   make->directory = xasprintf("%s", message + sizeof hello);
-  struct welcome welcome = {make->number, show_mode, captures_output};
-  return reply(make, &welcome, sizeof welcome);
+  struct welcome welcome = {make->number, show_mode, captures_output, makes_are_asked()};
+  make->is_waiting = 0;
+  return send_to_make(make, &welcome, sizeof welcome);
 }
 
 static int handle_names(struct make *make, const char *bytes, size_t size) {
@@ -49,16 +53,16 @@ static int handle_recipe(struct make *make, const char *message, size_t size) {
   if (make->recipe_count == 0) make->recipe_count = 1;
   if (recipe.number != make->recipe_count || handle_names(make, message + sizeof recipe, size - sizeof recipe) < 0) return -1;
   make->recipes = grow_array(make->recipes, recipe.number, &make->recipe_capacity, sizeof *make->recipes);
-  make->recipes[recipe.number] = (struct recipe_entry){make->names, make->names_size, NULL};
-  make->recipe_count++, make->latest_recipe = recipe.number;
+  make->recipes[recipe.number] = (struct recipe_entry){make->names, make->names_size, NULL, 0};
+  make->recipe_count++;
   make->names = NULL, make->names_size = 0;
   return 0;
 }
 
-/* Whether this is the read end of a pipe. */
+/* Whether this is the read end of a pipe. If that can't be found out, it is: a recipe couldn't write to a pipe that is closed. */
 static int is_pipe_reader(int descriptor) {
   struct stat found;
-  return descriptor >= 0 && fstat(descriptor, &found) == 0 && S_ISFIFO(found.st_mode) &&
+  return descriptor >= 0 && (fstat(descriptor, &found) < 0 || S_ISFIFO(found.st_mode)) &&
          (fcntl(descriptor, F_GETFL) & O_ACCMODE) == O_RDONLY;
 }
 
@@ -72,22 +76,42 @@ static int can_capture(struct make *make, struct recipe_entry *recipe, int is_lo
   return 0;
 }
 
+static void create_file(const char *name) {
+  int file = open_in_directory(name, O_WRONLY | O_CREAT | O_APPEND);
+  if (file >= 0) close(file);
+}
+
+/* Creates the files that the recipe will need, because it may remove the directory. */
+static void create_log(struct make *make, uint32_t number) {
+  parent_target(make);
+  struct recipe_entry *recipe = find_recipe(make, number);
+  if (!recipe || !recipe->names) return;
+  struct target *target = add_target(normalize_name(make->directory, recipe->names, strlen(recipe->names)));
+  if (target->is_in_run || (target->number == 0 && add_to_index(target) < 0)) return;
+  flush_captures();
+  create_file(log_file_name(run_target->number));
+  create_file(log_file_name(target->number));
+}
+
 static int handle_line(struct make *make, const char *message, size_t size, int *descriptor, int is_lost) {
   struct line_message line;
   if (size < sizeof line || make->announced.is_set) return -1;
   memcpy(&line, message, sizeof line);
-  line.time = valid_time(line.time);
-  size -= sizeof line;
+  if (is_short_of_descriptors(*descriptor) || is_lost) ask_makes();
+  if (line.wants_reply && *descriptor >= 0 && is_among_last_descriptors(*descriptor)) close(*descriptor), *descriptor = -1, is_lost = 1;
+  int is_pipe = is_pipe_reader(*descriptor);
+  if (is_pipe && !line.wants_reply) make->announced.pipe = new_pipe(*descriptor, &no_target), *descriptor = -1;
   check_removal();
-  struct recipe_entry *recipe = find_recipe(make, line.recipe);
-  if (!can_capture(make, recipe, is_lost)) return reply(make, "\0", 1);
-  struct command command = {memcpy(xrealloc(NULL, size), message + sizeof line, size), size};
-  make->latest_recipe = make->announced.recipe = line.recipe, make->announced.time = line.time;
-  make->announced.target = begin_recipe(make, recipe, line.time);
-  make->announced.command = command, make->announced.is_set = 1;
-  if (is_pipe_reader(*descriptor)) make->announced.pipe = new_pipe(*descriptor, &no_target), *descriptor = -1;
+  int is_captured = can_capture(make, find_recipe(make, line.recipe), is_lost);
+  if (!is_captured && line.wants_reply) return reply(make, is_dropped() ? NEVER_CAPTURED : NOT_CAPTURED);
+  if (is_pipe && line.wants_reply) make->announced.pipe = new_pipe(*descriptor, &no_target), *descriptor = -1;
+  make->announced.is_captured = is_captured, make->announced.recipe = line.recipe, make->announced.time = valid_time(line.time);
+  size -= sizeof line;
+  make->announced.command = (struct command){memcpy(xrealloc(NULL, size), message + sizeof line, size), size};
+  make->announced.is_set = 1;
   defer_reading();
-  return reply(make, make->announced.pipe ? "\1" : "\0", 1);
+  if (line.wants_reply) create_log(make, line.recipe);
+  return line.wants_reply ? reply(make, is_lost ? NOT_CAPTURED : CAPTURED) : 0;
 }
 
 static int handle_started(struct make *make, const char *message, size_t size) {
@@ -98,19 +122,33 @@ static int handle_started(struct make *make, const char *message, size_t size) {
   return 0;
 }
 
+/* Returns the recipe of which make could not start a line. make starts the next line of a recipe when its last line has ended or could
+   not be started, and the first line when it has announced the recipe. */
+static uint32_t unstarted_recipe(struct make *make) {
+  uint32_t latest = make->recipe_count > 0 ? make->recipe_count - 1 : 0;
+  if (make->announced.is_set) return make->announced.recipe;
+  if (latest > 0 && !make->recipes[latest].has_begun) return latest;
+  return make->ended_recipe ? make->ended_recipe : make->failed_recipe;
+}
+
 static int handle_failed(struct make *make, const char *message, size_t size) {
   struct failed failed;
   if (size < sizeof failed) return -1;
   memcpy(&failed, message, sizeof failed);
   failed.time = valid_time(failed.time);
-  struct recipe_entry *recipe = find_recipe(make, make->latest_recipe);
+  uint32_t recipe = unstarted_recipe(make);
+  struct command command = make->announced.command;
   if (make->announced.pipe) close_pipe(make->announced.pipe);
-  free(make->announced.command.bytes);
   clear_announcement(make);
-  if (!can_capture(make, recipe, 0)) return 0;
-  struct target *target = begin_recipe(make, recipe, failed.time);
-  start_recipe(make, recipe, make->process);
-  fail_line(target, make, make->process, failed.time);
+  make->ended_recipe = 0;
+  if (recipe > make->failed_recipe) make->failed_recipe = recipe;
+  check_removal();
+  if (can_capture(make, find_recipe(make, recipe), 0)) {
+    struct target *target = begin_recipe(make, recipe, failed.time, make->process);
+    record_command(target, &command);
+    fail_line(make, recipe, target, make->process, failed.time);
+  }
+  free(command.bytes);
   return 0;
 }
 
@@ -118,22 +156,29 @@ static int handle_ended(struct make *make, const char *message, size_t size) {
   struct ended ended;
   if (size < sizeof ended) return -1;
   memcpy(&ended, message, sizeof ended);
-  end_line(make, ended.pid, ended.status, valid_time(ended.time), ended.wants_reply && !make->is_redirected);
-  return ended.wants_reply ? reply(make, "", 1) : 0;
+  if (ended.stopping == MAYBE_STOPPING) handle_signals();
+  int is_stopping = ended.stopping == STOPPING || (ended.stopping == MAYBE_STOPPING && stop_signal);
+  struct usage usage = {valid_amount(ended.user_us), valid_amount(ended.system_us), valid_amount(ended.peak_kb)};
+  struct line_end end = {ended.status, is_stopping, valid_time(ended.time), usage};
+  struct line *line = find_line(make, ended.pid);
+  make->failed_recipe = 0;
+  if (line) {
+    uint32_t recipe = make->ended_recipe = line->recipe;
+    receive_from_sub_makes(make, recipe);
+    end_line(line, end, ended.wants_reply && !make->is_redirected);
+    if (ended.status != 0) check_removal(); /* otherwise the next line does so */
+  }
+  return ended.wants_reply ? reply(make, CAPTURED) : 0;
 }
 
-static int handle_message(struct make *make, const char *message, size_t size, int *descriptor, int is_lost) {
-  make->is_waiting = 1;
-  if (message[0] == HELLO) return handle_hello(make, message, size, descriptor);
-  if (!make->directory) return -1;
-  if (message[0] == LINE) return handle_line(make, message, size, descriptor, is_lost);
-  return message[0] == ENDED ? handle_ended(make, message, size) : -1;
-}
-
-static int handle_note(struct make *make, const char *note, size_t size) {
-  switch (note[0]) {
+static int handle_note(struct make *make, const char *note, size_t size, int *descriptor, int is_lost) {
+  uint32_t kind;
+  if (size < sizeof kind) return -1;
+  memcpy(&kind, note, sizeof kind);
+  switch (kind) {
     case NAMES: return handle_names(make, note + sizeof(struct names), size - sizeof(struct names));
     case RECIPE: return handle_recipe(make, note, size);
+    case LINE: return handle_line(make, note, size, descriptor, is_lost);
     case STARTED: return handle_started(make, note, size);
     case FAILED: return handle_failed(make, note, size);
     case ENDED: return handle_ended(make, note, size);
@@ -141,32 +186,45 @@ static int handle_note(struct make *make, const char *note, size_t size) {
   }
 }
 
-/* When memory has run out, nothing more is captured, but all makes that wait for a reply get one. */
-static int reject_message(struct make *make, const char *message) {
-  if (message[0] == HELLO) return -1;
-  forward_pipes();
-  return reply(make, "\0", 1);
+/* Handles a message that needs a reply. */
+static int handle_request(struct make *make, const char *message, size_t size, int *descriptor, int is_lost) {
+  uint32_t kind;
+  if (size < sizeof kind) return -1;
+  memcpy(&kind, message, sizeof kind);
+  make->is_waiting = 1;
+  if (kind == HELLO) return handle_hello(make, message, size, descriptor);
+  if (!make->directory || (kind != LINE && kind != ENDED)) return -1;
+  return handle_note(make, message, size, descriptor, is_lost);
 }
 
-/* Returns the size of a message; 0 if there is none now; -1 if the sender is gone or the message is too long. */
+/* When memory has run out, nothing more is captured, but all makes that wait for a reply get one, and what recipes print is passed
+   on. */
+static int reject_request(struct make *make) {
+  if (!make->directory) return -1;
+  forward_pipes();
+  return reply(make, NOT_CAPTURED);
+}
+
+static void forward_note(int *descriptor) {
+  if (!is_pipe_reader(*descriptor)) return;
+  new_pipe(*descriptor, &no_target);
+  *descriptor = -1;
+}
+
+/* Returns the size of a message; 0 if there is none now; -1 if the sender is gone or the message is too long. An error doesn't mean
+   that no message is left: if a make dies without reading a reply, the kernel reports ECONNRESET first. */
 static ssize_t receive(int socket, struct msghdr *message) {
-  ssize_t size = recvmsg(socket, message, MSG_DONTWAIT | MSG_CMSG_CLOEXEC);
-  if (size < 0 && (errno == EAGAIN || errno == EINTR)) return 0;
+  ssize_t size = -1;
+  size_t control_size = message->msg_controllen;
+  for (int tries = 0; tries < MAX_TRIES && size < 0; tries++) {
+    message->msg_controllen = control_size;
+    size = recvmsg(socket, message, MSG_DONTWAIT | MSG_CMSG_CLOEXEC);
+    if (size < 0 && errno == EAGAIN) return 0;
+  }
   return size <= 0 || (message->msg_flags & MSG_TRUNC) ? -1 : size;
 }
 
 static char bytes[sizeof(struct hello) + PATH_MAX + MAX_BODY];
-
-void receive_notes(struct make *make) {
-  struct iovec part = {bytes, sizeof bytes};
-  while (make->notes.fd >= 0) {
-    struct msghdr message = {.msg_iov = &part, .msg_iovlen = 1};
-    ssize_t size = receive(make->notes.fd, &message);
-    if (size == 0) return;
-    if (size < 0) return close_source(&make->notes);
-    if (!is_out_of_memory && handle_note(make, bytes, size) < 0) return disconnect_make(make);
-  }
-}
 
 /* Returns the descriptor that a message passes, or -1. Closes a second one. */
 static int received_descriptor(struct msghdr *message) {
@@ -180,20 +238,38 @@ static int received_descriptor(struct msghdr *message) {
   return received;
 }
 
-void receive_from_make(struct make *make) {
+enum receive_result { NONE, HANDLED, GONE, INVALID }; /* GONE: the sender */
+
+static enum receive_result receive_one(struct make *make, int socket, int is_request) {
   union {
     struct cmsghdr head;
     char room[CMSG_SPACE(sizeof(int))];
   } control;
   struct iovec part = {bytes, sizeof bytes};
   struct msghdr message = {.msg_iov = &part, .msg_iovlen = 1, .msg_control = &control, .msg_controllen = sizeof control};
-  receive_notes(make);
-  if (make->source.fd < 0) return;
-  ssize_t size = receive(make->source.fd, &message);
-  if (size == 0) return;
-  int descriptor = size > 0 ? received_descriptor(&message) : -1, error = size < 0 ? -1 : 0;
-  if (!error && is_out_of_memory) error = reject_message(make, bytes);
-  else if (!error) error = handle_message(make, bytes, size, &descriptor, message.msg_flags & MSG_CTRUNC);
+  ssize_t size = receive(socket, &message);
+  if (size <= 0) return size == 0 ? NONE : GONE;
+  int descriptor = received_descriptor(&message), is_lost = message.msg_flags & MSG_CTRUNC, error = 0;
+  if (is_out_of_memory && is_request) error = reject_request(make);
+  else if (is_out_of_memory) forward_note(&descriptor);
+  else if (is_request) error = handle_request(make, bytes, size, &descriptor, is_lost);
+  else error = handle_note(make, bytes, size, &descriptor, is_lost);
   if (descriptor >= 0) close(descriptor);
-  if (error) disconnect_make(make);
+  return error ? INVALID : HANDLED;
+}
+
+int receive_note(struct make *make) {
+  enum receive_result result = make->notes.fd >= 0 ? receive_one(make, make->notes.fd, 0) : NONE;
+  if (result == GONE) close_source(&make->notes); /* a request may be left */
+  if (result == INVALID) disconnect_make(make);
+  return result == HANDLED;
+}
+
+void receive_notes(struct make *make) {
+  while (receive_note(make)) continue;
+}
+
+void receive_from_make(struct make *make) {
+  receive_notes(make);
+  if (make->source.fd >= 0 && receive_one(make, make->source.fd, 1) > HANDLED) disconnect_make(make);
 }

@@ -48,24 +48,63 @@ const char *normalize_listed_name(const char *name) {
   return name[0] == '/' ? normalize_path("", name, strlen(name)) : normalize_name(base_dir, name, strlen(name));
 }
 
-const char *normalize_name(const char *directory, const char *name, size_t size) {
-  const char *path = normalize_path(directory, name, size);
+const char *relative_to_base(const char *path) {
   size_t base_size = strcmp(base_dir, "/") == 0 ? 0 : strlen(base_dir);
   if (strncmp(path, base_dir, base_size) != 0 || (path[base_size] != '/' && path[base_size] != 0)) return path;
-  return path[base_size] && path[base_size + 1] ? path + base_size + 1 : ".";
+  return path[base_size] ? path + base_size + 1 : "";
+}
+
+static const char *relative_name(const char *path) {
+  const char *relative = relative_to_base(path);
+  return *relative ? relative : ".";
+}
+
+/* Whether a name has no segment that its normal form lacks, and isn't absolute. */
+static int is_normal(const char *name, size_t size) {
+  if (size == 0 || name[0] == '/' || name[size - 1] == '/') return 0;
+  for (size_t i = 0; i < size; i++)
+    if (name[i] == '.' && (i == 0 || name[i - 1] == '/') &&
+        (i + 1 == size || name[i + 1] == '/' || (name[i + 1] == '.' && (i + 2 == size || name[i + 2] == '/'))))
+      return 0;
+  return !memmem(name, size, "//", 2);
+}
+
+/* A recipe with many prerequisites has many names in one directory, so the directory's normal form is kept. */
+const char *normalize_name(const char *directory, const char *name, size_t size) {
+  static struct text last_directory, result;
+  static size_t prefix_size;
+  int is_same = last_directory.size > 0 && strcmp(directory, last_directory.bytes) == 0;
+  if (!is_normal(name, size)) return relative_name(normalize_path(directory, name, size));
+  if (!is_same) {
+    last_directory.size = result.size = 0;
+    const char *path = relative_name(normalize_path(directory, "", 0));
+    if (strcmp(path, ".") != 0) add_string(&result, path);
+    if (result.size > 0 && result.bytes[result.size - 1] != '/') add_string(&result, "/");
+    prefix_size = result.size;
+    add_text(&last_directory, directory, strlen(directory) + 1);
+  }
+  result.size = prefix_size;
+  add_text(&result, name, size);
+  add_text(&result, "", 1);
+  return result.bytes[0] == '/' ? relative_name(result.bytes) : result.bytes;
+}
+
+void add_name_in_log(struct text *text, const char *name, const char *log_owner) {
+  size_t common = 0;
+  if (name[0] != '/') {
+    for (size_t i = 0; name[i] && name[i] == log_owner[i]; i++)
+      if (name[i] == '/') common = i + 1;
+    for (const char *rest = log_owner + common; (rest = strchr(rest, '/')); rest++) add_string(text, "../");
+  }
+  add_string(text, name + common);
 }
 
 char *name_in_log(const char *name, const char *log_owner) {
-  if (name[0] == '/') return xasprintf("%s", name);
-  if (log_owner[0] == '/') return NULL;
-  size_t common = 0, levels_up = 0;
-  for (size_t i = 0; name[i] && name[i] == log_owner[i]; i++)
-    if (name[i] == '/') common = i + 1;
-  for (const char *rest = log_owner + common; (rest = strchr(rest, '/')); rest++) levels_up++;
-  char *path = xrealloc(NULL, 3 * levels_up + strlen(name + common) + 1), *end = path;
-  while (levels_up-- > 0) end = stpcpy(end, "../");
-  strcpy(end, name + common);
-  return path;
+  struct text text = {NULL, 0, 0};
+  if (name[0] != '/' && log_owner[0] == '/') return NULL;
+  add_name_in_log(&text, name, log_owner);
+  add_text(&text, "", 1);
+  return text.bytes;
 }
 
 const char *name_in_own_log(const char *name) { return name[0] == '/' ? name : base_name(name); }

@@ -18,6 +18,7 @@ enum { CHUNK = 65536, MAX_HELD = 64 << 20, FLUSH_MS = 200, POLL_MS = 20, DRAIN_M
 
 struct pipe {
   struct source source;
+  int is_started, is_watched, is_spare; /* is_spare: it is one of spare_pipes */
   struct target *target;
   char *held; /* the unended line */
   size_t held_size, held_capacity;
@@ -25,11 +26,29 @@ struct pipe {
   struct pipe *next, **link;
 };
 
+/* Used once memory has run out: makes may have passed pipes already. */
+enum { SPARE_PIPES = 256 };
+static struct pipe spare_pipes[SPARE_PIPES];
+static int spare_count;
+
 static struct pipe *pipes, *closed_pipes;
+static int has_unwatched; /* whether a pipe was started that the loop doesn't wait for yet */
+
+/* Copies to standard error what a pipe contains until nobody can write to it. */
+static void copy_until_end(int descriptor) {
+  static char bytes[CHUNK];
+  ssize_t size;
+  while ((size = read(descriptor, bytes, sizeof bytes)) > 0 || (size < 0 && errno == EINTR))
+    if (size > 0) write_all(2, bytes, size);
+  close(descriptor);
+}
 
 struct pipe *new_pipe(int descriptor, struct target *target) {
-  struct pipe *pipe = xrealloc(NULL, sizeof *pipe);
-  *pipe = (struct pipe){.source = {PIPE, descriptor}, .target = target, .next = pipes, .link = &pipes};
+  struct pipe *pipe = malloc(sizeof *pipe);
+  int is_spare = !pipe;
+  if (is_spare && spare_count == SPARE_PIPES) return copy_until_end(descriptor), NULL;
+  if (is_spare) pipe = &spare_pipes[spare_count++];
+  *pipe = (struct pipe){.source = {PIPE, descriptor}, .is_spare = is_spare, .target = target, .next = pipes, .link = &pipes};
   fcntl(descriptor, F_SETFL, O_NONBLOCK);
   if (pipes) pipes->link = &pipe->next;
   pipes = pipe;
@@ -38,14 +57,24 @@ struct pipe *new_pipe(int descriptor, struct target *target) {
 
 void start_pipe(struct pipe *pipe, struct target *target) {
   pipe->target = target;
-  watch_source(&pipe->source);
+  pipe->is_started = has_unwatched = 1;
+}
+
+/* New pipes are at the start of the list. A pipe of a short recipe has ended by now. */
+void watch_pipes(void) {
+  if (!has_unwatched) return;
+  has_unwatched = 0;
+  for (struct pipe *pipe = pipes; pipe; pipe = pipe->next)
+    if (pipe->is_started && !pipe->is_watched) pipe->is_watched = watch_source(&pipe->source) == 0;
 }
 
 /* The pipe is freed later, because the loop may still have an event for it. */
 void close_pipe(struct pipe *pipe) {
   for (struct line *line = lines; line; line = line->next)
     if (line->pipe == pipe) line->pipe = NULL;
-  close_source(&pipe->source);
+  if (pipe->target->mid_line_pipe == pipe) pipe->target->mid_line_pipe = NULL;
+  if (pipe->is_watched) close_source(&pipe->source);
+  else close_unwatched(&pipe->source);
   *pipe->link = pipe->next;
   if (pipe->next) pipe->next->link = pipe->link;
   pipe->next = closed_pipes;
@@ -56,12 +85,12 @@ void free_closed_pipes(void) {
   for (struct pipe *next; closed_pipes; closed_pipes = next) {
     next = closed_pipes->next;
     free(closed_pipes->held);
-    free(closed_pipes);
+    if (!closed_pipes->is_spare) free(closed_pipes);
   }
 }
 
 void flush_pipe(struct pipe *pipe) {
-  append_text(pipe->target, pipe->held, pipe->held_size);
+  append_text(pipe->target, pipe->held, pipe->held_size, pipe);
   pipe->held_size = 0;
 }
 
@@ -71,7 +100,7 @@ static void hold_back(struct pipe *pipe, const char *bytes, size_t size) {
     char *larger = realloc(pipe->held, capacity);
     if (!larger) { /* out of memory: write the unended line */
       flush_pipe(pipe);
-      return append_text(pipe->target, bytes, size);
+      return append_text(pipe->target, bytes, size, pipe);
     }
     pipe->held = larger, pipe->held_capacity = capacity;
   }
@@ -88,7 +117,7 @@ static void add_output(struct pipe *pipe, const char *bytes, size_t size) {
     hold_back(pipe, bytes, complete);
     flush_pipe(pipe);
   } else {
-    append_text(pipe->target, bytes, complete);
+    append_text(pipe->target, bytes, complete, pipe);
   }
   if (complete < size) hold_back(pipe, bytes + complete, size - complete);
 }
@@ -157,7 +186,7 @@ void forward_pipes(void) {
   static char bytes[CHUNK];
   for (struct pipe *pipe = pipes; pipe; pipe = pipe->next) {
     ssize_t size = 1;
-    watch_source(&pipe->source); /* fails if the loop waits for it already */
+    if (!pipe->is_watched) pipe->is_watched = watch_source(&pipe->source) == 0;
     if (pipe->held_size > 0) write_all(2, pipe->held, pipe->held_size);
     pipe->held_size = 0;
     for (int left = waiting_bytes(pipe); left >= 0 && size > 0; left -= size) {
@@ -181,23 +210,42 @@ static void discard_until_closed(struct pollfd *files, size_t count) {
   }
 }
 
-/* Starts a process that reads what background processes print until they end, so that they get no SIGPIPE after the build. */
+static int compare_descriptors(const void *left, const void *right) {
+  return ((const struct pollfd *)left)->fd - ((const struct pollfd *)right)->fd;
+}
+
+/* Closes all descriptors except these. Others were inherited too: somebody may wait until nobody has them. */
+static void close_others(struct pollfd *files, size_t count) {
+  unsigned first = 0;
+  qsort(files, count, sizeof *files, compare_descriptors);
+  for (size_t i = 0; i < count; first = files[i++].fd + 1)
+    if ((unsigned)files[i].fd > first) close_range_of_descriptors(first, files[i].fd - 1);
+  close_range_of_descriptors(first, ~0u);
+}
+
+/* Starts a process that reads what background processes print until they end, so that they get no SIGPIPE after the build. Returns when
+   that process has left the current directory, and has closed all other descriptors. */
 void drain_in_background(void) {
   size_t count = 0;
-  for (struct pipe *pipe = pipes; pipe; pipe = pipe->next) count++;
+  int ready[2];
+  char byte;
+  for (struct pipe *pipe = pipes; pipe; pipe = pipe->next) count += pipe->source.fd >= 0;
   struct pollfd *files = count ? calloc(count, sizeof *files) : NULL, *file = files;
-  if (!files || fork() != 0) return;
+  if (!files || pipe2(ready, O_CLOEXEC) < 0) return;
+  pid_t process = fork();
+  if (process != 0) {
+    close(ready[1]);
+    while (process > 0 && read(ready[0], &byte, 1) < 0 && errno == EINTR) continue;
+    return;
+  }
   sigset_t all;
   sigfillset(&all);
   sigprocmask(SIG_BLOCK, &all, NULL);
   setsid();
   if (chdir("/") < 0) _exit(0);
-  for (struct pipe *pipe = pipes; pipe; pipe = pipe->next) *file++ = (struct pollfd){pipe->source.fd, POLLIN, 0};
-  for (int standard = 0; standard < 3; standard++) close(standard);
-  close_all_logs();
-  close_directory();
-  close_makes();
-  close_server();
+  for (struct pipe *pipe = pipes; pipe; pipe = pipe->next)
+    if (pipe->source.fd >= 0) *file++ = (struct pollfd){pipe->source.fd, POLLIN, 0};
+  close_others(files, count);
   discard_until_closed(files, count);
   _exit(0);
 }

@@ -3,7 +3,13 @@
 
    Each make has two sockets. Messages that need a reply go through the first one. All others go through the second one, which the
    first message passes. The server may read it some milliseconds later, and always reads it before it reads a message from the
-   first one. So a short line of a recipe wakes the server once. */
+   first one. So a short line of a recipe wakes the server once, and make waits for it only if a message needs a reply. A message,
+   and the descriptor that it passes, stay in the socket's queue if make dies. If a queue is full, make waits until it isn't.
+
+   A line needs a reply if it is the first one of its make, because the build may be uncaptured; after the server has sent ASK,
+   because it runs out of descriptors or memory; and if it may remove the capture directory, because `rm` fails if files appear
+   meanwhile: the server creates the log first. Otherwise the server takes each pipe: if a recipe can't be captured, its output goes to
+   the server's standard error. */
 #include <stdint.h>
 
 /* CAPTURE_RUN=SOCKET:TOKEN:USER:MAKE.RECIPE:DEVICE.INODE:DEVICE.INODE:DIRECTORY identifies the run of each make: the abstract name
@@ -24,46 +30,61 @@ enum message_kind {
   HELLO = 'H',   /* struct hello, and the directory of the make; passes the second socket; reply: struct welcome */
   NAMES = 'N',   /* struct names, and a part of the names of the next RECIPE */
   RECIPE = 'R',  /* struct recipe, and the rest of the names: target, NUL, prerequisites with spaces between them */
-  LINE = 'L',    /* struct line_message, and the command; passes the read end of a pipe; reply: a byte, 1 if the pipe is read */
+  LINE = 'L',    /* struct line_message, and the command; passes the read end of a pipe; reply, if it is asked for: struct reply */
   STARTED = 'S', /* struct started: the line that was announced last has started */
-  FAILED = 'F',  /* struct failed: make could not start a line */
-  ENDED = 'E',   /* struct ended: a child of make ended; reply: a byte, if `wants_reply` is set */
+  FAILED = 'F',  /* struct failed: make could not start a line, and has not announced it */
+  ENDED = 'E',   /* struct ended: a child of make ended; reply, if it is asked for: struct reply */
 };
+
+/* What the server sends through the first socket. */
+enum reply_kind {
+  REPLY = 'r', /* struct reply */
+  ASK = 'a',   /* struct reply: each further line needs a reply */
+};
+enum { NOT_CAPTURED, CAPTURED, NEVER_CAPTURED }; /* a line: NEVER_CAPTURED if no further line of this make will be captured */
 
 enum { SHOW_NOTHING, SHOW_FAILED, SHOW_ALL };
 
+/* Whether make has got a signal that ends it. */
+enum { NOT_STOPPING, STOPPING, MAYBE_STOPPING };
+
+/* Each member is aligned without padding, so that no byte of a message is undefined. */
 struct hello {
-  char kind, token[TOKEN_SIZE];
-  uint32_t parent_make, parent_recipe;
+  uint32_t kind, parent_make, parent_recipe;
   int32_t pid;
-  char is_redirected; /* standard error of this make is redirected, so its recipes have no text */
+  uint32_t is_redirected; /* standard error of this make is redirected, so its recipes have no text */
+  char token[TOKEN_SIZE];
 };
 struct welcome {
   uint32_t make; /* the number of this make in the run */
-  char show_mode, captures_output;
+  uint32_t show_mode, captures_output, asks; /* asks: as after ASK */
+};
+struct reply {
+  uint32_t kind, value;
 };
 struct names {
-  char kind;
+  uint32_t kind;
 };
 struct recipe {
-  char kind;
+  uint32_t kind;
   uint32_t number; /* counts the recipes of each make, from 1 */
 };
 struct line_message {
-  char kind;
-  uint32_t recipe;
+  uint32_t kind, recipe;
   int64_t time; /* in milliseconds since 1970 */
+  uint32_t wants_reply, reserved;
 };
 struct started {
-  char kind;
+  uint32_t kind;
   int32_t pid;
 };
 struct failed {
-  char kind;
+  uint32_t kind, reserved;
   int64_t time;
 };
 struct ended {
-  char kind, wants_reply;
+  uint32_t kind, wants_reply;
   int32_t pid, status; /* as waitpid returns it */
-  int64_t time;
+  uint32_t stopping, reserved;
+  int64_t time, user_us, system_us, peak_kb; /* the last three as in struct usage */
 };

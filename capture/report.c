@@ -26,9 +26,9 @@ static void add_to_group(struct target_group *group, struct target *target) {
 
 static size_t named_count(const struct target_group *group) { return group->count < MAX_NAMED ? group->count : MAX_NAMED; }
 
-/* Returns the command that shows these logs. redo-log finds `capture` without --dir if the current directory has no `names`. */
+/* Returns the command that shows these logs. redo-log needs no --dir for the default directory if there is no `names` here. */
 static char *show_command(const char *options, const struct target_group *group) {
-  int is_found = strcmp(directory_name, "capture") == 0 && access("names", F_OK) < 0, has_dash = 0;
+  int is_found = strcmp(directory_name, DEFAULT_DIRECTORY) == 0 && access("names", F_OK) < 0, has_dash = 0;
   char *command, *directory_word = shell_quote(directory_name);
   size_t size;
   FILE *stream = xopen_memstream(&command, &size);
@@ -46,26 +46,19 @@ static char *show_command(const char *options, const struct target_group *group)
   return command;
 }
 
-/* Returns the first MAX_NAMED items of a group as text, and the number of further ones. */
-static char *format_list(const struct target_group *group, char *(*item)(const struct target *)) {
+/* Returns the first MAX_NAMED targets of a group, each with the seconds for which it has been running. */
+static char *format_running(const struct target_group *group) {
   char *list;
   size_t size;
   FILE *stream = xopen_memstream(&list, &size);
   for (size_t i = 0; i < named_count(group); i++) {
-    char *one = item(group->targets[i]);
-    fprintf(stream, "%s%s", i ? ", " : "", one);
-    free(one);
+    const struct target *target = group->targets[i];
+    int64_t end = stop_time ? stop_time : wall_clock_ms(), duration = end > target->start_time ? end - target->start_time : 0;
+    fprintf(stream, "%s%s (%lld.%d s)", i ? ", " : "", target->name, (long long)(duration / 1000), (int)(duration % 1000 / 100));
   }
   if (group->count > MAX_NAMED) fprintf(stream, " and %zu more", group->count - MAX_NAMED);
   xclose_memstream(stream);
   return list;
-}
-
-static char *copy_name(const struct target *target) { return xasprintf("%s", target->name); }
-
-static char *name_and_duration(const struct target *target) {
-  int64_t end = stop_time ? stop_time : wall_clock_ms(), duration = end > target->start_time ? end - target->start_time : 0;
-  return xasprintf("%s (%lld.%d s)", target->name, (long long)(duration / 1000), (int)(duration % 1000 / 100));
 }
 
 static char *show_all_command(void) {
@@ -73,10 +66,20 @@ static char *show_all_command(void) {
   return show_command(" -r", &all);
 }
 
+/* Whether the targets that are named printed nothing on standard error, as far as that was captured. */
+static int are_logs_empty(const struct target_group *group) {
+  for (size_t i = 0; i < named_count(group); i++)
+    if (group->targets[i]->has_text || is_redirected(group->targets[i]->first_make)) return 0;
+  return 1;
+}
+
 static void report_failed(const struct target_group *failed) {
-  char *list = format_list(failed, copy_name);
-  if (failed->count > MAX_NAMED) warn("%s failed", list);
-  else warn("%s failed; show %s: %s", list, failed->count > 1 ? "their logs" : "its log", show_command("", failed));
+  char *command = show_command("", failed);
+  int is_one = failed->count == 1;
+  if (failed->count > MAX_NAMED) warn("%zu targets failed, %d of them: %s", failed->count, MAX_NAMED, command);
+  else warn("%zu %s failed: %s", failed->count, is_one ? "target" : "targets", command);
+  if (!captures_output && are_logs_empty(failed))
+    warn("%s empty; --both also captures standard output", is_one ? "its log is" : "their logs are");
 }
 
 /* Prints what ended the build early, and what ran at that time. */
@@ -85,10 +88,8 @@ static void report_interruption(const char *command, const struct target_group *
   int kind = is_killed ? command_signal : stop_signal;
   const char *what = is_killed ? xasprintf("%s was ended by %s", base_name(command), signal_name(kind))
                                : xasprintf("interrupted by %s", signal_name(kind));
-  char *list = format_list(running, name_and_duration);
   if (running->count == 0) warn("%s", what);
-  else if (running->count > MAX_NAMED) warn("%s; running: %s", what, list);
-  else warn("%s; running: %s; show %s: %s", what, list, running->count > 1 ? "their logs" : "its log", show_command("", running));
+  else warn("%s; running: %s", what, format_running(running));
 }
 
 static void report_printed(const struct target_group *texts) {
@@ -104,29 +105,52 @@ static void report_uncaptured(void) {
   free(names);
 }
 
-/* Finds the targets that failed, except parents of a failed target; the targets that ran when a signal stopped the build; and the
-   targets that did not fail and printed something. */
-static void group_targets(struct target_group *failed, struct target_group *running, struct target_group *texts) {
+static int has_failed(const struct target *target) { return target->status > 0 && !target->is_interrupted; }
+
+/* Whether the recipe that ran this target's make, or one above it, went on with its next line or did not fail. */
+static int is_ignored(const struct target *target) {
+  for (const struct target *parent; (parent = target->parent); target = parent) {
+    unsigned last_line = parent->status > 0 ? parent->failed_line : parent->line_count;
+    if (parent->status == 0 || (target->status >= 0 && target->failed_in_line != last_line)) return 1;
+  }
+  return 0;
+}
+
+struct groups {
+  struct target_group failed, running, ignored, texts;
+};
+
+/* Finds the targets that failed, except those whose failure was ignored, and parents of a failed target in their last line; the
+   targets that ran when a signal stopped the build; and the targets that did not fail and printed something. */
+static void group_targets(struct groups *groups) {
   size_t count;
   struct target **sorted = sorted_targets(&count);
+  for (size_t i = 0; i < count; i++) sorted[i]->has_failed_child = 0;
+  for (size_t i = 0; i < count; i++)
+    if (sorted[i]->parent && has_failed(sorted[i]) && !is_ignored(sorted[i])) sorted[i]->parent->has_failed_child = 1;
   for (size_t i = 0; i < count; i++) {
     struct target *target = sorted[i];
-    if (target->is_interrupted || target->status < 0) add_to_group(running, target);
-    else if (target->status > 0 && !target->has_failed_child) add_to_group(failed, target);
-    else if (target->status == 0 && target->has_text) add_to_group(texts, target);
+    if (target->is_interrupted || target->status < 0) add_to_group(&groups->running, target);
+    else if (has_failed(target) && is_ignored(target)) add_to_group(&groups->ignored, target);
+    else if (has_failed(target) && !target->has_failed_child) add_to_group(&groups->failed, target);
+    else if (!has_failed(target) && target->has_text) add_to_group(&groups->texts, target);
   }
   free(sorted);
 }
 
 void report(const char *command, int is_quiet) {
-  struct target_group failed = {.count = 0}, running = {.count = 0}, texts = {.count = 0};
+  static struct groups groups;
   if (!is_capturing()) return report_uncaptured();
-  group_targets(&failed, &running, &texts);
-  int is_stopped = command_status != 0 && (stop_signal || command_signal);
-  if (is_stopped) report_interruption(command, &running);
-  if (command_status != 0 && failed.count > 0) report_failed(&failed);
-  if (show_mode == SHOW_FAILED && !is_quiet && !captures_output) report_printed(&texts);
-  if (command_status != 0 && failed.count == 0 && !is_stopped) warn("no recipe failed; see %s's own message", base_name(command));
+  group_targets(&groups);
+  /* The build may have ignored the signal. */
+  int is_stopped = command_status != 0 && (command_signal || (stop_signal && (was_stopped || groups.failed.count == 0)));
+  if (is_stopped) report_interruption(command, &groups.running);
+  if (command_status != 0 && groups.failed.count > 0) report_failed(&groups.failed);
+  if (show_mode == SHOW_FAILED && !is_quiet && !captures_output) report_printed(&groups.texts);
+  if (command_status != 0 && groups.failed.count == 0 && !is_stopped) {
+    if (groups.ignored.count == 0) warn("no recipe failed; see %s's own message", base_name(command));
+    else warn("no recipe failed, except where that was ignored; see %s's own message", base_name(command));
+  }
   if (command_status != 0) warn("show all logs: %s", show_all_command());
 }
 
@@ -135,7 +159,10 @@ static void write_summary_line(FILE *stream, const struct target *target) {
           duration = end > target->start_time ? end - target->start_time : 0;
   if (target->status >= 0) fprintf(stream, "%d", target->status);
   else fprintf(stream, "-");
-  fprintf(stream, " %lld.%03d %u %s\n", (long long)(duration / 1000), (int)(duration % 1000), target->number, target->name);
+  fprintf(stream, " %lld.%03d %u %s", (long long)(duration / 1000), (int)(duration % 1000), target->number, target->name);
+  int64_t processor_time = processor_time_ms(target);
+  if (processor_time < 0) fprintf(stream, " - -\n");
+  else fprintf(stream, " %s %lld\n", format_time(processor_time), (long long)target->usage.peak_kb);
 }
 
 /* Replaces a regular file atomically; writes to anything else, such as a pipe or a device. */

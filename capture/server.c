@@ -7,15 +7,18 @@
 #include <stdlib.h>
 #include <string.h>
 #include <sys/epoll.h>
+#include <sys/resource.h>
 #include <sys/socket.h>
 #include <sys/stat.h>
 #include <sys/un.h>
 #include <fcntl.h>
 #include <unistd.h>
 
-/* Once a line was announced, or fewer than LITTLE bytes were read, messages that need no reply, and pipes, are read REST
+/* Once a line was announced, or fewer than LITTLE bytes were read, messages that need no reply, and pipes, are read DEFER_MS
    milliseconds later. So short lines, and recipes that print a little at a time, wake the server less often. */
 enum { SMALL_READ = 16384, DEFER_MS = 2, MAX_EVENTS = 64 };
+/* If fewer descriptors than this are left, or fewer than a quarter of them, makes wait for a reply to each line. */
+enum { MIN_LEFT = 1024, MAX_OPEN_LOGS = 16384, RESERVED_FOR_FILES = 4 };
 
 int is_out_of_memory;
 
@@ -25,19 +28,36 @@ static struct source signals = {SIGNALS, -1}, listener = {LISTENER, -1}, deferre
 static int64_t defer_until;
 static char token[TOKEN_SIZE + 1], socket_name[MAX_SOCKET_NAME];
 static jmp_buf oom_jump;
+static rlim_t descriptor_limit;
 
 int watch_source(struct source *source) {
   struct epoll_event event = {.events = EPOLLIN, .data.ptr = source};
   return epoll_ctl(source->kind > DEFERRED ? deferred_poller : poller, EPOLL_CTL_ADD, source->fd, &event);
 }
 
+void close_unwatched(struct source *source) {
+  if (source->fd >= 0) close(source->fd);
+  source->fd = -1;
+}
+
 /* Closing a descriptor doesn't end its events if its sender has passed it twice. */
 void close_source(struct source *source) {
   if (source->fd < 0) return;
   epoll_ctl(source->kind > DEFERRED ? deferred_poller : poller, EPOLL_CTL_DEL, source->fd, NULL);
-  close(source->fd);
-  source->fd = -1;
+  close_unwatched(source);
 }
+
+size_t max_open_logs(void) {
+  if (descriptor_limit < 4 * MIN_LEFT) return 0;
+  return descriptor_limit / 4 < MAX_OPEN_LOGS ? descriptor_limit / 4 : MAX_OPEN_LOGS;
+}
+
+/* Descriptors get the lowest unused numbers. */
+int is_short_of_descriptors(int latest) {
+  return (rlim_t)latest + (descriptor_limit / 4 < MIN_LEFT ? descriptor_limit / 4 : MIN_LEFT) >= descriptor_limit && latest >= 0;
+}
+
+int is_among_last_descriptors(int latest) { return (rlim_t)latest + RESERVED_FOR_FILES >= descriptor_limit; }
 
 int is_run_token(const char *bytes) { return memcmp(bytes, token, TOKEN_SIZE) == 0; }
 
@@ -55,6 +75,9 @@ void listen_for_makes(void) {
   if (bind(listener.fd, (struct sockaddr *)&address, size) < 0 || listen(listener.fd, 1024) < 0 || watch_source(&signals) < 0 ||
       watch_source(&listener) < 0 || watch_source(&deferred) < 0)
     die(1, "cannot listen for makes: %s", strerror(errno));
+  struct rlimit limit;
+  descriptor_limit = getrlimit(RLIMIT_NOFILE, &limit) == 0 ? limit.rlim_cur : 0;
+  if (descriptor_limit < MIN_LEFT) ask_makes();
 }
 
 /* Returns device and inode of an output; 0.0 if it was closed when this program began. */
@@ -92,6 +115,8 @@ static void serve_deferred(void) {
   if (size > 0 && size < SMALL_READ) defer_reading();
 }
 
+static const char too_many_files[] = "too many open files: what some recipes print is not captured";
+
 /* If there are too many open files, closes a spare one, and uses its descriptor to accept a connection and close it. So no make
    waits for a connection. */
 static void reject_make(void) {
@@ -99,14 +124,24 @@ static void reject_make(void) {
   int file = accept4(listener.fd, NULL, NULL, SOCK_CLOEXEC);
   if (file >= 0) close(file);
   spare_fd = open("/", O_RDONLY | O_CLOEXEC);
-  warn_once("too many open files: what some recipes print is not captured");
+  warn_once(too_many_files);
 }
 
 static void accept_makes(void) {
-  for (int file; (file = accept4(listener.fd, NULL, NULL, SOCK_CLOEXEC)) >= 0;) {
+  size_t max_pending = descriptor_limit / 8;
+  for (;;) {
+    int file = accept4(listener.fd, NULL, NULL, SOCK_CLOEXEC);
+    if (file < 0 && (errno == EMFILE || errno == ENFILE) && drop_pending_make()) continue;
+    if (file < 0) break;
+    if (is_among_last_descriptors(file + 1) && !drop_pending_make()) { /* the make would pass another one */
+      close(file);
+      warn_once(too_many_files);
+      continue;
+    }
     accepted_fd = file;
     if (is_out_of_memory || !accept_make(file)) close(file);
     accepted_fd = -1;
+    if (file > (int)max_pending && count_pending_makes() > max_pending) drop_pending_make();
   }
   if (errno == EMFILE || errno == ENFILE) reject_make();
 }
@@ -118,16 +153,31 @@ static void serve_source(struct source *source) {
   if (source->kind == MAKE && source->fd >= 0) receive_from_make((struct make *)source);
 }
 
+void flush_captures(void) {
+  flush_index();
+  int can_begin = flush_begun_targets() == 0;
+  flush_begun_facts();
+  flush_logs(can_begin);
+  flush_journal();
+  flush_facts();
+}
+
 /* Waits for events, at most `max_wait` milliseconds or forever if that is -1, and handles them. Returns their number. */
 static int serve(int max_wait) {
   struct epoll_event events[MAX_EVENTS];
   int flush_wait = is_out_of_memory ? -1 : flush_idle_pipes(), timeout = max_wait;
+  watch_pipes();
+  flush_captures();
   if (flush_wait >= 0 && (timeout < 0 || flush_wait < timeout)) timeout = flush_wait;
+  print_progress();
+  int progress_wait = progress_wait_ms();
+  if (progress_wait >= 0 && (timeout < 0 || progress_wait < timeout)) timeout = progress_wait;
   if (defer_until) {
     int64_t left = defer_until - monotonic_ms();
     if (left <= 0) set_defer_until(0);
     else if (timeout < 0 || left < timeout) timeout = left;
   }
+  if (has_command_ended()) timeout = 0; /* its signal has been read, perhaps just now */
   int count = epoll_wait(poller, events, MAX_EVENTS, timeout);
   for (int i = 0; i < count; i++) serve_source(events[i].data.ptr);
   free_closed_pipes();
@@ -165,6 +215,7 @@ static void serve_step(void (*step)(void)) {
     warn("out of memory: the rest of this build is not captured");
     if (accepted_fd >= 0) close(accepted_fd);
     accepted_fd = -1;
+    flush_captures();
     reply_to_all();
   }
   step();
@@ -174,12 +225,7 @@ void serve_command(void) {
   serve_step(serve_until_end);
   serve_step(serve_what_is_left);
   if (is_out_of_memory || try_step(flush_pipes) < 0) forward_pipes();
+  flush_captures();
   close(listener.fd);
   listener.fd = -1;
-}
-
-void close_server(void) {
-  int files[] = {poller, deferred_poller, signals.fd, listener.fd, spare_fd};
-  for (int i = 0; i < 5; i++)
-    if (files[i] >= 0) close(files[i]);
 }

@@ -10,6 +10,7 @@ size_t target_count;
 enum { MAX_PREFIXES = 32 };
 
 static size_t target_capacity, bucket_count;
+static int has_prefixes; /* whether a name has a space */
 static struct target **buckets;
 
 static size_t hash_name(const char *name) {
@@ -43,6 +44,7 @@ static void add_prefixes(const char *name) {
   int count = 0;
   for (const char *space = name; (space = strchr(space, ' ')) && count < MAX_PREFIXES; space++, count++) {
     if (!space[1]) continue;
+    has_prefixes = 1;
     char *prefix = xasprintf("%.*s", (int)(space - name) + 1, name);
     add_target(prefix);
     free(prefix);
@@ -64,6 +66,7 @@ struct target *add_target(const char *name) {
 }
 
 int is_known_prefix(const char *name) {
+  if (!has_prefixes) return 0;
   char *prefix = xasprintf("%s ", name);
   int is_known = find_target(prefix) != NULL;
   free(prefix);
@@ -72,12 +75,15 @@ int is_known_prefix(const char *name) {
 
 static void clear_target(struct target *target) {
   close_log(target);
+  clear_buffer(&target->buffer);
   free(target->mentions);
+  free(target->directory);
   *target = (struct target){
       .name = target->name, .next = target->next, .status = -1, .log_fd = -1, .running_lines = target->running_lines};
 }
 
 void clear_targets(void) {
+  forget_logs();
   for (size_t i = 0; i < target_count; i++) clear_target(targets[i]);
 }
 

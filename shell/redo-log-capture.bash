@@ -1,16 +1,20 @@
-# Completion for redo-log-capture in bash: its options, a directory after --dir, a file after --summary, and a command. The
-# command's arguments are completed by the command's own completion if bash-completion is loaded, otherwise as file names.
+# Completion for redo-log-capture in bash: its options, a directory after --dir, a file after --summary or --html, and a command.
+# The command's arguments are completed by the command's own completion if bash-completion is loaded, otherwise as file names.
 
 _redo_log_capture() {
   local index option
   for ((index = 1; index < COMP_CWORD; index++)); do
     case ${COMP_WORDS[index]} in
-      --dir | --summary)
+      --dir | --summary | --html)
         option=${COMP_WORDS[index]}
         ((index++))
         [[ ${COMP_WORDS[index]} == = ]] && ((index++))
         ;;
-      --both | --live | --quiet | --must-close | --finish) ;;
+      --progress)
+        option=--progress
+        [[ ${COMP_WORDS[index + 1]} == = ]] && ((index += 2))
+        ;;
+      --both | --commands | --live | --quiet | --must-close | --finish) ;;
       --)
         ((index++))
         break
@@ -21,12 +25,13 @@ _redo_log_capture() {
 
   COMPREPLY=()
   if ((index > COMP_CWORD)); then
-    if [[ $option == --summary ]]; then
-      compopt -o default
-    else
-      # A capture directory contains no directory except a hidden one.
-      [[ $2 == */ && -d $2.capture ]] || compopt -o dirnames
-    fi
+    case $option in
+      --dir)
+        # A capture directory contains no directory except a hidden one.
+        [[ $2 == */ && -d $2.capture ]] || compopt -o dirnames
+        ;;
+      --summary | --html) compopt -o default ;;
+    esac
   elif ((index < COMP_CWORD)); then
     if declare -F _command_offset >/dev/null; then
       _command_offset "$index"
@@ -34,7 +39,7 @@ _redo_log_capture() {
       compopt -o default
     fi
   elif [[ $2 == -* ]]; then
-    mapfile -t COMPREPLY < <(compgen -W '--dir --both --live --quiet --summary --must-close --finish -h --help -V --version' -- "$2")
+    mapfile -t COMPREPLY < <(compgen -W '--dir --both --commands --live --quiet --summary --html --progress --must-close --finish -h --help -V --version' -- "$2")
   else
     mapfile -t COMPREPLY < <(compgen -c -- "$2")
   fi

@@ -76,7 +76,11 @@ _redo_log_complete() {
     esac
   done
   # The default of the installed program.
-  [[ -z $dir && ! -e names && -e capture/names ]] && dir=capture
+  if [[ -z $dir && ! -e names ]]; then
+    if [[ -e .redo-log ]]; then dir=.redo-log
+    elif [[ -e capture/names ]]; then dir=capture
+    fi
+  fi
   dir=${dir:-.}
   # Readline replaces only $2, the end of the typed text: it begins after an open quote, or after a character such as `:`.
   _redo_log_words "${line:0:${#line}-${#2}}"

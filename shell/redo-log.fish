@@ -24,7 +24,10 @@ function __redo_log_names
     # The default of the installed program.
     if test -z "$directory"
         set directory .
-        if not test -e names; and test -e capture/names
+        if test -e names
+        else if test -e .redo-log
+            set directory .redo-log
+        else if test -e capture/names
             set directory capture
         end
     end

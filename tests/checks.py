@@ -9,6 +9,8 @@ PROGRAM = os.path.join(TOP, "crates/redo_log/out/redo_log")
 HTML_PROGRAM = os.path.join(TOP, "crates/redo_log_html/out/redo_log_html")
 # The program that makes single calls of the libraries.
 DRIVER = os.path.join(TOP, "crates/redo_log_driver/out/redo_log_driver")
+# The default capture directory of redo-log-capture.
+CAPTURES = ".redo-log"
 # The dynamic symbols of capture.so: those that make looks up, those that it imports, and the libraries that it needs.
 HOOK = (
     ["plugin_is_GPL_compatible", "redo_log_capture"],

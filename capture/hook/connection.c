@@ -9,9 +9,12 @@
 #include <sys/socket.h>
 #include <sys/stat.h>
 #include <sys/un.h>
+#include <time.h>
 
 /* The hook's descriptors are not lower than this, so that make's own get the numbers that they would have without the hook. */
 enum { MIN_DESCRIPTOR = 60 };
+/* If too many descriptors are on their way to the server, how often it is tried again to pass one, after a millisecond each. */
+enum { MAX_TRIES = 1000 };
 
 struct run run;
 static int connection = -1, notes = -1;
@@ -31,42 +34,59 @@ uint64_t block_signals(void) {
 
 void restore_signals(uint64_t former) { SYSCALL(rt_sigprocmask, SIG_SETMASK, &former, 0, sizeof former); }
 
-static void disconnect(void) {
+void disconnect(void) {
   close_descriptor(&connection);
   close_descriptor(&notes);
 }
 
-static int send_to(int socket, struct msghdr *message) {
-  long sent;
-  do sent = socket < 0 ? -EPIPE : SYSCALL(sendmsg, socket, message, MSG_NOSIGNAL, 0);
-  while (sent == -EINTR);
-  if (sent < 0) disconnect();
-  return sent < 0 ? -1 : 0;
+/* Whether the message was not sent because too many descriptors are on their way. The server soon receives some. */
+static int must_wait(long sent, int *tries_left) {
+  struct timespec moment = {0, 1000000};
+  if (sent != -ETOOMANYREFS || (*tries_left)-- == 0) return 0;
+  SYSCALL(nanosleep, &moment, 0, 0, 0);
+  return 1;
 }
 
-int send_message(const void *head, size_t head_size, const void *body, size_t body_size, int descriptor) {
-  struct iovec parts[] = {{(void *)head, head_size}, {(void *)body, body_size}};
+static int send_parts(int socket, struct iovec *parts, size_t count, int descriptor) {
   union {
     struct cmsghdr head;
     char room[CMSG_SPACE(sizeof(int))];
   } control;
-  struct msghdr message = {.msg_iov = parts, .msg_iovlen = 2};
+  struct msghdr message = {.msg_iov = parts, .msg_iovlen = count};
   if (descriptor >= 0) {
     memset(&control, 0, sizeof control);
     control.head.cmsg_len = CMSG_LEN(sizeof(int)), control.head.cmsg_level = SOL_SOCKET, control.head.cmsg_type = SCM_RIGHTS;
     *(int *)CMSG_DATA(&control.head) = descriptor;
     message.msg_control = &control, message.msg_controllen = sizeof control;
   }
-  return send_to(connection, &message);
+  int tries_left = MAX_TRIES;
+  long sent;
+  do sent = socket < 0 ? -EPIPE : SYSCALL(sendmsg, socket, &message, MSG_NOSIGNAL, 0);
+  while (sent == -EINTR || must_wait(sent, &tries_left));
+  if (sent < 0) disconnect();
+  return sent < 0 ? -1 : 0;
 }
 
-int send_note(const void *head, size_t head_size, const void *body, size_t body_size) {
+static int send_message(int socket, const void *head, size_t head_size, const void *body, size_t body_size, int descriptor) {
   struct iovec parts[] = {{(void *)head, head_size}, {(void *)body, body_size}};
-  struct msghdr message = {.msg_iov = parts, .msg_iovlen = 2};
-  return send_to(notes, &message);
+  return send_parts(socket, parts, 2, descriptor);
 }
 
-long receive(void *bytes, size_t size) {
+int send_request(const void *head, size_t head_size, const void *body, size_t body_size, int descriptor) {
+  return send_message(connection, head, head_size, body, body_size, descriptor);
+}
+
+int send_note(const void *head, size_t head_size, const void *body, size_t body_size, int descriptor) {
+  return send_message(notes, head, head_size, body, body_size, descriptor);
+}
+
+int send_note2(const void *head, size_t head_size, const void *body, size_t body_size, const void *more, size_t more_size) {
+  struct iovec parts[] = {{(void *)head, head_size}, {(void *)body, body_size}, {(void *)more, more_size}};
+  return send_parts(notes, parts, 3, -1);
+}
+
+/* Waits for what the server sends, and returns its size. On failure disconnects and returns -1. */
+static long receive(void *bytes, size_t size) {
   long received;
   do received = connection < 0 ? 0 : syscall6(__NR_recvfrom, connection, (long)bytes, size, 0, 0, 0);
   while (received == -EINTR);
@@ -74,11 +94,29 @@ long receive(void *bytes, size_t size) {
   return received <= 0 ? -1 : received;
 }
 
-/* Whether an output of this make is redirected: it is not the output of the run, or of the recipe that runs this make. */
+int receive_reply(void) {
+  struct reply reply;
+  for (;;) {
+    if (receive(&reply, sizeof reply) != sizeof reply) return disconnect(), -1;
+    if (reply.kind != ASK) return reply.value;
+    run.asks = 1;
+  }
+}
+
+int server_asks(void) {
+  struct reply reply;
+  if (!run.asks && connection >= 0 &&
+      syscall6(__NR_recvfrom, connection, (long)&reply, sizeof reply, MSG_DONTWAIT, 0, 0) == sizeof reply)
+    run.asks = reply.kind == ASK;
+  return run.asks;
+}
+
+/* Whether an output of this make is redirected: it is not the output of the run, or of the recipe that runs this make. An output that
+   is closed stays closed. */
 static int is_redirected(int descriptor) {
   struct stat found;
   unsigned long *expected = run.output_identity[descriptor];
-  if (SYSCALL(fstat, descriptor, &found, 0, 0) < 0) found.st_dev = 0, found.st_ino = 0;
+  if (SYSCALL(fstat, descriptor, &found, 0, 0) < 0) return 1;
   if (descriptor == 1) run.own_output[0] = found.st_dev, run.own_output[1] = found.st_ino;
   return found.st_dev != expected[0] || found.st_ino != expected[1];
 }
@@ -112,10 +150,10 @@ static int send_hello(struct hello *hello) {
   if (SYSCALL(socketpair, AF_UNIX, SOCK_SEQPACKET | SOCK_CLOEXEC, 0, pair) < 0) return disconnect(), -1;
   notes = move_descriptor(pair[0]);
   hello->kind = HELLO, hello->pid = make_pid, hello->is_redirected = run.is_redirected[2];
-  int error = send_message(hello, sizeof *hello, directory, size, pair[1]);
+  int error = send_request(hello, sizeof *hello, directory, size, pair[1]);
   close_descriptor(&pair[1]);
   if (error || receive(&welcome, sizeof welcome) != sizeof welcome) return disconnect(), -1;
-  run.make = welcome.make, run.show_mode = welcome.show_mode, run.captures_output = welcome.captures_output;
+  run.make = welcome.make, run.show_mode = welcome.show_mode, run.captures_output = welcome.captures_output, run.asks = welcome.asks;
   return 0;
 }
 

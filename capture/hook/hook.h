@@ -43,17 +43,23 @@ struct run {
   unsigned long own_output[2]; /* device and inode of make's own standard output */
   uint32_t make;
   int show_mode, captures_output;
+  int asks, is_captured; /* whether lines need a reply: always, or because none was captured yet */
 };
 extern struct run run;
 /* Connects to the server that CAPTURE_RUN names. Returns -1 on failure. */
 int connect_to_run(const char *variable);
 int is_connected(void);
-/* send_message sends a message that gets a reply, and may pass a descriptor; send_note sends one that gets none. The body may be
-   empty. On failure they disconnect and return -1. */
-int send_message(const void *head, size_t head_size, const void *body, size_t body_size, int descriptor);
-int send_note(const void *head, size_t head_size, const void *body, size_t body_size);
-/* Waits for the reply to a message, and returns its size. On failure disconnects and returns -1. */
-long receive(void *bytes, size_t size);
+/* send_request sends a message that gets a reply, and send_note one that gets none. Both may pass a descriptor, if it isn't -1. The
+   body may be empty. On failure they disconnect and return -1. */
+int send_request(const void *head, size_t head_size, const void *body, size_t body_size, int descriptor);
+int send_note(const void *head, size_t head_size, const void *body, size_t body_size, int descriptor);
+/* Like send_note, with a body of two parts and no descriptor. */
+int send_note2(const void *head, size_t head_size, const void *body, size_t body_size, const void *more, size_t more_size);
+/* Waits for the reply to a message other than HELLO, and returns its value. On failure disconnects and returns -1. */
+int receive_reply(void);
+/* Whether the server needs a reply to be awaited for each line. */
+int server_asks(void);
+void disconnect(void);
 /* Signals are blocked from a message to its reply, because make's signal handlers may send messages too. */
 uint64_t block_signals(void);
 void restore_signals(uint64_t former);
@@ -94,6 +100,8 @@ pid_t hooked_wait(int *status);
 pid_t hooked_waitpid(pid_t process, int *status, int options);
 pid_t hooked_wait3(int *status, int options, void *usage);
 pid_t hooked_wait4(pid_t process, int *status, int options, void *usage);
+/* make's own variable: whether it has got a signal that ends it. NULL if make doesn't export it. */
+extern volatile int *handling_fatal_signal;
 /* The process that loaded the hook. A child of vfork has another number. */
 extern pid_t make_pid;
 pid_t current_pid(void);
@@ -109,4 +117,4 @@ int replace_imports(void);
 void *find_function(const char *name);
 
 /* load.c */
-extern const char *capture_mk_path;
+extern const char *capture_def_path;

@@ -23,43 +23,61 @@ long recipe_number_of(char *const *environment) {
   return -1;
 }
 
-/* Joins the arguments of a command, each followed by a NUL. */
+/* Joins the arguments of a command, each followed by a NUL. The last NUL is missing if the command was truncated. */
 static size_t join_words(char *const *command, char words[MAX_COMMAND]) {
   size_t size = 0;
   for (; *command && size < MAX_COMMAND; command++)
     for (const char *byte = *command; size < MAX_COMMAND; byte++)
       if (!(words[size++] = *byte)) break;
-  return size;
+  return *command && !words[size - 1] ? size - 1 : size;
+}
+
+static int is_letter(char byte) { return (byte >= 'a' && byte <= 'z') || (byte >= 'A' && byte <= 'Z'); }
+
+/* Whether a command contains a word that names a removal. */
+static int may_remove(const char *words, size_t size) {
+  static const char *const verbs[] = {"clean", "delet", "remov", "unlink", "rmdir", "rmtree"};
+  for (const char *byte = words, *end = words + size; byte < end; byte++) {
+    int is_word = byte == words || !is_letter(byte[-1]);
+    if (is_word && end - byte > 2 && (byte[0] == 'r' || byte[0] == 'm') && !is_letter(byte[2]) &&
+        byte[1] == (byte[0] == 'r' ? 'm' : 'v'))
+      return 1; /* rm, mv */
+    for (size_t i = 0; i < sizeof verbs / sizeof *verbs; i++)
+      if (*byte == *verbs[i] && (size_t)(end - byte) >= string_length(verbs[i]) && has_prefix(byte, verbs[i])) return 1;
+  }
+  return 0;
 }
 
 int announce_line(uint32_t recipe, char *const *command) {
   static char words[MAX_COMMAND];
-  struct line_message line = {LINE, recipe, wall_clock_ms()};
-  int pair[2] = {-1, -1};
-  char is_captured = 0;
+  struct line_message line = {LINE, recipe, wall_clock_ms(), server_asks() || !run.is_captured, 0};
+  int pair[2] = {-1, -1}, reply = -1;
+  size_t size = join_words(command, words);
+  line.wants_reply |= may_remove(words, size);
   int writes = !run.is_redirected[2] || (run.captures_output && !run.is_redirected[1]);
   if (writes && SYSCALL(pipe2, pair, O_CLOEXEC, 0, 0) < 0) pair[0] = pair[1] = -1;
-  uint64_t former = block_signals();
-  if (send_message(&line, sizeof line, words, join_words(command, words), pair[0]) < 0 || receive(&is_captured, 1) != 1)
-    is_captured = 0;
-  restore_signals(former);
+  if (!line.wants_reply) {
+    if (send_note(&line, sizeof line, words, size, pair[0]) == 0) reply = CAPTURED;
+  } else {
+    uint64_t former = block_signals();
+    if (send_request(&line, sizeof line, words, size, pair[0]) == 0) reply = receive_reply();
+    restore_signals(former);
+    run.is_captured |= reply == CAPTURED;
+    if (reply == NEVER_CAPTURED) disconnect();
+  }
   close_descriptor(&pair[0]);
-  if (!is_captured) close_descriptor(&pair[1]);
+  if (reply != CAPTURED) close_descriptor(&pair[1]);
   return pair[1];
 }
 
 void report_start(pid_t process) {
   struct started started = {STARTED, process};
-  uint64_t former = block_signals();
-  send_note(&started, sizeof started, NULL, 0);
-  restore_signals(former);
+  send_note(&started, sizeof started, NULL, 0, -1);
 }
 
 void report_failure(void) {
-  struct failed failed = {FAILED, wall_clock_ms()};
-  uint64_t former = block_signals();
-  send_note(&failed, sizeof failed, NULL, 0);
-  restore_signals(former);
+  struct failed failed = {FAILED, 0, wall_clock_ms()};
+  send_note(&failed, sizeof failed, NULL, 0, -1);
 }
 
 /* Writes CAPTURE_RUN for the sub-makes of a recipe. A child that is no recipe, such as the one of $(shell ..), gets the value of
@@ -83,16 +101,16 @@ static int is_capture_variable(const char *variable) {
   return has_prefix(variable, RECIPE_VARIABLE "=") || has_prefix(variable, RUN_VARIABLE "=") || has_prefix(variable, "MAKEFILES=");
 }
 
-/* Writes MAKEFILES for the sub-makes of a recipe: capture.mk, and the value that it would have otherwise. */
+/* Writes MAKEFILES for the sub-makes of a recipe: capture.def, and the value that it would have otherwise. */
 static void append_makefiles(char *to, const char *other_makefiles) {
-  to = append_string(append_string(to, "MAKEFILES="), capture_mk_path);
-  if (*other_makefiles && !has_prefix(other_makefiles, capture_mk_path)) append_string(append_string(to, " "), other_makefiles);
+  to = append_string(append_string(to, "MAKEFILES="), capture_def_path);
+  if (*other_makefiles && !has_prefix(other_makefiles, capture_def_path)) append_string(append_string(to, " "), other_makefiles);
 }
 
 char **build_environment(char *const *environment, long recipe, int pipe) {
   static struct buffer list, values;
   size_t count = 0, variable_count = 0,
-         size = sizeof run.address + string_length(run.variable) + string_length(capture_mk_path) + 300;
+         size = sizeof run.address + string_length(run.variable) + string_length(capture_def_path) + 300;
   const char *other_makefiles = "";
   for (; environment[count]; count++)
     if (has_prefix(environment[count], "MAKEFILES=")) other_makefiles = environment[count] + sizeof "MAKEFILES";

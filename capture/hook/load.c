@@ -3,15 +3,19 @@
 
 EXPORTED int plugin_is_GPL_compatible;
 
-/* Functions of make, as gnumake.h declares them. */
-extern void gmk_eval(const char *buffer, const void *location) __attribute__((weak));
+/* Declarations of gnumake.h. */
+struct location {
+  const char *file; /* as MAKEFILES names it; valid until make exits */
+  unsigned long line;
+};
+extern void gmk_eval(const char *buffer, const struct location *location) __attribute__((weak));
 extern char *gmk_expand(const char *string) __attribute__((weak));
 extern void gmk_free(char *string) __attribute__((weak));
 extern char *gmk_alloc(unsigned size) __attribute__((weak));
 extern void gmk_add_function(const char *name, char *(*function)(const char *, unsigned, char **), unsigned min_arguments,
                              unsigned max_arguments, unsigned flags) __attribute__((weak));
 
-const char *capture_mk_path;
+const char *capture_def_path;
 
 /* Whether make has the functions that are needed: posix_spawn, as since 4.3, or vfork. With fork nothing could be captured,
    because the child would get make's replies and doesn't share its memory. */
@@ -32,27 +36,30 @@ static int is_dry_run(void) {
   return found;
 }
 
-static char *copy_until(struct buffer *buffer, const char *string, char end) {
+static char *copy_string(struct buffer *buffer, const char *string) {
   char *copy = grow_buffer(buffer, string_length(string) + 1);
-  size_t size = 0;
-  if (!copy) return NULL;
-  for (; string[size] && string[size] != end; size++) copy[size] = string[size];
-  copy[size] = 0;
+  if (copy) append_string(copy, string);
   return copy;
 }
 
-/* Called by make. Returns -1, so that make doesn't try to remake the shared object. Sets redo-log-loaded to `yes`, or to `no` if
-   nothing is to be captured; leaves it undefined if this make can't be captured. */
-EXPORTED int redo_log_capture(const void *location) {
-  static struct buffer rules, environment;
-  if (is_connected() || find_imports() < 0 || !can_hook()) return -1;
+/* Connects to the run that the environment names. Returns -1 if nothing is to be captured, or another capture.def of MAKEFILES has
+   connected this make. */
+static int connect_make(const struct location *location) {
+  static struct buffer path, variable;
   char *(*getenv_function)(const char *) = find_function("getenv");
-  const char *makefiles = getenv_function ? getenv_function("MAKEFILES") : NULL,
-             *run_variable = makefiles ? getenv_function(RUN_VARIABLE) : NULL;
+  const char *run_variable = getenv_function ? getenv_function(RUN_VARIABLE) : NULL;
+  if (!run_variable || is_connected() || is_dry_run()) return -1;
   make_pid = current_pid();
-  capture_mk_path = makefiles ? copy_until(&rules, makefiles, ' ') : NULL;
-  run_variable = run_variable ? copy_until(&environment, run_variable, 0) : NULL;
-  if (!run_variable || !capture_mk_path || is_dry_run() || connect_to_run(run_variable) < 0) {
+  capture_def_path = copy_string(&path, location->file);
+  run_variable = copy_string(&variable, run_variable);
+  return capture_def_path && run_variable ? connect_to_run(run_variable) : -1;
+}
+
+/* Called by make, for the line of capture.def that loads the hook. Returns -1, so that make doesn't try to remake the shared object.
+   Sets redo-log-loaded to `yes`, or to `no` if nothing is to be captured; leaves it undefined if this make can't be captured. */
+EXPORTED int redo_log_capture(const struct location *location) {
+  if (find_imports() < 0 || !can_hook()) return -1;
+  if (connect_make(location) < 0) {
     gmk_eval("redo-log-loaded := no", location);
     return -1;
   }

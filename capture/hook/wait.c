@@ -5,17 +5,26 @@
 #include "syscalls.h"
 #include <errno.h>
 #include <signal.h>
+#include <sys/resource.h>
 #include <sys/wait.h>
 
 typedef pid_t wait4_function(pid_t, int *, int, void *);
 
-static void report_end(pid_t process, int status) {
+volatile int *handling_fatal_signal;
+
+static int64_t microseconds(struct timeval time) { return (int64_t)time.tv_sec * 1000000 + time.tv_usec; }
+
+static void report_end(pid_t process, int status, const struct rusage *usage) {
   struct ended ended = {.kind = ENDED, .pid = process, .status = status, .time = wall_clock_ms()};
-  char reply;
+  ended.user_us = microseconds(usage->ru_utime), ended.system_us = microseconds(usage->ru_stime), ended.peak_kb = usage->ru_maxrss;
   ended.wants_reply = run.show_mode == SHOW_ALL || (run.show_mode == SHOW_FAILED && status != 0);
+  ended.stopping = !handling_fatal_signal ? MAYBE_STOPPING : *handling_fatal_signal ? STOPPING : NOT_STOPPING;
+  if (!ended.wants_reply) {
+    send_note(&ended, sizeof ended, NULL, 0, -1);
+    return;
+  }
   uint64_t former = block_signals();
-  if (!ended.wants_reply) send_note(&ended, sizeof ended, NULL, 0);
-  else if (send_message(&ended, sizeof ended, NULL, 0, -1) == 0) receive(&reply, 1);
+  if (send_request(&ended, sizeof ended, NULL, 0, -1) == 0) receive_reply();
   restore_signals(former);
 }
 
@@ -29,13 +38,14 @@ static int wait_status(const siginfo_t *ended) {
    the hook. Returns the child, 0 if none has ended, or -1 if there is none. */
 static pid_t report_next_child(pid_t process, int options) {
   siginfo_t ended;
+  struct rusage usage = {0};
   long error;
   int kind = process > 0 ? P_PID : P_ALL;
   ended.si_pid = 0;
-  do error = syscall6(__NR_waitid, kind, process, (long)&ended, WEXITED | WNOWAIT | (options & WNOHANG), 0, 0);
+  do error = syscall6(__NR_waitid, kind, process, (long)&ended, WEXITED | WNOWAIT | (options & WNOHANG), (long)&usage, 0);
   while (error == -EINTR);
   if (error) return -1;
-  if (ended.si_pid > 0) report_end(ended.si_pid, wait_status(&ended));
+  if (ended.si_pid > 0) report_end(ended.si_pid, wait_status(&ended), &usage);
   return ended.si_pid;
 }
 

@@ -8,22 +8,27 @@ import tempfile
 import time
 
 sys.path.insert(0, os.path.dirname(os.path.dirname(os.path.abspath(__file__))))
-from checks import PROGRAM, TOP, environment  # noqa: E402
+from checks import CAPTURES, PROGRAM, TOP, environment  # noqa: E402
 
 PREFIX = tempfile.mkdtemp()
+os.chmod(PREFIX, 0o755)  # what other users can't read is copied
 TOOL = os.path.join(PREFIX, "bin/redo-log-capture")
 ASKING = (signal.SIGHUP, signal.SIGINT, signal.SIGQUIT, signal.SIGTERM)
 
 
-def said(name, status, command, text=""):
-    """The block of a failed recipe."""
-    return f"redo-log-capture: {name} (exit {status})\n{command}\n{text}"
+def said(name, status, command, text="", directory=""):
+    """The block of a failed recipe. `directory` is the one of its make if that isn't the base directory."""
+    return f"redo-log-capture: {name} (exit {status}){directory and ', in ' + directory}\n{command}\n{text}"
 
 
-def failed(*names, words=None, printed=()):
-    """The last lines of a failed build: at most ten failed targets, and those that printed something and did not fail."""
-    what = "its log" if len(names) == 1 else "their logs"
-    lines = [f"{', '.join(names)} failed; show {what}: redo-log {words or ' '.join(names)}"]
+def failed(*names, words=None, printed=(), is_empty=False):
+    """The last lines of a failed build: the targets that failed, and those that printed something and did not fail. `is_empty`: the
+    logs of those that failed have no text."""
+    count = "1 target" if len(names) == 1 else f"{len(names)} targets"
+    named = words or " ".join(names[:10])
+    lines = [f"{count} failed{', 10 of them' if len(names) > 10 else ''}: redo-log {named}"]
+    if is_empty:
+        lines.append(("its log is" if len(names) == 1 else "their logs are") + " empty; --both also captures standard output")
     return "".join(f"redo-log-capture: {line}\n" for line in [*lines, *printed_something(*printed), "show all logs: redo-log -r all"])
 
 
@@ -65,31 +70,33 @@ def make(folder, *words, options=(), more=None):
     return status, out, without_printed(err)
 
 
-def text_of(folder, name, at="capture"):
+def text_of(folder, name, at=CAPTURES):
     """The text lines of a target's log."""
     return re.sub(r"^@@REDO:.*\n", "", log_of(folder, name, at), flags=re.M)
 
 
 def lines_of_others(err):
     """The lines of standard error that redo-log-capture didn't print, without the commands of failed recipes."""
-    return [line for line in re.sub(r"^redo-log-capture: (.* \(exit \d+\)\n)?.*\n", "", err, flags=re.M).splitlines()]
+    return [line for line in re.sub(r"^redo-log-capture: (.* \(exit \d+\)(, in .*)?\n)?.*\n", "", err, flags=re.M).splitlines()]
 
 
 def without_printed(err):
     return re.sub(r"^redo-log-capture: \d+ targets? that did not fail printed something.*\n", "", err, flags=re.M)
 
 
-def shown(folder, *words, at="capture"):
+def shown(folder, *words, at=CAPTURES):
     """The text that redo-log prints, or its status and error message."""
     done = subprocess.run([PROGRAM, "--dir", os.path.join(folder, at), "-r", *words], capture_output=True)
     return done.stdout.decode() if done.returncode == 0 else (done.returncode, done.stderr.decode())
 
 
-def log_of(folder, name, at="capture"):
-    """The bytes of a target's log."""
+def log_of(folder, name, at=CAPTURES):
+    """The bytes of a target's log, or none if the target isn't listed yet."""
     at = os.path.join(folder, at)
     with open(os.path.join(at, "names"), encoding="utf-8") as names:
         numbers = {line.rstrip("\n").split(" ", 1)[1]: line.split(" ", 1)[0].lstrip("!") for line in names}
+    if name not in numbers:
+        return ""
     with open(os.path.join(at, "log." + numbers[name]), encoding="utf-8") as log:
         return log.read()
 

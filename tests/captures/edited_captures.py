@@ -7,7 +7,7 @@ import signal
 import subprocess
 
 from builds import TOOL, lines_of_others, make, of_a_terminal, preloaded, project, ran, shown, text_of, wait_for, wait_until, without_printed, write
-from checks import environment, install_capture
+from checks import CAPTURES, environment, install_capture
 
 MARKING = ("--must-close",)
 MAKEFILE = """all: x y d/w ; @echo all $(N) >&2
@@ -82,7 +82,7 @@ def removing_what_is_kept(at):
 
 
 def left_out(number, more=""):
-    return f"FOLDER/capture/names: line {number}: bad line, left out{more}"
+    return f"FOLDER/{CAPTURES}/names: line {number}: bad line, left out{more}"
 
 
 # The log of x is then what z printed first, and begins with z.
@@ -165,89 +165,91 @@ def between_builds(checks, at):
     for what, (change, told, names, first, is_closed) in CHANGES.items():
         for options in (MARKING, ()) if what.startswith("a line") else (MARKING,):
             folder, name = placed(at(f"{what}{len(options)}")), f"{what}, {options}"
-            checks.expect(f"{name}: before", (make(folder, "-s", "N=1", options=options)[::2], read(f"{folder}/capture/names").replace("!", "")), ((0, ""), LEFT))
-            change(f"{folder}/capture")
+            checks.expect(f"{name}: before", (make(folder, "-s", "N=1", options=options)[::2], read(f"{folder}/{CAPTURES}/names").replace("!", "")), ((0, ""), LEFT))
+            change(f"{folder}/{CAPTURES}")
             wanted = built(plain, [], "N=2")[0]
             silent = (wanted[0], wanted[1], [])
             checks.expect(f"{name}: make", built(folder, [TOOL, *options], "N=2"), (silent, told))
-            checks.expect(f"{name}: names", read(f"{folder}/capture/names"), marked(names, is_closed) if options else names)
+            checks.expect(f"{name}: names", read(f"{folder}/{CAPTURES}/names"), marked(names, is_closed) if options else names)
             text = first if first.startswith("redo  all") else TEXT.format(first)
             checks.expect(f"{name}: shown", shown(folder, "-u", "all"), text)
             checks.expect(f"{name}: the next one", built(folder, [TOOL, *options], "N=3"), (silent, []))
             checks.expect(f"{name}: shown then", shown(folder, "-u", "all"), text.replace("2\n", "3\n"))
-            checks.expect(f"{name}: files", sorted(set(os.listdir(folder)) - {"capture"}), sorted(os.listdir(plain)))
+            checks.expect(f"{name}: files", sorted(set(os.listdir(folder)) - {CAPTURES}), sorted(os.listdir(plain)))
 
     folder = placed(at("gone"))
     make(folder, "-s", "N=1", options=MARKING)
-    os.remove(f"{folder}/capture/log.2")
+    os.remove(f"{folder}/{CAPTURES}/log.2")
     checks.expect("a log removed that is made no more: make", built(folder, [TOOL], "N=2")[1], [])
     checks.expect("a log removed that is made no more", shown(folder, "-u", "all"), TEXT.format("redo    x\n"))
     checks.expect("it is missed where logs are marked", (ran(folder, [TOOL, *MARKING, "--finish"]), shown(folder, "all")), ((0, "", ""), (4, "redo-log: x: not closed\n")))
-    names_are(without("x"))(f"{folder}/capture")
+    names_are(without("x"))(f"{folder}/{CAPTURES}")
     checks.expect("but not without its line", shown(folder, "-u", "all"), TEXT.format("redo    x\n"))
 
 
 def refused(checks, at):
     """A directory that can't be written is rejected before anything is started, and stays unchanged."""
     rows = {
-        "nothing kept of it": (removing(".capture"), "capture is not a capture directory, and not empty; name another one with --dir"),
-        "a file in its place": (both(removing(".capture"), writing(".capture", "")), "cannot write capture/.capture: Not a directory"),
-        "names a folder": (folder_for("names"), "capture/names is not a regular file"),
-        "names a pipe": (pipe_for("names"), "capture/names is not a regular file"),
-        "names a link to itself": (lambda at: (removing("names")(at), os.symlink("names", f"{at}/names")), "cannot write capture/names: Too many levels of symbolic links"),
-        "the book a pipe": (pipe_for(".capture/run"), "capture/.capture/run is not a regular file"),
-        **{f"a folder for {name}": (folder_for(f".capture/{name}"), f"capture/.capture/{name} is not a regular file") for name in ("lock", "run", "closed")},
+        "nothing kept of it": (removing(".capture"), f"{CAPTURES} is not a capture directory, and not empty; name another one with --dir"),
+        "a file in its place": (both(removing(".capture"), writing(".capture", "")), f"cannot write {CAPTURES}/.capture: Not a directory"),
+        "names a folder": (folder_for("names"), f"{CAPTURES}/names is not a regular file"),
+        "names a pipe": (pipe_for("names"), f"{CAPTURES}/names is not a regular file"),
+        "names a link to itself": (lambda at: (removing("names")(at), os.symlink("names", f"{at}/names")), f"{CAPTURES}/names is a symbolic link"),
+        "the book a pipe": (pipe_for(".capture/run"), f"{CAPTURES}/.capture/run is not a regular file"),
+        **{f"a folder for {name}": (folder_for(f".capture/{name}"), f"{CAPTURES}/.capture/{name} is not a regular file") for name in ("lock", "run", "closed")},
     }
     for what, (change, told) in rows.items():
         folder = placed(at(what))
         make(folder, "-s", "N=1")
-        change(f"{folder}/capture")
+        change(f"{folder}/{CAPTURES}")
         before = sorted(os.walk(folder))
         checks.expect(f"{what}: make", built(folder, ["timeout", "30", TOOL], "N=2"), ((1, "", []), [told]))
         checks.expect(f"{what}: what is there", sorted(os.walk(folder)), before)
 
 
-MIDDLE = """all: a b t c ; @echo all >&2
+# The recipes that change something wait until their logs have what they have printed: make doesn't wait for redo-log-capture.
+MIDDLE = f"""WAIT = $(if $(filter-out :,$(NOW)),until grep -qsx $@ {CAPTURES}/log.*; do sleep 0.01; done,:)
+all: a b t c ; @echo all >&2
 a: ; @echo a >&2
-b: a ; @echo b >&2; $(NOW); echo b again >&2
+b: a ; @echo b >&2; $(WAIT); $(NOW); echo b again >&2
 t: b ; @echo t >&2; $(MAKE) -s -f below.mk s1 s2; echo t again >&2
 c: t ; @echo c >&2
 """
-MIDDLE_BELOW = "s1: ; @echo s1 >&2; $(THEN); echo s1 again >&2\ns2: s1 ; @echo s2 >&2\n"
+MIDDLE_BELOW = f"WAIT = $(if $(filter-out :,$(THEN)),until grep -qsx $@ {CAPTURES}/log.*; do sleep 0.01; done,:)\ns1: ; @echo s1 >&2; $(WAIT); $(THEN); echo s1 again >&2\ns2: s1 ; @echo s2 >&2\n"
 WHOLE = "redo  all\nredo    a\na\nredo    b\nb\nb again\nredo    t\nredo      s2\nredo        s1\ns1\ns1 again\ns2\nt\nt again\nredo    c\nc\nall\n"
-GONE = "FOLDER/capture was removed; its captures are lost"
-LOG_GONE = "FOLDER/capture/log.{} was removed; its captures are lost".format
+GONE = f"FOLDER/{CAPTURES} was removed; its captures are lost"
+LOG_GONE = f"FOLDER/{CAPTURES}/log.{{}} was removed; its captures are lost".format
 LATE = "redo  all\nredo    t\nredo      s2\nredo        s1\ns1\ns1 again\ns2\nt\nt again\nredo    c\nc\nall\n"
 LATER = "redo  all\nredo    c\nc\nredo    s2\ns2\nall\n"
 NO_WORDS = (
     WHOLE.replace("a\na\n", "a\n").replace("b\nb\nb again\n", "b\n"),
     "redo  all\nredo    a\nredo    b\nredo    t\nredo      s2\nredo        s1\ns2\nredo    c\nc\nall\n",
 )
-SEVERAL_GONE = "FOLDER/capture/log.2 and {} more were removed; their captures are lost"
+SEVERAL_GONE = f"FOLDER/{CAPTURES}/log.2 and {{}} more were removed; their captures are lost"
 # What a recipe does; the messages, and the text if it is complete, if the recipe belongs to the first make, and if it belongs to a
 # sub-make. Messages of the sub-make go into the log of the recipe that started it.
 MEANWHILE = {
     "nothing": (":", [], WHOLE, [], WHOLE),
-    "a line removed": ("sed -i '/ a$/d' capture/names", [], WHOLE, [], WHOLE),
-    "its own line removed": ("sed -i '/ b$/d; / s1$/d' capture/names", [], WHOLE, [], WHOLE),
-    "the line of the run removed": ("sed -i '/ all$/d' capture/names", [], WHOLE, [], WHOLE),
-    "names removed": ("rm capture/names", [], WHOLE, [], WHOLE),
-    "names emptied": (": >capture/names", [], WHOLE, [], WHOLE),
-    "another name": ("sed -i 's/ b$/ other/' capture/names", [], WHOLE, [], WHOLE),
-    "an unended line": ("printf '77 x' >>capture/names", [], WHOLE, [], WHOLE),
-    "a bad line": ("echo bad >>capture/names", [left_out(4)], WHOLE, [left_out(6)], WHOLE),
-    "a number twice": ("echo '2 other' >>capture/names", [left_out(4)], WHOLE, [left_out(6)], WHOLE),
-    "no list of closed logs": ("rm capture/.capture/closed", [], WHOLE, [], WHOLE),
-    "a log removed": ("rm capture/log.2", [LOG_GONE(2)], WHOLE.replace("a\na\n", "a\n"), [LOG_GONE(2)], WHOLE.replace("a\na\n", "a\n")),
-    "its own log removed": ("rm capture/log.3", [LOG_GONE(3)], WHOLE.replace("b\nb\nb again\n", "b\n"), [LOG_GONE(3)], WHOLE.replace("b\nb\nb again\n", "b\n")),
-    "all logs removed": ("rm capture/log.*", [SEVERAL_GONE.format(1)], NO_WORDS[0], [SEVERAL_GONE.format(3)], NO_WORDS[1]),
-    "the log of the run removed": ("rm capture/log.1", [], WHOLE, [], WHOLE),
-    "the log of the run emptied": (": >capture/log.1", [], WHOLE, [], WHOLE),
-    "no journal": ("rm capture/.capture/run", [], WHOLE, [], WHOLE),
-    "an empty journal": (": >capture/.capture/run", [], WHOLE, [], WHOLE),
-    "another journal": ("echo smith >capture/.capture/run", [], WHOLE, [], WHOLE),
-    "nothing kept of it": ("rm -r capture/.capture", [GONE], LATE, [GONE], LATER),
-    "the directory removed": ("rm -r capture", [GONE], LATE, [GONE], LATER),
+    "a line removed": (f"sed -i '/ a$/d' {CAPTURES}/names", [], WHOLE, [], WHOLE),
+    "its own line removed": (f"sed -i '/ b$/d; / s1$/d' {CAPTURES}/names", [], WHOLE, [], WHOLE),
+    "the line of the run removed": (f"sed -i '/ all$/d' {CAPTURES}/names", [], WHOLE, [], WHOLE),
+    "names removed": (f"rm {CAPTURES}/names", [], WHOLE, [], WHOLE),
+    "names emptied": (f": >{CAPTURES}/names", [], WHOLE, [], WHOLE),
+    "another name": (f"sed -i 's/ b$/ other/' {CAPTURES}/names", [], WHOLE, [], WHOLE),
+    "an unended line": (f"printf '77 x' >>{CAPTURES}/names", [], WHOLE, [], WHOLE),
+    "a bad line": (f"echo bad >>{CAPTURES}/names", [left_out(4)], WHOLE, [left_out(6)], WHOLE),
+    "a number twice": (f"echo '2 other' >>{CAPTURES}/names", [left_out(4)], WHOLE, [left_out(6)], WHOLE),
+    "no list of closed logs": (f"rm {CAPTURES}/.capture/closed", [], WHOLE, [], WHOLE),
+    "a log removed": (f"rm {CAPTURES}/log.2", [LOG_GONE(2)], WHOLE.replace("a\na\n", "a\n"), [LOG_GONE(2)], WHOLE.replace("a\na\n", "a\n")),
+    "its own log removed": (f"rm {CAPTURES}/log.3", [LOG_GONE(3)], WHOLE.replace("b\nb\nb again\n", "b\n"), [LOG_GONE(3)], WHOLE.replace("b\nb\nb again\n", "b\n")),
+    "all logs removed": (f"rm {CAPTURES}/log.*", [SEVERAL_GONE.format(1)], NO_WORDS[0], [SEVERAL_GONE.format(3)], NO_WORDS[1]),
+    "the log of the run removed": (f"rm {CAPTURES}/log.1", [], WHOLE, [], WHOLE),
+    "the log of the run emptied": (f": >{CAPTURES}/log.1", [], WHOLE, [], WHOLE),
+    "no journal": (f"rm {CAPTURES}/.capture/run", [], WHOLE, [], WHOLE),
+    "an empty journal": (f": >{CAPTURES}/.capture/run", [], WHOLE, [], WHOLE),
+    "another journal": (f"echo smith >{CAPTURES}/.capture/run", [], WHOLE, [], WHOLE),
+    "nothing kept of it": (f"rm -r {CAPTURES}/.capture", [GONE], LATE, [GONE], LATER),
+    "the directory removed": (f"rm -r {CAPTURES}", [GONE], LATE, [GONE], LATER),
 }
 
 
@@ -265,12 +267,14 @@ def in_the_middle(checks, at):
             left = {"b", "b again"} if variable == "NOW" else {"s1", "s1 again", "t", "t again"}
             checks.expect(f"{name}: make", (status, out, set(lines) <= (left if told == [GONE] else set()), reports), (0, "", True, told))
             found = str(shown(folder, "all"))
+            if "log removed" in what or "logs removed" in what:  # what is printed later is in a new log if it arrives when the line has ended
+                found, text = (re.sub(r"^(b|s1|t) again\n", "", lines, flags=re.M) for lines in (found, text))
             checks.expect(f"{name}: shown", found if text else found.startswith("redo  all\n"), text or True)
             checks.expect(f"{name}: the next one", built(folder, [TOOL, *MARKING], "NOW=:", "THEN=:"), ((0, "", []), []))
             checks.expect(f"{name}: shown then", shown(folder, "all"), WHOLE)
 
-    folder = project(at("fails"), "all: ; @echo all >&2; echo bad >>capture/names; exit 3\n")
-    told = ["all (exit 3)", left_out(2), "all failed; show its log: redo-log all", "show all logs: redo-log -r all"]
+    folder = project(at("fails"), f"all: ; @echo all >&2; echo bad >>{CAPTURES}/names; exit 3\n")
+    told = ["all (exit 3)", left_out(2), "1 target failed: redo-log all", "show all logs: redo-log -r all"]
     checks.expect("one that fails", built(folder, [TOOL])[1], told)
 
     folder = project(at("killed"), "all: x y\nx: ; @echo x >&2\ny: ; @echo y >&2; touch begun; exec sleep 60\n")
@@ -279,15 +283,15 @@ def in_the_middle(checks, at):
     wait_until("y has spoken", lambda: text_of(folder, "y") == "y\n")
     os.killpg(build.pid, signal.SIGKILL)
     build.wait()
-    write(f"{folder}/capture/names", "1 all\n")
-    checks.expect("a build that was killed, finished", (ran(folder, [TOOL, "--finish"]), read(f"{folder}/capture/names")), ((0, "", ""), "1 all\n2 x\n3 y\n"))
+    write(f"{folder}/{CAPTURES}/names", "1 all\n")
+    checks.expect("a build that was killed, finished", (ran(folder, [TOOL, "--finish"]), read(f"{folder}/{CAPTURES}/names")), ((0, "", ""), "1 all\n2 x\n3 y\n"))
     checks.expect("it is shown", shown(folder, "all"), "redo  all\nredo    x\nx\nredo    y\ny\n")
 
 
 def many_needs(checks, at):
     """A recipe with many prerequisites, whose first line removes the directory."""
     names = " ".join(f"n{number}" for number in range(40))
-    for change in ("rm -r capture", "rm -r capture/.capture"):
+    for change in (f"rm -r {CAPTURES}", f"rm -r {CAPTURES}/.capture"):
         folder = project(at(change.replace("/", "")), f"all: {names}\n\t@echo one >&2; {change}\n\t@echo two >&2\n{names}: ; @echo $@ >&2\n")
         (status, out, lines), told = built(folder, [TOOL, *MARKING])
         checks.expect(f"{change}, by one of many needs: make", (status, out, set(lines) <= {"one"}, told), (0, "", True, [GONE]))
@@ -299,31 +303,32 @@ def folders_for_logs(checks, at):
     plain, folder = placed(at("plain")), placed(at("before"))
     ran(plain, ["make", "-s", "N=1"])
     make(folder, "-s", "N=1", options=MARKING)
-    folder_for("log.5")(f"{folder}/capture")
+    folder_for("log.5")(f"{folder}/{CAPTURES}")
     status, out, _ = built(plain, [], "N=2")[0]
-    told = ["cannot write FOLDER/capture/log.5: Is a directory"]
+    told = [f"cannot write FOLDER/{CAPTURES}/log.5: Is a directory"]
     checks.expect("a folder for a log: make", built(folder, [TOOL, *MARKING], "N=2"), ((status, out, ["y 2"]), told))
     checks.expect("it is told", shown(folder, "all"), (5, "redo-log: y: cannot be read\n"))
-    os.rmdir(f"{folder}/capture/log.5")
+    os.rmdir(f"{folder}/{CAPTURES}/log.5")
     checks.expect("once it is gone: make", built(folder, [TOOL, *MARKING], "N=3"), ((status, out, []), []))
     checks.expect("once it is gone", shown(folder, "all"), TEXT.format("").replace("2\n", "3\n"))
-    pipe_for("log.5")(f"{folder}/capture")
+    pipe_for("log.5")(f"{folder}/{CAPTURES}")
     checks.expect("a pipe for a log: make", built(folder, ["timeout", "30", TOOL, *MARKING], "N=4"), ((status, out, []), []))
     checks.expect("a pipe for a log", shown(folder, "all"), TEXT.format("").replace("2\n", "4\n"))
-    folder_for("log.1")(f"{folder}/capture")
+    folder_for("log.1")(f"{folder}/{CAPTURES}")
     (_, out, lines), told = built(folder, [TOOL, *MARKING], "N=5")
-    checks.expect("a folder for the log of the run", (out, lines, set(told)), ("made\n", ["all 5"], {"cannot write FOLDER/capture/log.1: Is a directory"}))
+    checks.expect("a folder for the log of the run", (out, lines, set(told)), ("made\n", ["all 5"], {f"cannot write FOLDER/{CAPTURES}/log.1: Is a directory"}))
 
     folder = project(at("middle"), MIDDLE)
     write(os.path.join(folder, "below.mk"), MIDDLE_BELOW)
-    answer = built(folder, [TOOL, *MARKING], "NOW=rm capture/log.2 && mkdir capture/log.2", "THEN=:")
+    answer = built(folder, [TOOL, *MARKING], f"NOW=rm {CAPTURES}/log.2 && mkdir {CAPTURES}/log.2", "THEN=:")
     checks.expect("in the middle: make", answer, ((0, "", []), [LOG_GONE(2)]))
     checks.expect("in the middle", shown(folder, "all"), (5, "redo-log: a: cannot be read\n"))
-    recipe = "echo x >&2; until grep -q x capture/log.2; do sleep 0.01; done; rm capture/log.2; mkdir capture/log.2; $(MORE) exit 3"
+    log = f"{CAPTURES}/log.2"
+    recipe = f"echo x >&2; until grep -q x {log}; do sleep 0.01; done; rm {log}; mkdir {log}; $(MORE) exit 3"
     folder = project(at("fails"), f"all: x\nx: ; @{recipe}\n")
-    told = ["x (exit 3)", LOG_GONE(2), "x failed; show its log: redo-log x", "show all logs: redo-log -r all"]
+    told = ["x (exit 3)", LOG_GONE(2), "1 target failed: redo-log x", "show all logs: redo-log -r all"]
     checks.expect("of one that fails", built(folder, [TOOL])[1], told)
-    shutil.rmtree(f"{folder}/capture")
+    shutil.rmtree(f"{folder}/{CAPTURES}")
     checks.expect("of one that fails, and says more", built(folder, [TOOL], "MORE=echo more >&2;")[1], told)
 
 
@@ -350,10 +355,10 @@ def removed_at_any_time(checks, at):
         number, count = 0, 1
         while number < count:
             number += 1
-            shutil.rmtree(f"{folder}/capture", ignore_errors=True)
+            shutil.rmtree(f"{folder}/{CAPTURES}", ignore_errors=True)
             if folder.endswith("again"):
                 built(folder, [TOOL, *MARKING])
-            more = {"LD_PRELOAD": library, "BREAK_AT": str(number), "BREAK_COUNT": f"{folder}.{number}", "BREAK_REMOVE": f"{folder}/capture"}
+            more = {"LD_PRELOAD": library, "BREAK_AT": str(number), "BREAK_COUNT": f"{folder}.{number}", "BREAK_REMOVE": f"{folder}/{CAPTURES}"}
             (status, out, lines), told = built(folder, [tool, *MARKING], more=more)
             count = os.path.getsize(f"{folder}.{number}")
             what = f"removed in front of change {number}"
@@ -364,11 +369,11 @@ def removed_at_any_time(checks, at):
         checks.expect("changes in all", count > 40, True)
 
 
-BESIDE = """NUMBERS = $(shell seq 40)
+BESIDE = f"""NUMBERS = $(shell seq 40)
 all: $(NUMBERS) clean below
 $(NUMBERS): ; @echo $@; echo $@ >&2; sleep 0.00$$(($@ % 5))
 	@echo $@ >&2
-clean: 15 ; @rm -rf capture 2>/dev/null; true
+clean: 15 ; @rm -rf {CAPTURES} 2>/dev/null; true
 below: ; @$(MAKE) -s -f below.mk a b c d e f
 """
 
@@ -393,4 +398,168 @@ def removed_beside_others(checks, at):
         checks.expect(f"removed beside others, {number}: each word below its target", wrong, [])
 
 
-PARTS = (between_builds, refused, in_the_middle, many_needs, folders_for_logs, removed_at_any_time, removed_beside_others)
+KEPT = tuple(f".capture/{name}" for name in ("lock", "run", "closed", "new"))
+PRECIOUS = "1 all\n2 precious\n"
+
+
+def linked(path, victim, kind):
+    """Puts a link to a file elsewhere in the place of a file of the captures; a second name of that file if `kind` is hard."""
+
+    def change(at):
+        if kind == "hard":
+            if not os.path.exists(f"{at}/{path}"):
+                write(f"{at}/{path}", PRECIOUS)
+            os.link(f"{at}/{path}", victim)
+            return
+        if os.path.lexists(f"{at}/{path}"):
+            removing(path)(at)
+        os.symlink(victim, f"{at}/{path}")
+        if kind == "to a file":
+            write(victim, PRECIOUS)
+        if kind == "to a directory":
+            for name in KEPT:
+                write(f"{victim}/{os.path.basename(name)}", PRECIOUS)
+
+    return change
+
+
+def bytes_below(path):
+    """The contents of a file, or of the files in a directory; None if it doesn't exist."""
+    if os.path.isdir(path):
+        return {name: read(os.path.join(path, name)) for name in sorted(os.listdir(path))}
+    return read(path) if os.path.exists(path) else None
+
+
+LINKS = [(path, kind) for path in ("names", *KEPT) for kind in ("to a file", "to nothing")] + [(".capture", "to a directory"), (".capture", "to nothing")]
+
+
+def links_before(checks, at):
+    """Links to files elsewhere, before a build. Nothing elsewhere is read or written. Logs are replaced; other links are rejected."""
+    plain = placed(at("plain"))
+    ran(plain, ["make", "-s", "N=1"])
+    wanted = built(plain, [], "N=2")[0]
+    for path, kind in LINKS + [(path, kind) for path in ("log.1", "log.5") for kind in ("to a file", "to nothing", "hard")] + [(path, "hard") for path in ("names", *KEPT)]:
+        what = f"{path} a link {kind}"
+        folder, victim = placed(at(what)), at(what) + ".victim"
+        make(folder, "-s", "N=1", options=MARKING)
+        linked(path, victim, kind)(f"{folder}/{CAPTURES}")
+        before = bytes_below(victim)
+        answer = built(folder, [TOOL, *MARKING], "N=2")
+        if (path, kind) in LINKS:
+            checks.expect(f"{what}: make", answer, ((1, "", []), [f"{CAPTURES}/{path} is a symbolic link"]))
+        else:
+            checks.expect(f"{what}: make", answer, ((*wanted[:2], []), []))
+            checks.expect(f"{what}: shown", shown(folder, "-u", "all"), TEXT.format(FIRST))
+        checks.expect(f"{what}: what is elsewhere", bytes_below(victim), before)
+
+    folder = placed(at("the directory"))
+    os.mkdir(at("elsewhere"))
+    os.symlink(at("elsewhere"), f"{folder}/{CAPTURES}")
+    checks.expect("the directory a link: make", make(folder, "-s", "N=1")[::2], (0, ""))
+    checks.expect("the directory a link", str(shown(at("elsewhere"), "all", at=".")).startswith("redo  all\n"), True)
+    shutil.rmtree(at("elsewhere"))
+    told = f"cannot write {CAPTURES}: No such file or directory"
+    checks.expect("the directory a link to nothing", built(folder, [TOOL], "N=2"), ((1, "", []), [told]))
+
+
+def cannot_write(path):
+    return f"cannot write FOLDER/{CAPTURES}/{path}: it is a symbolic link"
+
+
+LATE_LINES = ["a", "all", "b", "b again", "c", "s1", "s1 again", "s2", "t", "t again"]
+# What a recipe does, with V for the name of a file elsewhere; the messages, or two of which there is one; the text, unless names can't
+# be read; and which lines may be on the terminal. PUT puts a link in the place of a file in one step.
+PUT = "ln -s V link; mv -T link {}/"
+LINKED_MEANWHILE = {
+    "names": (PUT + "names", {cannot_write("names")}, None, []),
+    "names, by another name": ("ln {}/names V", set(), WHOLE, []),
+    "a log": ("until grep -qs a {}/log.2; do sleep 0.01; done; " + PUT + "log.2", {LOG_GONE(2)}, WHOLE.replace("a\na\n", "a\nprecious\n"), []),
+    "its own log": (
+        PUT + "log.3", (LOG_GONE(3), cannot_write("log.3")),
+        WHOLE.replace("b\nb\nb again\n", "b\nprecious\n"), ["b again"]
+    ),
+    "the lock": (PUT + ".capture/lock", {GONE, cannot_write(".capture/lock")}, None, LATE_LINES),
+    "the journal": (PUT + ".capture/run", set(), WHOLE, []),
+    "the list of closed logs": (PUT + ".capture/closed", set(), WHOLE, []),
+    "the new file": (PUT + ".capture/new", set(), WHOLE, []),
+    "the state directory": ("mv {}/.capture kept; ln -s V.d {}/.capture", set(), WHOLE, []),
+    "another state directory": ("mv {}/.capture old; ln -s V.d {}/.capture; rm -r old", {GONE, cannot_write(".capture")}, None, LATE_LINES),
+}
+
+
+def links_meanwhile(checks, at):
+    """Links to files elsewhere, which a recipe puts in the place of files of the captures. Nothing elsewhere is written."""
+    for what, (command, told, text, late) in LINKED_MEANWHILE.items():
+        folder = project(at(what), MIDDLE)
+        # After some of the commands, no later recipe has a log.
+        write(os.path.join(folder, "below.mk"), MIDDLE_BELOW.replace("$(WAIT); ", ""))
+        victim = at("victim of " + what.replace(" ", "-"))
+        if "another name" not in what:
+            write(victim, "precious\n")
+        for name in KEPT:
+            write(f"{victim}.d/{os.path.basename(name)}", "precious\n")
+        command = command.replace("{}", CAPTURES).replace("V", f"'{victim}'")
+        (status, out, lines), reports = built(folder, [TOOL, *MARKING], f"NOW={command}", "THEN=:")
+        is_told = set(reports) == told if isinstance(told, set) else len(reports) == 1 and reports[0] in told
+        checks.expect(f"{what} linked: make", (status, out, set(lines) <= set(late), is_told or reports), (0, "", True, True))
+        checks.expect(f"{what} linked: the file elsewhere", read(victim) == "precious\n" or ("another name" in what and " c\n" not in read(victim)), True)
+        checks.expect(f"{what} linked: the directory elsewhere", bytes_below(f"{victim}.d"), {os.path.basename(name): "precious\n" for name in KEPT})
+        if text:
+            checks.expect(f"{what} linked: shown", shown(folder, "all"), text)
+
+
+def links_at_the_end(checks, at):
+    """Links to files elsewhere, where the logs of a build that was killed are finished. Nothing elsewhere is read or written."""
+    killed = project(at("killed"), "all: x y\nx: ; @echo x >&2\ny: ; @echo y >&2; touch begun; exec sleep 60\n")
+    build = subprocess.Popen([TOOL, "make", "-s"], cwd=killed, env=environment(), stderr=subprocess.DEVNULL, preexec_fn=of_a_terminal)
+    wait_for(os.path.join(killed, "begun"))
+    wait_until("y has spoken", lambda: text_of(killed, "y") == "y\n")
+    os.killpg(build.pid, signal.SIGKILL)
+    build.wait()
+    rows = LINKS + [(path, kind) for path in ("log.1", "log.2") for kind in ("to a file", "to nothing", "hard")] + [(path, "hard") for path in ("names", *KEPT)]
+    for path, kind in rows:
+        what = f"{path} a link {kind}, finished"
+        folder, victim = at(what), at(what) + ".victim"
+        shutil.copytree(killed, folder)
+        linked(path, victim, kind)(f"{folder}/{CAPTURES}")
+        before = bytes_below(victim)
+        status, out, told = ran(folder, [TOOL, "--finish", *MARKING])
+        checks.expect(f"{what}: what is elsewhere", bytes_below(victim), before)
+        if (path, kind) in LINKS:
+            checks.expect(what, (status, out, told), (1, "", f"redo-log-capture: {CAPTURES}/{path} is a symbolic link\n"))
+        elif kind == "hard":
+            checks.expect(what, (status, out, told, shown(folder, "all")), (0, "", "", "redo  all\nredo    x\nx\nredo    y\ny\n"))
+        else:
+            gone = f"redo-log-capture: {folder}/{CAPTURES}/log.2 was removed; its captures are lost\n"
+            checks.expect(what, (status, out, told), (0, "", gone if path == "log.2" else ""))
+
+
+MOVING = "all: a b ; @exit $(S)\na: ; @echo a >&2; $(NOW)\nb: a ; @echo b >&2\n"
+MOVED = "redo  all\nredo    a\na\nredo    b\nb\n"
+
+
+def moved(checks, at):
+    """A directory that is renamed while a build runs goes on receiving its logs, even if another one gets its name."""
+    ways = {
+        "the directory of the build": (f"mv '{{0}}' '{{0}}.to'", ".to", CAPTURES),
+        "the directory of the build, and a new one": ("mv '{0}' '{0}.to'; mkdir '{0}'", ".to", CAPTURES),
+        "the capture directory": (f"mv {CAPTURES} kept", "", "kept"),
+        "the capture directory, and a new one": (f"mv {CAPTURES} kept; mkdir {CAPTURES}", "", "kept"),
+    }
+    for what, (command, suffix, kept) in ways.items():
+        for status in (0, 3):
+            folder = project(at(f"{what}{status}"), MOVING)
+            (ended, out, lines), told = built(folder, [TOOL, *MARKING], f"NOW={command.format(folder)}", f"S={status}")
+            words = "redo-log" if kept == CAPTURES else f"redo-log --dir 'FOLDER/{kept}'"
+            empty = "its log is empty; --both also captures standard output"
+            reports = ["all (exit 3)", f"1 target failed: {words} all", empty, f"show all logs: {words.replace('redo-log', 'redo-log -r', 1)} all"]
+            checks.expect(f"{what} renamed: make, {status}", (ended, out, told), (2 if status else 0, "", reports if status else []))
+            checks.expect(f"{what} renamed, {status}", str(shown(folder + suffix, "all", at=kept)).startswith(MOVED), True)
+            if "new one" in what:
+                checks.expect(f"{what}, {status}: what is in the new one", os.listdir(folder if suffix else f"{folder}/{CAPTURES}"), [])
+
+
+PARTS = (
+    between_builds, refused, in_the_middle, many_needs, folders_for_logs, removed_at_any_time, removed_beside_others, links_before,
+    links_meanwhile, links_at_the_end, moved,
+)  # fmt: skip

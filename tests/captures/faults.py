@@ -2,6 +2,7 @@
 process pretends to be a make. No line is lost: whatever recipes print is in a log or on standard error."""
 import array
 import contextlib
+import fcntl
 import glob
 import itertools
 import os
@@ -19,7 +20,7 @@ from collections import Counter
 from concurrent.futures import ThreadPoolExecutor
 
 from builds import TOOL, preloaded, project, shown, wait_for, wait_until, write
-from checks import environment, install_capture
+from checks import CAPTURES, environment, install_capture
 
 # A build that takes longer than this, in seconds, hangs. On an idle machine these builds take less than one second.
 MOST = 60
@@ -69,7 +70,7 @@ def ended(folder, command, more=None, inherited=()):
 def files_of(folder):
     """The lines of all files that a build made, except the captures and what a test put there."""
     found = {}
-    for name in sorted(set(os.listdir(folder)) - {"Makefile", "capture", "trace", "summary", "go", "stay", "fifo"}):
+    for name in sorted(set(os.listdir(folder)) - {"Makefile", CAPTURES, "trace", "summary", "go", "stay", "fifo"}):
         with open(os.path.join(folder, name), "rb") as file:
             found[name] = sorted(file.readlines())
     return found
@@ -91,7 +92,7 @@ def captured_before(at):
     ended(earlier, [TOOL, "make", "earlier"])
 
     def folder(name):
-        shutil.copytree(os.path.join(earlier, "capture"), os.path.join(at(name), "capture"))
+        shutil.copytree(os.path.join(earlier, CAPTURES), os.path.join(at(name), CAPTURES))
         return project(at(name), BUILD)
 
     return folder
@@ -99,12 +100,12 @@ def captured_before(at):
 
 def texts_of(folder):
     """The lines of all logs that aren't records, or that have a record after other bytes."""
-    lines, at = Counter(), os.path.join(folder, "capture")
+    lines, at = Counter(), os.path.join(folder, CAPTURES)
     for name in os.listdir(at) if os.path.isdir(at) else ():
         if name.startswith("log."):
             with open(os.path.join(at, name), encoding="utf-8", errors="replace", newline="\n") as log:
                 lines.update(line for line in log.read().split("\n") if line and not re.match(r"@@REDO:((?!\S@@REDO:).)*$", line))
-    return Counter({line: count for line, count in lines.items() if "/capture.mk:" not in line})
+    return Counter({line: count for line, count in lines.items() if "/capture.def:" not in line})
 
 
 def lines_of(text):
@@ -113,8 +114,8 @@ def lines_of(text):
 
 def without_heads(text):
     """Standard error without the messages about a capture, and without the two lines above the output of a failed recipe."""
-    text = re.sub(r"^redo-log-capture: \S+ \(exit \d+\)\n.*\n", "", text, flags=re.M)
-    return lines_of(re.sub(r"^(redo-log-capture: |.*/capture\.mk:).*\n", "", text, flags=re.M))
+    text = re.sub(r"^redo-log-capture: \S+ \(exit \d+\)(, in .*)?\n.*\n", "", text, flags=re.M)
+    return lines_of(re.sub(r"^(redo-log-capture: |.*/capture\.def:).*\n", "", text, flags=re.M))
 
 
 def faults_of(plain, captured, folder, options=(), may_be_1=False, may_lose=False):
@@ -136,7 +137,7 @@ def faults_of(plain, captured, folder, options=(), may_be_1=False, may_lose=Fals
         found.append(f"lost {sorted(wanted - printed - logs)}")
     if logs - wanted or printed - wanted:
         found.append(f"logs have {sorted(logs - wanted)}, and the outputs {sorted(printed - wanted)}, which nothing printed")
-    if os.path.exists(os.path.join(folder, "capture/names")) and not isinstance(shown(folder, "all"), str):
+    if os.path.exists(os.path.join(folder, CAPTURES, "names")) and not isinstance(shown(folder, "all"), str):
         found.append(f"redo-log refuses the captures: {shown(folder, 'all')}")
     return [*found, *found_err.splitlines()[-3:]] if found else []
 
@@ -255,8 +256,9 @@ SERVER_CALLS = {
     "getdents64": ("EIO",), "socket": ("EMFILE",), "bind": ("EADDRINUSE",), "listen": ("EADDRINUSE",), "signalfd4": ("EMFILE",),
     "epoll_create1": ("EMFILE",), "getrandom": ("ENOSYS",), "poll": ("EINTR",),
 }  # fmt: skip
-# System calls that may fail from some time on, until the end.
-LASTING = ("recvmsg", "sendto", "epoll_ctl", "openat", "ftruncate", "pread64", "renameat", "mkdir", "unlinkat", "newfstatat", "getdents64")
+# System calls that may fail from some time on, until the end. If messages can't be received any more, pipes that are on their way to
+# redo-log-capture are closed, so that recipes can't write to them.
+LASTING = ("sendto", "epoll_ctl", "openat", "ftruncate", "pread64", "renameat", "mkdir", "unlinkat", "newfstatat", "getdents64")
 STARTS = ("clone", "clone3", "fork", "vfork")
 
 
@@ -475,6 +477,40 @@ def never_silent(checks, at):
     checks.expect("never_silent", (status in (0, 1), still_there(there) >= 100), (True, True))
 
 
+def ends_while_nobody_reads(checks, at):
+    """The command ends while redo-log-capture waits for a reader of a message that it prints between two events."""
+    folder = project(at("unread"), "all: x\nx: ; @true\n")
+    ended(folder, [TOOL, "make", "-s"])
+    os.remove(os.path.join(folder, CAPTURES, "log.2"))
+    os.mkdir(os.path.join(folder, CAPTURES, "log.2"))
+    os.mkfifo(os.path.join(folder, "go"))
+    go, (there, end) = os.open(os.path.join(folder, "go"), os.O_RDWR), os.pipe()
+    size = fcntl.fcntl(end, fcntl.F_SETPIPE_SZ, 4096)
+    os.write(end, b"-" * size)
+    command = [TOOL, "--quiet", "sh", "-c", "make -s; touch made; read x <go"]
+    with subprocess.Popen(command, cwd=folder, env=environment(), stderr=end) as build:
+        os.close(end)
+        wait_for(os.path.join(folder, "made"))
+        time.sleep(0.3)  # until the message is about to be printed; if that takes longer, this tests less
+        os.write(go, b"\n")
+        wait_until("the shell has ended", lambda: not any("(sh)" in stat for stat in stats_of_children(build.pid)))
+        printed = b"".join(iter(lambda: os.read(there, 65536) if select.select([there], [], [], MOST)[0] else b"", b""))
+        with contextlib.suppress(subprocess.TimeoutExpired):
+            build.wait(timeout=MOST / 4)
+        build.kill()
+    os.close(go)
+    os.close(there)
+    checks.expect("ends_while_nobody_reads", (build.returncode, b"log.2: Is a directory\n" in printed), (0, True))
+
+
+def stats_of_children(process):
+    """The states of the children of a process."""
+    with open(f"/proc/{process}/task/{process}/children", encoding="utf-8") as children:
+        for child in children.read().split():
+            with contextlib.suppress(OSError), open(f"/proc/{child}/stat", encoding="utf-8") as stat:
+                yield stat.read()
+
+
 def at_once_killed(checks, at):
     """A recipe prints a line and then kills its make. The line is in its log."""
     first = "all: ; @echo said >&2; kill -9 $$PPID\n"
@@ -500,31 +536,31 @@ ORDINARY = 1700000000000
 
 
 def hello(token, directory=b"/\0", parent=(0, 0), process=4242, is_redirected=0):
-    return struct.pack("@c32sIIib0I", b"H", token, *parent, process, is_redirected) + directory
+    return struct.pack("@4sIIiI32s", b"H", *parent, process, is_redirected, token) + directory
 
 
 def names(part):
-    return b"N" + part
+    return struct.pack("@4s", b"N") + part
 
 
 def recipe(number, part=b""):
-    return struct.pack("@cI", b"R", number) + part
+    return struct.pack("@4sI", b"R", number) + part
 
 
-def line(number, command=b"/bin/sh\0-c\0true\0", time=ORDINARY):
-    return struct.pack("@cIq", b"L", number, time) + command
+def line(number, command=b"/bin/sh\0-c\0true\0", time=ORDINARY, asks=1):
+    return struct.pack("@4sIqII", b"L", number, time, asks, 0) + command
 
 
 def started(process):
-    return struct.pack("@ci", b"S", process)
+    return struct.pack("@4si", b"S", process)
 
 
 def failed(time=ORDINARY):
-    return struct.pack("@cq", b"F", time)
+    return struct.pack("@4sIq", b"F", 0, time)
 
 
-def gone(process, status=0, time=ORDINARY, asks=0):
-    return struct.pack("@cbiiq", b"E", asks, process, status, time)
+def gone(process, status=0, time=ORDINARY, asks=0, stopping=0, usage=(1, 1, 1)):
+    return struct.pack("@4sIiiIIqqqq", b"E", asks, process, status, stopping, 0, time, *usage)
 
 
 class Liar:
@@ -571,8 +607,8 @@ class Liar:
         connection, (notes, other) = self.connect(), self.pair()
         self.send(connection, hello(self.token, **{"directory": self.folder.encode() + b"\0", **more}), other.fileno())
         other.close()
-        welcome = self.answer(connection, 8)
-        return connection, notes, struct.unpack("@I", welcome[:4])[0] if len(welcome) == 8 else 0
+        welcome = self.answer(connection, 16)
+        return connection, notes, struct.unpack("@I", welcome[:4])[0] if len(welcome) == 16 else 0
 
     def begin(self, name, text=b"", process=77, command=b"/bin/sh\0-c\0true\0", time=ORDINARY, **more):
         """A make with one recipe, of which a line is running and has printed something."""
@@ -596,7 +632,7 @@ class Liar:
             return connection.sendmsg([message], rights, socket.MSG_NOSIGNAL)
         return None
 
-    def answer(self, connection, size=1):
+    def answer(self, connection, size=8):
         """The reply to a message, empty if the connection was closed. Raises an error if there is no reply."""
         with contextlib.suppress(ConnectionError):
             return connection.recv(size)
@@ -608,7 +644,12 @@ class Liar:
             return max(map(int, re.findall(r"^VmHWM:\s+(\d+)", state.read(), re.M)), default=0)
 
     def descriptors(self):
-        return len(os.listdir(f"/proc/{self.server.pid}/fd"))
+        """The number of descriptors of redo-log-capture, without those of logs, which stay open."""
+        count, at = 0, f"/proc/{self.server.pid}/fd"
+        for name in os.listdir(at):
+            with contextlib.suppress(FileNotFoundError):
+                count += not re.search(r"/log\.\d+( \(deleted\))?$", os.readlink(f"{at}/{name}"))
+        return count
 
     def used(self):
         with open(f"/proc/{self.server.pid}/stat", encoding="utf-8") as state:
@@ -678,7 +719,7 @@ def wrong_token(liar):
     for token in (b"\0" * 32, liar.token[:-1] + b"x", liar.token[::-1]):
         connection, (_, other) = liar.connect(), liar.pair()
         liar.send(connection, hello(token), other.fileno())
-        if liar.answer(connection, 8):
+        if liar.answer(connection, 16):
             raise ValueError("a wrong token is taken")
 
 
@@ -920,8 +961,8 @@ def almost_right(chance, token, latest):
     kinds = (
         (1, lambda: hello(token, chance.choice((b"/\0", b"x", b"")), process=process)), (2, lambda: names(chance.choice(some))),
         (5, lambda: recipe(chance.choice((latest + 1,) * 9 + NUMBERS), chance.choice(some))), (9, lambda: started(process)), (3, lambda: failed(time)),
-        (9, lambda: line(number, chance.choice((b"", b"sh", b"sh\0-c\0x\0", b"\0" * 100)), time)),
-        (9, lambda: gone(process, chance.choice((0, 0, 1, 9, 256, -1)), time, chance.choice((0, 1, 7, -1)))),
+        (9, lambda: line(number, chance.choice((b"", b"sh", b"sh\0-c\0x\0", b"\0" * 100)), time, chance.choice((0, 0, 0, 1, 7)))),
+        (9, lambda: gone(process, chance.choice((0, 0, 1, 9, 256, -1)), time, chance.choice((0, 1, 7)), chance.choice((0, 1, 2, 3)), (chance.choice(TIMES),) * 3)),
     )  # fmt: skip
     message = chance.choices([made for _, made in kinds], [weight for weight, _ in kinds])[0]()
     if chance.random() < 0.1:
@@ -941,7 +982,8 @@ def at_random(liar):
         there, end = os.pipe()
         passed = chance.choice(((), (there,), (there,), (there,), (there, there), (end,), (connection.fileno(),)))
         message = almost_right(chance, liar.token, latest)
-        is_note = message[:1] in (b"N", b"R", b"S", b"F") or (message[:1] == b"E" and message[1:2] == b"\0")
+        asks = {b"E": message[4:8], b"L": message[16:20]}.get(message[:1], bytes(4)) != bytes(4)
+        is_note = message[:1] != b"H" and not asks
         is_sent = liar.send(connection if is_note == (chance.random() < 0.02) else notes, message, *(passed if message[:1] == b"L" else ()))
         makes[place][2] += message[:1] == b"R"
         os.close(there)
@@ -1013,4 +1055,7 @@ def lying_make(checks, at):
     all_right(checks, "lying_make", run, [(lie, is_sanitized) for lie in LIES for is_sanitized in (False, True)])
 
 
-PARTS = (failing_hook, failing_server, lying_make, many_processes, never_silent, few_descriptors, refused_memory, at_once_killed)
+PARTS = (
+    failing_hook, failing_server, lying_make, many_processes, never_silent, few_descriptors, refused_memory, at_once_killed,
+    ends_while_nobody_reads,
+)  # fmt: skip

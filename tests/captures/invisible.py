@@ -11,7 +11,7 @@ from concurrent.futures import ThreadPoolExecutor
 from typing import NamedTuple
 
 from builds import PREFIX, TOOL, ran, shown
-from checks import environment
+from checks import CAPTURES, environment
 
 
 class Case(NamedTuple):
@@ -121,10 +121,8 @@ COMMANDS = os.path.join(PREFIX, "tests")
 
 @functools.cache
 def write_commands():
-    """A directory that other users can read too."""
     for name, text in (("await", AWAIT), ("hold", HOLD), ("send", SEND)):
         write(os.path.join(COMMANDS, name), text)
-    os.chmod(PREFIX, 0o755)
 
 
 def write(path, text):
@@ -142,7 +140,7 @@ def is_missing(need):
 
 def without_own(text):
     """Standard error without the lines of redo-log-capture, and without the commands below those that report a failure."""
-    return re.sub(rb"^redo-log-capture: (?:.* \(exit \d+\)\n.*|.*)\n", b"", text, flags=re.M)
+    return re.sub(rb"^redo-log-capture: (?:.* \(exit \d+\)(?:, in .*)?\n.*|.*)\n", b"", text, flags=re.M)
 
 
 def filtered(text, words):
@@ -264,10 +262,10 @@ SIGNALS = {
         f"{kind} to the group, while an intermediate file is there": Case(INTERMEDIATE, AGAIN.format(kind), err="grep -v -x -e Terminated -e Hangup | sort")
         for kind in ("TERM", "HUP")
     },
-    **{f"{kind} to the first process alone": Case(HALF, f"ulimit -c 0; GONE=x send {kind} front $C make y; ls -I capture") for kind in ("INT", "QUIT")},
-    "KILL to the first process alone": Case(THREE, "send KILL front $C make; ls -I capture"),
-    "USR1 to the first process alone, by which make tells more": Case(THREE, "GONE=none send USR1 front $C make >/dev/null; ls -I capture"),
-    "make is killed": Case("z:\n\t@hold; echo late >&2; touch end\n", "send KILL make $C make; ls -I capture", err="grep -v late", needs="ps"),
+    **{f"{kind} to the first process alone": Case(HALF, f"ulimit -c 0; GONE=x send {kind} front $C make y; ls") for kind in ("INT", "QUIT")},
+    "KILL to the first process alone": Case(THREE, "send KILL front $C make; ls"),
+    "USR1 to the first process alone, by which make tells more": Case(THREE, "GONE=none send USR1 front $C make >/dev/null; ls"),
+    "make is killed": Case("z:\n\t@hold; echo late >&2; touch end\n", "send KILL make $C make; ls", err="grep -v late", needs="ps"),
     "all is killed: temporary files": Case("x:\n\t@hold\n", "export TMPDIR=$PWD/tmp; send KILL group $C make; ls tmp", setup="mkdir tmp"),
     "a recipe kills its group": Case("all: ; @(kill -9 0) & sleep 60; echo never\n", "setsid -w $C make; echo $?", err="grep -v Killed"),
     "a recipe sends TERM to its group": Case("all:\n\t@trap '' TERM; touch $@; kill -TERM 0; await !$@; echo after\n", "setsid -w $C make; echo $?"),
@@ -563,7 +561,7 @@ NAMES = {
         f"all: {ODD_WORDS}\n{ODD_WORDS}:\n\t@echo failed >&2; false\n", "$C make -k", status=2,
         logs="redo  all\n" + "".join(f"redo    {name}\nfailed\nredo    {name} (exit 1)\n" for name in sorted(ODD, key=str.encode)),
     ),  # fmt: skip
-    "a name that is no UTF-8": Case("all: gr\udcfcn\ngr\udcfcn: ; @echo said >&2; touch $@; false\n", "$C make; ls -I capture"),
+    "a name that is no UTF-8": Case("all: gr\udcfcn\ngr\udcfcn: ; @echo said >&2; touch $@; false\n", "$C make; ls"),
     "a name with a tab": Case('T := $(shell printf "a\\tb")\nall: ; @echo "$(T)"\n'),
     "commands that can't be run": Case("all:\n\t-./noexec\n\t-./dir\n\t-./nope\n", files={"noexec": "x\n"}, setup="mkdir dir"),
 }
@@ -575,7 +573,18 @@ def names(checks, at):
 
 COMMITTED = "git init -q .; git add Makefile; git -c user.name=a -c user.email=b commit -qm x"
 SYMLINKED = {"real/Makefile": "all: ; @echo $$PWD $(CURDIR) $$(pwd) $$(pwd -P); true\n"}
+MATCHED = "D := $(wildcard */.)\nall: $(D)\n$(D): ; @$(MAKE) -s -C $@\n.PHONY: $(D)\n"
+LOOP = "all: ; @for d in */; do $(MAKE) -s -C $$d || exit; done\n"
+IN_DIRECTORY = "all: ; @echo $(notdir $(CURDIR))\n"
+TWO = {"a/Makefile": IN_DIRECTORY, "b/Makefile": IN_DIRECTORY}
+PROGRAM = "all: capture\ncapture: capture.c ; @cc -o $@ capture.c\n"
 FILES_AROUND = {
+    "$(wildcard */.)": Case(MATCHED, "$C make; $C make; ls", files=TWO),
+    "a loop over directories": Case(LOOP, "$C make; $C make; ls", files=TWO),
+    "a target named capture": Case("all: a capture\na: ; @echo a; true\ncapture: ; @echo making $@; true\n", "$C make; $C make; ls"),
+    "a program named capture": Case(PROGRAM, "$C make && ./capture; ls", files={"capture.c": "int main(){return 5;}\n"}, status=0, needs="cc"),
+    "a directory named capture, made by a recipe": Case("all: ; @mkdir capture; echo x >capture/x; ls *\n"),
+    "a source directory named capture": Case("all: ; @cp capture/x.c made; ls *\n", files={"capture/x.c": "int x;\n"}),
     "a recipe removes all": Case(
         "all: clean\n\t@echo all\nclean: ; @find . -mindepth 1 -not -name Makefile -delete; ls -A\n", setup="mkdir build", is_uncaptured=True
     ),
@@ -788,8 +797,8 @@ FEATURES = {
     "a makefile that is remade": Case(INCLUDED, "$C $M", logs="redo  all\nredo    inc.mk\nredo      src\nsrc\nmaking\na\n"),
     "-n, -q and -t": Case("all: a ; touch all\na: ; touch a\n", "$C $M -n; $C $M -q; echo $?; $C $M -t; ls", is_uncaptured=True),
     "a makefile of MAKEFILES": Case(READ_BEFORE, "MAKEFILES=pre.mk $C $M", files={"pre.mk": "X=pre\n"}, logs="redo  all\ne\n"),
-    "rules that match anything": Case(MATCHES, "$C $M; ls -I capture", files={"x.q.in": ""}, logs="redo  all\nredo    x.q\n"),
-    "a rule that matches anything, double-colon": Case("all: x\n%:: ; @echo match $@\n", "$C $M; ls -I capture", logs="redo  all\nredo    x\n"),
+    "rules that match anything": Case(MATCHES, "$C $M; ls", files={"x.q.in": ""}, logs="redo  all\nredo    x.q\n"),
+    "a rule that matches anything, double-colon": Case("all: x\n%:: ; @echo match $@\n", "$C $M; ls", logs="redo  all\nredo    x\n"),
     "all variables": Case(ALL_VARIABLES, "$C $M", out="grep -v -e '^MAKEFILES=' -e '^\\.LOADED='", logs="redo  all\ne\n"),
     "a variable that is undefined": Case(UNDEFINED, "$C $M --warn-undefined-variables"),
     "a process in the background": Case(BACKGROUND, "$C $M", err="grep -v late", logs="redo  all\nredo    b\nredo      a\nnow\nlate\n"),
@@ -822,7 +831,7 @@ def can_be_led(make):
         return "load" in done.stdout and b"/ld-" in file.read(4096)
 
 
-NOT_CAPTURED = re.compile(rb"^\S+/capture\.mk:\d+: recipes are not captured: .*\n", re.M)
+NOT_CAPTURED = re.compile(rb"^\S+/capture\.def:\d+: recipes are not captured: .*\n", re.M)
 
 
 def uncaptured(checks, at, make):
@@ -847,17 +856,12 @@ def features_of_others(checks, at):
 BELOW_IT = "the capture directory is below that of the build"
 BY_VARIABLES = "makes learn of the capture by MAKEFILES and CAPTURE_RUN"
 FOUND = "all: ; @find . -newer stamp -type f | sort; find . -mindepth 1 -newer stamp -type d\n"
-MATCHED = "D := $(wildcard */.)\nall: $(D)\n$(D): ; -@$(MAKE) -s -C $@\n.PHONY: $(D)\n"
-LOOP = "all: ; @for d in */; do $(MAKE) -s -C $$d || true; done\n"
-IN_DIRECTORY = "all: ; @echo $(notdir $(CURDIR))\n"
-OF_TWO = "grep -v -e capture -e '\\*\\*\\*'"
-TWO = {"a/Makefile": IN_DIRECTORY, "b/Makefile": IN_DIRECTORY}
 # What differs, and why. After the filters of the case nothing differs.
 BY_DESIGN = {
-    "find": (BELOW_IT, Case(FOUND, out="grep -v ^./capture", setup="touch -d '1 hour ago' stamp")),
-    "$(wildcard */.)": (BELOW_IT, Case(MATCHED, "$C make >/dev/null; $C make", out="grep -v capture", err=OF_TWO, files=TWO)),
-    "a loop over directories": (BELOW_IT, Case(LOOP, out="grep -v capture", err=OF_TWO, files=TWO)),
-    "tar of the directory itself": (BELOW_IT, Case("dist: ; @tar cf - . | tar tf - | sort\n", out="grep -v ^./capture/", err="grep -v capture")),
+    "find": (BELOW_IT, Case(FOUND, out=f"grep -v '^\\./{CAPTURES}'", setup="touch -d '1 hour ago' stamp")),
+    "tar of the directory itself": (
+        BELOW_IT, Case("dist: ; @tar cf - . | tar tf - | sort\n", out=f"grep -v '^\\./{CAPTURES}/'", err=f"grep -v '{CAPTURES}'")
+    ),
     "the names of variables": (BY_VARIABLES, Case("all: ; @env | cut -d= -f1 | sort\n", out="grep -v -x -e MAKEFILES -e CAPTURE_RUN")),
     "the origins of variables": (
         BY_VARIABLES,
@@ -877,13 +881,6 @@ def by_design(checks, at):
         checks.expect(f"{name}: it differs, as {why}", captured.seen() == plain.seen(), False)
         checks.expect(f"{name}: nothing else differs", captured.seen(case.out, case.err), plain.seen(case.out, case.err))
 
-    folder = at("source")
-    write(os.path.join(folder, "Makefile"), "all: ; @touch made\n")
-    write(os.path.join(folder, "capture/x.c"), "int x;\n")
-    told = "redo-log-capture: capture is not a capture directory, and not empty; name another one with --dir\n"
-    checks.expect("a source directory named capture is refused", ran(folder, [TOOL, "make"]), (1, "", told))
-    checks.expect("then nothing was started", (sorted(os.listdir(folder)), os.listdir(f"{folder}/capture")), (["Makefile", "capture"], ["x.c"]))
-
     for words, status in (("./configure && make", 1), ("env -u MAKEFILES ./configure && make", 0)):
         folder = at(f"configure{status}")
         write(os.path.join(folder, "configure"), CONFIGURE)
@@ -892,7 +889,7 @@ def by_design(checks, at):
         if status == 0:
             checks.expect("a script that uses a variable MAKEFILES, without that of the environment", captured, (0, "X is 1\n", ""))
         else:
-            found = re.fullmatch(r"cannot find \S+/capture\.mk\.in\nredo-log-capture: no recipe was captured\n", captured[2])
+            found = re.fullmatch(r"cannot find \S+/capture\.def\.in\nredo-log-capture: no recipe was captured\n", captured[2])
             checks.expect("a script that uses a variable MAKEFILES", (captured[:2], bool(found)), ((1, ""), True))
 
 

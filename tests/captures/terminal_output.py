@@ -1,11 +1,13 @@
 """What people see of a captured build: which target failed, immediately and in one piece, and how to read its log."""
 import os
 import re
+import resource
 import signal
 import subprocess
+import time
 
 from builds import PREFIX, TOOL, failed, last_lines, log_of, make, of_a_terminal, project, ran, said, shown, wait_for, wait_until, write
-from checks import contents, environment
+from checks import CAPTURES, contents, environment
 
 
 def what_failed(checks, at):
@@ -33,20 +35,21 @@ def what_failed(checks, at):
     checks.expect("a status that make ignores, and one that it doesn't", make(folder), (2, "", text + failed("all")))
 
     folder = project(at("nothing"), "all: ; @exit 3\n")
-    checks.expect("one that says nothing", make(folder), (2, "", said("all", 3, "exit 3") + "make: *** [Makefile:1: all] Error 3\n" + failed("all")))
+    checks.expect("one that says nothing", make(folder), (2, "", said("all", 3, "exit 3") + "make: *** [Makefile:1: all] Error 3\n" + failed("all", is_empty=True)))
 
     folder = project(at("bytes"), "all: ; @./print\n")
     write(os.path.join(folder, "print"), "#!/bin/sh\nprintf 'a\\000b\\033[1m\\377\\n@@REDO:hint:7:1@@ x\\nend' >&2; exit 3\n")
     os.chmod(os.path.join(folder, "print"), 0o755)
     done = subprocess.run([TOOL, "make"], cwd=folder, env=environment(), capture_output=True)
-    checks.expect("bytes as they are, without records", done.stderr.startswith(b"redo-log-capture: all (exit 3)\n./print\na\0b\33[1m\xff\nend\nmake: *** "), True)
+    text = b"redo-log-capture: all (exit 3)\n./print\na\0b\33[1m\xff\n @@REDO:hint:7:1@@ x\nend\nmake: *** "
+    checks.expect("bytes as they are, with a space before what looks like a record", done.stderr[: len(text)], text)
 
 
 def below(checks, at):
     """For sub-makes of a recipe: the failed recipe of the sub-make is shown, and then the output of the recipe that started it."""
     folder = project(at("below"), ".PHONY: lib\nall: need lib\nlib: ; @echo lib >&2; $(MAKE) -s -C lib z; echo no >&2; exit 1\nneed: ; @echo need >&2\n")
     write(os.path.join(folder, "lib/Makefile"), "z: y ; @echo z >&2; exit 3\ny: ; @echo y >&2\n")
-    text = said("lib/z", 3, "echo z >&2; exit 3", "z\n")
+    text = said("lib/z", 3, "echo z >&2; exit 3", "z\n", "lib")
     text += said("lib", 1, "echo lib >&2; make -s -C lib z; echo no >&2; exit 1", "lib\nmake[1]: *** [Makefile:1: z] Error 3\nno\n") + "make: *** [Makefile:3: lib] Error 1\n"
     checks.expect("what failed below a recipe", make(folder, "-s"), (2, "", text + failed("lib/z")))
 
@@ -77,18 +80,26 @@ def last_words(checks, at):
     """The last lines name the failed targets, at most ten, and show how to read their logs."""
     names = [f"t{number}" for number in range(12)]
     folder = project(at("many"), f"all: {' '.join(names)}\n{' '.join(names)}: ; @exit 1\n")
-    shown_names = sorted(names)
-    told = make(folder, "-ks", "t0=", options=["--quiet"])[2]
-    text = f"redo-log-capture: {', '.join(shown_names[:10])} and 2 more failed\nredo-log-capture: show all logs: redo-log -r all\n"
-    checks.expect("twelve failed", last_lines(2, told), text)
+    told = make(folder, "-ks", options=["--quiet"])[2]
+    checks.expect("twelve failed", last_lines(3, told), failed(*sorted(names), is_empty=True))
     told = make(folder, "-ks", *names[:10], options=["--dir", "ten", "--quiet"])[2]
     ten = " ".join(sorted(names[:10]))
-    checks.expect("ten failed", last_lines(2, told), failed(*sorted(names[:10]), words=f"--dir ten {ten}").replace("-r all", "-r --dir ten all"))
+    text = failed(*sorted(names[:10]), words=f"--dir ten {ten}", is_empty=True).replace("-r all", "-r --dir ten all")
+    checks.expect("ten failed", last_lines(3, told), text)
+
+    folder = project(at("empty"), "all: a b\na: ; @exit 1\nb: ; @echo b >&2; exit 1\n")
+    checks.expect("one of two logs is empty", last_lines(3, make(folder, "-ks")[2]), "make: Target 'all' not remade because of errors.\n" + failed("a", "b"))
+    checks.expect("both outputs, and an empty log", last_lines(2, make(folder, "-s", "a", options=["--both"])[2]), failed("a"))
+
+    names = ["x" * 2000 + str(number) for number in range(5)]
+    folder = project(at("long"), f"all: {' '.join(names)}\n{' '.join(names)}: ; @echo $@ >&2; exit 1\n")
+    line = ("redo-log-capture: 5 targets failed: redo-log " + " ".join(names))[:8187] + " ..\n"
+    checks.expect("a line that is too long", make(folder, "-ks")[2].splitlines(keepends=True)[-2], line)
 
     folder = project(at("listed"), "all: ; @exit 1\n")
     write(os.path.join(folder, "names"), "smith\n")
-    text = failed("all", words="--dir capture all").replace("-r all", "-r --dir capture all")
-    checks.expect("where there is another list of names", last_lines(2, make(folder)[2]), text)
+    text = failed("all", words=f"--dir {CAPTURES} all", is_empty=True).replace("-r all", f"-r --dir {CAPTURES} all")
+    checks.expect("where there is another list of names", last_lines(3, make(folder)[2]), text)
 
     folder = project(at("rule"), "all: a nope ; @echo all >&2\na: ; @echo a >&2\n")
     why = "make: *** No rule to make target 'nope', needed by 'all'.  Stop.\n"
@@ -105,7 +116,7 @@ def printed_something(checks, at):
     folder = project(at("some"), makefile)
     checks.expect("warnings of a build that succeeds", ran(folder, [TOOL, "make", "B=0"]), (0, "out\n", line))
     status, _, told = ran(folder, [TOOL, "make", "-k", "B=3"])
-    checks.expect("warnings of a build that fails", (status, last_lines(3, told)), (2, failed("b", printed=("a", "c"))))
+    checks.expect("warnings of a build that fails", (status, last_lines(4, told)), (2, failed("b", printed=("a", "c"), is_empty=True)))
     for options in (["--quiet"], ["--both"], ["--live"]):
         told = ran(folder, [TOOL, *options, "make", "-s", "B=0"])[2]
         checks.expect(f"warnings, with {options}", "printed something" in told, False)
@@ -120,25 +131,66 @@ def heads_of_parents(checks, at):
     """A recipe that failed only because its sub-make did has no header, unless it printed something else."""
     folder = project(at("plain"), ".PHONY: lib\nall: lib\nlib: ; @$(MAKE) -s -C lib $(W)\n")
     write(os.path.join(folder, "lib/Makefile"), "z: w ; @exit 3\nw: ; @$(MAKE) -s v\nv: ; @echo v >&2; exit $(V)\n")
-    inner = said("lib/v", 4, "echo v >&2; exit 4", "v\n")
+    inner = said("lib/v", 4, "echo v >&2; exit 4", "v\n", "lib")
     outer = "make[2]: *** [Makefile:3: v] Error 4\nmake[1]: *** [Makefile:2: w] Error 2\nmake: *** [Makefile:3: lib] Error 2\n"
     checks.expect("two parents that print nothing else", make(folder, "-s", "V=4"), (2, "", inner + outer + failed("lib/v")))
     folder = project(at("more"), ".PHONY: lib\nall: lib\nlib: ; @$(MAKE) -s -C lib || { echo 'no lib' >&2; exit 1; }\n")
     write(os.path.join(folder, "lib/Makefile"), "v: ; @exit 4\n")
-    text = said("lib/v", 4, "exit 4") + said("lib", 1, "make -s -C lib || { echo 'no lib' >&2; exit 1; }", "make[1]: *** [Makefile:1: v] Error 4\nno lib\n")
-    checks.expect("a parent that prints something else", make(folder, "-s"), (2, "", text + "make: *** [Makefile:3: lib] Error 1\n" + failed("lib/v")))
+    text = said("lib/v", 4, "exit 4", directory="lib") + said("lib", 1, "make -s -C lib || { echo 'no lib' >&2; exit 1; }", "make[1]: *** [Makefile:1: v] Error 4\nno lib\n")
+    checks.expect("a parent that prints something else", make(folder, "-s"), (2, "", text + "make: *** [Makefile:3: lib] Error 1\n" + failed("lib/v", is_empty=True)))
     folder = project(at("own"), ".PHONY: lib\nall: lib\nlib: ; @$(MAKE) -s -C lib\n")
     write(os.path.join(folder, "lib/Makefile"), "v ; no rule\n")
     text = said("lib", 2, "make -s -C lib", "Makefile:1: *** missing separator.  Stop.\n") + "make: *** [Makefile:3: lib] Error 2\n"
     checks.expect("a sub-make that fails by itself", make(folder, "-s"), (2, "", text + failed("lib")))
 
 
-# A line of a recipe, and the command as redo-log-capture shows it.
+def ignored_failures(checks, at):
+    """A target is named if it explains the failure: not if the recipe that ran its make went on, or did not fail."""
+    probe = "probe: ; @exit 1\n"
+    folder = project(at("minus"), "check:\n\t-@$(MAKE) -s probe 2>/dev/null\n\t@echo '3 of 5 failed'; exit 3\n" + probe)
+    text = "make: [Makefile:2: check] Error 2 (ignored)\n" + said("check", 3, "echo '3 of 5 failed'; exit 3") + "make: *** [Makefile:3: check] Error 3\n"
+    first, rest = said("check", 2, "make -s probe 2>/dev/null"), text + failed("check", is_empty=True)
+    checks.expect("a line after a sub-make whose failure is ignored", make(folder, "check"), (2, "3 of 5 failed\n", first + rest))
+    folder = project(at("missing"), "check:\n\t-@$(MAKE) -s probe 2>/dev/null\n\t@./nosuch x\n" + probe)
+    checks.expect("a line that can't be started", last_lines(3, make(folder, "check")[2]), failed("check", is_empty=True))
+    folder = project(at("or"), "all: a b\na:\n\t@$(MAKE) -s probe >/dev/null 2>&1 || echo no probe >&2\n\t@echo a >&2; exit 3\n" + probe + "b: ; @true\n")
+    text = said("a", 3, "echo a >&2; exit 3", "no probe\na\n") + "make: *** [Makefile:4: a] Error 3\nmake: Target 'all' not remade because of errors.\n"
+    checks.expect("a sub-make whose failure the shell handles", make(folder, "-k"), (2, "", text + failed("a")))
+    folder = project(at("redirected"), "all: ; @$(MAKE) -s probe 2>/dev/null; exit 3\n" + probe)
+    text = said("all", 3, "make -s probe 2>/dev/null; exit 3") + "make: *** [Makefile:1: all] Error 3\n"
+    checks.expect("a sub-make whose output is redirected", make(folder), (2, "", text + failed("probe")))
+
+    folder = project(at("deep"), "all:\n\t@$(MAKE) -s mid || :\n\t@$(MAKE) -s last\nmid: ; @$(MAKE) -s probe\nlast: ; @$(MAKE) -s cause\ncause: ; @echo cause >&2; exit 4\n" + probe)
+    checks.expect("two levels", last_lines(2, make(folder, "-s")[2]), failed("cause"))
+    folder = project(at("all"), "all: a b\na: ; @$(MAKE) -s probe || :\nb: a ; @$(MAKE) -s cause\ncause: ; @echo cause >&2; exit 4\n" + probe)
+    checks.expect("a recipe that did not fail, and another", last_lines(2, make(folder, "-s")[2]), failed("cause"))
+    folder = project(at("norule"), "all: a nope\na: ; @$(MAKE) -s probe 2>/dev/null || :\n" + probe)
+    lines = ["no recipe failed, except where that was ignored; see make's own message", "show all logs: redo-log -r all"]
+    checks.expect("only failures that are ignored", last_lines(2, make(folder, "-ks")[2]), "".join(f"redo-log-capture: {line}\n" for line in lines))
+
+    folder = project(at("again"), "all: s1 s2\ns1: ; @$(MAKE) -s -f x.mk x X=1\ns2: s1; @$(MAKE) -s -f x.mk x\n")
+    write(os.path.join(folder, "x.mk"), "x: ; @test -z \"$(X)\"\n")
+    checks.expect("a target that fails in a sub-make", last_lines(3, make(folder, "-s")[2]), failed("x", is_empty=True))
+    write(os.path.join(folder, "Makefile"), "all: s1 s2\ns1: ; @$(MAKE) -s -f x.mk x X=1\ns2: ; @$(MAKE) -s -f x.mk x\n")
+    checks.expect("and is made by another one", last_lines(2, make(folder, "-ks")[2]), failed("s1"))
+    folder = project(at("colons"), "all: x\nx:: ; @echo one >&2; false\nx:: ; @echo two >&2\n")
+    checks.expect("double-colon rules", last_lines(2, make(folder, "-k")[2]), failed("x"))
+    checks.expect("double-colon rules of a build that succeeds", ran(folder, [TOOL, "make", "-is"]), (0, "", said("x", 1, "echo one >&2; false", "one\n")))
+
+
+# A line of a recipe, and the command as redo-log-capture shows it: at most three lines and 240 bytes of it.
 COMMANDS = {
     "a shell": ("@echo 'a  b' >&2; false", "echo 'a  b' >&2; false"),
     "no shell": ("@false 'a  b' c\\ d '' x=y", "false 'a  b' 'c d' '' x=y"),
     "several lines": ("@echo a >&2; \\\n\tfalse", "echo a >&2; \\\nfalse"),
-    "a long line": ("@: " + "x" * 20000 + "; false", ": " + "x" * (16000 - len("/bin/sh -c : ")) + " .."),
+    "240 bytes": ("@: " + "x" * 231 + "; false", ": " + "x" * 231 + "; false"),
+    "241 bytes": ("@: " + "x" * 232 + "; false", ": " + "x" * 232 + "; fals .."),
+    "a long line": ("@: " + "x" * 20000 + "; false", ": " + "x" * 238 + " .."),
+    "three lines": ("@: a; \\\n\t: b; \\\n\tfalse", ": a; \\\n: b; \\\nfalse"),
+    "four lines": ("@: a; \\\n\t: b; \\\n\t: c; \\\n\tfalse", ": a; \\\n: b; \\\n: c; \\ .."),
+    "a long line without a shell": ("@false " + "it\\'s " * 50, "false " + "'it'\\''s' " * 23 + "'it' .."),
+    **{f"a character that ends with byte {240 + over}": ("@: " + "x" * (238 - len(char.encode()) + over) + char + "; false",
+       ": " + "x" * (238 - len(char.encode()) + over) + ("" if over else char) + " ..") for char in "\u00e9\u2013\U0001f600" for over in range(len(char.encode()))},
 }
 
 
@@ -149,10 +201,42 @@ def failed_commands(checks, at):
         checks.expect(f"a command that failed, {name}", told.startswith(f"redo-log-capture: all (exit 1)\n{command}\n"), True)
     folder = project(at("bash"), "SHELL = /usr/bin/env bash\n.SHELLFLAGS = -eu -o pipefail -c\nall: ; @false | true\n")
     checks.expect("a command that failed, another shell", make(folder)[2].startswith("redo-log-capture: all (exit 1)\nfalse | true\nmake: ***"), True)
+    folder = project(at("kept lines"), ".ONESHELL:\nall:\n\t@: a\n\t: b\n\tfalse\n")
+    checks.expect("three lines of one shell", make(folder)[2].startswith("redo-log-capture: all (exit 1)\n: a\n: b\nfalse\nmake: ***"), True)
     folder = project(at("missing"), "all: ; @./missing x\n")
     text = "make: ./missing: No such file or directory\nmake: *** [Makefile:1: all] Error 127\n"
-    checks.expect("a command that isn't there", make(folder), (2, "", text + failed("all")))
+    checks.expect("a command that isn't there", make(folder), (2, "", text + failed("all", is_empty=True)))
     checks.expect("a command that isn't there: its log", "@@ 127 all\n" in log_of(folder, "all"), True)
+
+
+def directories(checks, at):
+    """The first line of a block has the directory of the make, if that isn't the directory in which the build began."""
+    below = "all: ; @echo warned >&2; exit $(E)\n"
+    for name, place, shown_place in (("below", "a/b c", "a/b c"), ("outside", at("other"), at("other")), ("beside", at("base") + "2", at("base") + "2")):
+        folder = project(at("base") if name == "beside" else at(name), f"top: ; @$(MAKE) -sC '{place}' E=$(E)\n")
+        write(os.path.join(folder, place, "Makefile"), below)
+        target = f"{shown_place}/all"
+        told = make(folder, "-s", "E=3")[2]
+        checks.expect(f"a make {name}", told.startswith(said(target, 3, "echo warned >&2; exit 3", "warned\n", shown_place)), True)
+        told = make(folder, "-s", "E=0", options=["--live"])
+        checks.expect(f"a make {name} that does not fail", told, (0, "", f"redo-log-capture: {target}, in {shown_place}\nwarned\n"))
+    folder = project(at("up"), "x: ; @exit 3\n")
+    write(os.path.join(folder, "sub/Makefile"), "../y: ; @exit 3\n")
+    told = make(folder, "-sC", "sub")[2]
+    checks.expect("a target above its make", told.startswith(said("y", 3, "exit 3", directory="sub")), True)
+
+
+def long_blocks(checks, at):
+    """A block that is longer than the memory that the process may have is printed in full, and without records."""
+    count = 1_000_000
+    makefile = f"all: x\nx: ; @seq -f 'line %09.0f of the output of this recipe' {count} >&2; $(MAKE) -s y; seq 3 >&2; exit 3\ny: ; @echo y >&2\n"
+    folder = project(at("long"), makefile)
+    limit = 40 << 20
+    build = subprocess.run([TOOL, "make", "-s"], cwd=folder, env=environment(), capture_output=True, preexec_fn=lambda: resource.setrlimit(resource.RLIMIT_AS, (limit, limit)))
+    lines = build.stderr.decode().split("\n")
+    wanted = [f"line {number:09} of the output of this recipe" for number in range(1, count + 1)] + ["1", "2", "3", "make: *** [Makefile:2: x] Error 3"]
+    checks.expect("a block that is longer than memory", (build.returncode, lines[2 : 2 + len(wanted)] == wanted, len(build.stderr) > limit), (2, True, True))
+    checks.expect("its first lines", (lines[0], lines[1][:4]), ("redo-log-capture: x (exit 3)", "seq "))
 
 
 def uncaptured(checks, at):
@@ -170,16 +254,67 @@ def summaries(checks, at):
     path = os.path.join(folder, "sum")
     write(path, "old\n")
     checks.expect("a summary: make", make(folder, "-k", "A=3", options=["--quiet", "--summary", "sum"])[0], 2)
-    rows = [re.fullmatch(r"(\d+|-) (\d+\.\d{3}) (\d+) (.*)\n", line).groups() for line in open(path, encoding="utf-8")]
+    rows = [re.fullmatch(r"(\d+|-) (\d+\.\d{3}) (\d+) (.*) \d+\.\d{3} \d+\n", line).groups() for line in open(path, encoding="utf-8")]
     checks.expect("a summary", [(row[0], row[2], row[3]) for row in rows], [("3", "2", "a"), ("0", "3", "d/b")])
     checks.expect("its seconds", (0.3 <= float(rows[0][1]) < 30, float(rows[1][1]) < 30), (True, True))
-    checks.expect("nothing else is left", sorted(os.listdir(folder)), ["Makefile", "capture", "sum"])
+    checks.expect("nothing else is left", sorted(os.listdir(folder)), [CAPTURES, "Makefile", "sum"])
     make(folder, "A=0", options=[f"--summary={path}"])
     checks.expect("it is replaced", [line.split()[0::3] for line in open(path, encoding="utf-8")], [["0", "a"], ["0", "d/b"]])
     told = "redo-log-capture: cannot write none/sum: Not a directory\n"
     write(os.path.join(folder, "none"), "")
     checks.expect("where it can't be", make(folder, "A=0", options=["--summary", "none/sum"]), (1, "", told))
     checks.expect("without a name", make(folder, options=["--summary="])[0::2], (2, "redo-log-capture: --summary: no file given\n"))
+
+
+class Watched:
+    """A build with --progress=1, and the lines that it has printed."""
+
+    def __init__(self, folder, command):
+        self.go, self.began, self.lines = os.path.join(folder, "go"), time.monotonic(), []
+        command = [TOOL, "--progress=1", *command]
+        self.build = subprocess.Popen(command, cwd=folder, env=environment(), stderr=subprocess.PIPE, text=True, preexec_fn=of_a_terminal)
+
+    def line(self, pattern):
+        """Waits for a line, without its seconds."""
+        for line in self.build.stderr:
+            self.lines.append(line)
+            if re.search(pattern, line):
+                return re.sub(r"for \d+ s", "for N s", line.removeprefix("redo-log-capture: ").rstrip("\n"))
+        return None
+
+    def end(self):
+        """Returns the status, and whether there were at most as many lines as seconds."""
+        write(self.go, "")
+        rest = self.build.communicate(timeout=60)[1].splitlines(keepends=True)
+        count = sum("running" in line or "at present" in line for line in self.lines + rest)
+        return self.build.returncode, count <= time.monotonic() - self.began
+
+
+def progress(checks, at):
+    """--progress: a line every so many seconds about what was made, failed and runs, and how many targets the last run had."""
+    wait = "until [ -e go ]; do sleep 0.01; done"
+    makefile = f"all: a b c d\na: ; @true\nb: ; @exit 3\nc: ; @sleep 0.1; {wait}\nd: ; @$(MAKE) -s -f d.mk\n"
+    folder = project(at("some"), makefile)
+    write(os.path.join(folder, "d.mk"), f"e: ; @sleep 0.2; {wait}\n")
+    watched = Watched(folder, ["make", "-skj4"])
+    checks.expect("progress", watched.line("1 made, 1 failed, 2 running"), "1 made, 1 failed, 2 running, c for N s")
+    checks.expect("progress: the end", watched.end(), (2, True))
+    os.remove(watched.go)
+    watched = Watched(folder, ["make", "-skj4", "c"])
+    checks.expect("progress of another run", watched.line("1 running"), "0 made, 0 failed, 1 running, c for N s; last run: 5")
+    os.killpg(watched.build.pid, signal.SIGKILL)
+    watched.build.wait()
+    watched = Watched(folder, ["make", "-skj4", "d"])
+    checks.expect("progress of a run after one that was killed", watched.line("1 running"), "0 made, 0 failed, 1 running, e for N s; last run: 1")
+    checks.expect("progress: its end", watched.end(), (0, True))
+    os.remove(watched.go)
+    watched = Watched(folder, ["sh", "-c", wait])
+    checks.expect("progress without a recipe", watched.line("present"), "no recipe is captured at present")
+    checks.expect("progress without a recipe: the end", watched.end(), (0, True))
+    checks.expect("a short build", ran(folder, [TOOL, "--progress", "make", "-s", "a"]), (0, "", ""))
+    for seconds in ("0", "86401", "1.5", "", "-1", "99999999999"):
+        text = f"redo-log-capture: --progress: not a number of seconds from 1 to 86400: {seconds}\n"
+        checks.expect(f"--progress={seconds}", ran(folder, [TOOL, f"--progress={seconds}", "make"]), (2, "", text))
 
 
 def signal_group(group, kind):
@@ -201,10 +336,18 @@ def interrupted(checks, at):
             (signal_group if to == "group" else os.kill)(build.pid, kind)
             told = build.communicate(timeout=30)[1]
             own = [re.sub(r"\d+\.\d s", "N s", line) for line in told.splitlines() if line.startswith("redo-log-capture")]
-            lines = [f"{what}; running: b (N s), c (N s); show their logs: redo-log b c", "show all logs: redo-log -r all"]
+            lines = [f"{what}; running: b (N s), c (N s)", "show all logs: redo-log -r all"]
             checks.expect(f"{kind.name} to the {to}", own, [f"redo-log-capture: {line}" for line in lines])
             rows = [line.split()[0::3] for line in open(os.path.join(folder, "sum"), encoding="utf-8")]
             checks.expect(f"{kind.name} to the {to}: the summary", [row[1] for row in rows], ["a", "b", "c"])
+    folder = project(at("ignored"), "all: ; @touch begun; until [ -e go ]; do sleep 0.01; done; echo all >&2; exit 3\n")
+    command = [TOOL, "sh", "-c", "trap '' HUP; make -s; exit 4"]
+    build = subprocess.Popen(command, cwd=folder, env=environment(), stderr=subprocess.PIPE, text=True, preexec_fn=of_a_terminal)
+    wait_for(os.path.join(folder, "begun"))
+    os.killpg(build.pid, signal.SIGHUP)
+    write(os.path.join(folder, "go"), "")
+    told = build.communicate(timeout=60)[1]
+    checks.expect("a signal that the build ignores", (build.returncode, told.splitlines()[-2:]), (4, failed("all").splitlines()))
     folder = project(at("killed"), "all: a b\na: ; @touch begun; exec sleep 60\nb: ; @echo b >&2; exit 3\n")
     build = subprocess.Popen([TOOL, "make", "-skj2"], cwd=folder, env=environment(), stderr=subprocess.PIPE, text=True, preexec_fn=of_a_terminal)
     wait_for(os.path.join(folder, "begun"))
@@ -212,7 +355,7 @@ def interrupted(checks, at):
     os.kill(int(subprocess.run(["pgrep", "-P", str(build.pid), "-x", "make"], capture_output=True, text=True).stdout), signal.SIGKILL)
     told = build.communicate(timeout=30)[1]
     own = [re.sub(r"\d+\.\d s", "N s", line) for line in told.splitlines()[-3:]]
-    lines = ["make was ended by SIGKILL; running: a (N s); show its log: redo-log a", "b failed; show its log: redo-log b", "show all logs: redo-log -r all"]
+    lines = ["make was ended by SIGKILL; running: a (N s)", "1 target failed: redo-log b", "show all logs: redo-log -r all"]
     checks.expect("make is killed", (build.returncode, own), (-signal.SIGKILL, [f"redo-log-capture: {line}" for line in lines]))
     os.killpg(build.pid, signal.SIGKILL)
 
@@ -248,6 +391,16 @@ def refused_directories(checks, at):
     checks.expect("nothing was made", os.path.exists(os.path.join(folder, "open/made")), False)
     checks.expect("leave to write another one", (answer("open/new"), os.path.exists(os.path.join(folder, "open/made"))), ((0, ""), True))
 
+    device = [TOOL, "--dir", "open/new", "--summary", "/dev/null", "make", "TO=open/made"]
+    done = subprocess.run(device, cwd=folder, env=environment(), capture_output=True, text=True, preexec_fn=nobody)
+    checks.expect("no leave to write the directory of a device", (done.returncode, done.stderr), (0, ""))
+
+    os.mkdir(os.path.join(folder, "own"))
+    os.chown(os.path.join(folder, "own"), *((65534, 65534) if nobody else (-1, -1)))
+    write(os.path.join(folder, "late.mk"), "$(shell chmod a-w own)\nall: ; @echo said >&2\n")
+    status, told = answer("own/late", "-s", "-f", "late.mk")
+    checks.expect("leave is lost before the first recipe", (status, told.splitlines()[:2]), (1, [text(f"{folder}/own/late", "Permission denied").strip(), "said"]))
+
     write(os.path.join(folder, "lost.mk"), "all: x y\nx: ; @chmod -R a-w open/lost\ny: x ; @echo y >&2; touch $(TO) $(TO).too; exit $(Y)\n")
     for status in (0, 3):
         told = answer("open/lost", "-f", "lost.mk", f"Y={status}")
@@ -258,6 +411,8 @@ def refused_directories(checks, at):
 
 
 PARTS = (
-    what_failed, below, heads_of_parents, failed_commands, live, last_words, printed_something, interrupted, summaries, uncaptured,
-    refused_directories,
+    what_failed, below, heads_of_parents, ignored_failures, failed_commands, live, last_words, printed_something, interrupted, progress, summaries, uncaptured,
+    refused_directories, directories,
 )  # fmt: skip
+# The parts that sanitizers can't run.
+WITHOUT_SANITIZERS = (long_blocks,)

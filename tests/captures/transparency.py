@@ -7,7 +7,7 @@ import subprocess
 import sys
 
 from builds import TOOL, lines_of_others, log_of, make, of_a_terminal, project, ran, said, shown, text_of, wait_for, wait_until, without_printed, write
-from checks import TOP, environment
+from checks import CAPTURES, TOP, environment
 
 OPENED = {
     "sh": "echo x >/dev/stderr",
@@ -45,7 +45,7 @@ def outcome(folder, command):
     for _ in range(2):
         done = subprocess.run(command, cwd=folder, env=environment(), capture_output=True, text=True, preexec_fn=without_core)
         lines = sorted(lines_of_others(done.stderr))
-        answers.append((done.returncode, lines, sorted(set(os.listdir(folder)) - {"capture"})))
+        answers.append((done.returncode, lines, sorted(set(os.listdir(folder)) - {CAPTURES})))
     return answers
 
 
@@ -212,7 +212,7 @@ def behind_the_build(checks, at):
 
     count = 40
     names = " ".join(map(str, range(count)))
-    makefile = f"all: {names}\n\t@until [ $$(grep -l late capture/log.* | wc -l) = {count} ]; do sleep 0.01; done\n"
+    makefile = f"all: {names}\n\t@until [ $$(grep -l late {CAPTURES}/log.* | wc -l) = {count} ]; do sleep 0.01; done\n"
     folder = project(at("many"), makefile + f"{names}: ; @echo first $@ >&2; {{ sleep 0.$$(($@ % 7)); echo late $@ >&2; }} >/dev/null &\n")
     checks.expect("many are left behind: make", make(folder, "-j8"), (0, "", ""))
     said = [text_of(folder, str(number)).splitlines() for number in range(count)]
@@ -227,7 +227,7 @@ def behind_the_build(checks, at):
 
 def in_mid_line(checks, at):
     """An unended line is shown, and no record is written into the middle of it."""
-    makefile = "all: ; @printf 'is it there? ' >&2; until grep -q 'is it there' capture/log.*; do sleep 0.01; done; $(MAKE) -s sub; echo yes >&2\n"
+    makefile = f"all: ; @printf 'is it there? ' >&2; until grep -qs 'is it there' {CAPTURES}/log.*; do sleep 0.01; done; $(MAKE) -s sub; echo yes >&2\n"
     folder = project(at("record"), makefile + "sub: ; @echo sub >&2; touch begun; until [ -e go ]; do sleep 0.01; done\n")
     build = subprocess.Popen([TOOL, "make"], cwd=folder, env=environment())
     wait_for(os.path.join(folder, "begun"))
@@ -296,9 +296,9 @@ def sent_elsewhere(checks, at):
 
 def removed(checks, at):
     """A recipe may remove the capture directory. Recipes that run later are captured."""
-    makefile = "all: clean x\n\t@echo all >&2\nclean: first\n\t@echo cleaned >&2; rm -rf capture\nfirst x: ; @echo $@ >&2\n"
+    makefile = f"all: clean x\n\t@echo all >&2\nclean: first\n\t@echo cleaned >&2; rm -rf {CAPTURES}\nfirst x: ; @echo $@ >&2\n"
     folder = project(at("clean"), makefile)
-    told = f"redo-log-capture: {folder}/capture was removed; its captures are lost\n"
+    told = f"redo-log-capture: {folder}/{CAPTURES} was removed; its captures are lost\n"
 
     def made(*words):
         """What the recipe printed before is lost, or printed, as it was read before or after."""
@@ -308,10 +308,10 @@ def removed(checks, at):
     checks.expect("the captures are removed: make", made(), (0, "", told))
     checks.expect("what runs later", shown(folder, "all"), "redo  all\nredo    x\nx\nall\n")
     checks.expect("the last recipe removes them", made("clean"), (0, "", told + "redo-log-capture: no recipe was captured\n"))
-    folder = project(at("fails"), "all: ; @rm -rf capture; kill -9 $$$$\n")
+    folder = project(at("fails"), f"all: ; @rm -rf {CAPTURES}; kill -9 $$$$\n")
     told = told.replace("clean/", "fails/") + "make: *** [Makefile:1: all] Killed\nredo-log-capture: no recipe was captured\n"
     status, out, err = make(folder)
-    checks.expect("and fails", (status, out, err.removeprefix(said("all", 137, "rm -rf capture; kill -9 $$"))), (2, "", told))
+    checks.expect("and fails", (status, out, err.removeprefix(said("all", 137, f"rm -rf {CAPTURES}; kill -9 $$"))), (2, "", told))
 
 
 def no_leftovers(checks, at):

@@ -1,0 +1,37 @@
+/* Text that grows. */
+#include "capture.h"
+#include <stdlib.h>
+#include <string.h>
+
+void reserve_text(struct text *text, size_t size) {
+  if (text->size + size <= text->capacity) return;
+  size_t capacity = 2 * (text->size + size) + 64;
+  text->bytes = xrealloc(text->bytes, capacity);
+  text->capacity = capacity;
+}
+
+void add_text(struct text *text, const char *bytes, size_t size) {
+  if (size == 0) return;
+  reserve_text(text, size);
+  memcpy(text->bytes + text->size, bytes, size);
+  text->size += size;
+}
+
+void add_string(struct text *text, const char *string) { add_text(text, string, strlen(string)); }
+
+void add_number(struct text *text, int64_t number) {
+  char digits[24], *start = digits + sizeof digits;
+  uint64_t left = number < 0 ? -(uint64_t)number : (uint64_t)number;
+  do *--start = '0' + left % 10;
+  while (left /= 10);
+  if (number < 0) *--start = '-';
+  add_text(text, start, digits + sizeof digits - start);
+}
+
+void add_time(struct text *text, int64_t time) {
+  if (time < 0) time = 0;
+  int part = time % 1000;
+  char decimals[] = {'.', '0' + part / 100, '0' + part / 10 % 10, '0' + part % 10};
+  add_number(text, time / 1000);
+  add_text(text, decimals, sizeof decimals);
+}
