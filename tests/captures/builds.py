@@ -1,4 +1,5 @@
 """What the tests of captures share: builds in their own directories, with and without redo-log-capture."""
+import contextlib
 import os
 import re
 import signal
@@ -8,7 +9,7 @@ import tempfile
 import time
 
 sys.path.insert(0, os.path.dirname(os.path.dirname(os.path.abspath(__file__))))
-from checks import CAPTURES, PROGRAM, TOP, environment  # noqa: E402
+from checks import CAPTURES, PROGRAM, TOP, contents, environment  # noqa: E402
 
 PREFIX = tempfile.mkdtemp()
 os.chmod(PREFIX, 0o755)  # what other users can't read is copied
@@ -91,14 +92,14 @@ def shown(folder, *words, at=CAPTURES):
 
 
 def log_of(folder, name, at=CAPTURES):
-    """The bytes of a target's log, or none if the target isn't listed yet."""
+    """The bytes of a target's log, or none if it isn't there yet."""
     at = os.path.join(folder, at)
-    with open(os.path.join(at, "names"), encoding="utf-8") as names:
+    with contextlib.suppress(FileNotFoundError), open(os.path.join(at, "names"), encoding="utf-8") as names:
         numbers = {line.rstrip("\n").split(" ", 1)[1]: line.split(" ", 1)[0].lstrip("!") for line in names}
-    if name not in numbers:
-        return ""
-    with open(os.path.join(at, "log." + numbers[name]), encoding="utf-8") as log:
-        return log.read()
+        if name in numbers:
+            with open(os.path.join(at, "log." + numbers[name]), encoding="utf-8") as log:
+                return log.read()
+    return ""
 
 
 def of_a_terminal():
@@ -118,6 +119,12 @@ def wait_until(what, holds):
 
 def wait_for(path):
     wait_until(path, lambda: os.path.exists(path))
+
+
+def wait_until_recorded(build, what, holds):
+    """Waits until this holds of the captures, and redo-log-capture has written all that it has read: it sleeps then."""
+    wait_until(what, holds)
+    wait_until(f"{what}: all is written", lambda: contents(f"/proc/{build.pid}/stat").rsplit(")", 1)[1].split()[0] == "S")
 
 
 def preloaded(name):

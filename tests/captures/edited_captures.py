@@ -6,7 +6,7 @@ import shutil
 import signal
 import subprocess
 
-from builds import TOOL, lines_of_others, make, of_a_terminal, preloaded, project, ran, shown, text_of, wait_for, wait_until, without_printed, write
+from builds import TOOL, lines_of_others, make, of_a_terminal, preloaded, project, ran, shown, text_of, wait_for, wait_until_recorded, without_printed, write
 from checks import CAPTURES, environment, install_capture
 
 MARKING = ("--must-close",)
@@ -280,7 +280,7 @@ def in_the_middle(checks, at):
     folder = project(at("killed"), "all: x y\nx: ; @echo x >&2\ny: ; @echo y >&2; touch begun; exec sleep 60\n")
     build = subprocess.Popen([TOOL, "make", "-s"], cwd=folder, env=environment(), stderr=subprocess.DEVNULL, preexec_fn=of_a_terminal)
     wait_for(os.path.join(folder, "begun"))
-    wait_until("y has spoken", lambda: text_of(folder, "y") == "y\n")
+    wait_until_recorded(build, "y has spoken", lambda: text_of(folder, "y") == "y\n")
     os.killpg(build.pid, signal.SIGKILL)
     build.wait()
     write(f"{folder}/{CAPTURES}/names", "1 all\n")
@@ -513,7 +513,7 @@ def links_at_the_end(checks, at):
     killed = project(at("killed"), "all: x y\nx: ; @echo x >&2\ny: ; @echo y >&2; touch begun; exec sleep 60\n")
     build = subprocess.Popen([TOOL, "make", "-s"], cwd=killed, env=environment(), stderr=subprocess.DEVNULL, preexec_fn=of_a_terminal)
     wait_for(os.path.join(killed, "begun"))
-    wait_until("y has spoken", lambda: text_of(killed, "y") == "y\n")
+    wait_until_recorded(build, "y has spoken", lambda: text_of(killed, "y") == "y\n")
     os.killpg(build.pid, signal.SIGKILL)
     build.wait()
     rows = LINKS + [(path, kind) for path in ("log.1", "log.2") for kind in ("to a file", "to nothing", "hard")] + [(path, "hard") for path in ("names", *KEPT)]

@@ -12,7 +12,7 @@ import subprocess
 import termios
 import time
 
-from builds import PREFIX, TOOL, log_of, make, of_a_terminal, project, ran, shown, text_of, wait_for, wait_until, write
+from builds import TOOL, log_of, make, of_a_terminal, project, ran, shown, text_of, wait_for, wait_until, wait_until_recorded, write
 from checks import environment, install_capture
 
 
@@ -218,7 +218,7 @@ def names_with_spaces_finished(checks, at):
     script = "CAPTURE='  x : ' \"$0\" --recipe sh -c 'echo said >&2'; touch begun; exec sleep 60"
     build = subprocess.Popen([TOOL, "sh", "-c", script, TOOL], cwd=folder, env=environment(), stderr=subprocess.DEVNULL, preexec_fn=of_a_terminal)
     wait_for(os.path.join(folder, "begun"))
-    wait_until("the log", lambda: shown(folder, "./  x") == "redo    x\nsaid\n")
+    wait_until_recorded(build, "the log", lambda: shown(folder, "./  x") == "redo    x\nsaid\n")
     os.killpg(build.pid, signal.SIGKILL)
     build.wait()
     checks.expect("a name with spaces before it: finished", ran(folder, [TOOL, "--must-close", "--finish"]), (0, "", ""))

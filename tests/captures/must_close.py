@@ -8,7 +8,7 @@ import signal
 import subprocess
 import time
 
-from builds import TOOL, log_of, make, of_a_terminal, preloaded, project, ran, shown, wait_for, write
+from builds import TOOL, log_of, make, of_a_terminal, preloaded, project, ran, shown, text_of, wait_for, wait_until_recorded, write
 from checks import CAPTURES, environment, install_capture
 
 MARKING = ("--must-close",)
@@ -170,6 +170,7 @@ def killed(checks, at):
     os.remove(os.path.join(folder, "y"))
     build = subprocess.Popen([TOOL, *MARKING, "make", "N=1"], cwd=folder, env=environment(), preexec_fn=of_a_terminal)
     wait_for(os.path.join(folder, "begun"))
+    wait_until_recorded(build, "y has spoken", lambda: text_of(folder, "y") == "y begins\n")
     middle = copied(folder, at("middle"))
     checks.expect("in its middle", (names_of(middle), shown(middle, "all")), ("1 all\n2 x\n3 y\n4 z\n", "redo  all\nredo    x\nx 1\nredo    y\ny begins\n"))
     os.killpg(build.pid, signal.SIGKILL)
@@ -277,7 +278,7 @@ def finish_broken_off(checks, at):
     while is_broken:
         number += 1
         what, place = f"a finish that is killed from change {number} on", breaking.placed(str(number))
-        recipe = "all: x v w\nx: ; @echo x $(N) >&2; touch x\nv: x ; @echo v >&2\nw: v ; @kill -9 `cat .redo-log/.capture/lock`\n"
+        recipe = "all: x v w\nx: ; @echo x $(N) >&2; touch x\nv: x ; @echo v >&2\nw: v ; @rm -f none; kill -9 `cat .redo-log/.capture/lock`\n"
         write(os.path.join(place, "Makefile"), recipe)
         build = subprocess.run([TOOL, *MARKING, "make", "-s", "N=1"], cwd=place, env=environment(), stderr=subprocess.DEVNULL)
         checks.expect(f"{what}: make", build.returncode, -signal.SIGKILL)
@@ -286,7 +287,7 @@ def finish_broken_off(checks, at):
         checks.expect(f"{what}: its status", status, -signal.SIGKILL if is_broken else 0)
         checks.expect(f"{what}: again", ran(place, [TOOL, "--finish", *MARKING]), (0, "", ""))
         breaking.expect_right(f"{what}: again", place)
-    # redo-log-capture may not know yet that w has begun, because make doesn't wait for it.
+    # Before a line with `rm` make waits until all that came before is recorded, but not until the line has begun.
     whole = ["1 all\n!2 x\n!3 y\n!4 v\n" + last for last in ("5 w\n", "!5 w\n")]
     checks.expect("a finish that is whole", (number > 8, names_of(place) in whole), (True, True))
 

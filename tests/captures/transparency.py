@@ -6,7 +6,7 @@ import signal
 import subprocess
 import sys
 
-from builds import TOOL, lines_of_others, log_of, make, of_a_terminal, project, ran, said, shown, text_of, wait_for, wait_until, without_printed, write
+from builds import TOOL, lines_of_others, log_of, make, of_a_terminal, project, ran, said, shown, text_of, wait_for, wait_until, wait_until_recorded, without_printed, write
 from checks import CAPTURES, TOP, environment
 
 OPENED = {
@@ -231,7 +231,7 @@ def in_mid_line(checks, at):
     folder = project(at("record"), makefile + "sub: ; @echo sub >&2; touch begun; until [ -e go ]; do sleep 0.01; done\n")
     build = subprocess.Popen([TOOL, "make"], cwd=folder, env=environment())
     wait_for(os.path.join(folder, "begun"))
-    wait_until("sub has spoken", lambda: text_of(folder, "sub") == "sub\n")
+    wait_until_recorded(build, "sub has spoken", lambda: text_of(folder, "sub") == "sub\n")
     checks.expect("a line that goes on, and a record", shown(folder, "all"), "redo  all\nis it there? \nredo    sub\nsub\n")
     write(os.path.join(folder, "go"), "")
     checks.expect("when it has ended", (build.wait(), shown(folder, "all")), (0, "redo  all\nredo    sub\nsub\nis it there? yes\n"))
