@@ -14,7 +14,7 @@
 #include <fcntl.h>
 #include <unistd.h>
 
-/* Once a line was announced, or fewer than LITTLE bytes were read, messages that need no reply, and pipes, are read DEFER_MS
+/* Once a line was announced, or fewer than SMALL_READ bytes were read, messages that need no reply, and pipes, are read DEFER_MS
    milliseconds later. So short lines, and recipes that print a little at a time, wake the server less often. */
 enum { SMALL_READ = 16384, DEFER_MS = 2, MAX_EVENTS = 64 };
 /* If fewer descriptors than this are left, or fewer than a quarter of them, makes wait for a reply to each line. */
@@ -22,7 +22,7 @@ enum { MIN_LEFT = 1024, MAX_OPEN_LOGS = 16384, RESERVED_FOR_FILES = 4 };
 
 int is_out_of_memory;
 
-/* Sources that may be read later belong to deferred_poller. The other poller polls it, except during a rest. */
+/* Sources that may be read later belong to deferred_poller. The other poller polls it, except while reading is deferred. */
 static int poller = -1, deferred_poller = -1, spare_fd = -1, accepted_fd = -1;
 static struct source signals = {SIGNALS, -1}, listener = {LISTENER, -1}, deferred = {DEFERRED, -1};
 static int64_t defer_until;
