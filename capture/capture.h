@@ -460,9 +460,11 @@ void start_command(char **command);
 int handle_signals(void);
 /* Whether a call of handle_signals has found that the command has ended. Writing to standard error may call it. */
 int has_command_ended(void);
+/* Returns a wait status as a shell reports it. */
+int shell_status(int wait_status);
 _Noreturn void exec_command(char **command);
 /* Once the command has ended, runs a program with these words, and waits for it. A signal that asks this process to end is passed on.
-   Returns the status as waitpid does, or -1 with errno if the program can't be run. */
+   Returns its wait status, or -1 with errno if the program can't be run. */
 int run_program(char **words);
 /* Returns the path of a program in one of the directories of PATH, or NULL. */
 char *find_in_path(const char *name);

@@ -171,16 +171,16 @@ void start_command(char **words) {
 int run_program(char **words) {
   struct pollfd ready = {signal_fd, POLLIN, 0};
   struct signalfd_siginfo info;
-  int exec_error, status = -1;
+  int exec_error, wait_status = -1;
   pid_t process = start_child(words, &exec_error);
   if (process >= 0 && exec_error) errno = exec_error;
   if (process < 0 || exec_error) return -1;
-  while (waitpid(process, &status, WNOHANG) == 0) {
+  while (waitpid(process, &wait_status, WNOHANG) == 0) {
     poll(&ready, 1, -1);
     while (read(signal_fd, &info, sizeof info) == sizeof info)
       if (is_stop_request(info.ssi_signo)) kill(process, info.ssi_signo);
   }
-  return status;
+  return wait_status;
 }
 
 /* Whether the whole group got this signal, including the command. */
@@ -199,19 +199,21 @@ static void handle_signal(const struct signalfd_siginfo *info) {
   if (!is_group_signal(info)) kill(command_pid, kind);
 }
 
-static void end_command(int status) {
+int shell_status(int wait_status) { return WIFSIGNALED(wait_status) ? 128 + WTERMSIG(wait_status) : WEXITSTATUS(wait_status); }
+
+static void end_command(int wait_status) {
   has_ended = 1;
-  command_signal = WIFSIGNALED(status) ? WTERMSIG(status) : 0;
-  command_status = command_signal ? 128 + command_signal : WEXITSTATUS(status);
+  command_signal = WIFSIGNALED(wait_status) ? WTERMSIG(wait_status) : 0;
+  command_status = shell_status(wait_status);
   kill_witness();
 }
 
 /* Processes whose parents have ended become children of the first process of a container, which may be this one. */
 static void reap_children(void) {
-  int status;
-  for (pid_t process; !has_ended && (process = waitpid(-1, &status, WNOHANG)) > 0;) {
+  int wait_status;
+  for (pid_t process; !has_ended && (process = waitpid(-1, &wait_status, WNOHANG)) > 0;) {
     if (process == witness_pid) witness_pid = 0;
-    if (process == command_pid) end_command(status);
+    if (process == command_pid) end_command(wait_status);
   }
 }
 

@@ -167,10 +167,10 @@ static pid_t spawn_command(char **command, int pipe, const sigset_t *former_mask
    that wasn't ignored before has arrived. */
 static int wait_for_command(pid_t process, const sigset_t *blocked, struct rusage *usage, int *is_stopping) {
   siginfo_t info;
-  int status;
+  int wait_status;
   for (;;) {
     int kind = sigwaitinfo(blocked, &info);
-    if (kind == SIGCHLD && wait4(process, &status, WNOHANG, usage) == process) return status;
+    if (kind == SIGCHLD && wait4(process, &wait_status, WNOHANG, usage) == process) return wait_status;
     struct sigaction former;
     if (kind > 0 && kind != SIGCHLD && sigaction(kind, NULL, &former) == 0 && former.sa_handler != SIG_IGN) *is_stopping = 1;
     if (kind > 0 && kind != SIGCHLD && info.si_code != SI_KERNEL) kill(process, kind);
@@ -179,18 +179,18 @@ static int wait_for_command(pid_t process, const sigset_t *blocked, struct rusag
 
 static int64_t microseconds(struct timeval time) { return (int64_t)time.tv_sec * 1000000 + time.tv_usec; }
 
-static _Noreturn void exit_like(int status) {
+static _Noreturn void exit_like(int wait_status) {
   struct rlimit none = {0, 0};
   sigset_t all;
-  if (WIFSIGNALED(status)) {
+  if (WIFSIGNALED(wait_status)) {
     setrlimit(RLIMIT_CORE, &none);
     prctl(PR_SET_DUMPABLE, 0);
-    signal(WTERMSIG(status), SIG_DFL);
+    signal(WTERMSIG(wait_status), SIG_DFL);
     sigfillset(&all);
     sigprocmask(SIG_UNBLOCK, &all, NULL);
-    kill(getpid(), WTERMSIG(status));
+    kill(getpid(), WTERMSIG(wait_status));
   }
-  exit(WEXITSTATUS(status));
+  exit(WEXITSTATUS(wait_status));
 }
 
 void launch(char **command) {
@@ -213,11 +213,12 @@ void launch(char **command) {
   struct rusage usage;
   int is_stopping = 0;
   struct ended ended = {.kind = ENDED, .pid = started.pid};
-  ended.status = wait_for_command(started.pid, &blocked, &usage, &is_stopping), ended.stopping = is_stopping ? STOPPING : NOT_STOPPING;
+  ended.wait_status = wait_for_command(started.pid, &blocked, &usage, &is_stopping);
+  ended.stopping = is_stopping ? STOPPING : NOT_STOPPING;
   ended.time = wall_clock_ms(), ended.peak_kb = usage.ru_maxrss;
   ended.user_us = microseconds(usage.ru_utime), ended.system_us = microseconds(usage.ru_stime);
-  ended.wants_reply = welcome.show_mode == SHOW_ALL || (welcome.show_mode == SHOW_FAILED && ended.status != 0);
+  ended.wants_reply = welcome.show_mode == SHOW_ALL || (welcome.show_mode == SHOW_FAILED && ended.wait_status != 0);
   if (send_message(ended.wants_reply ? run_socket : notes_socket, &ended, sizeof ended, NULL, 0, -1) == 0 && ended.wants_reply)
     receive_reply();
-  exit_like(ended.status);
+  exit_like(ended.wait_status);
 }

@@ -159,14 +159,14 @@ static int handle_ended(struct make *make, const char *message, size_t size) {
   if (ended.stopping == MAYBE_STOPPING) handle_signals();
   int is_stopping = ended.stopping == STOPPING || (ended.stopping == MAYBE_STOPPING && stop_signal);
   struct usage usage = {valid_amount(ended.user_us), valid_amount(ended.system_us), valid_amount(ended.peak_kb)};
-  struct line_end end = {ended.status, is_stopping, valid_time(ended.time), usage};
+  struct line_end end = {ended.wait_status, is_stopping, valid_time(ended.time), usage};
   struct line *line = find_line(make, ended.pid);
   make->failed_recipe = 0;
   if (line) {
     uint32_t recipe = make->ended_recipe = line->recipe;
     receive_from_sub_makes(make, recipe);
     end_line(line, end, ended.wants_reply && !make->is_redirected);
-    if (ended.status != 0) check_removal(); /* otherwise the next line does so */
+    if (ended.wait_status != 0) check_removal(); /* otherwise the next line does so */
   }
   return ended.wants_reply ? reply(make, CAPTURED) : 0;
 }

@@ -33,11 +33,12 @@ void write_page(const char *path) {
   } else if (!is_capturing()) {
     return warn("no recipe was captured: %s is not written", path);
   } else {
-    int status = run_program(words);
-    if (status == 0) return;
-    if (status < 0) snprintf(cause, sizeof cause, "%s: %s", program_name, strerror(errno));
-    else if (WIFSIGNALED(status)) snprintf(cause, sizeof cause, "%s was ended by %s", program_name, signal_name(WTERMSIG(status)));
-    else snprintf(cause, sizeof cause, "%s exited with status %d", program_name, WEXITSTATUS(status));
+    int wait_status = run_program(words);
+    if (wait_status == 0) return;
+    if (wait_status < 0) snprintf(cause, sizeof cause, "%s: %s", program_name, strerror(errno));
+    else if (WIFSIGNALED(wait_status))
+      snprintf(cause, sizeof cause, "%s was ended by %s", program_name, signal_name(WTERMSIG(wait_status)));
+    else snprintf(cause, sizeof cause, "%s exited with status %d", program_name, WEXITSTATUS(wait_status));
   }
   warn("cannot write the page %s: %s", path, cause);
   failed_writes++;

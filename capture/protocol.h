@@ -84,7 +84,7 @@ struct failed {
 };
 struct ended {
   uint32_t kind, wants_reply;
-  int32_t pid, status; /* as waitpid returns it */
+  int32_t pid, wait_status; /* as waitpid returns it */
   uint32_t stopping, reserved;
   int64_t time, user_us, system_us, peak_kb; /* the last three as in struct usage */
 };

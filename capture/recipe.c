@@ -4,7 +4,6 @@
 #include <stdlib.h>
 #include <string.h>
 #include <sys/stat.h>
-#include <sys/wait.h>
 #include <unistd.h>
 
 struct line *lines;
@@ -127,8 +126,6 @@ void begin_line(struct make *make, uint32_t recipe, struct target *target, struc
   if (records_all_commands) record_command(target, &line->command);
   if (pipe) start_pipe(pipe, target);
 }
-
-static int shell_status(int status) { return WIFSIGNALED(status) ? 128 + WTERMSIG(status) : WEXITSTATUS(status); }
 
 /* If several makes run one target, only the first make changes its end, because other logs have its start by this make. */
 static void end_target_line(struct target *target, const struct make *make, pid_t process, int status, int64_t time) {

@@ -96,10 +96,10 @@ int hooked_actions_init();
 int hooked_actions_adddup2();
 int hooked_actions_destroy();
 int hooked_execvp(const char *file, char *const *command);
-pid_t hooked_wait(int *status);
-pid_t hooked_waitpid(pid_t process, int *status, int options);
-pid_t hooked_wait3(int *status, int options, void *usage);
-pid_t hooked_wait4(pid_t process, int *status, int options, void *usage);
+pid_t hooked_wait(int *wait_status);
+pid_t hooked_waitpid(pid_t process, int *wait_status, int options);
+pid_t hooked_wait3(int *wait_status, int options, void *usage);
+pid_t hooked_wait4(pid_t process, int *wait_status, int options, void *usage);
 /* make's own variable: whether it has got a signal that ends it. NULL if make doesn't export it. */
 extern volatile int *handling_fatal_signal;
 /* The process that loaded the hook. A child of vfork has another number. */
