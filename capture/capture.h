@@ -416,9 +416,11 @@ void show_output(const struct line *line, int status);
 int watch_source(struct source *source);
 void close_source(struct source *source);
 void close_unwatched(struct source *source);
-/* Listens for makes; format_run_variable returns the value of CAPTURE_RUN for them. */
 void listen_for_makes(void);
-char *format_run_variable(void);
+/* Sets CAPTURE_RUN for the makes of this run, or of another one. */
+void export_run(void);
+struct run_variable;
+void set_run_variable(const struct run_variable *run);
 int is_run_token(const char *bytes);
 /* Lets the loop read messages that need no reply, and pipes, a little later. */
 void defer_reading(void);
@@ -500,5 +502,6 @@ void remove_temporary_directory(void);
 /* launcher.c: redo-log-capture --recipe */
 
 _Noreturn void launch(char **command);
-/* Whether the server that CAPTURE_RUN names listens. */
-int is_run_alive(void);
+/* Whether this process belongs to a build that is captured to the same directory. A shell or server that was started in a build may have
+   the variable of a build that has ended. */
+int is_within_run(void);

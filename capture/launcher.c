@@ -2,7 +2,7 @@
    the hook would report, and waits for the command. CAPTURE has the target, a colon between two spaces, and the prerequisites. */
 #define _GNU_SOURCE
 #include "capture.h"
-#include "protocol.h"
+#include "run_variable.h"
 #include <errno.h>
 #include <fcntl.h>
 #include <signal.h>
@@ -19,8 +19,7 @@
 
 static int run_socket = -1, notes_socket = -1;
 static struct welcome welcome;
-static char *run_address; /* the first three parts of CAPTURE_RUN; run_directory is the last one */
-static const char *run_directory;
+static struct run_variable run;
 
 static int send_message(int socket, const void *head, size_t head_size, const void *body, size_t body_size, int descriptor) {
   struct iovec parts[] = {{(void *)head, head_size}, {(void *)body, body_size}};
@@ -53,53 +52,42 @@ static int receive_reply(void) {
   return reply.value;
 }
 
-/* Returns part `number` of CAPTURE_RUN, counted from 0, and its size; NULL if there is none. */
-static const char *variable_part(const char *variable, int number, size_t *size) {
-  for (; variable && number > 0; number--) {
-    variable = strchr(variable, ':');
-    if (variable) variable++;
-  }
-  if (variable) *size = strcspn(variable, ":");
-  return variable;
+/* Parses CAPTURE_RUN. Returns -1 if it is not set, or invalid. */
+static int find_run(void) {
+  const char *value = getenv(RUN_VARIABLE);
+  return value ? parse_run_variable(value, &run) : -1;
 }
 
-/* Connects to the server that CAPTURE_RUN names. Returns -1 and sets errno on failure. */
-static int connect_to_server(const char *variable) {
-  size_t size = 0;
-  const char *name = variable_part(variable, 0, &size);
+/* Returns a socket that is connected to the server. Returns -1 and sets errno on failure. */
+static int connect_to_server(void) {
   struct sockaddr_un listener = {.sun_family = AF_UNIX};
-  if (!name || size > MAX_SOCKET_NAME) return errno = EINVAL, -1;
-  memcpy(listener.sun_path + 1, name, size);
+  memcpy(listener.sun_path + 1, run.socket_name, run.socket_name_size);
+  socklen_t size = offsetof(struct sockaddr_un, sun_path) + 1 + run.socket_name_size;
   int file = socket(AF_UNIX, SOCK_SEQPACKET | SOCK_CLOEXEC, 0);
-  if (file < 0 || connect(file, (struct sockaddr *)&listener, offsetof(struct sockaddr_un, sun_path) + 1 + size) == 0) return file;
+  if (file < 0 || connect(file, (struct sockaddr *)&listener, size) == 0) return file;
   int error = errno;
   close(file);
   errno = error;
   return -1;
 }
 
-int is_run_alive(void) {
-  int file = connect_to_server(getenv(RUN_VARIABLE));
+int is_within_run(void) {
+  if (find_run() < 0 || strcmp(run.directory, directory_path) != 0) return 0;
+  int file = connect_to_server();
   if (file >= 0) close(file);
   return file >= 0 || errno != ECONNREFUSED;
 }
 
 static int connect_to_run(void) {
-  const char *variable = getenv(RUN_VARIABLE), *working_directory = getcwd(NULL, 0);
-  size_t token_size = 0, size;
-  const char *token = variable_part(variable, 1, &token_size), *user = variable_part(variable, 2, &size);
-  const char *parent = variable_part(variable, 3, &size);
-  struct hello hello = {.kind = HELLO, .pid = getpid()};
+  const char *working_directory = getcwd(NULL, 0);
   struct ucred other = {0};
   socklen_t other_size = sizeof other;
-  run_directory = variable_part(variable, 6, &size);
-  if (!run_directory || !working_directory || token_size != TOKEN_SIZE) return -1;
-  run_address = xasprintf("%.*s", (int)(parent - variable), variable);
-  memcpy(hello.token, token, TOKEN_SIZE);
-  sscanf(parent, "%u.%u", &hello.parent_make, &hello.parent_recipe);
-  run_socket = connect_to_server(variable);
+  if (find_run() < 0 || !working_directory) return -1;
+  struct hello hello = {.kind = HELLO, .parent_make = run.make, .parent_recipe = run.recipe, .pid = getpid()};
+  memcpy(hello.token, run.token, TOKEN_SIZE);
+  run_socket = connect_to_server();
   if (run_socket < 0) return -1;
-  if (getsockopt(run_socket, SOL_SOCKET, SO_PEERCRED, &other, &other_size) < 0 || other.uid != strtoul(user, NULL, 10)) return -1;
+  if (getsockopt(run_socket, SOL_SOCKET, SO_PEERCRED, &other, &other_size) < 0 || other.uid != run.user) return -1;
   int pair[2];
   if (socketpair(AF_UNIX, SOCK_SEQPACKET | SOCK_CLOEXEC, 0, pair) < 0) return -1;
   notes_socket = pair[0];
@@ -134,16 +122,13 @@ static int announce_command(const char *target, const char *prerequisites, char 
 }
 
 /* Sets CAPTURE_RUN for makes that the command runs. */
-static void set_run_variable(int pipe) {
+static void export_command_run(int pipe) {
   struct stat found;
   fstat(pipe, &found);
-  char *identity = xasprintf("%lu.%lu", (unsigned long)found.st_dev, (unsigned long)found.st_ino), *variable = getenv(RUN_VARIABLE);
-  size_t size;
-  const char *output = variable_part(variable, 4, &size);
-  setenv(RUN_VARIABLE,
-         xasprintf("%s%u.1:%.*s:%s:%s", run_address, welcome.make, (int)(welcome.captures_output ? strlen(identity) : size),
-                   welcome.captures_output ? identity : output, identity, run_directory),
-         1);
+  run.make = welcome.make, run.recipe = 1;
+  run.outputs[2] = (struct file_identity){found.st_dev, found.st_ino};
+  if (welcome.captures_output) run.outputs[1] = run.outputs[2];
+  set_run_variable(&run);
 }
 
 static pid_t spawn_command(char **command, int pipe, const sigset_t *former_mask) {
@@ -202,7 +187,7 @@ void launch(char **command) {
   int pipe = announce_command(target, colon + 3, command);
   unsetenv("CAPTURE");
   if (pipe < 0) exec_command(command);
-  set_run_variable(pipe);
+  export_command_run(pipe);
   sigemptyset(&blocked);
   for (int i = 0; i < 5; i++) sigaddset(&blocked, (int[]){SIGHUP, SIGINT, SIGQUIT, SIGTERM, SIGCHLD}[i]);
   sigprocmask(SIG_BLOCK, &blocked, &former_mask);

@@ -75,19 +75,8 @@ static void prepare_environment(const char *command) {
     other_makefiles += strlen(capture_def) + strspn(other_makefiles + strlen(capture_def), " ");
   listen_for_makes();
   setenv("MAKEFILES", other_makefiles && *other_makefiles ? xasprintf("%s %s", capture_def, other_makefiles) : capture_def, 1);
-  setenv(RUN_VARIABLE, format_run_variable(), 1);
+  export_run();
   set_last_argument(command);
-}
-
-/* Whether this process belongs to a build that is captured to the same directory. A shell or server that was started in a build may have
-   the variable of a build that has ended. */
-static int is_within_run(void) {
-  const char *run = getenv(RUN_VARIABLE);
-  for (int part = 0; run && part < 6; part++) {
-    run = strchr(run, ':');
-    if (run) run++;
-  }
-  return run && strcmp(run, directory_path) == 0 && is_run_alive();
 }
 
 static const char *command_name;

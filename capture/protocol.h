@@ -12,11 +12,6 @@
    the server's standard error. */
 #include <stdint.h>
 
-/* CAPTURE_RUN=SOCKET:TOKEN:USER:MAKE.RECIPE:DEVICE.INODE:DEVICE.INODE:DIRECTORY identifies the run of each make: the abstract name
-   of the server's socket; a secret that proves that the sender belongs to the run; the server's user; the recipe that runs this
-   make, or 0.0; the files to which standard output and standard error go if nobody redirects them, or 0.0; and the capture
-   directory. */
-#define RUN_VARIABLE "CAPTURE_RUN"
 /* make exports this variable to each recipe, with the number of the recipe as its value. The hook removes it again. */
 #define RECIPE_VARIABLE "redo-log-capture"
 

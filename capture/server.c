@@ -1,7 +1,7 @@
 /* The loop that serves the build: signals, makes, and the pipes of recipes. */
 #define _GNU_SOURCE
 #include "capture.h"
-#include "protocol.h"
+#include "run_variable.h"
 #include <errno.h>
 #include <setjmp.h>
 #include <stdlib.h>
@@ -80,16 +80,23 @@ void listen_for_makes(void) {
   if (descriptor_limit < MIN_LEFT) ask_makes();
 }
 
-/* Returns device and inode of an output; 0.0 if it was closed when this program began. */
-static char *file_identity(int descriptor) {
+/* Returns 0.0 if the output was closed when this program began. */
+static struct file_identity identify_output(int descriptor) {
   struct stat found;
-  if ((fcntl(descriptor, F_GETFD) & FD_CLOEXEC) || fstat(descriptor, &found) < 0) return xasprintf("0.0");
-  return xasprintf("%lu.%lu", (unsigned long)found.st_dev, (unsigned long)found.st_ino);
+  if ((fcntl(descriptor, F_GETFD) & FD_CLOEXEC) || fstat(descriptor, &found) < 0) return (struct file_identity){0, 0};
+  return (struct file_identity){found.st_dev, found.st_ino};
 }
 
-char *format_run_variable(void) {
-  return xasprintf("%s:%s:%u:0.0:%s:%s:%s", socket_name, token, (unsigned)geteuid(), file_identity(1), file_identity(2),
-                   directory_path);
+void set_run_variable(const struct run_variable *run) {
+  char value[max_run_variable_size(run)];
+  append_run_variable(value, run);
+  setenv(RUN_VARIABLE, value, 1);
+}
+
+void export_run(void) {
+  struct run_variable run = {.socket_name = socket_name, .socket_name_size = strlen(socket_name), .token = token, .user = geteuid(),
+                             .outputs = {[1] = identify_output(1), [2] = identify_output(2)}, .directory = directory_path};
+  set_run_variable(&run);
 }
 
 static void set_defer_until(int64_t end) {

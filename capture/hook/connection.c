@@ -115,10 +115,10 @@ int server_asks(void) {
    is closed stays closed. */
 static int is_redirected(int descriptor) {
   struct stat found;
-  unsigned long *expected = run.output_identity[descriptor];
+  struct file_identity expected = run.variable.outputs[descriptor];
   if (SYSCALL(fstat, descriptor, &found, 0, 0) < 0) return 1;
-  if (descriptor == 1) run.own_output[0] = found.st_dev, run.own_output[1] = found.st_ino;
-  return found.st_dev != expected[0] || found.st_ino != expected[1];
+  if (descriptor == 1) run.own_output = (struct file_identity){found.st_dev, found.st_ino};
+  return found.st_dev != expected.device || found.st_ino != expected.inode;
 }
 
 static int move_descriptor(int descriptor) {
@@ -128,20 +128,25 @@ static int move_descriptor(int descriptor) {
   return higher;
 }
 
-static int open_socket(const struct sockaddr_un *address, size_t size, unsigned user) {
+static int open_socket(void) {
+  struct sockaddr_un address = {.sun_family = AF_UNIX};
+  size_t size = offsetof(struct sockaddr_un, sun_path) + 1 + run.variable.socket_name_size;
+  memcpy(address.sun_path + 1, run.variable.socket_name, run.variable.socket_name_size);
   int opened = SYSCALL(socket, AF_UNIX, SOCK_SEQPACKET | SOCK_CLOEXEC, 0, 0);
   if (opened < 0) return -1;
   connection = move_descriptor(opened);
   struct ucred listener = {0};
   unsigned listener_size = sizeof listener;
-  long error = SYSCALL(connect, connection, address, size, 0);
+  long error = SYSCALL(connect, connection, &address, size, 0);
   if (!error) error = syscall6(__NR_getsockopt, connection, SOL_SOCKET, SO_PEERCRED, (long)&listener, (long)&listener_size, 0);
-  if (error || listener.uid != user) disconnect();
+  if (error || listener.uid != run.variable.user) disconnect();
   return connection < 0 ? -1 : 0;
 }
 
 /* Sends HELLO, and stores the server's reply. */
-static int send_hello(struct hello *hello) {
+static int send_hello(void) {
+  struct hello hello = {.kind = HELLO, .parent_make = run.variable.make, .parent_recipe = run.variable.recipe, .pid = make_pid,
+                        .is_redirected = run.is_redirected[2]};
   char directory[PATH_MAX];
   struct welcome welcome;
   long size = SYSCALL(getcwd, directory, sizeof directory, 0, 0);
@@ -149,33 +154,16 @@ static int send_hello(struct hello *hello) {
   int pair[2];
   if (SYSCALL(socketpair, AF_UNIX, SOCK_SEQPACKET | SOCK_CLOEXEC, 0, pair) < 0) return disconnect(), -1;
   notes = move_descriptor(pair[0]);
-  hello->kind = HELLO, hello->pid = make_pid, hello->is_redirected = run.is_redirected[2];
-  int error = send_request(hello, sizeof *hello, directory, size, pair[1]);
+  memcpy(hello.token, run.variable.token, TOKEN_SIZE);
+  int error = send_request(&hello, sizeof hello, directory, size, pair[1]);
   close_descriptor(&pair[1]);
   if (error || receive(&welcome, sizeof welcome) != sizeof welcome) return disconnect(), -1;
   run.make = welcome.make, run.show_mode = welcome.show_mode, run.captures_output = welcome.captures_output, run.asks = welcome.asks;
   return 0;
 }
 
-int connect_to_run(const char *variable) {
-  struct sockaddr_un address = {.sun_family = AF_UNIX};
-  struct hello hello = {0};
-  const char *from = variable;
-  size_t size = 0, count = 0;
-  while (from[size] && from[size] != ':') size++;
-  if (size == 0 || size > MAX_SOCKET_NAME || !from[size]) return -1;
-  memcpy(address.sun_path + 1, from, size);
-  for (from += size + 1; count < TOKEN_SIZE && *from && *from != ':'; from++) hello.token[count++] = *from;
-  if (count < TOKEN_SIZE || *from++ != ':') return -1;
-  unsigned user = parse_number(&from);
-  if ((size_t)(from - variable) >= sizeof run.address) return -1;
-  memcpy(run.address, variable, from - variable);
-  hello.parent_make = parse_number(&from), hello.parent_recipe = parse_number(&from);
-  for (int output = 1; output <= 2; output++) {
-    run.output_identity[output][0] = parse_number(&from), run.output_identity[output][1] = parse_number(&from);
-    run.is_redirected[output] = is_redirected(output);
-  }
-  run.variable = variable, run.directory = from;
-  if (open_socket(&address, offsetof(struct sockaddr_un, sun_path) + 1 + size, user) < 0) return -1;
-  return send_hello(&hello);
+int connect_to_run(const char *value) {
+  if (parse_run_variable(value, &run.variable) < 0) return -1;
+  for (int output = 1; output <= 2; output++) run.is_redirected[output] = is_redirected(output);
+  return open_socket() < 0 ? -1 : send_hello();
 }

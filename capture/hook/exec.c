@@ -20,7 +20,7 @@ static void redirect_outputs(int pipe) {
 static int is_shell_function(void) {
   struct stat found;
   if (SYSCALL(fstat, 1, &found, 0, 0) < 0 || !S_ISFIFO(found.st_mode)) return 0;
-  return found.st_dev != run.own_output[0] || found.st_ino != run.own_output[1];
+  return found.st_dev != run.own_output.device || found.st_ino != run.own_output.inode;
 }
 
 int hooked_execvp(const char *file, char *const *command) {

@@ -5,7 +5,7 @@
    runs inside make, partly in a signal handler, so it doesn't call malloc and leaves errno alone. It imports only what make itself
    has or imports (gmk_*, dlsym), so that one file works with every glibc and musl. If anything fails here, the build goes on
    without being captured. */
-#include "../protocol.h"
+#include "../run_variable.h"
 #include <stddef.h>
 #include <stdint.h>
 #include <sys/types.h>
@@ -18,11 +18,6 @@ size_t string_length(const char *string);
 int strings_equal(const char *left, const char *right);
 /* Whether a string begins with a prefix. */
 int has_prefix(const char *string, const char *prefix);
-/* Write a string, or the digits of a number and the byte `end`, and a NUL. Return the position of the NUL. */
-char *append_string(char *to, const char *string);
-char *append_number(char *to, unsigned long number, char end);
-/* Reads a number, and moves past the byte that follows it. */
-unsigned long parse_number(const char **from);
 /* A buffer that reserve enlarges, which loses its content. reserve returns NULL if memory can't be allocated. */
 struct buffer {
   char *bytes;
@@ -34,20 +29,19 @@ int64_t wall_clock_ms(void);
 
 /* connection.c: the sockets to the server */
 
-/* The parts of CAPTURE_RUN, and the server's reply. */
+/* The run to which this make belongs. */
 struct run {
-  char address[MAX_SOCKET_NAME + TOKEN_SIZE + 40]; /* the socket, the token and the user, each followed by a colon */
-  const char *variable, *directory; /* the value of CAPTURE_RUN, and its last part */
-  unsigned long output_identity[3][2]; /* by descriptor: device and inode of the file to which output goes if nobody redirects it */
-  int is_redirected[3];      /* by descriptor */
-  unsigned long own_output[2]; /* device and inode of make's own standard output */
+  struct run_variable variable;
+  int is_redirected[3];            /* by descriptor */
+  struct file_identity own_output; /* make's own standard output */
+  /* From the server's reply to HELLO: */
   uint32_t make;
   int show_mode, captures_output;
   int asks, is_captured; /* whether lines need a reply: always, or because none was captured yet */
 };
 extern struct run run;
-/* Connects to the server that CAPTURE_RUN names. Returns -1 on failure. */
-int connect_to_run(const char *variable);
+/* Connects to the server that this value of CAPTURE_RUN names. The value must stay valid. Returns -1 on failure. */
+int connect_to_run(const char *value);
 int is_connected(void);
 /* send_request sends a message that gets a reply, and send_note one that gets none. Both may pass a descriptor, if it isn't -1. The
    body may be empty. On failure they disconnect and return -1. */

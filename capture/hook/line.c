@@ -17,8 +17,10 @@ int has_variable(char *const *environment, const char *prefix) {
 long recipe_number_of(char *const *environment) {
   for (; environment && *environment; environment++) {
     if (!has_prefix(*environment, RECIPE_VARIABLE "=")) continue;
-    const char *number = *environment + sizeof RECIPE_VARIABLE;
-    return parse_number(&number);
+    const char *value = *environment + sizeof RECIPE_VARIABLE;
+    unsigned long number;
+    parse_number(&value, &number, 0);
+    return number;
   }
   return -1;
 }
@@ -82,19 +84,17 @@ void report_failure(void) {
 
 /* Writes CAPTURE_RUN for the sub-makes of a recipe. A child that is no recipe, such as the one of $(shell ..), gets the value of
    make itself. An output that is redirected counts as redirected in sub-makes too. */
-static char *append_run_variable(char *to, long recipe, int pipe) {
-  if (recipe < 0) return append_string(append_string(to, RUN_VARIABLE "="), run.variable) + 1;
+static char *append_child_variable(char *to, long recipe, int pipe) {
+  struct run_variable child = run.variable;
   struct stat found = {0};
   if (pipe >= 0) SYSCALL(fstat, pipe, &found, 0, 0);
-  to = append_string(append_string(to, RUN_VARIABLE "="), run.address);
-  to = append_number(to, run.make, '.'), to = append_number(to, recipe, ':');
-  for (int output = 1; output <= 2; output++) {
+  if (recipe >= 0) child.make = run.make, child.recipe = recipe;
+  for (int output = 1; recipe >= 0 && output <= 2; output++) {
     int is_piped = pipe >= 0 && !run.is_redirected[output] && (output == 2 || run.captures_output);
-    int is_lost = !is_piped && run.is_redirected[output];
-    to = append_number(to, is_piped ? found.st_dev : is_lost ? 0 : run.output_identity[output][0], '.');
-    to = append_number(to, is_piped ? found.st_ino : is_lost ? 1 : run.output_identity[output][1], ':');
+    if (is_piped) child.outputs[output] = (struct file_identity){found.st_dev, found.st_ino};
+    else if (run.is_redirected[output]) child.outputs[output] = (struct file_identity){0, 1}; /* which no file has */
   }
-  return append_string(to, run.directory) + 1;
+  return append_run_variable(append_string(to, RUN_VARIABLE "="), &child) + 1;
 }
 
 static int is_capture_variable(const char *variable) {
@@ -110,7 +110,7 @@ static void append_makefiles(char *to, const char *other_makefiles) {
 char **build_environment(char *const *environment, long recipe, int pipe) {
   static struct buffer list, values;
   size_t count = 0, variable_count = 0,
-         size = sizeof run.address + string_length(run.variable) + string_length(capture_def_path) + 300;
+         size = sizeof RUN_VARIABLE "=MAKEFILES= " + max_run_variable_size(&run.variable) + string_length(capture_def_path);
   const char *other_makefiles = "";
   for (; environment[count]; count++)
     if (has_prefix(environment[count], "MAKEFILES=")) other_makefiles = environment[count] + sizeof "MAKEFILES";
@@ -120,7 +120,7 @@ char **build_environment(char *const *environment, long recipe, int pipe) {
   for (size_t i = 0; i < count; i++)
     if (!is_capture_variable(environment[i])) variables[variable_count++] = environment[i];
   variables[variable_count++] = to;
-  to = append_run_variable(to, recipe, pipe);
+  to = append_child_variable(to, recipe, pipe);
   variables[variable_count++] = to;
   append_makefiles(to, other_makefiles);
   variables[variable_count] = NULL;

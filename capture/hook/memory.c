@@ -30,30 +30,6 @@ int has_prefix(const char *string, const char *prefix) {
 
 int strings_equal(const char *left, const char *right) { return has_prefix(left, right) && !left[string_length(right)]; }
 
-char *append_string(char *to, const char *string) {
-  while (*string) *to++ = *string++;
-  *to = 0;
-  return to;
-}
-
-char *append_number(char *to, unsigned long number, char end) {
-  char digits[24];
-  int count = 0;
-  do digits[count++] = '0' + number % 10;
-  while (number /= 10);
-  while (count > 0) *to++ = digits[--count];
-  *to++ = end;
-  *to = 0;
-  return to;
-}
-
-unsigned long parse_number(const char **from) {
-  unsigned long number = 0;
-  while (**from >= '0' && **from <= '9') number = number * 10 + (*(*from)++ - '0');
-  if (**from) (*from)++;
-  return number;
-}
-
 char *grow_buffer(struct buffer *buffer, size_t size) {
   if (size <= buffer->size) return buffer->bytes;
   size_t larger = (size + size / 2 + 65535) & ~(size_t)65535;
