@@ -121,46 +121,62 @@ struct range {
 struct usage {
   int64_t user_us, system_us, peak_kb;
 };
+/* What has happened to a target in this run. All of it is reset when its first recipe begins. */
+struct target_run {
+  int has_begun;
+  int is_mentioned;      /* as a prerequisite, in the log of another target */
+  struct target *parent; /* the target whose recipe runs the make that makes this one; may be NULL */
+  char *directory;       /* of first_make */
+  struct usage usage;    /* of its lines that have ended */
+
+  /* The make that began its log. Lines that other makes run don't change its start and its end. */
+  const struct make *first_make;
+  int64_t start_time, end_time;
+  pid_t end_process; /* of the line of the first make that was the last to end so far; 0 before */
+
+  /* The last line. */
+  const struct make *last_make; /* which ran it, and its number of the recipe */
+  uint32_t last_recipe;
+  pid_t process;
+  int status;         /* as a shell reports it; -1 while a line runs */
+  int failed_status;  /* of an earlier recipe of the same double-colon rules that failed; otherwise 0 */
+  int is_interrupted; /* it failed after a signal had stopped the build */
+
+  /* Whether a recipe went on after the recipe of a sub-make had failed. */
+  unsigned line_count;     /* the number of lines that began so far */
+  unsigned failed_line;    /* line_count when a line failed last */
+  unsigned failed_in_line; /* the parent's line_count when this target failed last */
+  int has_failed_child;    /* a target whose parent this is has failed in the last line */
+  int has_running_child;   /* set by progress.c: a target whose parent this is runs */
+};
+/* The log of a target, which this run writes. */
+struct log_file {
+  int fd;                      /* -1 while the log isn't open */
+  int must_be_emptied, is_new; /* when it is opened; is_new: no file has its name yet */
+  int is_lost;                 /* somebody has removed it */
+  int is_unwritable, is_full;  /* is_full: it gets no more text */
+
+  int has_text, is_mid_line;
+  const struct pipe *mid_line_pipe; /* from which its last text came; NULL if the pipe is closed */
+
+  struct write_buffer buffer; /* the end of the log, which isn't written yet */
+  int is_dirty;               /* it is in the list of logs to be flushed */
+  struct target *next_dirty;
+
+  /* Sizes: the records at its start, all of it, what is written, the prefix that was printed. */
+  off_t header_size, size, written_size, shown_size;
+  struct range *mentions; /* the provisional records */
+  size_t mention_count, mention_capacity;
+  struct text child_records; /* set by finish.c: records of the targets that sub-makes of its recipe made */
+};
 struct target {
   char *name;
-  struct target *next; /* in the same hash bucket */
-  unsigned number;     /* of the log; 0 if the target isn't listed */
-  int is_closed;       /* the log has its closing record, and wasn't begun again */
-
-  /* The members below are set once a recipe of the target has begun in this run. */
-  int is_in_run, is_started, is_mentioned; /* is_mentioned: as a prerequisite, in the log of another target */
-  struct target *parent;                 /* the target whose recipe runs the make that makes this one; may be NULL */
-  pid_t process;                         /* of the last line */
-  const struct make *first_make;         /* the make that began its log; lines that other makes run don't change its end */
-  pid_t end_process;                     /* of the line of the first make that was the last to end so far; 0 before */
-  int64_t start_time, end_time;
-  char *directory;    /* of the make that began its log */
-  struct usage usage; /* of its lines that have ended */
-  int status;                     /* as a shell reports it; -1 while a line runs */
-  unsigned running_lines;         /* number of lines that run */
-  int failed_status;              /* of an earlier recipe of the same double-colon rules that failed; otherwise 0 */
-  const struct make *last_make;   /* the make that ran the last line, and its number of the recipe */
-  uint32_t last_recipe;
-  int is_interrupted;             /* the last line failed after a signal had stopped the build */
-  int has_text, has_failed_child; /* has_failed_child: a target whose parent this is has failed in the latest line */
-  int has_running_child;          /* set by progress.c: a target whose parent this is runs */
-  unsigned line_count;            /* the number of lines of the recipe that began so far in this run */
-  unsigned failed_line;           /* line_count when a line failed last */
-  unsigned failed_in_line;        /* the parent's line_count at the time when this target failed last */
-
-  int log_fd, is_mid_line, is_log_lost, is_unwritable, is_full; /* is_full: it gets no more text */
-  int is_begun_anew, is_new;        /* the log must be emptied when it is opened; no file has its name yet */
-  const struct pipe *mid_line_pipe; /* from which its last text came; NULL if the pipe is closed */
-  struct write_buffer buffer;       /* the end of the log, which isn't written yet */
-  struct target *next_dirty;
-  int is_dirty;
-  /* Sizes in the log: the records at its start, all of it, what is written, the prefix that was printed. */
-  off_t header_size, size, written_size, shown_size;
-  struct range *mentions;       /* the provisional records */
-  size_t mention_count, mention_capacity;
-  char *child_records; /* records of the targets that sub-makes of its recipe made */
-  size_t child_records_size;
-  FILE *child_records_stream;
+  struct target *next;    /* in the same hash bucket */
+  unsigned number;        /* of the log; 0 if the target isn't listed */
+  int is_closed;          /* the log has its closing record, and wasn't begun again */
+  unsigned running_lines; /* the number of lines that run */
+  struct target_run run;
+  struct log_file log;
 };
 extern struct target **targets;
 extern size_t target_count;
@@ -271,6 +287,8 @@ void append_header(struct target *target, const char *records, size_t size);
    ended. Output that can't be written, or for which the log has no space, goes to standard error. */
 void append_text(struct target *target, const char *bytes, size_t size, const struct pipe *from);
 void complete_line(struct target *target);
+/* Adds that these bytes of a log are a provisional record. */
+void add_mention(struct log_file *log, off_t start, off_t end);
 /* Appends a provisional record to the log of the parent. */
 void mention_in_parent(struct target *target, const char *record);
 /* Writes what is buffered for one log, or for all logs. If `can_begin` isn't set, the journal can't be written, and no log may be
@@ -288,6 +306,9 @@ void close_log_soon(struct target *target);
 /* Closes the descriptors of all logs, so that other files can be opened. A log is opened again when it is written. */
 void close_all_logs(void);
 const char *log_file_name(unsigned number);
+int is_record(const char *line, size_t size);
+/* Adds the start of a record, `@@REDO:KIND:PROCESS:TIME@@ `. */
+void add_record(struct text *text, const char *kind, pid_t process, int64_t time);
 /* Returns a time in the form that records use. */
 const char *format_time(int64_t time);
 

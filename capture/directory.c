@@ -190,7 +190,7 @@ static int begin_run(void) {
   run_target->is_closed = 0;
   if (write_index(0) < 0 || write_closed() < 0 || begin_journal() < 0) return -1;
   open_facts();
-  if (unlinkat(directory_fd, "log.1", 0) < 0 && errno != ENOENT) report_write_error("log.1"), run_target->is_unwritable = 1;
+  if (unlinkat(directory_fd, "log.1", 0) < 0 && errno != ENOENT) report_write_error("log.1"), run_target->log.is_unwritable = 1;
   return 0;
 }
 

@@ -44,7 +44,7 @@ static void for_each_line(const char *from, const char *end, int *is_start, line
   for (const char *next; from < end; from = next) {
     const char *newline = memchr(from, '\n', end - from);
     next = newline ? newline + 1 : end;
-    if (!(*is_start && end - from >= 7 && memcmp(from, "@@REDO:", 7) == 0)) visit(from, next - from, *is_start, to);
+    if (!*is_start || !is_record(from, end - from)) visit(from, next - from, *is_start, to);
     *is_start = newline != NULL;
   }
 }
@@ -54,7 +54,7 @@ static void for_each_line_in(struct target *target, off_t from, off_t end, int *
   size_t buffered = 0;
   while (from + (off_t)buffered < end) {
     size_t left = end - from - buffered, space = sizeof bytes - buffered, wanted = left < space ? left : space;
-    ssize_t size = pread(target->log_fd, bytes + buffered, wanted, from + buffered);
+    ssize_t size = pread(target->log.fd, bytes + buffered, wanted, from + buffered);
     if (size <= 0) return;
     size_t total = buffered + size;
     const char *newline = memrchr(bytes, '\n', total);
@@ -68,12 +68,12 @@ static void for_each_line_in(struct target *target, off_t from, off_t end, int *
 static void for_each_text_line(struct target *target, off_t from, line_visitor *visit, void *to) {
   int is_start = 1;
   if (open_log(target) < 0) return;
-  for (size_t i = 0; i < target->mention_count; i++) {
-    struct range *mention = &target->mentions[i];
+  for (size_t i = 0; i < target->log.mention_count; i++) {
+    struct range *mention = &target->log.mentions[i];
     if (mention->start > from) for_each_line_in(target, from, mention->start, &is_start, visit, to);
     if (mention->end > from) from = mention->end;
   }
-  for_each_line_in(target, from, target->size, &is_start, visit, to);
+  for_each_line_in(target, from, target->log.size, &is_start, visit, to);
 }
 
 /* Whether make itself prints this line when a target fails: `make[1]: *** [..] Error 1`, `make: Target 'x' not remade ..`. */
@@ -133,7 +133,7 @@ static void add_command(const struct command *command) {
 
 /* Relative paths in the output can't be followed without the directory of the make, if that isn't the base directory. */
 static void add_target_line(const struct target *target, int status) {
-  const char *directory = target->directory ? relative_to_base(target->directory) : "";
+  const char *directory = target->run.directory ? relative_to_base(target->run.directory) : "";
   char words[32] = "";
   if (status != 0) snprintf(words, sizeof words, " (exit %d)", status);
   add_text_to_block("redo-log-capture: ");
@@ -146,7 +146,7 @@ static void add_target_line(const struct target *target, int status) {
 /* A recipe that failed only because a sub-make did has no head, because the sub-make's line in the output states the failure. */
 static void add_head(const struct line *line, int status, const struct content *content) {
   struct target *target = line->target;
-  if (status != 0 && target->has_failed_child && content->has_text && !content->has_other) return;
+  if (status != 0 && target->run.has_failed_child && content->has_text && !content->has_other) return;
   if (status != 0 || target != last_shown) add_target_line(target, status);
   if (status != 0) add_command(&line->command);
 }
@@ -155,13 +155,13 @@ static void add_head(const struct line *line, int status, const struct content *
 void show_output(const struct line *line, int status) {
   struct target *target = line->target;
   struct content content = {0, 0};
-  if (!target->is_in_run || (status == 0 && show_mode != SHOW_ALL)) return;
-  if (target->log_fd >= 0 || target->size > target->shown_size)
-    for_each_text_line(target, target->shown_size, classify_line, &content);
+  if (!target->run.has_begun || (status == 0 && show_mode != SHOW_ALL)) return;
+  if (target->log.fd >= 0 || target->log.size > target->log.shown_size)
+    for_each_text_line(target, target->log.shown_size, classify_line, &content);
   if (status == 0 && !content.has_text) return;
   add_head(line, status, &content);
-  if (content.has_text) for_each_text_line(target, target->shown_size, add_line, NULL);
+  if (content.has_text) for_each_text_line(target, target->log.shown_size, add_line, NULL);
   write_unwritten();
-  target->shown_size = target->size;
+  target->log.shown_size = target->log.size;
   last_shown = target;
 }

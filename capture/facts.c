@@ -80,14 +80,14 @@ static void append_fact(struct facts *facts, const struct target *target, const 
 
 void begin_facts(const struct target *target) {
   append_fact(&begun, target, "log", target->name, strlen(target->name));
-  const char *path = target->directory ? normalize_name(target->directory, "", 0) : "\n";
+  const char *path = target->run.directory ? normalize_name(target->run.directory, "", 0) : "\n";
   if (strcmp(path, ".") == 0) path = base_dir;
   if (!strchr(path, '\n')) append_fact(&begun, target, "directory", path, strlen(path));
 }
 
 void record_command(const struct target *target, const struct command *command) {
   static struct command_text text;
-  if (facts_fd < 0 || !target->is_in_run || command->size == 0) return;
+  if (facts_fd < 0 || !target->run.has_begun || command->size == 0) return;
   text.size = 0;
   const char *kind = format_command(command, add_to_text, &text) ? "truncated" : "command", *end = text.bytes + text.size;
   for (const char *line = text.bytes, *line_end; line; line = line_end < end ? line_end + 1 : NULL, kind = "more") {
@@ -99,16 +99,16 @@ void record_command(const struct target *target, const struct command *command) 
 
 /* Each process has memory, so that no process has ended if the peak is 0. */
 int64_t processor_time_ms(const struct target *target) {
-  const struct usage *usage = &target->usage;
+  const struct usage *usage = &target->run.usage;
   return usage->peak_kb > 0 ? usage->user_us / 1000 + usage->system_us / 1000 : -1;
 }
 
 /* The server checks amounts, so that only a sum can have too many digits. */
 void record_usage(const struct target *target) {
   static const int64_t max = 999999999999999;
-  const struct usage *usage = &target->usage;
+  const struct usage *usage = &target->run.usage;
   char value[80];
-  if (!target->is_in_run || usage->peak_kb == 0 || usage->user_us / 1000 > max || usage->system_us / 1000 > max) return;
+  if (!target->run.has_begun || usage->peak_kb == 0 || usage->user_us / 1000 > max || usage->system_us / 1000 > max) return;
   append_fact(&stated, target, "usage", value,
               snprintf(value, sizeof value, "%lld %lld %lld", (long long)(usage->user_us / 1000),
                        (long long)(usage->system_us / 1000), (long long)usage->peak_kb));

@@ -21,17 +21,25 @@ static void report_lost(void) {
   if (lost_count > 1) warn("%s/log.%u and %u more were removed; their captures are lost", directory_path, first_lost, lost_count - 1);
 }
 
+/* Adds the record that a target ended, with its name as it is written in the log that gets the record. */
+static void add_done_record(struct text *text, const struct target *target, pid_t process, const char *name) {
+  add_record(text, "done", process, target->run.end_time);
+  add_number(text, target->run.status);
+  add_string(text, " ");
+  add_string(text, name);
+  add_string(text, "\n");
+}
+
 /* Adds the target's records to the log of its parent, unless a log mentions the target as a prerequisite. */
 static void add_child_records(const struct target *target) {
   struct target *parent = parent_of(target);
-  char *path = parent == target || target->is_mentioned ? NULL : name_in_log(target->name, parent->name);
+  char *path = parent == target || target->run.is_mentioned ? NULL : name_in_log(target->name, parent->name);
   if (!path) return;
-  if (!parent->child_records_stream)
-    parent->child_records_stream = xopen_memstream(&parent->child_records, &parent->child_records_size);
-  fprintf(parent->child_records_stream, "@@REDO:do:%d:%s@@ %s\n", (int)parent->process, format_time(target->start_time), path);
-  if (target->status >= 0)
-    fprintf(parent->child_records_stream, "@@REDO:done:%d:%s@@ %d %s\n", (int)parent->process, format_time(target->end_time),
-            target->status, path);
+  struct text *records = &parent->log.child_records;
+  add_record(records, "do", parent->run.process, target->run.start_time);
+  add_string(records, path);
+  add_string(records, "\n");
+  if (target->run.status >= 0) add_done_record(records, target, parent->run.process, path);
   free(path);
 }
 
@@ -40,19 +48,19 @@ static int is_mention_record(const char *log, size_t size, const struct range *r
   if (range->end > (off_t)size || log[range->end - 1] != '\n') return 0;
   const char *start = log + range->start;
   start += *start == '\n';
-  return log + range->end - start > 7 && memcmp(start, "@@REDO:", 7) == 0;
+  return is_record(start, log + range->end - start);
 }
 
 /* Rewrites a log: the records at its start, the records of the targets that sub-makes of its recipe made, and the text. Drops the
    provisional records. Returns -1 on failure. */
 static int rewrite_log(struct target *target, const char *log, size_t size) {
   char *rewritten;
-  size_t rewritten_size, from = target->header_size <= (off_t)size ? target->header_size : 0;
+  size_t rewritten_size, from = target->log.header_size <= (off_t)size ? target->log.header_size : 0;
   FILE *stream = xopen_memstream(&rewritten, &rewritten_size);
   fwrite(log, 1, from, stream);
-  if (target->child_records) fwrite(target->child_records, 1, target->child_records_size, stream);
-  for (size_t i = 0; i < target->mention_count; i++) {
-    const struct range *range = &target->mentions[i];
+  if (target->log.child_records.size > 0) fwrite(target->log.child_records.bytes, 1, target->log.child_records.size, stream);
+  for (size_t i = 0; i < target->log.mention_count; i++) {
+    const struct range *range = &target->log.mentions[i];
     if (range->start < (off_t)from || !is_mention_record(log, size, range)) continue;
     fwrite(log + from, 1, range->start - from, stream);
     from = range->end;
@@ -69,32 +77,31 @@ static void add_closing_record(struct target *target) {
   struct stat found = {.st_size = 0};
   char last = '\n';
   if (open_log(target) < 0) return;
-  int is_known = fstat(target->log_fd, &found) == 0 && found.st_size == target->written_size && !target->is_mid_line;
-  if (!is_known && found.st_size > 0 && pread(target->log_fd, &last, 1, found.st_size - 1) < 1) last = '\n';
-  char *record = xasprintf("%s@@REDO:done:%d:%s@@ %d %s\n", last == '\n' ? "" : "\n", (int)target->end_process,
-                           format_time(target->end_time), target->status, name_in_own_log(target->name));
-  target->is_closed = write_all(target->log_fd, record, strlen(record)) == 0;
+  int is_known = fstat(target->log.fd, &found) == 0 && found.st_size == target->log.written_size && !target->log.is_mid_line;
+  if (!is_known && found.st_size > 0 && pread(target->log.fd, &last, 1, found.st_size - 1) < 1) last = '\n';
+  struct text record = {NULL, 0, 0};
+  if (last != '\n') add_string(&record, "\n");
+  add_done_record(&record, target, target->run.end_process, name_in_own_log(target->name));
+  target->is_closed = write_all(target->log.fd, record.bytes, record.size) == 0;
   if (!target->is_closed) report_write_error(log_file_name(target->number));
-  if (!target->is_closed && ftruncate(target->log_fd, found.st_size) < 0) target->is_unwritable = 1;
+  if (!target->is_closed && ftruncate(target->log.fd, found.st_size) < 0) target->log.is_unwritable = 1;
   close_log(target);
-  free(record);
+  free(record.bytes);
 }
 
 /* Puts a log in order and closes it. A log that was removed is created again, unless something else is in its place. */
 static void finish_log(struct target *target) {
   struct stat found;
-  int has_ended = target->is_in_run && target->status >= 0;
-  if (target->child_records_stream) xclose_memstream(target->child_records_stream);
-  target->child_records_stream = NULL;
-  if (target->is_unwritable) return;
-  if (target->log_fd >= 0 && (fstat(target->log_fd, &found) < 0 || found.st_nlink == 0)) close_log(target);
+  int has_ended = target->run.has_begun && target->run.status >= 0;
+  if (target->log.is_unwritable) return;
+  if (target->log.fd >= 0 && (fstat(target->log.fd, &found) < 0 || found.st_nlink == 0)) close_log(target);
   int error = 0;
-  if (target->log_fd < 0 && fstatat(directory_fd, log_file_name(target->number), &found, AT_SYMLINK_NOFOLLOW) < 0) error = errno;
+  if (target->log.fd < 0 && fstatat(directory_fd, log_file_name(target->number), &found, AT_SYMLINK_NOFOLLOW) < 0) error = errno;
   int is_file = !error && S_ISREG(found.st_mode);
-  if (has_ended && (!is_file || target->is_log_lost)) count_lost(target);
+  if (has_ended && (!is_file || target->log.is_lost)) count_lost(target);
   if (!is_file && error != ENOENT) return;
-  if (error || target->is_log_lost) target->header_size = target->mention_count = 0;
-  if (target->child_records || target->mention_count > 0) {
+  if (error || target->log.is_lost) target->log.header_size = target->log.mention_count = 0;
+  if (target->log.child_records.size > 0 || target->log.mention_count > 0) {
     size_t size = 0;
     char *log = error ? xasprintf("%s", "") : read_file(log_file_name(target->number), &size);
     if (!log) return report_write_error(log_file_name(target->number));
@@ -102,15 +109,15 @@ static void finish_log(struct target *target) {
     free(log);
     if (error) return;
   }
-  if (target->status >= 0) add_closing_record(target);
+  if (target->run.status >= 0) add_closing_record(target);
   else close_log(target);
 }
 
 /* Gives the log of the run the status of the run, unless a recipe makes `all`. */
 static void end_run_log(int status) {
-  if (run_target->is_in_run) return;
-  run_target->process = run_target->end_process = getpid();
-  run_target->end_time = wall_clock_ms(), run_target->status = status;
+  if (run_target->run.has_begun) return;
+  run_target->run.process = run_target->run.end_process = getpid();
+  run_target->run.end_time = wall_clock_ms(), run_target->run.status = status;
 }
 
 static void finish_run(int status) {
@@ -123,7 +130,7 @@ static void finish_run(int status) {
   struct target **sorted = sorted_targets(&count);
   for (size_t i = 0; i < count; i++) add_child_records(sorted[i]);
   for (size_t i = 0; i < count; i++) finish_log(sorted[i]);
-  if (!run_target->is_in_run) finish_log(run_target);
+  if (!run_target->run.has_begun) finish_log(run_target);
   write_closed();
   report_lost();
   free(sorted);

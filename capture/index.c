@@ -127,7 +127,7 @@ int relist_targets(void) {
   unsigned *numbers = xrealloc(NULL, (target_count + 1) * sizeof *numbers);
   size_t count = 0;
   for (size_t i = 0; i < target_count; i++)
-    if (targets[i]->is_in_run && targets[i] != run_target)
+    if (targets[i]->run.has_begun && targets[i] != run_target)
       targets_in_run[count] = targets[i], numbers[count++] = targets[i]->number;
   if (read_index() < 0) return -1;
   for (size_t i = 0; i < count; i++) {

@@ -36,7 +36,7 @@ int begin_journal(void) {
 
 int end_journal(void) {
   size_t count = 0;
-  for (size_t i = 0; i < target_count; i++) count += targets[i]->is_in_run;
+  for (size_t i = 0; i < target_count; i++) count += targets[i]->run.has_begun;
   return replace_journal(xasprintf("ended %d %zu\n", (int)getpid(), count));
 }
 
@@ -64,8 +64,8 @@ int flush_begun_targets(void) { return flush_events(&begun); }
 void flush_journal(void) { flush_events(&events); }
 
 void begin_in_journal(const struct target *target) {
-  char *line = xasprintf("target %u %lld %u %s\n", target->number, (long long)target->start_time,
-                         target->parent ? target->parent->number : 0, target->name);
+  char *line = xasprintf("target %u %lld %u %s\n", target->number, (long long)target->run.start_time,
+                         target->run.parent ? target->run.parent->number : 0, target->name);
   size_t size = strlen(line);
   if (add_to_buffer(&begun, line, size) < 0 && flush_begun_targets() == 0) append_events(line, size);
   free(line);
@@ -116,8 +116,9 @@ static void parse_target_event(const char *line) {
     journal_target_capacity = capacity;
   }
   struct target *target = journal_targets[number] = add_target(line + name);
-  target->is_in_run = 1, target->is_closed = 0, target->number = number, target->parent = journal_target(parent);
-  target->start_time = time, target->status = -1, target->header_size = target->mention_count = 0;
+  target->number = number, target->is_closed = 0;
+  target->run = (struct target_run){.has_begun = 1, .parent = journal_target(parent), .start_time = time, .status = -1};
+  target->log.header_size = target->log.mention_count = 0;
 }
 
 static void parse_event(const char *line) {
@@ -129,15 +130,13 @@ static void parse_event(const char *line) {
   if (sscanf(line, "%*s %u", &number) != 1) return;
   struct target *target = number == 1 && !journal_target(1) ? run_target : journal_target(number);
   if (!target) return;
-  if (sscanf(line, "start %u %d %lld", &number, &process, &end) == 3) target->process = process, target->header_size = end;
-  if (sscanf(line, "needed %u", &number) == 1) target->is_mentioned = 1;
-  if (sscanf(line, "line %u %d", &number, &process) == 2) target->process = process, target->status = -1;
+  if (sscanf(line, "start %u %d %lld", &number, &process, &end) == 3) target->run.process = process, target->log.header_size = end;
+  if (sscanf(line, "needed %u", &number) == 1) target->run.is_mentioned = 1;
+  if (sscanf(line, "line %u %d", &number, &process) == 2) target->run.process = process, target->run.status = -1;
   if (sscanf(line, "ended %u %d %" SCNd64 " %d", &number, &process, &time, &status) == 4)
-    target->process = target->end_process = process, target->end_time = time, target->status = status;
-  if (sscanf(line, "mention %u %lld %lld", &number, &start, &end) == 3 && start >= 0 && end > start) {
-    target->mentions = grow_array(target->mentions, target->mention_count, &target->mention_capacity, sizeof *target->mentions);
-    target->mentions[target->mention_count++] = (struct range){start, end};
-  }
+    target->run.process = target->run.end_process = process, target->run.end_time = time, target->run.status = status;
+  if (sscanf(line, "mention %u %lld %lld", &number, &start, &end) == 3 && start >= 0 && end > start)
+    add_mention(&target->log, start, end);
 }
 
 static void for_each_line(char *lines, void (*visit)(const char *line)) {

@@ -37,9 +37,21 @@ const char *format_time(int64_t time) {
   return digits;
 }
 
+int is_record(const char *line, size_t size) { return size >= PREFIX_SIZE && memcmp(line, RECORD_PREFIX, PREFIX_SIZE) == 0; }
+
+void add_record(struct text *text, const char *kind, pid_t process, int64_t time) {
+  add_string(text, RECORD_PREFIX);
+  add_string(text, kind);
+  add_string(text, ":");
+  add_number(text, process);
+  add_string(text, ":");
+  add_time(text, time);
+  add_string(text, "@@ ");
+}
+
 static void mark_unwritable(struct target *target) {
   report_write_error(log_file_name(target->number));
-  target->is_unwritable = 1;
+  target->log.is_unwritable = 1;
 }
 
 /* Truncates an existing log, which costs less than creating a file. Replaces it if it isn't a regular file or has another link. */
@@ -56,12 +68,13 @@ static int open_emptied(const char *name, int is_new) {
 }
 
 static int ensure_open(struct target *target) {
-  if (target->log_fd >= 0 || target->is_unwritable || !is_capturing() || !target->number) return target->log_fd;
+  struct log_file *log = &target->log;
+  if (log->fd >= 0 || log->is_unwritable || !is_capturing() || !target->number) return log->fd;
   const char *name = log_file_name(target->number);
-  target->log_fd = target->is_begun_anew ? open_emptied(name, target->is_new) : open_to_append(name);
-  if (target->log_fd < 0) mark_unwritable(target);
-  else target->is_begun_anew = target->is_new = 0, open_count++;
-  return target->log_fd;
+  log->fd = log->must_be_emptied ? open_emptied(name, log->is_new) : open_to_append(name);
+  if (log->fd < 0) mark_unwritable(target);
+  else log->must_be_emptied = log->is_new = 0, open_count++;
+  return log->fd;
 }
 
 /* Writes the lines of a log that aren't records to standard error, because they can't be written to the log. A recipe's line is never
@@ -70,83 +83,84 @@ static void forward_lines(const char *bytes, size_t size) {
   for (const char *line = bytes, *end = bytes + size, *next; line < end; line = next) {
     const char *newline = memchr(line, '\n', end - line);
     next = newline ? newline + 1 : end;
-    if (next - line >= PREFIX_SIZE && memcmp(line, RECORD_PREFIX, PREFIX_SIZE) == 0) continue;
-    write_all(2, line, next - line);
+    if (!is_record(line, next - line)) write_all(2, line, next - line);
   }
 }
 
 /* Writes all bytes or none. */
 static int write_to_log(struct target *target, const char *bytes, size_t size) {
+  struct log_file *log = &target->log;
   if (ensure_open(target) < 0) return -1;
-  if (write_all(target->log_fd, bytes, size) == 0) {
-    target->written_size += size;
+  if (write_all(log->fd, bytes, size) == 0) {
+    log->written_size += size;
     return 0;
   }
   int error = errno;
-  if (ftruncate(target->log_fd, target->written_size) < 0) error = errno;
+  if (ftruncate(log->fd, log->written_size) < 0) error = errno;
   errno = error;
   mark_unwritable(target);
   return -1;
 }
 
-/* Drops what the log would have had after this size. */
-static void truncate_log(struct target *target) {
-  target->size = target->written_size;
-  while (target->mention_count > 0 && target->mentions[target->mention_count - 1].end > target->size) target->mention_count--;
+/* Drops what the log would have had after what is written. */
+static void truncate_log(struct log_file *log) {
+  log->size = log->written_size;
+  while (log->mention_count > 0 && log->mentions[log->mention_count - 1].end > log->size) log->mention_count--;
 }
 
 int flush_log(struct target *target) {
-  struct write_buffer *buffer = &target->buffer;
+  struct write_buffer *buffer = &target->log.buffer;
   size_t size = buffer->size;
-  if (size == 0 && !target->is_begun_anew) return 0;
+  if (size == 0 && !target->log.must_be_emptied) return 0;
   buffer->size = 0;
   if (size > 0 ? write_to_log(target, buffer->bytes, size) == 0 : ensure_open(target) >= 0) return 0;
   forward_lines(buffer->bytes, size);
-  truncate_log(target);
+  truncate_log(&target->log);
   return -1;
 }
 
 static void mark_dirty(struct target *target) {
-  if (target->is_dirty) return;
-  target->is_dirty = 1, target->next_dirty = NULL;
-  *dirty_end = target, dirty_end = &target->next_dirty;
+  if (target->log.is_dirty) return;
+  target->log.is_dirty = 1, target->log.next_dirty = NULL;
+  *dirty_end = target, dirty_end = &target->log.next_dirty;
 }
 
 void detect_lost_log(struct target *target) {
+  struct log_file *log = &target->log;
   struct stat found;
-  if (target->log_fd < 0 || fstat(target->log_fd, &found) < 0 || found.st_nlink > 0) return;
+  if (log->fd < 0 || fstat(log->fd, &found) < 0 || found.st_nlink > 0) return;
   close_log(target);
-  target->is_log_lost = 1, target->is_mid_line = 0;
-  target->written_size = target->shown_size = target->header_size = target->mention_count = 0;
-  target->size = target->buffer.size;
+  log->is_lost = 1, log->is_mid_line = 0;
+  log->written_size = log->shown_size = log->header_size = log->mention_count = 0;
+  log->size = log->buffer.size;
 }
 
 /* Existing logs are emptied only if the journal says that they were begun again. */
 static void flush_dirty_log(struct target *target, int can_begin) {
-  if (target->is_begun_anew && !can_begin) target->is_unwritable = 1;
+  if (target->log.must_be_emptied && !can_begin) target->log.is_unwritable = 1;
   flush_log(target);
   if (target->running_lines > 0 || target == run_target) return;
-  clear_buffer(&target->buffer);
+  clear_buffer(&target->log.buffer);
   if (open_count > max_open_logs()) close_log(target);
 }
 
 void flush_logs(int can_begin) {
   while (dirty_targets) {
     struct target *target = dirty_targets;
-    dirty_targets = target->next_dirty, target->is_dirty = 0;
+    dirty_targets = target->log.next_dirty, target->log.is_dirty = 0;
     if (!dirty_targets) dirty_end = &dirty_targets;
     flush_dirty_log(target, can_begin);
   }
 }
 
 void forget_logs(void) {
-  for (; dirty_targets; dirty_targets = dirty_targets->next_dirty) dirty_targets->is_dirty = 0;
+  for (; dirty_targets; dirty_targets = dirty_targets->log.next_dirty) dirty_targets->log.is_dirty = 0;
   dirty_end = &dirty_targets;
 }
 
 /* Before a log is emptied, the index, the journal and the facts must say that it begins again. */
 static int flush_now(struct target *target) {
-  if (target->is_begun_anew) flush_captures();
+  if (target->log.must_be_emptied) flush_captures();
   return flush_log(target);
 }
 
@@ -156,12 +170,12 @@ int open_log(struct target *target) {
 }
 
 void close_log(struct target *target) {
-  if (target->log_fd >= 0) close(target->log_fd), open_count--;
-  target->log_fd = -1;
+  if (target->log.fd >= 0) close(target->log.fd), open_count--;
+  target->log.fd = -1;
 }
 
 void close_log_soon(struct target *target) {
-  if (target->log_fd >= 0) mark_dirty(target);
+  if (target->log.fd >= 0) mark_dirty(target);
 }
 
 void close_all_logs(void) {
@@ -170,31 +184,32 @@ void close_all_logs(void) {
 
 /* Appends all or nothing. On failure the caller has the bytes still. */
 static int append(struct target *target, const char *bytes, size_t size) {
-  if (target->is_unwritable || !is_capturing() || !target->number) return -1;
-  if (add_to_buffer(&target->buffer, bytes, size) < 0 && (flush_now(target) < 0 || write_to_log(target, bytes, size) < 0)) return -1;
-  target->size += size;
+  if (target->log.is_unwritable || !is_capturing() || !target->number) return -1;
+  if (add_to_buffer(&target->log.buffer, bytes, size) < 0 && (flush_now(target) < 0 || write_to_log(target, bytes, size) < 0)) return -1;
+  target->log.size += size;
   mark_dirty(target);
   return 0;
 }
 
 void begin_log(struct target *target, int is_new) {
+  struct log_file *log = &target->log;
   close_log(target);
-  target->buffer.size = 0;
-  target->size = target->written_size = target->shown_size = target->header_size = target->mention_count = 0;
-  target->is_mid_line = target->is_log_lost = target->is_unwritable = target->has_text = target->is_full = 0;
-  target->is_begun_anew = 1, target->is_new = is_new;
+  log->must_be_emptied = 1, log->is_new = is_new;
+  log->is_lost = log->is_unwritable = log->is_full = log->has_text = log->is_mid_line = 0;
+  log->header_size = log->size = log->written_size = log->shown_size = 0;
+  log->buffer.size = log->mention_count = 0;
   mark_dirty(target);
 }
 
 void append_header(struct target *target, const char *records, size_t size) {
-  if (append(target, records, size) == 0) target->header_size = target->shown_size = size;
+  if (append(target, records, size) == 0) target->log.header_size = target->log.shown_size = size;
 }
 
 /* Appends text that fits, or writes it to standard error. */
 static void append_bytes(struct target *target, const char *bytes, size_t size) {
   if (size == 0) return;
   if (append(target, bytes, size) < 0) write_all(2, bytes, size);
-  else target->has_text = 1, target->is_mid_line = bytes[size - 1] != '\n';
+  else target->log.has_text = 1, target->log.is_mid_line = bytes[size - 1] != '\n';
 }
 
 /* Whether these bytes at the start of a line are, or may become, the start of a record. */
@@ -203,14 +218,14 @@ static int may_be_record(const char *bytes, size_t size) {
 }
 
 /* Whether the log ends with a provisional record. Then the next record needs no line feed before it, even within a line. */
-static int ends_with_mention(const struct target *target) {
-  return target->mention_count > 0 && target->mentions[target->mention_count - 1].end == target->size;
+static int ends_with_mention(const struct log_file *log) {
+  return log->mention_count > 0 && log->mentions[log->mention_count - 1].end == log->size;
 }
 
 /* Puts a space before each line that would be a record: whatever a recipe prints is text. */
 static void append_as_text(struct target *target, const char *bytes, size_t size) {
   const char *end = bytes + size, *from = bytes;
-  if ((!target->is_mid_line || ends_with_mention(target)) && may_be_record(bytes, size)) append_bytes(target, " ", 1);
+  if ((!target->log.is_mid_line || ends_with_mention(&target->log)) && may_be_record(bytes, size)) append_bytes(target, " ", 1);
   for (const char *found = bytes; (found = memmem(found, end - found, "\n@", 2)); found++) {
     if (!may_be_record(found + 1, end - found - 1)) continue;
     append_bytes(target, from, found + 1 - from);
@@ -223,45 +238,49 @@ static void append_as_text(struct target *target, const char *bytes, size_t size
 /* Ends the text of a log that is as large as it may be. */
 static void append_last(struct target *target, const char *bytes, size_t size) {
   char line[200];
-  off_t left = MAX_TEXT - target->size;
+  off_t left = MAX_TEXT - target->log.size;
   const char *newline = left > 0 ? memrchr(bytes, '\n', (off_t)size < left ? size : (size_t)left) : NULL;
   size_t first = newline ? newline + 1 - bytes : 0;
   append_as_text(target, bytes, first);
   complete_line(target);
   snprintf(line, sizeof line, "redo-log-capture: the log ends here, because it has %lld bytes; the rest is on standard error\n",
-           (long long)target->size);
+           (long long)target->log.size);
   append_bytes(target, line, strlen(line));
-  target->is_full = 1;
+  target->log.is_full = 1;
   write_all(2, bytes + first, size - first);
 }
 
 void append_text(struct target *target, const char *bytes, size_t size, const struct pipe *from) {
   if (size == 0) return;
-  if (!target->is_in_run || target->is_full) {
+  if (!target->run.has_begun || target->log.is_full) {
     write_all(2, bytes, size);
     return;
   }
-  if (from != target->mid_line_pipe) complete_line(target);
-  target->mid_line_pipe = from;
-  if (target->size + (off_t)size > MAX_TEXT) append_last(target, bytes, size);
+  if (from != target->log.mid_line_pipe) complete_line(target);
+  target->log.mid_line_pipe = from;
+  if (target->log.size + (off_t)size > MAX_TEXT) append_last(target, bytes, size);
   else append_as_text(target, bytes, size);
 }
 
 void complete_line(struct target *target) {
-  if (target->is_mid_line && target->is_in_run) append_bytes(target, "\n", 1);
+  if (target->log.is_mid_line && target->run.has_begun) append_bytes(target, "\n", 1);
+}
+
+void add_mention(struct log_file *log, off_t start, off_t end) {
+  log->mentions = grow_array(log->mentions, log->mention_count, &log->mention_capacity, sizeof *log->mentions);
+  log->mentions[log->mention_count++] = (struct range){start, end};
 }
 
 void mention_in_parent(struct target *target, const char *record) {
   struct target *parent = parent_of(target);
-  if (parent == target || (parent != run_target && !parent->is_in_run)) return;
+  if (parent == target || (parent != run_target && !parent->run.has_begun)) return;
   char *path = name_in_log(target->name, parent->name);
   if (!path) return;
-  char *line = xasprintf("%s%s %s\n", parent->is_mid_line && !ends_with_mention(parent) ? "\n" : "", record, path);
-  off_t start = parent->size;
+  char *line = xasprintf("%s%s %s\n", parent->log.is_mid_line && !ends_with_mention(&parent->log) ? "\n" : "", record, path);
+  off_t start = parent->log.size;
   if (append(parent, line, strlen(line)) == 0) {
-    parent->mentions = grow_array(parent->mentions, parent->mention_count, &parent->mention_capacity, sizeof *parent->mentions);
-    parent->mentions[parent->mention_count++] = (struct range){start, parent->size};
-    write_journal("mention %u %lld %lld\n", parent->number, (long long)start, (long long)parent->size);
+    add_mention(&parent->log, start, parent->log.size);
+    write_journal("mention %u %lld %lld\n", parent->number, (long long)start, (long long)parent->log.size);
   }
   free(line);
   free(path);

@@ -77,7 +77,7 @@ struct target *parent_target(struct make *make) {
     struct pollfd note = {parent->notes.fd, POLLIN, 0};
     if (note.fd < 0 || poll(&note, 1, MAX_START_MS) <= 0) start_line(parent, parent->process);
   }
-  return recipe && recipe->target && recipe->target->is_in_run ? recipe->target : NULL;
+  return recipe && recipe->target && recipe->target->run.has_begun ? recipe->target : NULL;
 }
 
 void receive_from_sub_makes(struct make *make, uint32_t recipe) {
@@ -87,8 +87,7 @@ void receive_from_sub_makes(struct make *make, uint32_t recipe) {
   }
 }
 
-/* The target of a line that isn't captured although its pipe was accepted. Its output goes to standard error. */
-struct target no_target = {.name = "", .log_fd = -1, .status = -1};
+struct target no_target = {.name = "", .run.status = -1, .log.fd = -1};
 
 struct target *begin_recipe(struct make *make, uint32_t number, int64_t time, pid_t process) {
   struct recipe_entry *recipe = find_recipe(make, number);
@@ -98,9 +97,9 @@ struct target *begin_recipe(struct make *make, uint32_t number, int64_t time, pi
   struct target *target = recipe->target;
   recipe->names = NULL, recipe->has_begun = 1;
   if (!target && names) target = recipe->target = add_target(normalize_name(make->directory, names, name_size));
-  if (target && !target->is_in_run) {
+  if (target && !target->run.has_begun) {
     struct target *parent = parent_target(make);
-    if (!target->is_in_run) begin_target(target, make, parent, name_size < size && names ? names + name_size + 1 : "", time, process);
+    if (!target->run.has_begun) begin_target(target, make, parent, name_size < size && names ? names + name_size + 1 : "", time, process);
   }
   free(names);
   return target ? target : &no_target;

@@ -87,7 +87,7 @@ static void create_log(struct make *make, uint32_t number) {
   struct recipe_entry *recipe = find_recipe(make, number);
   if (!recipe || !recipe->names) return;
   struct target *target = add_target(normalize_name(make->directory, recipe->names, strlen(recipe->names)));
-  if (target->is_in_run || (target->number == 0 && add_to_index(target) < 0)) return;
+  if (target->run.has_begun || (target->number == 0 && add_to_index(target) < 0)) return;
   flush_captures();
   create_file(log_file_name(run_target->number));
   create_file(log_file_name(target->number));

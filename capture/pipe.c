@@ -72,7 +72,7 @@ void watch_pipes(void) {
 void close_pipe(struct pipe *pipe) {
   for (struct line *line = lines; line; line = line->next)
     if (line->pipe == pipe) line->pipe = NULL;
-  if (pipe->target->mid_line_pipe == pipe) pipe->target->mid_line_pipe = NULL;
+  if (pipe->target->log.mid_line_pipe == pipe) pipe->target->log.mid_line_pipe = NULL;
   if (pipe->is_watched) close_source(&pipe->source);
   else close_unwatched(&pipe->source);
   *pipe->link = pipe->next;

@@ -53,7 +53,7 @@ static char *format_running(const struct target_group *group) {
   FILE *stream = xopen_memstream(&list, &size);
   for (size_t i = 0; i < named_count(group); i++) {
     const struct target *target = group->targets[i];
-    int64_t end = stop_time ? stop_time : wall_clock_ms(), duration = end > target->start_time ? end - target->start_time : 0;
+    int64_t end = stop_time ? stop_time : wall_clock_ms(), duration = end > target->run.start_time ? end - target->run.start_time : 0;
     fprintf(stream, "%s%s (%lld.%d s)", i ? ", " : "", target->name, (long long)(duration / 1000), (int)(duration % 1000 / 100));
   }
   if (group->count > MAX_NAMED) fprintf(stream, " and %zu more", group->count - MAX_NAMED);
@@ -69,7 +69,7 @@ static char *show_all_command(void) {
 /* Whether the targets that are named printed nothing on standard error, as far as that was captured. */
 static int are_logs_empty(const struct target_group *group) {
   for (size_t i = 0; i < named_count(group); i++)
-    if (group->targets[i]->has_text || is_redirected(group->targets[i]->first_make)) return 0;
+    if (group->targets[i]->log.has_text || is_redirected(group->targets[i]->run.first_make)) return 0;
   return 1;
 }
 
@@ -105,13 +105,13 @@ static void report_uncaptured(void) {
   free(names);
 }
 
-static int has_failed(const struct target *target) { return target->status > 0 && !target->is_interrupted; }
+static int has_failed(const struct target *target) { return target->run.status > 0 && !target->run.is_interrupted; }
 
 /* Whether the recipe that ran this target's make, or one above it, went on with its next line or did not fail. */
 static int is_ignored(const struct target *target) {
-  for (const struct target *parent; (parent = target->parent); target = parent) {
-    unsigned last_line = parent->status > 0 ? parent->failed_line : parent->line_count;
-    if (parent->status == 0 || (target->status >= 0 && target->failed_in_line != last_line)) return 1;
+  for (const struct target *parent; (parent = target->run.parent); target = parent) {
+    unsigned last_line = parent->run.status > 0 ? parent->run.failed_line : parent->run.line_count;
+    if (parent->run.status == 0 || (target->run.status >= 0 && target->run.failed_in_line != last_line)) return 1;
   }
   return 0;
 }
@@ -125,15 +125,15 @@ struct groups {
 static void group_targets(struct groups *groups) {
   size_t count;
   struct target **sorted = sorted_targets(&count);
-  for (size_t i = 0; i < count; i++) sorted[i]->has_failed_child = 0;
+  for (size_t i = 0; i < count; i++) sorted[i]->run.has_failed_child = 0;
   for (size_t i = 0; i < count; i++)
-    if (sorted[i]->parent && has_failed(sorted[i]) && !is_ignored(sorted[i])) sorted[i]->parent->has_failed_child = 1;
+    if (sorted[i]->run.parent && has_failed(sorted[i]) && !is_ignored(sorted[i])) sorted[i]->run.parent->run.has_failed_child = 1;
   for (size_t i = 0; i < count; i++) {
     struct target *target = sorted[i];
-    if (target->is_interrupted || target->status < 0) add_to_group(&groups->running, target);
+    if (target->run.is_interrupted || target->run.status < 0) add_to_group(&groups->running, target);
     else if (has_failed(target) && is_ignored(target)) add_to_group(&groups->ignored, target);
-    else if (has_failed(target) && !target->has_failed_child) add_to_group(&groups->failed, target);
-    else if (!has_failed(target) && target->has_text) add_to_group(&groups->texts, target);
+    else if (has_failed(target) && !target->run.has_failed_child) add_to_group(&groups->failed, target);
+    else if (!has_failed(target) && target->log.has_text) add_to_group(&groups->texts, target);
   }
   free(sorted);
 }
@@ -155,14 +155,14 @@ void report(const char *command, int is_quiet) {
 }
 
 static void write_summary_line(FILE *stream, const struct target *target) {
-  int64_t end = target->status >= 0 && target->end_time ? target->end_time : wall_clock_ms(),
-          duration = end > target->start_time ? end - target->start_time : 0;
-  if (target->status >= 0) fprintf(stream, "%d", target->status);
+  int64_t end = target->run.status >= 0 && target->run.end_time ? target->run.end_time : wall_clock_ms(),
+          duration = end > target->run.start_time ? end - target->run.start_time : 0;
+  if (target->run.status >= 0) fprintf(stream, "%d", target->run.status);
   else fprintf(stream, "-");
   fprintf(stream, " %lld.%03d %u %s", (long long)(duration / 1000), (int)(duration % 1000), target->number, target->name);
   int64_t processor_time = processor_time_ms(target);
   if (processor_time < 0) fprintf(stream, " - -\n");
-  else fprintf(stream, " %s %lld\n", format_time(processor_time), (long long)target->usage.peak_kb);
+  else fprintf(stream, " %s %lld\n", format_time(processor_time), (long long)target->run.usage.peak_kb);
 }
 
 /* Replaces a regular file atomically; writes to anything else, such as a pipe or a device. */

@@ -57,7 +57,7 @@ struct target *add_target(const char *name) {
   if (target_count >= bucket_count) grow_buckets();
   targets = grow_array(targets, target_count, &target_capacity, sizeof *targets);
   target = xrealloc(NULL, sizeof *target);
-  *target = (struct target){.name = xasprintf("%s", name), .status = -1, .log_fd = -1};
+  *target = (struct target){.name = xasprintf("%s", name), .run.status = -1, .log.fd = -1};
   struct target **bucket = find_bucket(name);
   target->next = *bucket, *bucket = target;
   targets[target_count++] = target;
@@ -75,11 +75,11 @@ int is_known_prefix(const char *name) {
 
 static void clear_target(struct target *target) {
   close_log(target);
-  clear_buffer(&target->buffer);
-  free(target->mentions);
-  free(target->directory);
+  clear_buffer(&target->log.buffer);
+  free(target->log.mentions);
+  free(target->run.directory);
   *target = (struct target){
-      .name = target->name, .next = target->next, .status = -1, .log_fd = -1, .running_lines = target->running_lines};
+      .name = target->name, .next = target->next, .running_lines = target->running_lines, .run.status = -1, .log.fd = -1};
 }
 
 void clear_targets(void) {
@@ -87,7 +87,7 @@ void clear_targets(void) {
   for (size_t i = 0; i < target_count; i++) clear_target(targets[i]);
 }
 
-struct target *parent_of(const struct target *target) { return target->parent ? target->parent : run_target; }
+struct target *parent_of(const struct target *target) { return target->run.parent ? target->run.parent : run_target; }
 
 static int compare_names(const void *left, const void *right) {
   return strcmp((*(struct target *const *)left)->name, (*(struct target *const *)right)->name);
@@ -97,7 +97,7 @@ struct target **sorted_targets(size_t *count) {
   struct target **sorted = xrealloc(NULL, (target_count + 1) * sizeof *sorted);
   *count = 0;
   for (size_t i = 0; i < target_count; i++)
-    if (targets[i]->is_in_run) sorted[(*count)++] = targets[i];
+    if (targets[i]->run.has_begun) sorted[(*count)++] = targets[i];
   qsort(sorted, *count, sizeof *sorted, compare_names);
   return sorted;
 }
