@@ -451,6 +451,7 @@ int is_among_last_descriptors(int latest);
 size_t max_open_logs(void);
 /* Whether the process has so few descriptors left that makes should wait for a reply to each line. */
 int is_short_of_descriptors(int latest);
+void warn_too_many_files(void);
 /* Writes what is buffered to the capture directory. */
 void flush_captures(void);
 /* Serves the build until the command has ended. */

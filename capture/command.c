@@ -14,8 +14,8 @@
 #include <sys/wait.h>
 #include <unistd.h>
 
-/* In milliseconds: DELAY, how much later a signal to a group may reach another process of it, and PATIENCE, how long the witness
-   may take to reply. If `ulimit -u` is below MIN_PROCESSES, no witness is started, so that the build can use the whole limit. */
+/* DELAY_MS: how much later a signal to a group may reach another process of it. REPLY_MS: how long the witness may take to reply. If
+   `ulimit -u` is below MIN_PROCESSES, no witness is started, so that the build can use the whole limit. */
 enum { DELAY_MS = 2, REPLY_MS = 2000, MIN_PROCESSES = 64 };
 
 int command_status, command_signal, stop_signal;

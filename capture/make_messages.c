@@ -66,10 +66,17 @@ static int is_pipe_reader(int descriptor) {
          (fcntl(descriptor, F_GETFL) & O_ACCMODE) == O_RDONLY;
 }
 
+/* Takes the read end of a pipe. Its output goes to standard error until a line starts. */
+static struct pipe *take_pipe(int *descriptor) {
+  struct pipe *pipe = new_pipe(*descriptor, &no_target);
+  *descriptor = -1;
+  return pipe;
+}
+
 /* Whether the recipe is captured. No record can mention a target whose name has a line feed. */
 static int can_capture(struct make *make, struct recipe_entry *recipe, int is_lost) {
   if (!recipe || open_directory() < 0) return 0;
-  if (is_lost) warn_once("too many open files: what some recipes print is not captured");
+  if (is_lost) warn_too_many_files();
   const char *name = recipe->names ? normalize_name(make->directory, recipe->names, strlen(recipe->names)) : "";
   if (strlen(name) <= MAX_NAME && !strchr(name, '\n')) return 1;
   warn_once("a target whose name is longer than 4096 bytes, or has a line feed, is not captured");
@@ -100,11 +107,11 @@ static int handle_line(struct make *make, const char *message, size_t size, int 
   if (is_short_of_descriptors(*descriptor) || is_lost) ask_makes();
   if (line.wants_reply && *descriptor >= 0 && is_among_last_descriptors(*descriptor)) close(*descriptor), *descriptor = -1, is_lost = 1;
   int is_pipe = is_pipe_reader(*descriptor);
-  if (is_pipe && !line.wants_reply) make->announced.pipe = new_pipe(*descriptor, &no_target), *descriptor = -1;
+  if (is_pipe && !line.wants_reply) make->announced.pipe = take_pipe(descriptor);
   check_removal();
   int is_captured = can_capture(make, find_recipe(make, line.recipe), is_lost);
   if (!is_captured && line.wants_reply) return reply(make, is_dropped() ? NEVER_CAPTURED : NOT_CAPTURED);
-  if (is_pipe && line.wants_reply) make->announced.pipe = new_pipe(*descriptor, &no_target), *descriptor = -1;
+  if (is_pipe && line.wants_reply) make->announced.pipe = take_pipe(descriptor);
   make->announced.is_captured = is_captured, make->announced.recipe = line.recipe, make->announced.time = valid_time(line.time);
   size -= sizeof line;
   make->announced.command = (struct command){memcpy(xrealloc(NULL, size), message + sizeof line, size), size};
@@ -206,9 +213,7 @@ static int reject_request(struct make *make) {
 }
 
 static void forward_note(int *descriptor) {
-  if (!is_pipe_reader(*descriptor)) return;
-  new_pipe(*descriptor, &no_target);
-  *descriptor = -1;
+  if (is_pipe_reader(*descriptor)) take_pipe(descriptor);
 }
 
 /* Returns the size of a message; 0 if there is none now; -1 if the sender is gone or the message is too long. An error doesn't mean

@@ -12,8 +12,8 @@
 #include <unistd.h>
 
 /* In bytes: CHUNK, the most that is read at once, and MAX_HELD, the longest unended line that is held back. In milliseconds:
-   SILENCE, how long an unended line is held back if nothing follows; and how long to wait for more output of a failed recipe:
-   PAUSE, if nothing arrives, and PATIENCE, in all. */
+   FLUSH_MS, how long an unended line is held back if nothing follows; and how long to wait for more output of a failed recipe:
+   POLL_MS, if nothing arrives, and DRAIN_MS, in all. */
 enum { CHUNK = 65536, MAX_HELD = 64 << 20, FLUSH_MS = 200, POLL_MS = 20, DRAIN_MS = 100 };
 
 struct pipe {

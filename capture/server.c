@@ -122,7 +122,7 @@ static void serve_deferred(void) {
   if (size > 0 && size < SMALL_READ) defer_reading();
 }
 
-static const char too_many_files[] = "too many open files: what some recipes print is not captured";
+void warn_too_many_files(void) { warn_once("too many open files: what some recipes print is not captured"); }
 
 /* If there are too many open files, closes a spare one, and uses its descriptor to accept a connection and close it. So no make
    waits for a connection. */
@@ -131,7 +131,7 @@ static void reject_make(void) {
   int file = accept4(listener.fd, NULL, NULL, SOCK_CLOEXEC);
   if (file >= 0) close(file);
   spare_fd = open("/", O_RDONLY | O_CLOEXEC);
-  warn_once(too_many_files);
+  warn_too_many_files();
 }
 
 static void accept_makes(void) {
@@ -142,7 +142,7 @@ static void accept_makes(void) {
     if (file < 0) break;
     if (is_among_last_descriptors(file + 1) && !drop_pending_make()) { /* the make would pass another one */
       close(file);
-      warn_once(too_many_files);
+      warn_too_many_files();
       continue;
     }
     accepted_fd = file;
