@@ -493,6 +493,8 @@ int run_program(char **words);
 /* Returns the path of a program in one of the directories of PATH, or NULL. */
 char *find_in_path(const char *name);
 _Noreturn void die_cannot_run(const char *command, int error);
+/* Ends this process by a signal. Returns if that isn't possible, because it is the first process of a container. */
+void end_by_signal(int signal);
 _Noreturn void exit_like_command(void);
 const char *signal_name(int signal);
 

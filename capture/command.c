@@ -229,18 +229,20 @@ int handle_signals(void) {
 }
 
 /* Writes no core dump: the command has written one if it was meant to. */
-void exit_like_command(void) {
+void end_by_signal(int kind) {
   struct rlimit none = {0, 0};
   sigset_t one;
-  if (command_signal) {
-    setrlimit(RLIMIT_CORE, &none);
-    prctl(PR_SET_DUMPABLE, 0);
-    signal(command_signal, SIG_DFL);
-    sigemptyset(&one);
-    sigaddset(&one, command_signal);
-    sigprocmask(SIG_UNBLOCK, &one, NULL);
-    kill(getpid(), command_signal);
-  }
+  setrlimit(RLIMIT_CORE, &none);
+  prctl(PR_SET_DUMPABLE, 0);
+  signal(kind, SIG_DFL);
+  sigemptyset(&one);
+  sigaddset(&one, kind);
+  sigprocmask(SIG_UNBLOCK, &one, NULL);
+  kill(getpid(), kind);
+}
+
+void exit_like_command(void) {
+  if (command_signal) end_by_signal(command_signal);
   exit(command_status ? command_status : failed_writes || is_out_of_memory ? 1 : 0);
 }
 

@@ -9,7 +9,6 @@
 #include <spawn.h>
 #include <stdlib.h>
 #include <string.h>
-#include <sys/prctl.h>
 #include <sys/resource.h>
 #include <sys/socket.h>
 #include <sys/stat.h>
@@ -164,30 +163,18 @@ static int wait_for_command(pid_t process, const sigset_t *blocked, struct rusag
 
 static int64_t microseconds(struct timeval time) { return (int64_t)time.tv_sec * 1000000 + time.tv_usec; }
 
-static _Noreturn void exit_like(int wait_status) {
-  struct rlimit none = {0, 0};
-  sigset_t all;
-  if (WIFSIGNALED(wait_status)) {
-    setrlimit(RLIMIT_CORE, &none);
-    prctl(PR_SET_DUMPABLE, 0);
-    signal(WTERMSIG(wait_status), SIG_DFL);
-    sigfillset(&all);
-    sigprocmask(SIG_UNBLOCK, &all, NULL);
-    kill(getpid(), WTERMSIG(wait_status));
-  }
-  exit(WEXITSTATUS(wait_status));
+static void report_end(pid_t process, int wait_status, const struct rusage *usage, int is_stopping) {
+  struct ended ended = {.kind = ENDED, .pid = process, .wait_status = wait_status, .time = wall_clock_ms()};
+  ended.user_us = microseconds(usage->ru_utime), ended.system_us = microseconds(usage->ru_stime), ended.peak_kb = usage->ru_maxrss;
+  ended.wants_reply = welcome.show_mode == SHOW_ALL || (welcome.show_mode == SHOW_FAILED && wait_status != 0);
+  ended.stopping = is_stopping ? STOPPING : NOT_STOPPING;
+  int error = send_message(ended.wants_reply ? run_socket : notes_socket, &ended, sizeof ended, NULL, 0, -1);
+  if (!error && ended.wants_reply) receive_reply();
 }
 
-void launch(char **command) {
-  char *target = getenv("CAPTURE"), *colon = target ? strstr(target, " : ") : NULL;
+/* Starts the command, waits for it, and ends as it did. */
+static _Noreturn void run_command(char **command, int pipe) {
   sigset_t blocked, former_mask;
-  if (colon == target) colon = NULL;
-  if (!colon || connect_to_run() < 0) exec_command(command);
-  target = xasprintf("%.*s", (int)(colon - target), target);
-  int pipe = announce_command(target, colon + 3, command);
-  unsetenv("CAPTURE");
-  if (pipe < 0) exec_command(command);
-  export_command_run(pipe);
   sigemptyset(&blocked);
   for (int i = 0; i < 5; i++) sigaddset(&blocked, (int[]){SIGHUP, SIGINT, SIGQUIT, SIGTERM, SIGCHLD}[i]);
   sigprocmask(SIG_BLOCK, &blocked, &former_mask);
@@ -196,14 +183,20 @@ void launch(char **command) {
   send_message(notes_socket, &started, sizeof started, NULL, 0, -1);
   close(pipe);
   struct rusage usage;
-  int is_stopping = 0;
-  struct ended ended = {.kind = ENDED, .pid = started.pid};
-  ended.wait_status = wait_for_command(started.pid, &blocked, &usage, &is_stopping);
-  ended.stopping = is_stopping ? STOPPING : NOT_STOPPING;
-  ended.time = wall_clock_ms(), ended.peak_kb = usage.ru_maxrss;
-  ended.user_us = microseconds(usage.ru_utime), ended.system_us = microseconds(usage.ru_stime);
-  ended.wants_reply = welcome.show_mode == SHOW_ALL || (welcome.show_mode == SHOW_FAILED && ended.wait_status != 0);
-  if (send_message(ended.wants_reply ? run_socket : notes_socket, &ended, sizeof ended, NULL, 0, -1) == 0 && ended.wants_reply)
-    receive_reply();
-  exit_like(ended.wait_status);
+  int is_stopping = 0, wait_status = wait_for_command(started.pid, &blocked, &usage, &is_stopping);
+  report_end(started.pid, wait_status, &usage, is_stopping);
+  if (WIFSIGNALED(wait_status)) end_by_signal(WTERMSIG(wait_status));
+  exit(WEXITSTATUS(wait_status));
+}
+
+void launch(char **command) {
+  char *target = getenv("CAPTURE"), *colon = target ? strstr(target, " : ") : NULL;
+  if (colon == target) colon = NULL;
+  if (!colon || connect_to_run() < 0) exec_command(command);
+  target = xasprintf("%.*s", (int)(colon - target), target);
+  int pipe = announce_command(target, colon + 3, command);
+  unsetenv("CAPTURE");
+  if (pipe < 0) exec_command(command);
+  export_command_run(pipe);
+  run_command(command, pipe);
 }

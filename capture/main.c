@@ -44,13 +44,12 @@ static const char help[] =
     "  126  the command can't be run\n"
     "  127  the command isn't found\n";
 
-static const char *summary, *page;
-static int must_close, is_quiet, progress_seconds;
+static const char *directory = DEFAULT_DIRECTORY, *summary, *page;
+static int must_close, is_quiet, progress_seconds, only_finishes;
 
 static _Noreturn void print_and_exit(const char *message) { exit(fputs(message, stdout) < 0 || fflush(stdout) != 0); }
 
-static _Noreturn void finish_interrupted(const char *name) {
-  set_directory(name);
+static _Noreturn void finish_interrupted(void) {
   open_interrupted_run();
   if (read_journal_state() == RUNNING) read_journal();
   finish(-1, must_close);
@@ -109,8 +108,7 @@ static void check_output_file(const char *path) {
   free(checked);
 }
 
-static _Noreturn void capture_build(char **command, const char *name) {
-  set_directory(name);
+static _Noreturn void capture_build(char **command) {
   if (is_within_run()) exec_command(command);
   check_directory();
   if (summary) check_output_file(summary);
@@ -130,14 +128,19 @@ static _Noreturn void capture_build(char **command, const char *name) {
   exit_like_command();
 }
 
-int main(int count, char **arguments) {
-  reserve_standard_fds();
-  if (count > 2 && strcmp(arguments[1], "--recipe") == 0) launch(arguments + 2);
-  set_base_dir();
+/* Whether an argument is this option. If so, sets its value, which follows `=` or is the next argument; "" if there is none. */
+static int parse_value(char ***arguments, const char *option, const char **value) {
+  const char *argument = **arguments;
+  size_t size = strlen(option);
+  if (strncmp(argument, option, size) != 0 || (argument[size] && argument[size] != '=')) return 0;
+  if (argument[size]) *value = argument + size + 1;
+  else *value = (*arguments)[1] ? *++*arguments : "";
+  return 1;
+}
 
-  const char *name = DEFAULT_DIRECTORY;
-  int is_finish = 0;
-  for (arguments++; *arguments && **arguments == '-'; arguments++) {
+/* Parses the arguments up to the command, which it returns. */
+static char **parse_options(char **arguments) {
+  for (; *arguments && **arguments == '-'; arguments++) {
     char *argument = *arguments;
     if (strcmp(argument, "-h") == 0 || strcmp(argument, "--help") == 0) print_and_exit(help);
     if (strcmp(argument, "-V") == 0 || strcmp(argument, "--version") == 0) print_and_exit("redo-log-capture " VERSION "\n");
@@ -146,25 +149,31 @@ int main(int count, char **arguments) {
     else if (strcmp(argument, "--live") == 0) show_mode = SHOW_ALL;
     else if (strcmp(argument, "--quiet") == 0) show_mode = SHOW_NOTHING, is_quiet = 1;
     else if (strcmp(argument, "--must-close") == 0) must_close = 1;
-    else if (strcmp(argument, "--finish") == 0) is_finish = 1;
-    else if (strcmp(argument, "--dir") == 0) name = arguments[1] ? *++arguments : "";
-    else if (strncmp(argument, "--dir=", 6) == 0) name = argument + 6;
-    else if (strcmp(argument, "--summary") == 0) summary = arguments[1] ? *++arguments : "";
-    else if (strncmp(argument, "--summary=", 10) == 0) summary = argument + 10;
+    else if (strcmp(argument, "--finish") == 0) only_finishes = 1;
     else if (strcmp(argument, "--progress") == 0) progress_seconds = PROGRESS_SECONDS;
     else if (strncmp(argument, "--progress=", 11) == 0) progress_seconds = parse_seconds(argument + 11);
-    else if (strcmp(argument, "--html") == 0) page = arguments[1] ? *++arguments : "";
-    else if (strncmp(argument, "--html=", 7) == 0) page = argument + 7;
-    else if (strcmp(argument, "--") == 0) { arguments++; break; }
+    else if (parse_value(&arguments, "--dir", &directory)) continue;
+    else if (parse_value(&arguments, "--summary", &summary)) continue;
+    else if (parse_value(&arguments, "--html", &page)) continue;
+    else if (strcmp(argument, "--") == 0) return arguments + 1;
     else die(2, "%s: unknown option; try --help", argument);
   }
-  if (!*name) die(2, "--dir: no directory given");
+  return arguments;
+}
+
+int main(int count, char **arguments) {
+  reserve_standard_fds();
+  if (count > 2 && strcmp(arguments[1], "--recipe") == 0) launch(arguments + 2);
+  set_base_dir();
+  char **command = parse_options(arguments + 1);
+  if (!*directory) die(2, "--dir: no directory given");
   if (summary && !*summary) die(2, "--summary: no file given");
   if (page && !*page) die(2, "--html: no file given");
-  if (is_finish && *arguments) die(2, "--finish: takes no command: %s", *arguments);
-  if (is_finish && summary) die(2, "--finish: writes no summary");
-  if (is_finish && page) die(2, "--finish: writes no page");
-  if (is_finish) finish_interrupted(name);
-  if (!*arguments) die(2, "no command given; try --help");
-  capture_build(arguments, name);
+  if (only_finishes && *command) die(2, "--finish: takes no command: %s", *command);
+  if (only_finishes && summary) die(2, "--finish: writes no summary");
+  if (only_finishes && page) die(2, "--finish: writes no page");
+  if (!only_finishes && !*command) die(2, "no command given; try --help");
+  set_directory(directory);
+  if (only_finishes) finish_interrupted();
+  capture_build(command);
 }
