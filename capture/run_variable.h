@@ -1,5 +1,5 @@
-/* The environment variable CAPTURE_RUN, by which makes find the server. These functions need no C library, so that the hook can use
-   them. */
+/* The environment variable CAPTURE_RUN, which identifies the run of each make. The hook uses these functions too, so they need no C
+   library. */
 #include "protocol.h"
 #include <stddef.h>
 
@@ -9,15 +9,16 @@ struct file_identity {
   unsigned long device, inode;
 };
 
-/* CAPTURE_RUN=SOCKET:TOKEN:USER:MAKE.RECIPE:DEVICE.INODE:DEVICE.INODE:DIRECTORY */
+/* CAPTURE_RUN=SOCKET:TOKEN:USER:MAKE.RECIPE:DEVICE.INODE:DEVICE.INODE:DIRECTORY. The strings have no NUL, except the last one. */
 struct run_variable {
-  const char *socket_name; /* abstract */
+  const char *socket_name; /* the abstract name of the server's socket */
   size_t socket_name_size;
-  const char *token;               /* TOKEN_SIZE bytes: a secret that proves that the sender belongs to the run */
-  unsigned long user;              /* of the server */
-  unsigned long make, recipe;      /* the recipe that runs this make, or 0.0 */
-  struct file_identity outputs[3]; /* by descriptor: the files to which 1 and 2 go if nobody redirects them, or 0.0 */
-  const char *directory;           /* the capture directory; its size isn't limited */
+  const char *token;          /* a secret that proves that the sender belongs to the run: TOKEN_SIZE bytes */
+  unsigned long user;         /* of the server */
+  unsigned long make, recipe; /* the recipe that runs this make, or 0.0 */
+  /* By descriptor: the files to which standard output and standard error go if nobody redirects them, or 0.0. */
+  struct file_identity outputs[3];
+  const char *directory; /* the capture directory */
 };
 
 /* Moves past a string and the colon after it. Returns its size, or 0 if it is empty or has no colon after it. */
@@ -36,7 +37,7 @@ static inline int parse_number(const char **from, unsigned long *number, char en
   return *from > start && *(*from)++ == end ? 0 : -1;
 }
 
-/* Parses the value of the variable, in which the strings stay. Returns -1 if it is invalid. */
+/* Parses the value of the variable, and returns -1 if it is invalid. The strings stay where they are. */
 static inline int parse_run_variable(const char *value, struct run_variable *run) {
   const char *from = run->socket_name = value;
   run->socket_name_size = parse_string(&from);
@@ -70,7 +71,7 @@ static inline char *append_number(char *to, unsigned long number, char end) {
   return to;
 }
 
-/* Writes the value of the variable, which has at most as many bytes as max_run_variable_size returns, with the NUL. */
+/* Writes the value of the variable, and returns the position of the NUL. max_run_variable_size returns how much memory is enough. */
 static inline char *append_run_variable(char *to, const struct run_variable *run) {
   for (size_t i = 0; i < run->socket_name_size; i++) *to++ = run->socket_name[i];
   *to++ = ':';

@@ -18,7 +18,7 @@ size_t string_length(const char *string);
 int strings_equal(const char *left, const char *right);
 /* Whether a string begins with a prefix. */
 int has_prefix(const char *string, const char *prefix);
-/* A buffer that reserve enlarges, which loses its content. reserve returns NULL if memory can't be allocated. */
+/* A buffer that grow_buffer enlarges, which loses its content. grow_buffer returns NULL if memory can't be allocated. */
 struct buffer {
   char *bytes;
   size_t size;
@@ -34,8 +34,7 @@ struct run {
   struct run_variable variable;
   int is_redirected[3];            /* by descriptor */
   struct file_identity own_output; /* make's own standard output */
-  /* From the server's reply to HELLO: */
-  uint32_t make;
+  uint32_t make;                   /* as the server numbers it */
   int show_mode, captures_output;
   int asks, is_captured; /* whether lines need a reply: always, or because none was captured yet */
 };
