@@ -4,7 +4,7 @@
 #include "syscalls.h"
 #include <errno.h>
 #include <fcntl.h>
-#include <limits.h>
+#include <linux/limits.h> /* with -ffreestanding, clang's limits.h has no PATH_MAX */
 #include <signal.h>
 #include <sys/socket.h>
 #include <sys/stat.h>
