@@ -121,7 +121,7 @@ struct range {
 struct usage {
   int64_t user_us, system_us, peak_kb;
 };
-/* What has happened to a target in this run. All of it is reset when its first recipe begins. */
+/* What has happened to a target in this run. Reset when its first recipe begins. */
 struct target_run {
   int has_begun;
   int is_mentioned;      /* as a prerequisite, in the log of another target */
@@ -135,14 +135,13 @@ struct target_run {
   pid_t end_process; /* of the line of the first make that was the last to end so far; 0 before */
 
   /* The last line. */
-  const struct make *last_make; /* which ran it, and its number of the recipe */
-  uint32_t last_recipe;
+  const struct make *last_make; /* the make that ran it */
+  uint32_t last_recipe;         /* the number of its recipe in that make */
   pid_t process;
   int status;         /* as a shell reports it; -1 while a line runs */
   int failed_status;  /* of an earlier recipe of the same double-colon rules that failed; otherwise 0 */
   int is_interrupted; /* it failed after a signal had stopped the build */
 
-  /* Whether a recipe went on after the recipe of a sub-make had failed. */
   unsigned line_count;     /* the number of lines that began so far */
   unsigned failed_line;    /* line_count when a line failed last */
   unsigned failed_in_line; /* the parent's line_count when this target failed last */
@@ -287,7 +286,7 @@ void append_header(struct target *target, const char *records, size_t size);
    ended. Output that can't be written, or for which the log has no space, goes to standard error. */
 void append_text(struct target *target, const char *bytes, size_t size, const struct pipe *from);
 void complete_line(struct target *target);
-/* Adds that these bytes of a log are a provisional record. */
+/* Records that these bytes of a log are a provisional record. */
 void add_mention(struct log_file *log, off_t start, off_t end);
 /* Appends a provisional record to the log of the parent. */
 void mention_in_parent(struct target *target, const char *record);
@@ -306,6 +305,7 @@ void close_log_soon(struct target *target);
 /* Closes the descriptors of all logs, so that other files can be opened. A log is opened again when it is written. */
 void close_all_logs(void);
 const char *log_file_name(unsigned number);
+/* Whether a line of a log is a record. */
 int is_record(const char *line, size_t size);
 /* Adds the start of a record, `@@REDO:KIND:PROCESS:TIME@@ `. */
 void add_record(struct text *text, const char *kind, pid_t process, int64_t time);
@@ -438,7 +438,7 @@ int watch_source(struct source *source);
 void close_source(struct source *source);
 void close_unwatched(struct source *source);
 void listen_for_makes(void);
-/* Sets CAPTURE_RUN for the makes of this run, or of another one. */
+/* Sets CAPTURE_RUN for the makes of this run, or to other parts. */
 void export_run(void);
 struct run_variable;
 void set_run_variable(const struct run_variable *run);
