@@ -19,8 +19,11 @@ CFLAGS ?= -O2
 # Links redo-log-capture statically if a static C library is installed: it may run for each command of a build, and starts faster.
 STATIC = $(shell echo 'int main(void) { return 0; }' | $(CC) -static -x c -o /dev/null - 2>/dev/null && echo -static)
 # The hook is loaded into make. It uses nothing of a C library, so that one file works with all of them.
-HOOK_FLAGS = -std=gnu11 -Wall -Wextra -O2 -fPIC -shared -nostdlib -ffreestanding -fno-stack-protector \
-  -fno-tree-loop-distribute-patterns -fvisibility=hidden -Wl,-z,now
+HOOK_FLAGS = -std=gnu11 -Wall -Wextra -O2 -fPIC -shared -nostdlib -ffreestanding -fno-stack-protector $(NO_LIBRARY_LOOPS) \
+  -fvisibility=hidden -Wl,-z,now
+# GCC's option against replacing loops by calls of the C library.
+NO_LIBRARY_LOOPS = $(shell $(CC) -fno-tree-loop-distribute-patterns -E -x c /dev/null >/dev/null 2>&1 && \
+  echo -fno-tree-loop-distribute-patterns)
 VERSION = $(shell sed -n 's/^const VERSION.*redo-log \([0-9.]*\).*/\1/p' crates/redo_log/src/main.rt)
 
 .PHONY: try run check build install install-capture deb dist version
