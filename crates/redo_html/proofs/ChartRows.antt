@@ -19,8 +19,8 @@ use Rattle.redo_html.specs.Laws.{has_bytes, markup_tag, reworded}
 use Rattle.redo_html.specs.Parts.{Part, part_html, part_of, part_text, part_tokens}
 use Rattle.redo_html.specs.Parts.Part.{MarkupPart, ChartPart, MeterPart}
 use Rattle.redo_html.specs.Passage.{html_from}
-use Rattle.redo_html.specs.Shown.{is_odd, number_text, odd_text, picture}
-use Rattle.redo_html.specs.Symbols.{first_letter, first_symbol, is_sequence, letter_len, sequence_len, sequence_numbers, symbol_len, symbols_after}
+use Rattle.redo_html.specs.Shown.{is_unprintable, number_text, unprintable_text, notation}
+use Rattle.redo_html.specs.Symbols.{first_code_point, first_symbol, is_sequence, code_point_len, sequence_len, sequence_numbers, symbol_len, symbols_after}
 
 -- ---- charts
 
@@ -28,8 +28,8 @@ abbrev at : {X : Type 0} → X → Bor X
 at x = record { ref_ptr = (0, 0); now = x }
 
 abbrev bar : ℕ → ℕ → ℕ → ℕ → ℕ → Bool → List ℕ → Option (Bor (List ℕ)) → ChartItem
-bar place x y width height failed title label =
-    item.Bar (record { place = place; x = x; y = y; width = width; height = height; failed = failed; title = at title; label = label })
+bar target x y width height failed title label =
+    item.Bar (record { target = target; x = x; y = y; width = width; height = height; failed = failed; title = at title; label = label })
 
 abbrev group : GroupKind → List ChartItem → ChartGroup
 group kind items = record { kind = kind; items = at items }
@@ -85,7 +85,7 @@ shape_rows =
     ∷ []
 
 shapes_are : AllByRecursion (λ r. nodes_html (shape_nodes r.kind (shape_of r.item)) ≡ r.html) shape_rows
-unfolding symbols_after first_symbol symbol_len is_sequence sequence_len sequence_numbers first_letter letter_len is_odd picture odd_text number_text encode_utf8 digits html_from
+unfolding symbols_after first_symbol symbol_len is_sequence sequence_len sequence_numbers first_code_point code_point_len is_unprintable notation unprintable_text number_text encode_utf8 digits html_from
 shapes_are = (refl, (refl, (refl, (refl, (refl, (refl, (refl, (refl, (refl, (refl, (refl, (refl, (refl, tt)))))))))))))
 
 record GroupRow : Type 0 where
@@ -143,12 +143,12 @@ rows =
     ∷ []
 
 written_are : AllByRecursion (λ r. part_html r.part ≡ r.html) rows
-unfolding symbols_after first_symbol symbol_len is_sequence sequence_len sequence_numbers first_letter letter_len is_odd picture odd_text number_text encode_utf8 digits html_from
+unfolding symbols_after first_symbol symbol_len is_sequence sequence_len sequence_numbers first_code_point code_point_len is_unprintable notation unprintable_text number_text encode_utf8 digits html_from
 written_are = (refl, (refl, (refl, (refl, (refl, (refl, (refl, tt)))))))
 
 -- A reader sees the ticks, the tooltips and the labels.
 texts_are : (part_text (part_of (piece.Chart full)) ≡ codes "01 s<^A>all, 4 salllib, exit 2libout/<a>&\"b'.o, 0.01 s</title>\\xffc, exit 1a<b>&^[[1mdd^[[meff") × (part_text (part_of (piece.Chart (chart 5 1 []))) ≡ []) × (part_text (part_of (piece.Meter 7)) ≡ [])
-unfolding symbols_after first_symbol symbol_len is_sequence sequence_len sequence_numbers first_letter letter_len is_odd picture odd_text number_text encode_utf8 digits
+unfolding symbols_after first_symbol symbol_len is_sequence sequence_len sequence_numbers first_code_point code_point_len is_unprintable notation unprintable_text number_text encode_utf8 digits
 texts_are = (refl, refl, refl)
 
 links_are : (drawing_links (drawing_of full) ≡ 0 ∷ 1 ∷ 7 ∷ 8 ∷ 9 ∷ 12 ∷ 18446744073709551615 ∷ 13 ∷ []) × (drawing_links (drawing_of (chart 5 1 [])) ≡ [])
@@ -172,7 +172,7 @@ tags_are : tags_of (part_tokens (ChartPart (two (codes "<a>") (codes "</title>")
     ∷ codes "g class=\"axis\" stroke=\"#8886\" fill=\"currentColor\" stroke-width=\".5\"" ∷ codes "text x=\"0.50%\" y=\"11\" text-anchor=\"end\"" ∷ codes "/text" ∷ codes "/g"
     ∷ codes "g class=\"k\" fill=\"#3a6ea5\"" ∷ codes "a href=\"#t4\" tabindex=\"-1\"" ∷ codes "svg x=\"1.00%\" y=\"20\" width=\"2.50%\" height=\"16\"" ∷ codes "title" ∷ codes "/title"
     ∷ codes "rect width=\"100%\" height=\"16\" class=\"f\" fill=\"#c62828\"" ∷ codes "/rect" ∷ codes "text x=\"4\" y=\"12\" fill=\"#fff\"" ∷ codes "/text" ∷ codes "/svg" ∷ codes "/a" ∷ codes "/g" ∷ codes "/svg" ∷ []
-unfolding symbols_after first_symbol symbol_len is_sequence sequence_len sequence_numbers first_letter letter_len is_odd picture odd_text number_text encode_utf8 digits
+unfolding symbols_after first_symbol symbol_len is_sequence sequence_len sequence_numbers first_code_point code_point_len is_unprintable notation unprintable_text number_text encode_utf8 digits
 tags_are = refl
 
 meter_tags_are : tags_of (part_tokens (MeterPart 5))

@@ -11,15 +11,15 @@ use Rattle.redo_html.specs.Html.Token.{Character, Tag, Lost}
 use Rattle.redo_html.specs.Laws.{IsChartTag, ReadsAs, is_byte, is_mark, is_plain}
 use Rattle.redo_html.specs.Lines.{is_no_escape}
 use Rattle.redo_html.specs.Passage.{passage_tokens}
-use Rattle.redo_html.specs.Shown.{is_odd, number_text, odd_text, picture}
+use Rattle.redo_html.specs.Shown.{is_unprintable, number_text, unprintable_text, notation}
 use Rattle.redo_html.specs.Style.{plain_style}
-use Rattle.redo_html.specs.Symbols.{first_letter, first_symbol, is_sequence, letter_len, sequence_len, sequence_numbers, symbol_len, symbols_after}
+use Rattle.redo_html.specs.Symbols.{first_code_point, first_symbol, is_sequence, code_point_len, sequence_len, sequence_numbers, symbol_len, symbols_after}
 use Rattle.redo_html.proofs.ChartRows.{two}
 use Rattle.redo_html.proofs.ChartTags.{no_script_in_chart}
 
 -- ---- marks
 
--- An element for odd letters; one for bold text, with or without a hue; one for a hue.
+-- An element for unprintable code points; one for bold text, with or without a hue; one for a hue.
 marks :
     list_all is_mark (codes "i" ∷ codes "/i" ∷ codes "b" ∷ codes "b class=\"r\"" ∷ codes "b class=\"g\"" ∷ codes "b class=\"y\"" ∷ codes "b class=\"b\"" ∷ codes "b class=\"m\"" ∷ codes "b class=\"c\"" ∷ codes "/b"
     ∷ codes "span class=\"r\"" ∷ codes "span class=\"g\"" ∷ codes "span class=\"y\"" ∷ codes "span class=\"b\"" ∷ codes "span class=\"m\"" ∷ codes "span class=\"c\"" ∷ codes "/span" ∷ []) ≡ true
@@ -54,7 +54,7 @@ tokens :
     (passage_tokens Log plain_style (codes "a" ++ (27 ∷ []) ++ codes "[1;31m<" ++ 1 ∷ []) ≡ Character 97 ∷ Tag (codes "b class=\"r\"") ∷ Character 60 ∷ Tag (codes "i") ∷ Character 94 ∷ Character 65 ∷ Tag (codes "/i") ∷ Tag (codes "/b") ∷ [])
     × (passage_tokens Name plain_style (1 ∷ []) ≡ Tag (codes "i") ∷ Character 94 ∷ Character 65 ∷ Tag (codes "/i") ∷ [])
     × (passage_tokens Title plain_style (38 ∷ 1 ∷ []) ≡ Character 38 ∷ Character 94 ∷ Character 65 ∷ [])
-unfolding symbols_after first_symbol symbol_len is_sequence sequence_len sequence_numbers first_letter letter_len is_odd picture odd_text number_text encode_utf8 digits
+unfolding symbols_after first_symbol symbol_len is_sequence sequence_len sequence_numbers first_code_point code_point_len is_unprintable notation unprintable_text number_text encode_utf8 digits
 tokens = (refl, refl, refl)
 
 -- ---- reading

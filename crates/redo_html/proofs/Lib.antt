@@ -4,7 +4,7 @@ mod ChartTags
 mod ChartWriting
 mod HtmlRows
 mod LawRows
-mod LetterRows
+mod CodePointRows
 mod LineLemmas
 mod LineRows
 mod LineWriting
@@ -13,7 +13,7 @@ mod PageRows
 mod PartReading
 mod PassageLemmas
 mod PassageWriting
-mod PictureLemmas
+mod NotationLemmas
 mod Reading
 mod RepeatLemmas
 mod ShownRows

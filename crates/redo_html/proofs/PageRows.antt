@@ -10,10 +10,10 @@ use Rattle.redo_html.specs.Passage.{html_from}
 use Rattle.redo_html.specs.Parts.{Part, part_html, part_of}
 use Rattle.redo_html.specs.declared.piece.Piece.TheVariants as piece
 use Rattle.redo_html.specs.Parts.Part.{MarkupPart, LogPart, NamePart, NumberPart, TitlePart, StylePart}
-use Rattle.redo_html.specs.Shown.{is_odd, picture, number_text, odd_text}
+use Rattle.redo_html.specs.Shown.{is_unprintable, notation, number_text, unprintable_text}
 use Rattle.redo_html.specs.Style.{plain_style}
 use Rattle.redo_html.specs.StyleSheet.{style_sheet}
-use Rattle.redo_html.specs.Symbols.{first_letter, letter_len, sequence_len, sequence_numbers, is_sequence, first_symbol, symbol_len, symbols_after}
+use Rattle.redo_html.specs.Symbols.{first_code_point, code_point_len, sequence_len, sequence_numbers, is_sequence, first_symbol, symbol_len, symbols_after}
 
 record Row : Type 0 where
   parts : List Part
@@ -34,7 +34,7 @@ rows =
     ∷ []
 
 written_are : AllByRecursion (λ r. flat_map part_html r.parts ≡ r.html) rows
-unfolding symbols_after first_symbol symbol_len is_sequence sequence_len sequence_numbers first_letter letter_len is_odd picture odd_text number_text encode_utf8 digits html_from
+unfolding symbols_after first_symbol symbol_len is_sequence sequence_len sequence_numbers first_code_point code_point_len is_unprintable notation unprintable_text number_text encode_utf8 digits html_from
 written_are = (refl, (refl, (refl, (refl, (refl, (refl, (refl, tt)))))))
 
 style_is_an_element : take 7 (part_html StylePart) ≡ codes "<style>"

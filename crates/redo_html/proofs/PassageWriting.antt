@@ -1,17 +1,17 @@
--- Letters of a passage that are written after the marks before them.
+-- Code points of a passage that are written after the marks before them.
 use Rattle.std.proofs.Common.{◌≡◌, ℕ, ◌<◌, ◌≤◌, Bool, List, ◌++◌, Option, Result, Err, length, drop, refl, sym, ◌∙◌, ap, subst}
 use Rattle.std.specs.Result.{IsErr}
 use Rattle.redo_device.specs.declared.feed.Broken.{Broken}
 use Rattle.redo_device.specs.Sink.{Output, append_output, Writes}
 use Rattle.redo_html.specs.declared.form.Form.{Form}
 use Rattle.redo_html.specs.declared.look.Look.{Look}
-use Rattle.redo_html.specs.Passage.{after_letter, html_from}
+use Rattle.redo_html.specs.Passage.{after_code_point, html_from}
 use Rattle.redo_html.specs.Private.Writing.{WroteUpTo, WroteSome, WroteSomeOrFailed, style_in}
 use Rattle.redo_html.proofs.WritingLemmas.{begin_parts, wrote_more, failed_part, some_failed}
 
-module _ (before : Option Output) (form : Form) (look : Look) (bytes marks part : List ℕ) (odd : Bool) (len : ℕ) (step : marks ++ (part ++ html_from form (after_letter look odd) (drop len bytes)) ≡ html_from form look bytes) where
+module _ (before : Option Output) (form : Form) (look : Look) (bytes marks part : List ℕ) (unprintable : Bool) (len : ℕ) (step : marks ++ (part ++ html_from form (after_code_point look unprintable) (drop len bytes)) ≡ html_from form look bytes) where
   abbrev rest : List ℕ
-  rest = html_from form (after_letter look odd) (drop len bytes)
+  rest = html_from form (after_code_point look unprintable) (drop len bytes)
 
   start : WroteUpTo before before (html_from form look bytes) (marks ++ (part ++ rest))
   start = begin_parts before (html_from form look bytes) (marks ++ (part ++ rest)) step
@@ -24,7 +24,7 @@ module _ (before : Option Output) (form : Form) (look : Look) (bytes marks part 
       some_failed before after form look bytes broken done failed
       (failed_part before middle after (html_from form look bytes) part rest broken (Err broken) refl (wrote_more before before middle (html_from form look bytes) marks (part ++ rest) start written) wrote)
 
-  pub both_written : (middle after : Option Output) (next : Look) → next ≡ after_letter look odd → style_in form look.wanted (drop len bytes) ≡ style_in form look.wanted bytes → 0 < len → len ≤ length bytes → middle ≡ append_output before marks 0 → after ≡ append_output middle part 0 → WroteSome before after form look bytes next len
+  pub both_written : (middle after : Option Output) (next : Look) → next ≡ after_code_point look unprintable → style_in form look.wanted (drop len bytes) ≡ style_in form look.wanted bytes → 0 < len → len ≤ length bytes → middle ≡ append_output before marks 0 → after ≡ append_output middle part 0 → WroteSome before after form look bytes next len
   both_written middle after next is style some within written wrote = record {
     some = some;
     within = within;

@@ -12,18 +12,18 @@ use Rattle.redo_html.specs.declared.look.Look.{Look}
 use Rattle.redo_html.specs.declared.style.Hue.{Hue}
 use Rattle.redo_html.specs.declared.style.Hue.TheVariants.{Plain, Red, Green, Yellow, Blue, Magenta, Cyan}
 use Rattle.redo_html.specs.declared.style.Style.{Style}
-use Rattle.redo_html.specs.Passage.{Inline, hue_class, style_name, mark_text, has_marks, mark_html, mark_tokens, inline_html, inline_tokens, is_plain_hue, has_element, style_start, style_end, hue_number, same_bool, is_same_style, mark_if, marks_between, after_letter, with_wanted, start_look, inlines_from, html_from, passage_html, passage_tokens}
-use Rattle.redo_html.specs.Passage.Inline.{OddStart, OddEnd, StyleStart, StyleEnd, Text}
-use Rattle.redo_html.specs.Html.{Place, Token, Normal, characters_of, text_of, tag_of, tags_of, nests_in}
+use Rattle.redo_html.specs.Passage.{Inline, hue_class, style_name, mark_text, has_marks, mark_html, mark_tokens, inline_html, inline_tokens, is_plain_hue, has_element, style_start, style_end, hue_number, same_bool, is_same_style, mark_if, marks_between, after_code_point, with_wanted, start_look, inlines_from, html_from, passage_html, passage_tokens}
+use Rattle.redo_html.specs.Passage.Inline.{UnprintableStart, UnprintableEnd, StyleStart, StyleEnd, Text}
+use Rattle.redo_html.specs.Html.{Context, Token, Normal, characters_of, text_of, tag_of, tags_of, nests_in}
 use Rattle.redo_html.specs.Html.Token.{Character, Tag}
 use Rattle.redo_html.specs.Laws.{ReadsAs, is_mark, IsReadAsShown}
-use Rattle.redo_html.specs.Shown.{Run, is_odd, letters_text, run_text, runs_of, shown_text}
-use Rattle.redo_html.specs.Shown.Run.{Letters, Restyle}
+use Rattle.redo_html.specs.Shown.{Run, is_unprintable, code_points_text, run_text, runs_of, shown_text}
+use Rattle.redo_html.specs.Shown.Run.{CodePoints, Restyle}
 use Rattle.redo_html.specs.Style.{restyled}
 use Rattle.redo_html.specs.Symbols.{symbols}
-use Rattle.redo_html.proofs.TextReading.{HasReferences, ReadsIn, each_reads, escaped_reads, letters_clean}
+use Rattle.redo_html.proofs.TextReading.{HasReferences, ReadsIn, each_reads, escaped_reads, code_points_clean}
 
--- ---- marks and letters
+-- ---- marks and code points
 
 style_reads : (bold : Bool) (hue : Hue) → ReadsAs (60 ∷ ((style_name bold ++ hue_class hue) ++ 62 ∷ [])) (Tag (style_name bold ++ hue_class hue) ∷ [])
 style_reads true Plain behind = refl
@@ -51,27 +51,27 @@ mark_reads Name tag reads = reads
 mark_reads Title tag reads = λ behind. refl
 
 inline_reads : (form : Form) (inline : Inline) → ReadsAs (inline_html form inline) (inline_tokens form inline)
-inline_reads form OddStart = mark_reads form (codes "i") (λ behind. refl)
-inline_reads form OddEnd = mark_reads form (codes "/i") (λ behind. refl)
+inline_reads form UnprintableStart = mark_reads form (codes "i") (λ behind. refl)
+inline_reads form UnprintableEnd = mark_reads form (codes "/i") (λ behind. refl)
 inline_reads form (StyleStart style) = mark_reads form (style_name style.bold ++ hue_class style.hue) (style_reads style.bold style.hue)
 inline_reads form (StyleEnd style) = mark_reads form (47 ∷ style_name style.bold) (style_end_reads style.bold)
-inline_reads form (Text letter count) = escaped_reads Normal tt (letters_text letter count) (letters_clean letter count)
+inline_reads form (Text code_point count) = escaped_reads Normal tt (code_points_text code_point count) (code_points_clean code_point count)
 
-title_inline_reads : (place : Place) → HasReferences place → (inline : Inline) → ReadsIn place (inline_html Title inline) (inline_tokens Title inline)
-title_inline_reads place has OddStart behind = refl
-title_inline_reads place has OddEnd behind = refl
-title_inline_reads place has (StyleStart style) behind = refl
-title_inline_reads place has (StyleEnd style) behind = refl
-title_inline_reads place has (Text letter count) behind = escaped_reads place has (letters_text letter count) (letters_clean letter count) behind
+title_inline_reads : (context : Context) → HasReferences context → (inline : Inline) → ReadsIn context (inline_html Title inline) (inline_tokens Title inline)
+title_inline_reads context has UnprintableStart behind = refl
+title_inline_reads context has UnprintableEnd behind = refl
+title_inline_reads context has (StyleStart style) behind = refl
+title_inline_reads context has (StyleEnd style) behind = refl
+title_inline_reads context has (Text code_point count) behind = escaped_reads context has (code_points_text code_point count) (code_points_clean code_point count) behind
 
 pub passage_reads : (form : Form) (style : Style) (bytes : List ℕ) → ReadsAs (passage_html form style bytes) (passage_tokens form style bytes)
 unfolding html_from
 passage_reads form style bytes = each_reads Normal (inline_html form) (inline_tokens form) (inline_reads form) (inlines_from (start_look style) (runs_of (symbols form bytes)))
 
--- Text without marks is read in each place whose text may have references.
-pub title_passage_reads : (place : Place) → HasReferences place → (style : Style) (bytes : List ℕ) → ReadsIn place (passage_html Title style bytes) (passage_tokens Title style bytes)
+-- Text without marks is read in each context whose text may have references.
+pub title_passage_reads : (context : Context) → HasReferences context → (style : Style) (bytes : List ℕ) → ReadsIn context (passage_html Title style bytes) (passage_tokens Title style bytes)
 unfolding html_from
-title_passage_reads place has style bytes = each_reads place (inline_html Title) (inline_tokens Title) (title_inline_reads place has) (inlines_from (start_look style) (runs_of (symbols Title bytes)))
+title_passage_reads context has style bytes = each_reads context (inline_html Title) (inline_tokens Title) (title_inline_reads context has) (inlines_from (start_look style) (runs_of (symbols Title bytes)))
 
 -- ---- the text
 
@@ -116,41 +116,41 @@ silent_styles form look true = refl
 silent_styles form look false =
     silent_append form (style_end look.current) (style_start look.wanted) (silent_if form (has_element look.current) (StyleEnd look.current) refl) (silent_if form (has_element look.wanted) (StyleStart look.wanted) refl)
 
-silent_marks : (form : Form) (look : Look) (odd : Bool) → IsSilent form (marks_between look odd)
-silent_marks form look odd =
+silent_marks : (form : Form) (look : Look) (unprintable : Bool) → IsSilent form (marks_between look unprintable)
+silent_marks form look unprintable =
     let same = is_same_style look.wanted look.current in
     let styles = if same then [] else style_end look.current ++ style_start look.wanted in
-    let first = mark_if (look.odd && not (same && odd)) OddEnd in
-    let last = mark_if (odd && not (same && look.odd)) OddStart in
-    silent_append form (first ++ styles) last (silent_append form first styles (silent_if form (look.odd && not (same && odd)) OddEnd refl) (silent_styles form look same)) (silent_if form (odd && not (same && look.odd)) OddStart refl)
+    let first = mark_if (look.unprintable && not (same && unprintable)) UnprintableEnd in
+    let last = mark_if (unprintable && not (same && look.unprintable)) UnprintableStart in
+    silent_append form (first ++ styles) last (silent_append form first styles (silent_if form (look.unprintable && not (same && unprintable)) UnprintableEnd refl) (silent_styles form look same)) (silent_if form (unprintable && not (same && look.unprintable)) UnprintableStart refl)
 
 runs_text : (form : Form) (look : Look) (runs : List Run) → text_in form (inlines_from look runs) ≡ flat_map run_text runs
-runs_text form look [] = silent_append form (mark_if look.odd OddEnd) (style_end look.current) (silent_if form look.odd OddEnd refl) (silent_if form (has_element look.current) (StyleEnd look.current) refl)
+runs_text form look [] = silent_append form (mark_if look.unprintable UnprintableEnd) (style_end look.current) (silent_if form look.unprintable UnprintableEnd refl) (silent_if form (has_element look.current) (StyleEnd look.current) refl)
 runs_text form look (Restyle numbers ∷ runs) = runs_text form (with_wanted look (restyled look.wanted numbers)) runs
-runs_text form look (Letters letter count ∷ runs) =
-    let odd = is_odd letter in
-    let rest = inlines_from (after_letter look odd) runs in
-    let text = letters_text letter count in
-    text_in-append form (marks_between look odd) (Text letter count ∷ rest) ∙ ap (λ (t : List ℕ). t ++ text_in form (Text letter count ∷ rest)) (silent_marks form look odd)
-    ∙ flat_map-append characters_of (map Character text) (flat_map (inline_tokens form) rest) ∙ ap (λ (t : List ℕ). t ++ text_in form rest) (text_characters text) ∙ ap (λ (t : List ℕ). text ++ t) (runs_text form (after_letter look odd) runs)
+runs_text form look (CodePoints code_point count ∷ runs) =
+    let unprintable = is_unprintable code_point in
+    let rest = inlines_from (after_code_point look unprintable) runs in
+    let text = code_points_text code_point count in
+    text_in-append form (marks_between look unprintable) (Text code_point count ∷ rest) ∙ ap (λ (t : List ℕ). t ++ text_in form (Text code_point count ∷ rest)) (silent_marks form look unprintable)
+    ∙ flat_map-append characters_of (map Character text) (flat_map (inline_tokens form) rest) ∙ ap (λ (t : List ℕ). t ++ text_in form rest) (text_characters text) ∙ ap (λ (t : List ℕ). text ++ t) (runs_text form (after_code_point look unprintable) runs)
 
 pub passage_text : (form : Form) (style : Style) (bytes : List ℕ) → text_of (passage_tokens form style bytes) ≡ shown_text form bytes
 passage_text form style bytes = runs_text form (start_look style) (runs_of (symbols form bytes))
 
 -- ---- the tags
 
--- Letters have no tags.
-text_tags : (form : Form) (letter count : ℕ) (inlines : List Inline) → tags_in form (Text letter count ∷ inlines) ≡ tags_in form inlines
-text_tags form letter count inlines =
-    flat_map-append tag_of (map Character (letters_text letter count)) (flat_map (inline_tokens form) inlines) ∙ ap (λ (t : List (List ℕ)). t ++ tags_in form inlines) (tags_characters (letters_text letter count))
+-- Code points have no tags.
+text_tags : (form : Form) (code_point count : ℕ) (inlines : List Inline) → tags_in form (Text code_point count ∷ inlines) ≡ tags_in form inlines
+text_tags form code_point count inlines =
+    flat_map-append tag_of (map Character (code_points_text code_point count)) (flat_map (inline_tokens form) inlines) ∙ ap (λ (t : List (List ℕ)). t ++ tags_in form inlines) (tags_characters (code_points_text code_point count))
 
 no_tags : (inlines : List Inline) → tags_in Title inlines ≡ []
 no_tags [] = refl
-no_tags (OddStart ∷ inlines) = no_tags inlines
-no_tags (OddEnd ∷ inlines) = no_tags inlines
+no_tags (UnprintableStart ∷ inlines) = no_tags inlines
+no_tags (UnprintableEnd ∷ inlines) = no_tags inlines
 no_tags (StyleStart style ∷ inlines) = no_tags inlines
 no_tags (StyleEnd style ∷ inlines) = no_tags inlines
-no_tags (Text letter count ∷ inlines) = text_tags Title letter count inlines ∙ no_tags inlines
+no_tags (Text code_point count ∷ inlines) = text_tags Title code_point count inlines ∙ no_tags inlines
 
 pub title_tags : (style : Style) (bytes : List ℕ) → tags_of (passage_tokens Title style bytes) ≡ []
 title_tags style bytes = no_tags (inlines_from (start_look style) (runs_of (symbols Title bytes)))
@@ -202,24 +202,24 @@ style_marks form look false =
     marks_in-append form (style_end look.current) (style_start look.wanted) (marks_if form (has_element look.current) (StyleEnd look.current) refl (λ has. style_end_is_mark look.current.bold))
     (marks_if form (has_element look.wanted) (StyleStart look.wanted) refl (λ has. style_is_mark look.wanted.bold look.wanted.hue has))
 
-between_marks : (form : Form) (look : Look) (odd : Bool) → marks_in form (marks_between look odd)
-between_marks form look odd =
+between_marks : (form : Form) (look : Look) (unprintable : Bool) → marks_in form (marks_between look unprintable)
+between_marks form look unprintable =
     let same = is_same_style look.wanted look.current in
     let styles = if same then [] else style_end look.current ++ style_start look.wanted in
-    let first = mark_if (look.odd && not (same && odd)) OddEnd in
-    let last = mark_if (odd && not (same && look.odd)) OddStart in
-    marks_in-append form (first ++ styles) last (marks_in-append form first styles (marks_if form (look.odd && not (same && odd)) OddEnd refl (λ wanted. refl)) (style_marks form look same))
-    (marks_if form (odd && not (same && look.odd)) OddStart refl (λ wanted. refl))
+    let first = mark_if (look.unprintable && not (same && unprintable)) UnprintableEnd in
+    let last = mark_if (unprintable && not (same && look.unprintable)) UnprintableStart in
+    marks_in-append form (first ++ styles) last (marks_in-append form first styles (marks_if form (look.unprintable && not (same && unprintable)) UnprintableEnd refl (λ wanted. refl)) (style_marks form look same))
+    (marks_if form (unprintable && not (same && look.unprintable)) UnprintableStart refl (λ wanted. refl))
 
 runs_marks : (form : Form) (look : Look) (runs : List Run) → marks_in form (inlines_from look runs)
 runs_marks form look [] =
-    marks_in-append form (mark_if look.odd OddEnd) (style_end look.current) (marks_if form look.odd OddEnd refl (λ wanted. refl)) (marks_if form (has_element look.current) (StyleEnd look.current) refl (λ has. style_end_is_mark look.current.bold))
+    marks_in-append form (mark_if look.unprintable UnprintableEnd) (style_end look.current) (marks_if form look.unprintable UnprintableEnd refl (λ wanted. refl)) (marks_if form (has_element look.current) (StyleEnd look.current) refl (λ has. style_end_is_mark look.current.bold))
 runs_marks form look (Restyle numbers ∷ runs) = runs_marks form (with_wanted look (restyled look.wanted numbers)) runs
-runs_marks form look (Letters letter count ∷ runs) =
-    let odd = is_odd letter in
-    let rest = inlines_from (after_letter look odd) runs in
-    marks_in-append form (marks_between look odd) (Text letter count ∷ rest) (between_marks form look odd)
-    (subst AreMarks (sym (text_tags form letter count rest)) (runs_marks form (after_letter look odd) runs))
+runs_marks form look (CodePoints code_point count ∷ runs) =
+    let unprintable = is_unprintable code_point in
+    let rest = inlines_from (after_code_point look unprintable) runs in
+    marks_in-append form (marks_between look unprintable) (Text code_point count ∷ rest) (between_marks form look unprintable)
+    (subst AreMarks (sym (text_tags form code_point count rest)) (runs_marks form (after_code_point look unprintable) runs))
 
 -- ---- nesting
 
@@ -231,19 +231,19 @@ push_if wanted name around = if wanted then name ∷ around else around
 
 -- What is open inside of `open`.
 abbrev opened : Bool → Style → List (List ℕ) → List (List ℕ)
-opened odd style around = push_if odd (codes "i") (push_if (has_element style) (style_name style.bold) around)
+opened unprintable style around = push_if unprintable (codes "i") (push_if (has_element style) (style_name style.bold) around)
 
 tags_if : (form : Form) → has_marks form ≡ true → (wanted : Bool) (mark : Inline) → inline_tokens form mark ≡ mark_tokens form (mark_text mark) → tags_in form (mark_if wanted mark) ≡ tag_if wanted (mark_text mark)
 tags_if form has false mark is = refl
 tags_if form has true mark is = ap tags_of (append-nil (inline_tokens form mark) ∙ is ∙ cond-true (has_marks form) (Tag (mark_text mark) ∷ []) [] has)
 
-odd_ends : (odd : Bool) (around tags : List (List ℕ)) → nests_in (push_if odd (codes "i") around) (tag_if odd (codes "/i") ++ tags) ≡ nests_in around tags
-odd_ends true around tags = refl
-odd_ends false around tags = refl
+unprintable_ends : (unprintable : Bool) (around tags : List (List ℕ)) → nests_in (push_if unprintable (codes "i") around) (tag_if unprintable (codes "/i") ++ tags) ≡ nests_in around tags
+unprintable_ends true around tags = refl
+unprintable_ends false around tags = refl
 
-odd_starts : (odd : Bool) (around tags : List (List ℕ)) → nests_in around (tag_if odd (codes "i") ++ tags) ≡ nests_in (push_if odd (codes "i") around) tags
-odd_starts true around tags = refl
-odd_starts false around tags = refl
+unprintable_starts : (unprintable : Bool) (around tags : List (List ℕ)) → nests_in around (tag_if unprintable (codes "i") ++ tags) ≡ nests_in (push_if unprintable (codes "i") around) tags
+unprintable_starts true around tags = refl
+unprintable_starts false around tags = refl
 
 style_ends : (has bold : Bool) (around tags : List (List ℕ)) → nests_in (push_if has (style_name bold) around) (tag_if has (47 ∷ style_name bold) ++ tags) ≡ nests_in around tags
 style_ends true true around tags = refl
@@ -290,21 +290,21 @@ same_opened one other around is =
     let hue : is_plain_hue other.hue ≡ is_plain_hue one.hue = plain_by_number other.hue ∙ ap (λ (n : ℕ). n == 0) (sym (eqb-true (hue_number one.hue) (hue_number other.hue) parts.1)) ∙ sym (plain_by_number one.hue) in
     ap (λ (b : Bool). push_if (b || not (is_plain_hue other.hue)) (style_name b) around) bold ∙ ap (λ (p : Bool). push_if (one.bold || not p) (style_name one.bold) around) hue
 
-between_nests : (look : Look) (odd same was : Bool) (around tags : List (List ℕ)) → is_same_style look.wanted look.current ≡ same → look.odd ≡ was
-    → nests_in (opened was look.current around) (tag_if (was && not (same && odd)) (codes "/i") ++ (tag_if (not same && has_element look.current) (47 ∷ style_name look.current.bold) ++ (tag_if (not same && has_element look.wanted) (style_name look.wanted.bold ++ hue_class look.wanted.hue)
-    ++ (tag_if (odd && not (same && was)) (codes "i") ++ tags)))) ≡ nests_in (opened odd look.wanted around) tags
+between_nests : (look : Look) (unprintable same was : Bool) (around tags : List (List ℕ)) → is_same_style look.wanted look.current ≡ same → look.unprintable ≡ was
+    → nests_in (opened was look.current around) (tag_if (was && not (same && unprintable)) (codes "/i") ++ (tag_if (not same && has_element look.current) (47 ∷ style_name look.current.bold) ++ (tag_if (not same && has_element look.wanted) (style_name look.wanted.bold ++ hue_class look.wanted.hue)
+    ++ (tag_if (unprintable && not (same && was)) (codes "i") ++ tags)))) ≡ nests_in (opened unprintable look.wanted around) tags
 between_nests look true true true around tags is was = ap (λ (inner : List (List ℕ)). nests_in (codes "i" ∷ inner) tags) (same_opened look.wanted look.current around is)
 between_nests look false true true around tags is was = ap (λ (inner : List (List ℕ)). nests_in inner tags) (same_opened look.wanted look.current around is)
 between_nests look true true false around tags is was = ap (λ (inner : List (List ℕ)). nests_in (codes "i" ∷ inner) tags) (same_opened look.wanted look.current around is)
 between_nests look false true false around tags is was = ap (λ (inner : List (List ℕ)). nests_in inner tags) (same_opened look.wanted look.current around is)
-between_nests look odd false was around tags is odd_is = by was odd
+between_nests look unprintable false was around tags is unprintable_is = by was unprintable
   where
     styles : (ts : List (List ℕ)) → nests_in (push_if (has_element look.current) (style_name look.current.bold) around) (tag_if (has_element look.current) (47 ∷ style_name look.current.bold) ++ (tag_if (has_element look.wanted) (style_name look.wanted.bold ++ hue_class look.wanted.hue) ++ ts))
         ≡ nests_in (push_if (has_element look.wanted) (style_name look.wanted.bold) around) ts
     styles ts = style_ends (has_element look.current) look.current.bold around (tag_if (has_element look.wanted) (style_name look.wanted.bold ++ hue_class look.wanted.hue) ++ ts) ∙ style_starts (has_element look.wanted) look.wanted.bold look.wanted.hue around ts
 
-    by : (was odd : Bool) → nests_in (opened was look.current around) (tag_if (was && true) (codes "/i") ++ (tag_if (has_element look.current) (47 ∷ style_name look.current.bold) ++ (tag_if (has_element look.wanted) (style_name look.wanted.bold ++ hue_class look.wanted.hue)
-        ++ (tag_if (odd && true) (codes "i") ++ tags)))) ≡ nests_in (opened odd look.wanted around) tags
+    by : (was unprintable : Bool) → nests_in (opened was look.current around) (tag_if (was && true) (codes "/i") ++ (tag_if (has_element look.current) (47 ∷ style_name look.current.bold) ++ (tag_if (has_element look.wanted) (style_name look.wanted.bold ++ hue_class look.wanted.hue)
+        ++ (tag_if (unprintable && true) (codes "i") ++ tags)))) ≡ nests_in (opened unprintable look.wanted around) tags
     by true true = styles (codes "i" ∷ tags)
     by true false = styles tags
     by false true = styles (codes "i" ∷ tags)
@@ -321,38 +321,38 @@ styles_tags form has look false =
 four_parts : (a b c d e : List (List ℕ)) → ((a ++ (b ++ c)) ++ d) ++ e ≡ a ++ (b ++ (c ++ (d ++ e)))
 four_parts a b c d e = append_assoc (a ++ (b ++ c)) d e ∙ append_assoc a (b ++ c) (d ++ e) ∙ ap (λ (t : List (List ℕ)). a ++ t) (append_assoc b c (d ++ e))
 
-marks_nest : (form : Form) → has_marks form ≡ true → (look : Look) (odd : Bool) (around tags : List (List ℕ)) → nests_in (opened look.odd look.current around) (tags_in form (marks_between look odd) ++ tags) ≡ nests_in (opened odd look.wanted around) tags
-marks_nest form has look odd around tags =
+marks_nest : (form : Form) → has_marks form ≡ true → (look : Look) (unprintable : Bool) (around tags : List (List ℕ)) → nests_in (opened look.unprintable look.current around) (tags_in form (marks_between look unprintable) ++ tags) ≡ nests_in (opened unprintable look.wanted around) tags
+marks_nest form has look unprintable around tags =
     let same = is_same_style look.wanted look.current in
     let styles = if same then [] else style_end look.current ++ style_start look.wanted in
-    let a = look.odd && not (same && odd) in
-    let d = odd && not (same && look.odd) in
+    let a = look.unprintable && not (same && unprintable) in
+    let d = unprintable && not (same && look.unprintable) in
     let ends = tag_if (not same && has_element look.current) (47 ∷ style_name look.current.bold) in
     let starts = tag_if (not same && has_element look.wanted) (style_name look.wanted.bold ++ hue_class look.wanted.hue) in
-    ap (λ (t : List (List ℕ)). nests_in (opened look.odd look.current around) (t ++ tags))
-    (tags_in-append form (mark_if a OddEnd ++ styles) (mark_if d OddStart) ∙ ap (λ (t : List (List ℕ)). t ++ tags_in form (mark_if d OddStart)) (tags_in-append form (mark_if a OddEnd) styles)
-    ∙ ap (λ (t : List (List ℕ)). (t ++ tags_in form styles) ++ tags_in form (mark_if d OddStart)) (tags_if form has a OddEnd refl)
-    ∙ ap (λ (t : List (List ℕ)). (tag_if a (codes "/i") ++ t) ++ tags_in form (mark_if d OddStart)) (styles_tags form has look same)
-    ∙ ap (λ (t : List (List ℕ)). (tag_if a (codes "/i") ++ (ends ++ starts)) ++ t) (tags_if form has d OddStart refl))
-    ∙ ap (nests_in (opened look.odd look.current around)) (four_parts (tag_if a (codes "/i")) ends starts (tag_if d (codes "i")) tags)
-    ∙ between_nests look odd same look.odd around tags refl refl
+    ap (λ (t : List (List ℕ)). nests_in (opened look.unprintable look.current around) (t ++ tags))
+    (tags_in-append form (mark_if a UnprintableEnd ++ styles) (mark_if d UnprintableStart) ∙ ap (λ (t : List (List ℕ)). t ++ tags_in form (mark_if d UnprintableStart)) (tags_in-append form (mark_if a UnprintableEnd) styles)
+    ∙ ap (λ (t : List (List ℕ)). (t ++ tags_in form styles) ++ tags_in form (mark_if d UnprintableStart)) (tags_if form has a UnprintableEnd refl)
+    ∙ ap (λ (t : List (List ℕ)). (tag_if a (codes "/i") ++ t) ++ tags_in form (mark_if d UnprintableStart)) (styles_tags form has look same)
+    ∙ ap (λ (t : List (List ℕ)). (tag_if a (codes "/i") ++ (ends ++ starts)) ++ t) (tags_if form has d UnprintableStart refl))
+    ∙ ap (nests_in (opened look.unprintable look.current around)) (four_parts (tag_if a (codes "/i")) ends starts (tag_if d (codes "i")) tags)
+    ∙ between_nests look unprintable same look.unprintable around tags refl refl
 
-runs_nest : (form : Form) → has_marks form ≡ true → (look : Look) (runs : List Run) (around tags : List (List ℕ)) → nests_in (opened look.odd look.current around) (tags_in form (inlines_from look runs) ++ tags) ≡ nests_in around tags
+runs_nest : (form : Form) → has_marks form ≡ true → (look : Look) (runs : List Run) (around tags : List (List ℕ)) → nests_in (opened look.unprintable look.current around) (tags_in form (inlines_from look runs) ++ tags) ≡ nests_in around tags
 runs_nest form has look [] around tags =
     let end = style_end look.current in
-    ap (λ (t : List (List ℕ)). nests_in (opened look.odd look.current around) (t ++ tags))
-    (tags_in-append form (mark_if look.odd OddEnd) end ∙ ap (λ (t : List (List ℕ)). t ++ tags_in form end) (tags_if form has look.odd OddEnd refl)
-    ∙ ap (λ (t : List (List ℕ)). tag_if look.odd (codes "/i") ++ t) (tags_if form has (has_element look.current) (StyleEnd look.current) refl))
-    ∙ ap (nests_in (opened look.odd look.current around)) (append_assoc (tag_if look.odd (codes "/i")) (tag_if (has_element look.current) (47 ∷ style_name look.current.bold)) tags)
-    ∙ odd_ends look.odd (push_if (has_element look.current) (style_name look.current.bold) around) (tag_if (has_element look.current) (47 ∷ style_name look.current.bold) ++ tags)
+    ap (λ (t : List (List ℕ)). nests_in (opened look.unprintable look.current around) (t ++ tags))
+    (tags_in-append form (mark_if look.unprintable UnprintableEnd) end ∙ ap (λ (t : List (List ℕ)). t ++ tags_in form end) (tags_if form has look.unprintable UnprintableEnd refl)
+    ∙ ap (λ (t : List (List ℕ)). tag_if look.unprintable (codes "/i") ++ t) (tags_if form has (has_element look.current) (StyleEnd look.current) refl))
+    ∙ ap (nests_in (opened look.unprintable look.current around)) (append_assoc (tag_if look.unprintable (codes "/i")) (tag_if (has_element look.current) (47 ∷ style_name look.current.bold)) tags)
+    ∙ unprintable_ends look.unprintable (push_if (has_element look.current) (style_name look.current.bold) around) (tag_if (has_element look.current) (47 ∷ style_name look.current.bold) ++ tags)
     ∙ style_ends (has_element look.current) look.current.bold around tags
 runs_nest form has look (Restyle numbers ∷ runs) around tags = runs_nest form has (with_wanted look (restyled look.wanted numbers)) runs around tags
-runs_nest form has look (Letters letter count ∷ runs) around tags =
-    let odd = is_odd letter in
-    let rest = inlines_from (after_letter look odd) runs in
-    ap (λ (t : List (List ℕ)). nests_in (opened look.odd look.current around) (t ++ tags)) (tags_in-append form (marks_between look odd) (Text letter count ∷ rest) ∙ ap (λ (t : List (List ℕ)). tags_in form (marks_between look odd) ++ t) (text_tags form letter count rest))
-    ∙ ap (nests_in (opened look.odd look.current around)) (append_assoc (tags_in form (marks_between look odd)) (tags_in form rest) tags)
-    ∙ marks_nest form has look odd around (tags_in form rest ++ tags) ∙ runs_nest form has (after_letter look odd) runs around tags
+runs_nest form has look (CodePoints code_point count ∷ runs) around tags =
+    let unprintable = is_unprintable code_point in
+    let rest = inlines_from (after_code_point look unprintable) runs in
+    ap (λ (t : List (List ℕ)). nests_in (opened look.unprintable look.current around) (t ++ tags)) (tags_in-append form (marks_between look unprintable) (Text code_point count ∷ rest) ∙ ap (λ (t : List (List ℕ)). tags_in form (marks_between look unprintable) ++ t) (text_tags form code_point count rest))
+    ∙ ap (nests_in (opened look.unprintable look.current around)) (append_assoc (tags_in form (marks_between look unprintable)) (tags_in form rest) tags)
+    ∙ marks_nest form has look unprintable around (tags_in form rest ++ tags) ∙ runs_nest form has (after_code_point look unprintable) runs around tags
 
 pub passage_nests : (form : Form) (style : Style) (bytes : List ℕ) (around tags : List (List ℕ)) → nests_in around (tags_of (passage_tokens form style bytes) ++ tags) ≡ nests_in around tags
 passage_nests Log style bytes around tags = runs_nest Log refl (start_look style) (runs_of (symbols Log bytes)) around tags

@@ -7,9 +7,9 @@ use Rattle.std.specs.List.{AllByRecursion}
 use Rattle.redo_html.specs.declared.form.Form.{Form}
 use Rattle.redo_html.specs.declared.form.Form.TheVariants.{Log, Name, Title}
 use Rattle.redo_html.specs.Passage.{html_from, passage_html}
-use Rattle.redo_html.specs.Shown.{is_odd, picture, number_text, odd_text, shown_text}
+use Rattle.redo_html.specs.Shown.{is_unprintable, notation, number_text, unprintable_text, shown_text}
 use Rattle.redo_html.specs.Style.{plain_style}
-use Rattle.redo_html.specs.Symbols.{first_letter, letter_len, sequence_len, sequence_numbers, is_sequence, first_symbol, symbol_len, symbols_after}
+use Rattle.redo_html.specs.Symbols.{first_code_point, code_point_len, sequence_len, sequence_numbers, is_sequence, first_symbol, symbol_len, symbols_after}
 
 record Row : Type 0 where
   form : Form
@@ -70,9 +70,9 @@ written_rows =
     row Name ((255 ∷ 255 ∷ 255 ∷ 255 ∷ 255 ∷ 255 ∷ 255 ∷ []) ++ codes " ") (codes "<i>\\xff" ++ (195 ∷ 151 ∷ []) ++ codes "7 </i> ") ∷ []
 
 shown_are : AllByRecursion (λ r. shown_text r.form r.bytes ≡ r.value) shown_rows
-unfolding symbols_after first_symbol symbol_len is_sequence sequence_len sequence_numbers first_letter letter_len is_odd picture odd_text number_text encode_utf8 digits
+unfolding symbols_after first_symbol symbol_len is_sequence sequence_len sequence_numbers first_code_point code_point_len is_unprintable notation unprintable_text number_text encode_utf8 digits
 shown_are = (refl, (refl, (refl, (refl, (refl, (refl, (refl, (refl, (refl, (refl, (refl, (refl, (refl, (refl, (refl, (refl, (refl, (refl, (refl, (refl, (refl, tt)))))))))))))))))))))
 
 written_are : AllByRecursion (λ r. passage_html r.form plain_style r.bytes ≡ r.value) written_rows
-unfolding symbols_after first_symbol symbol_len is_sequence sequence_len sequence_numbers first_letter letter_len is_odd picture odd_text number_text encode_utf8 digits html_from
+unfolding symbols_after first_symbol symbol_len is_sequence sequence_len sequence_numbers first_code_point code_point_len is_unprintable notation unprintable_text number_text encode_utf8 digits html_from
 written_are = (refl, (refl, (refl, (refl, (refl, (refl, (refl, (refl, (refl, (refl, (refl, (refl, (refl, (refl, (refl, (refl, (refl, (refl, (refl, (refl, (refl, tt)))))))))))))))))))))

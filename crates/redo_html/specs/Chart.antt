@@ -22,7 +22,7 @@ use Rattle.redo_html.specs.Style.{plain_style}
 -- A bar: the number of its target, where it is, whether the target failed, its tooltip, and its label, if it has one. `x` and `width` are in
 -- hundredths of a percent.
 pub record DrawnBar : Type 0 where
-  pub place : ℕ
+  pub target : ℕ
   pub x : ℕ
   pub y : ℕ
   pub width : ℕ
@@ -48,7 +48,7 @@ pub record Drawing : Type 0 where
 
 abbrev pub bar_of : Bar → DrawnBar
 bar_of bar = record {
-  place = bar.place;
+  target = bar.target;
   x = bar.x;
   y = bar.y;
   width = bar.width;
@@ -172,7 +172,7 @@ shape_nodes kind (LineShape x bottom) =
     element (codes "line") (percent (codes "x1") x ∷ percent (codes "x2") x ∷ fixed (codes "y1") (codes "15") ∷ number (codes "y2") bottom ∷ []) []
 shape_nodes kind (TickShape x at text) = element (codes "text") (percent (codes "x") x ∷ fixed (codes "y") (codes "11") ∷ anchor_attributes at) (Words text ∷ [])
 shape_nodes kind (BarShape bar) =
-    element (codes "a") (record { name = codes "href"; values = Fixed (codes "#t") ∷ Number bar.place ∷ [] } ∷ fixed (codes "tabindex") (codes "-1") ∷ []) (bar_nodes kind bar bar.label)
+    element (codes "a") (record { name = codes "href"; values = Fixed (codes "#t") ∷ Number bar.target ∷ [] } ∷ fixed (codes "tabindex") (codes "-1") ∷ []) (bar_nodes kind bar bar.label)
 
 abbrev pub group_attributes : GroupKind → List Attribute
 group_attributes Axis =
@@ -219,7 +219,7 @@ nodes_text nodes = flat_map node_text nodes
 abbrev pub shape_links : Shape → List ℕ
 shape_links (LineShape x bottom) = []
 shape_links (TickShape x at text) = []
-shape_links (BarShape bar) = bar.place ∷ []
+shape_links (BarShape bar) = bar.target ∷ []
 
 abbrev pub drawing_links : Drawing → List ℕ
 drawing_links drawing = flat_map (λ layer. flat_map shape_links layer.shapes) drawing.layers

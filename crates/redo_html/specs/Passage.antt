@@ -1,4 +1,4 @@
--- A passage of text as HTML: what it shows, with marks for odd letters and for styles. All elements that are begun in a passage end in it.
+-- A passage of text as HTML: what it shows, with marks for unprintable code points and for styles. All elements that are begun in a passage end in it.
 use Rattle.std.specs.Prelude.{ℕ, Bool, true, false, ◌==◌, ◌||◌, ◌&&◌, not, List, [], ◌∷◌, ◌++◌, map, codes, if◌then◌else◌}
 use Rattle.std.specs.List.{flat_map}
 use Rattle.redo_html.specs.declared.form.Form.{Form}
@@ -9,8 +9,8 @@ use Rattle.redo_html.specs.declared.style.Hue.TheVariants.{Plain, Red, Green, Ye
 use Rattle.redo_html.specs.declared.style.Style.{Style}
 use Rattle.redo_html.specs.Html.{Token}
 use Rattle.redo_html.specs.Html.Token.{Character, Tag}
-use Rattle.redo_html.specs.Shown.{Run, runs_of, letters_text, is_odd}
-use Rattle.redo_html.specs.Shown.Run.{Letters, Restyle}
+use Rattle.redo_html.specs.Shown.{Run, runs_of, code_points_text, is_unprintable}
+use Rattle.redo_html.specs.Shown.Run.{CodePoints, Restyle}
 use Rattle.redo_html.specs.Style.{plain_style, restyled}
 use Rattle.redo_html.specs.Symbols.{symbols}
 
@@ -35,21 +35,21 @@ abbrev pub style_name : Bool → List ℕ
 style_name true = codes "b"
 style_name false = codes "span"
 
--- A part of a passage: where a mark begins or ends, or letters.
+-- A part of a passage: where a mark begins or ends, or code points.
 pub data Inline : Type 0 where
-  OddStart : Inline
-  OddEnd : Inline
+  UnprintableStart : Inline
+  UnprintableEnd : Inline
   StyleStart : Style → Inline
   StyleEnd : Style → Inline
   Text : ℕ → ℕ → Inline
 
 -- The text between the `<` and the `>` of a mark.
 abbrev pub mark_text : Inline → List ℕ
-mark_text OddStart = codes "i"
-mark_text OddEnd = codes "/i"
+mark_text UnprintableStart = codes "i"
+mark_text UnprintableEnd = codes "/i"
 mark_text (StyleStart style) = style_name style.bold ++ hue_class style.hue
 mark_text (StyleEnd style) = 47 ∷ style_name style.bold
-mark_text (Text letter count) = []
+mark_text (Text code_point count) = []
 
 -- In a `title` there are no elements.
 abbrev pub has_marks : Form → Bool
@@ -65,16 +65,16 @@ mark_tokens form tag = if has_marks form then Tag tag ∷ [] else []
 
 -- A part of a passage, as it is written and as it is read.
 abbrev pub inline_html : Form → Inline → List ℕ
-inline_html form (Text letter count) = escaped (letters_text letter count)
-inline_html form OddStart = mark_html form (mark_text OddStart)
-inline_html form OddEnd = mark_html form (mark_text OddEnd)
+inline_html form (Text code_point count) = escaped (code_points_text code_point count)
+inline_html form UnprintableStart = mark_html form (mark_text UnprintableStart)
+inline_html form UnprintableEnd = mark_html form (mark_text UnprintableEnd)
 inline_html form (StyleStart style) = mark_html form (mark_text (StyleStart style))
 inline_html form (StyleEnd style) = mark_html form (mark_text (StyleEnd style))
 
 abbrev pub inline_tokens : Form → Inline → List Token
-inline_tokens form (Text letter count) = map Character (letters_text letter count)
-inline_tokens form OddStart = mark_tokens form (mark_text OddStart)
-inline_tokens form OddEnd = mark_tokens form (mark_text OddEnd)
+inline_tokens form (Text code_point count) = map Character (code_points_text code_point count)
+inline_tokens form UnprintableStart = mark_tokens form (mark_text UnprintableStart)
+inline_tokens form UnprintableEnd = mark_tokens form (mark_text UnprintableEnd)
 inline_tokens form (StyleStart style) = mark_tokens form (mark_text (StyleStart style))
 inline_tokens form (StyleEnd style) = mark_tokens form (mark_text (StyleEnd style))
 
@@ -113,30 +113,30 @@ same_bool false other = not other
 abbrev pub is_same_style : Style → Style → Bool
 is_same_style one other = same_bool one.bold other.bold && hue_number one.hue == hue_number other.hue
 
--- The marks between two letters. `look.wanted` is the style of the next letter. Open are the mark of the style `look.current`, and within it, if `look.odd`
--- is set, the mark for odd letters. `odd` states whether the next letter is odd.
+-- The marks between two code points. `look.wanted` is the style of the next code point. Open are the mark of the style `look.current`, and within it, if `look.unprintable`
+-- is set, the mark for unprintable code points. `unprintable` states whether the next code point is unprintable.
 abbrev pub mark_if : Bool → Inline → List Inline
 mark_if condition mark = if condition then mark ∷ [] else []
 
 abbrev pub marks_between : Look → Bool → List Inline
-marks_between look odd =
+marks_between look unprintable =
     let same = is_same_style look.wanted look.current in
-    mark_if (look.odd && not (same && odd)) OddEnd ++ (if same then [] else style_end look.current ++ style_start look.wanted) ++ mark_if (odd && not (same && look.odd)) OddStart
+    mark_if (look.unprintable && not (same && unprintable)) UnprintableEnd ++ (if same then [] else style_end look.current ++ style_start look.wanted) ++ mark_if (unprintable && not (same && look.unprintable)) UnprintableStart
 
-abbrev pub after_letter : Look → Bool → Look
-after_letter look odd = record { wanted = look.wanted; current = look.wanted; odd = odd }
+abbrev pub after_code_point : Look → Bool → Look
+after_code_point look unprintable = record { wanted = look.wanted; current = look.wanted; unprintable = unprintable }
 
 abbrev pub with_wanted : Look → Style → Look
-with_wanted look style = record { wanted = style; current = look.current; odd = look.odd }
+with_wanted look style = record { wanted = style; current = look.current; unprintable = look.unprintable }
 
 -- The look at the start of a passage that begins with this style: no mark is open.
 abbrev pub start_look : Style → Look
-start_look style = record { wanted = style; current = plain_style; odd = false }
+start_look style = record { wanted = style; current = plain_style; unprintable = false }
 
 -- The parts of the rest of a passage. At its end, all marks end.
 abbrev pub inlines_from : Look → List Run → List Inline
-inlines_from look [] = mark_if look.odd OddEnd ++ style_end look.current
-inlines_from look (Letters letter count ∷ runs) = marks_between look (is_odd letter) ++ Text letter count ∷ inlines_from (after_letter look (is_odd letter)) runs
+inlines_from look [] = mark_if look.unprintable UnprintableEnd ++ style_end look.current
+inlines_from look (CodePoints code_point count ∷ runs) = marks_between look (is_unprintable code_point) ++ Text code_point count ∷ inlines_from (after_code_point look (is_unprintable code_point)) runs
 inlines_from look (Restyle numbers ∷ runs) = inlines_from (with_wanted look (restyled look.wanted numbers)) runs
 
 -- The HTML of the rest of a passage.

@@ -72,11 +72,11 @@ pub enum Anchor {
     End,
 }
 
-/// A bar with a tooltip, which links to a target. It is `<a href="#tPLACE" tabindex="-1">` with a `rect`, or with an `svg` if it has a label.
+/// A bar with a tooltip, which links to a target. It is `<a href="#tN" tabindex="-1">` with a `rect`, or with an `svg` if it has a label.
 #[derive(Clone, Copy)]
 pub struct Bar<'a> {
     /// The number of the target, as in [`Markup::TargetLink`](crate::Markup::TargetLink).
-    pub place: u64,
+    pub target: u64,
     /// The position of its left end, in hundredths of a percent of the chart's width.
     pub x: u64,
     /// The position of its upper end, in pixels.
@@ -252,7 +252,7 @@ fn write_bar<W: Sink>(kind: GroupKind, bar: Bar<'_>, out: &mut W) -> Result<(), 
     write_fragments(
         &[
             Fragment::Html(b"<a href=\"#t"),
-            Fragment::Number(bar.place),
+            Fragment::Number(bar.target),
             Fragment::Html(b"\" tabindex=\"-1\">"),
         ],
         out,

@@ -1,4 +1,4 @@
-//! Passages of text: writes what they show, with marks for odd letters and for styles.
+//! Passages of text: writes what they show, with marks for unprintable code points and for styles.
 ghost use Rattle.std.specs.Prelude.{◌≡◌, ◌≤◌, ◌<◌, ◌↔◌, ◌∷◌, ◌++◌, ◌&&◌, not, [], true, false, IsTrue, Some, length, take, encode_utf8};
 ghost use Rattle.std.specs.List.{flat_map, list_all};
 ghost use Rattle.redo_device.specs.Sink.{Writes};
@@ -7,16 +7,16 @@ ghost use Rattle.redo_html.specs.Passage.{escaped, has_element, is_same_style, m
 ghost use Rattle.redo_html.specs.Passage.Inline.{StyleStart, StyleEnd};
 ghost use Rattle.redo_html.specs.Laws.{is_plain};
 ghost use Rattle.redo_html.specs.Style.{plain_style};
-ghost use Rattle.redo_html.specs.Shown.{is_odd};
+ghost use Rattle.redo_html.specs.Shown.{is_unprintable};
 ghost use Rattle.redo_html.specs.Symbols.{first_symbol, symbol_len};
-ghost use Rattle.redo_html.specs.Symbols.Symbol.{Letter};
+ghost use Rattle.redo_html.specs.Symbols.Symbol.{CodePoint};
 ghost use Rattle.redo_html.specs.Private.Writing.{WrotePassage, WroteSomeOrFailed, IsRepeated, IsVerbatim, optional_mark};
 
 use crate::form::Form;
-use crate::look::{Look, at_start, with_letter, with_style};
-use crate::picture::write_odd;
+use crate::look::{Look, at_start, with_code_point, with_style};
+use crate::notation::write_unprintable;
 use crate::style::{Hue, Style, after_sequence, has_own_element, is_same};
-use crate::symbol::{is_odd_letter, symbol_at, verbatim_len};
+use crate::symbol::{is_unprintable_code_point, symbol_at, verbatim_len};
 use redo_device::{Broken, Sink, push_all};
 
 /// Writes text of a log that begins with this style. Its colours are shown, and end with the text.
@@ -89,17 +89,17 @@ fn write_some<W: Sink>(
             with_style(look, after_sequence(look.wanted, bytes, len)),
             len,
         )),
-        Some(letter) => {
-            if is_odd_letter(letter) {
-                write_odd_run(form, look, letter, bytes, out)
+        Some(code_point) => {
+            if is_unprintable_code_point(code_point) {
+                write_unprintable_run(form, look, code_point, bytes, out)
             } else {
-                write_visible(form, look, letter, bytes, len, out)
+                write_visible(form, look, code_point, bytes, len, out)
             }
         }
     }
 }
 
-// Writes letters that are written as they are.
+// Writes code points that are written as they are.
 fn write_verbatim<W: Sink>(
     form: Form,
     look: Look,
@@ -113,59 +113,59 @@ fn write_verbatim<W: Sink>(
 {
     write_marks(form, look, false, out)?;
     push_all(out, &bytes[..len])?;
-    Ok((with_letter(look, false), len))
+    Ok((with_code_point(look, false), len))
 }
 
-// Writes a letter that is not odd.
+// Writes a code point that is not unprintable.
 fn write_visible<W: Sink>(
     form: Form,
     look: Look,
-    letter: u32,
+    code_point: u32,
     bytes: &[u8],
     len: usize,
     out: &mut W,
 ) -> Result<(Look, usize), Broken>
     requires some { 0 < length bytes.now }
-    requires letter { first_symbol form bytes.now ≡ Letter letter }
-    requires visible { is_odd letter ≡ false }
+    requires code_point { first_symbol form bytes.now ≡ CodePoint code_point }
+    requires visible { is_unprintable code_point ≡ false }
     requires len { len ≡ symbol_len form bytes.now }
     ensures { WroteSomeOrFailed (W.written out.old) (W.written out.new) form look bytes.now result }
 {
     write_marks(form, look, false, out)?;
-    write_letter(letter, &bytes[..len], out)?;
-    Ok((with_letter(look, false), len))
+    write_code_point(code_point, &bytes[..len], out)?;
+    Ok((with_code_point(look, false), len))
 }
 
-// Writes the odd letter at the start, as often as it occurs in a row.
-fn write_odd_run<W: Sink>(
+// Writes the unprintable code point at the start, as often as it occurs in a row.
+fn write_unprintable_run<W: Sink>(
     form: Form,
     look: Look,
-    letter: u32,
+    code_point: u32,
     bytes: &[u8],
     out: &mut W,
 ) -> Result<(Look, usize), Broken>
     requires some { 0 < length bytes.now }
-    requires letter { first_symbol form bytes.now ≡ Letter letter }
-    requires odd { is_odd letter ≡ true }
+    requires code_point { first_symbol form bytes.now ≡ CodePoint code_point }
+    requires unprintable { is_unprintable code_point ≡ true }
     ensures { WroteSomeOrFailed (W.written out.old) (W.written out.new) form look bytes.now result }
 {
-    let (count, len) = repeats(form, letter, bytes);
+    let (count, len) = repeats(form, code_point, bytes);
     write_marks(form, look, true, out)?;
-    write_odd(letter, count, out)?;
-    Ok((with_letter(look, true), len))
+    write_unprintable(code_point, count, out)?;
+    Ok((with_code_point(look, true), len))
 }
 
-// Returns how often the letter at the start occurs in a row, and the number of bytes of all of them.
-fn repeats(form: Form, letter: u32, bytes: &[u8]) -> (usize, usize)
+// Returns how often the code point at the start occurs in a row, and the number of bytes of all of them.
+fn repeats(form: Form, code_point: u32, bytes: &[u8]) -> (usize, usize)
     requires some { 0 < length bytes.now }
-    requires letter { first_symbol form bytes.now ≡ Letter letter }
-    ensures { IsRepeated form letter bytes.now result.0 result.1 }
+    requires code_point { first_symbol form bytes.now ≡ CodePoint code_point }
+    ensures { IsRepeated form code_point bytes.now result.0 result.1 }
 {
     let mut count = 0;
     let mut len = 0;
     while len < bytes.len() {
         let (symbol, more) = symbol_at(form, &bytes[len..]);
-        if !is_letter(symbol, letter) {
+        if !is_code_point(symbol, code_point) {
             return (count, len);
         }
         count += 1;
@@ -174,61 +174,61 @@ fn repeats(form: Form, letter: u32, bytes: &[u8]) -> (usize, usize)
     (count, len)
 }
 
-fn is_letter(symbol: Option<u32>, letter: u32) -> bool
-    ensures { IsTrue result ↔ (symbol ≡ Some letter) }
+fn is_code_point(symbol: Option<u32>, code_point: u32) -> bool
+    ensures { IsTrue result ↔ (symbol ≡ Some code_point) }
 {
     match symbol {
-        Some(other) => other == letter,
+        Some(other) => other == code_point,
         None => false,
     }
 }
 
-// Writes a letter whose bytes these are.
-fn write_letter<W: Sink>(letter: u32, bytes: &[u8], out: &mut W) -> Result<(), Broken>
-    requires { bytes.now ≡ encode_utf8 letter }
-    ensures { Writes (W.written out.old) (W.written out.new) (escaped (encode_utf8 letter)) result }
+// Writes a code point whose bytes these are.
+fn write_code_point<W: Sink>(code_point: u32, bytes: &[u8], out: &mut W) -> Result<(), Broken>
+    requires { bytes.now ≡ encode_utf8 code_point }
+    ensures { Writes (W.written out.old) (W.written out.new) (escaped (encode_utf8 code_point)) result }
 {
-    if letter == 38 {
+    if code_point == 38 {
         push_all(out, b"&amp;")
-    } else if letter == 60 {
+    } else if code_point == 60 {
         push_all(out, b"&lt;")
-    } else if letter == 62 {
+    } else if code_point == 62 {
         push_all(out, b"&gt;")
     } else {
         push_all(out, bytes)
     }
 }
 
-// Writes the marks before a letter.
-fn write_marks<W: Sink>(form: Form, look: Look, odd: bool, out: &mut W) -> Result<(), Broken>
-    ensures { Writes (W.written out.old) (W.written out.new) (flat_map (inline_html form) (marks_between look odd)) result }
+// Writes the marks before a code point.
+fn write_marks<W: Sink>(form: Form, look: Look, unprintable: bool, out: &mut W) -> Result<(), Broken>
+    ensures { Writes (W.written out.old) (W.written out.new) (flat_map (inline_html form) (marks_between look unprintable)) result }
 {
-    let odd_ends = ends_odd(look, odd);
+    let unprintable_ends = ends_unprintable(look, unprintable);
     let style_ends = ends_style(look);
     let style_starts = starts_style(look);
-    let odd_starts = starts_odd(look, odd);
+    let unprintable_starts = starts_unprintable(look, unprintable);
     let end_tag = style_end_tag(look.current);
     let start_tag = style_start_tag(look.wanted);
-    write_mark(form, odd_ends, b"</i>", out)?;
+    write_mark(form, unprintable_ends, b"</i>", out)?;
     write_mark(form, style_ends, end_tag, out)?;
     write_mark(form, style_starts, start_tag, out)?;
-    write_mark(form, odd_starts, b"<i>", out)
+    write_mark(form, unprintable_starts, b"<i>", out)
 }
 
-// Returns whether the mark for odd letters ends before a letter.
-fn ends_odd(look: Look, odd: bool) -> bool
-    ensures { result ≡ (look.odd && not (is_same_style look.wanted look.current && odd)) }
+// Returns whether the mark for unprintable code points ends before a code point.
+fn ends_unprintable(look: Look, unprintable: bool) -> bool
+    ensures { result ≡ (look.unprintable && not (is_same_style look.wanted look.current && unprintable)) }
 {
-    look.odd && !(is_same(look.wanted, look.current) && odd)
+    look.unprintable && !(is_same(look.wanted, look.current) && unprintable)
 }
 
-fn starts_odd(look: Look, odd: bool) -> bool
-    ensures { result ≡ (odd && not (is_same_style look.wanted look.current && look.odd)) }
+fn starts_unprintable(look: Look, unprintable: bool) -> bool
+    ensures { result ≡ (unprintable && not (is_same_style look.wanted look.current && look.unprintable)) }
 {
-    odd && !(is_same(look.wanted, look.current) && look.odd)
+    unprintable && !(is_same(look.wanted, look.current) && look.unprintable)
 }
 
-// Returns whether the mark of the open style ends before the next letter.
+// Returns whether the mark of the open style ends before the next code point.
 fn ends_style(look: Look) -> bool
     ensures { result ≡ (not (is_same_style look.wanted look.current) && has_element look.current) }
 {
@@ -247,7 +247,7 @@ fn write_end<W: Sink>(form: Form, look: Look, out: &mut W) -> Result<(), Broken>
 {
     let style_ends = has_own_element(look.current);
     let end_tag = style_end_tag(look.current);
-    write_mark(form, look.odd, b"</i>", out)?;
+    write_mark(form, look.unprintable, b"</i>", out)?;
     write_mark(form, style_ends, end_tag, out)
 }
 

@@ -17,7 +17,7 @@ pub enum Hue {
     Cyan,
 }
 
-/// How letters look.
+/// How code points look.
 #[derive(Clone, Copy, Debug, PartialEq, Eq)]
 pub struct Style {
     pub bold: bool,

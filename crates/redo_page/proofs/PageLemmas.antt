@@ -2,13 +2,12 @@
 use Rattle.std.proofs.Common.{◌≡◌, ℕ, ◌+◌, ◌≤◌, List, ◌++◌, Option, Result, Ok, Err, length, take, min, refl, sym, ◌∙◌, ap, subst, arith}
 use Rattle.std.specs.Prelude.{IsErrAnd}
 use Rattle.std.specs.List.{flat_map}
-use Rattle.redo_page.proofs.PartLoops.{append_nothing}
 use Rattle.std.proofs.lemmas.Grind.{flat_map-append}
 use Rattle.std.proofs.lemmas.List.{take-append-le, take_min}
 use Rattle.std.proofs.Math.Seq.{take-append-add}
 use Rattle.redo_device.specs.declared.feed.Broken.{Broken}
 use Rattle.redo_device.specs.Sink.{Output, append_output, Writes}
-use Rattle.redo_device.proofs.WritesLemmas.{append_output-append_output, then, stops}
+use Rattle.redo_device.proofs.WritesLemmas.{append_output-append_output, then, stops, append_nothing}
 use Rattle.redo_html.specs.Parts.{part_html}
 use Rattle.redo_logs.specs.Logs.{Log}
 use Rattle.redo_view.specs.declared.form.FormFault.{FormFault}

@@ -16,10 +16,10 @@ use Rattle.redo_outline.specs.declared.node.Node.{Node}
 use Rattle.redo_outline.specs.declared.node.RunTimes.{RunTimes}
 use Rattle.redo_view.specs.Expansion.{show_log, show_log_within}
 use Rattle.redo_html.specs.Passage.{html_from}
-use Rattle.redo_html.specs.Shown.{is_odd, number_text, odd_text, picture}
+use Rattle.redo_html.specs.Shown.{is_unprintable, number_text, unprintable_text, notation}
 use Rattle.redo_html.specs.Style.{plain_style}
 use Rattle.redo_html.specs.StyleSheet.{style_sheet}
-use Rattle.redo_html.specs.Symbols.{first_letter, first_symbol, is_sequence, letter_len, sequence_len, sequence_numbers, symbol_len, symbols_after}
+use Rattle.redo_html.specs.Symbols.{first_code_point, first_symbol, is_sequence, code_point_len, sequence_len, sequence_numbers, symbol_len, symbols_after}
 use Rattle.redo_html.specs.declared.markup.Markup.{Markup}
 use Rattle.redo_html.specs.declared.markup.Markup.TheVariants as markup
 use Rattle.redo_html.specs.Parts.{Part}
@@ -353,5 +353,5 @@ page_begins :
     bytes_eq (take 42 (page_html (request [] false false) [] []))
     (codes "<!doctype html><html lang=\"en\"><head><meta")
     ≡ true
-unfolding page_parts top_parts_of summary_parts tables_parts size_words footer_parts failed_parts is_safe style_sheet symbols_after first_symbol symbol_len is_sequence sequence_len sequence_numbers first_letter letter_len is_odd picture odd_text number_text digits html_from show_log show_log_within
+unfolding page_parts top_parts_of summary_parts tables_parts size_words footer_parts failed_parts is_safe style_sheet symbols_after first_symbol symbol_len is_sequence sequence_len sequence_numbers first_code_point code_point_len is_unprintable notation unprintable_text number_text digits html_from show_log show_log_within
 page_begins = refl

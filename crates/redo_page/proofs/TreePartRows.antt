@@ -13,7 +13,7 @@ use Rattle.redo_view.specs.declared.event.Opening.TheVariants.{NotOpened, Opened
 use Rattle.redo_html.specs.declared.markup.Markup.{Markup}
 use Rattle.redo_html.specs.declared.markup.Markup.TheVariants as markup
 use Rattle.redo_html.specs.Style.{plain_style}
-use Rattle.redo_html.specs.Symbols.{first_letter, first_symbol, is_sequence, letter_len, sequence_len, sequence_numbers, symbol_len, symbols_after}
+use Rattle.redo_html.specs.Symbols.{first_code_point, first_symbol, is_sequence, code_point_len, sequence_len, sequence_numbers, symbol_len, symbols_after}
 use Rattle.redo_html.specs.Parts.{Part}
 use Rattle.redo_html.specs.Parts.Part.{MarkupPart, LogPart, NamePart, NumberPart}
 use Rattle.redo_outline.specs.declared.node.Node.{Node}
@@ -323,7 +323,7 @@ line text = LogPart plain_style text
 texts_are :
     (text_parts build in_a pending.Nothing (codes "x") ≡ []) × (text_parts build in_c pending.Nothing (codes "x") ≡ tag markup.Item ∷ tag markup.Pre ∷ line (codes "x\n") ∷ [])
     × (after_text build in_a pending.Nothing (codes "x") ≡ pending.Nothing) × (after_text build in_c pending.Nothing (codes "x") ≡ block)
-unfolding symbols_after first_symbol symbol_len is_sequence sequence_len sequence_numbers first_letter letter_len
+unfolding symbols_after first_symbol symbol_len is_sequence sequence_len sequence_numbers first_code_point code_point_len
 texts_are = (refl, refl, refl, refl)
 
 shown_are :
@@ -332,7 +332,7 @@ shown_are :
     × (shown_parts build in_c block (EntryShown 1 (Closing 9 (pos 2))) ≡ [])
     × (after_shown build in_c pending.Nothing (EntryShown 1 (Text (codes "x"))) ≡ block) × (after_shown build in_c block (EntryShown 1 (Note 9 (codes "n") (codes "t"))) ≡ pending.Nothing)
     × (after_shown build in_c block (EntryShown 1 (Closing 9 (pos 2))) ≡ block)
-unfolding symbols_after first_symbol symbol_len is_sequence sequence_len sequence_numbers first_letter letter_len
+unfolding symbols_after first_symbol symbol_len is_sequence sequence_len sequence_numbers first_code_point code_point_len
 shown_are = (refl, refl, refl, refl, refl, refl)
 
 -- ---- contents

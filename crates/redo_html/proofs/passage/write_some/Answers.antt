@@ -13,14 +13,14 @@ use Rattle.redo_html.proofs.passage.write_some.Goals as goal
 
 pub after_sequence-requires : goal.after_sequence-requires
 after_sequence-requires g c =
-    subst (IsSequence c.args.bytes.now) (sym c.symbol_at-symbol.ensures.len) (sequence_found c.args.form c.args.bytes.now (sym c.in-None.is ∙ c.symbol_at-symbol.ensures.letter)).1
+    subst (IsSequence c.args.bytes.now) (sym c.symbol_at-symbol.ensures.len) (sequence_found c.args.form c.args.bytes.now (sym c.in-None.is ∙ c.symbol_at-symbol.ensures.code_point)).1
 
 pub returns-in-None : goal.returns-in-None
 returns-in-None g c =
     let bytes = c.args.bytes.now in
     let form = c.args.form in
     let look = c.args.look in
-    let found = sequence_found form bytes (sym c.in-None.is ∙ c.symbol_at-symbol.ensures.letter) in
+    let found = sequence_found form bytes (sym c.in-None.is ∙ c.symbol_at-symbol.ensures.code_point) in
     let len_is = sym c.symbol_at-symbol.ensures.len in
     let bounds = symbol_bounds form bytes c.requires in
     record {

@@ -27,4 +27,4 @@ returns g c =
     let form = c.args.form in
     let look = c.args.look in
     both_written _ form look bytes (flat_map (inline_html form) (marks_between look false)) (take c.args.len bytes) false c.args.len (verbatim_step form look bytes c.args.len c.requires.some c.requires.verbatim)
-    _ _ _ c.with_letter.ensures (verbatim_style form look.wanted bytes c.args.len c.requires.verbatim) c.requires.some c.requires.verbatim.within c.in_ok-write_marks.ensures c.in_ok-push_all.ensures
+    _ _ _ c.with_code_point.ensures (verbatim_style form look.wanted bytes c.args.len c.requires.verbatim) c.requires.some c.requires.verbatim.within c.in_ok-write_marks.ensures c.in_ok-push_all.ensures
