@@ -5,7 +5,7 @@ use Rattle.std.specs.Char.{encode_utf8}
 use Rattle.std.specs.Prelude.{codes}
 use Rattle.std.specs.Fmt.{digits}
 use Rattle.std.specs.List.{list_all, list_any}
-use Rattle.redo_html.specs.declared.form.Form.TheVariants.{Log, Name, Title}
+use Rattle.redo_html.specs.declared.text_kind.TextKind.TheVariants.{Log, Monochrome, Title}
 use Rattle.redo_html.specs.Html.{tags_of, text_of}
 use Rattle.redo_html.specs.Html.Token.{Character, Tag, Lost}
 use Rattle.redo_html.specs.Laws.{IsChartTag, ReadsAs, is_byte, is_mark, is_plain}
@@ -52,7 +52,7 @@ of_tokens = (refl, refl)
 -- Marks are tags, but a title has none. Everything else is characters.
 tokens :
     (passage_tokens Log plain_style (codes "a" ++ (27 ∷ []) ++ codes "[1;31m<" ++ 1 ∷ []) ≡ Character 97 ∷ Tag (codes "b class=\"r\"") ∷ Character 60 ∷ Tag (codes "i") ∷ Character 94 ∷ Character 65 ∷ Tag (codes "/i") ∷ Tag (codes "/b") ∷ [])
-    × (passage_tokens Name plain_style (1 ∷ []) ≡ Tag (codes "i") ∷ Character 94 ∷ Character 65 ∷ Tag (codes "/i") ∷ [])
+    × (passage_tokens Monochrome plain_style (1 ∷ []) ≡ Tag (codes "i") ∷ Character 94 ∷ Character 65 ∷ Tag (codes "/i") ∷ [])
     × (passage_tokens Title plain_style (38 ∷ 1 ∷ []) ≡ Character 38 ∷ Character 94 ∷ Character 65 ∷ [])
 unfolding symbols_after first_symbol symbol_len is_sequence sequence_len sequence_numbers first_code_point code_point_len is_unprintable notation unprintable_text number_text encode_utf8 digits
 tokens = (refl, refl, refl)

@@ -9,7 +9,7 @@ use Rattle.redo_html.specs.declared.style.Hue.TheVariants.{Blue}
 use Rattle.redo_html.specs.Passage.{html_from}
 use Rattle.redo_html.specs.Parts.{Part, part_html, part_of}
 use Rattle.redo_html.specs.declared.piece.Piece.TheVariants as piece
-use Rattle.redo_html.specs.Parts.Part.{MarkupPart, LogPart, NamePart, NumberPart, TitlePart, StylePart}
+use Rattle.redo_html.specs.Parts.Part.{MarkupPart, LogPart, TextPart, NumberPart, TitlePart, StylePart}
 use Rattle.redo_html.specs.Shown.{is_unprintable, notation, number_text, unprintable_text}
 use Rattle.redo_html.specs.Style.{plain_style}
 use Rattle.redo_html.specs.StyleSheet.{style_sheet}
@@ -24,11 +24,11 @@ row parts html = record { parts = parts; html = html }
 
 abbrev rows : List Row
 rows =
-    row (MarkupPart (TargetLink 12) ∷ NamePart ((27 ∷ []) ++ codes "[1ma") ∷ MarkupPart EndLink ∷ []) (codes "<a href=\"#t12\"><i>^[</i>[1ma</a>")
+    row (MarkupPart (TargetLink 12) ∷ TextPart ((27 ∷ []) ++ codes "[1ma") ∷ MarkupPart EndLink ∷ []) (codes "<a href=\"#t12\"><i>^[</i>[1ma</a>")
     ∷ row (MarkupPart (Article 0) ∷ MarkupPart (OpenDetails 105) ∷ []) (codes "<article id=\"f0\"><details open id=\"t105\">")
     ∷ row (MarkupPart Pre ∷ LogPart plain_style ((27 ∷ []) ++ codes "[1m<a") ∷ MarkupPart EndPre ∷ []) (codes "<pre>\n<b>&lt;a</b></pre>")
     ∷ row (LogPart (record { bold = true; hue = Blue }) (codes "a" ++ (27 ∷ []) ++ codes "[mb") ∷ LogPart plain_style (codes "c") ∷ []) (codes "<b class=\"b\">a</b>bc")
-    ∷ row (NumberPart 0 ∷ NamePart (codes " of ") ∷ NumberPart 0xFFFFFFFFFFFFFFFF ∷ []) (codes "0 of 18446744073709551615")
+    ∷ row (NumberPart 0 ∷ TextPart (codes " of ") ∷ NumberPart 0xFFFFFFFFFFFFFFFF ∷ []) (codes "0 of 18446744073709551615")
     ∷ row (TitlePart (codes "</title>" ++ 1 ∷ []) ∷ []) (codes "<title>&lt;/title&gt;^A</title>")
     ∷ row (MarkupPart Policy ∷ []) (codes "<meta http-equiv=\"Content-Security-Policy\" content=\"default-src 'none'; style-src 'unsafe-inline'\">")
     ∷ []

@@ -5,7 +5,7 @@ use Rattle.std.specs.List.{flat_map, list_all}
 use Rattle.std.proofs.lemmas.List.{append_assoc, append-nil}
 use Rattle.std.proofs.lemmas.List.Concat.{flat_map-append}
 use Rattle.redo_html.specs.declared.chart.GroupKind.{GroupKind}
-use Rattle.redo_html.specs.declared.form.Form.TheVariants.{Log, Name, Title}
+use Rattle.redo_html.specs.declared.text_kind.TextKind.TheVariants.{Log, Monochrome, Title}
 use Rattle.redo_html.specs.Chart.{Drawing, Layer, Node, Shape, chart_attributes, drawing_nodes, group_attributes, layer_nodes, meter_nodes, node_text, node_tokens, nodes_text, nodes_tokens, shape_nodes}
 use Rattle.redo_html.specs.Chart.Node.{StartTag, EndTag, Words}
 use Rattle.redo_html.specs.Chart.Shape.{LineShape, TickShape, BarShape}
@@ -13,7 +13,7 @@ use Rattle.redo_html.specs.Html.{Token, DataState, Normal, Rcdata, after_end_tag
 use Rattle.redo_html.specs.Html.Token.{Character, Tag}
 use Rattle.redo_html.specs.Laws.{ReadsAs, markup_tag, reworded, reworded_shape}
 use Rattle.redo_html.specs.Parts.{Part, part_html, part_tokens, part_text}
-use Rattle.redo_html.specs.Parts.Part.{MarkupPart, LogPart, NamePart, NumberPart, TitlePart, StylePart, ChartPart, MeterPart}
+use Rattle.redo_html.specs.Parts.Part.{MarkupPart, LogPart, TextPart, NumberPart, TitlePart, StylePart, ChartPart, MeterPart}
 use Rattle.redo_html.specs.Passage.{passage_html, passage_tokens}
 use Rattle.redo_html.specs.Shown.{number_text}
 use Rattle.redo_html.specs.Style.{plain_style}
@@ -51,7 +51,7 @@ number_reads number =
 part_reads : (part : Part) → ReadsAs (part_html part) (part_tokens part)
 part_reads (MarkupPart markup) = markup_reads markup
 part_reads (LogPart style text) = passage_reads Log style text
-part_reads (NamePart name) = passage_reads Name plain_style name
+part_reads (TextPart text) = passage_reads Monochrome plain_style text
 part_reads (NumberPart number) = number_reads number
 part_reads (TitlePart title) = title_reads title
 part_reads StylePart = style_sheet_reads
@@ -74,7 +74,7 @@ nodes_show (node ∷ nodes) =
 part_shows : (part : Part) → text_of (part_tokens part) ≡ part_text part
 part_shows (MarkupPart markup) = refl
 part_shows (LogPart style text) = passage_text Log style text
-part_shows (NamePart name) = passage_text Name plain_style name
+part_shows (TextPart text) = passage_text Monochrome plain_style text
 part_shows (NumberPart number) = text_characters (number_text number)
 part_shows (TitlePart title) = flat_map-append characters_of (passage_tokens Title plain_style title) (Tag (codes "/title") ∷ []) ∙ append-nil (text_of (passage_tokens Title plain_style title)) ∙ passage_text Title plain_style title
 part_shows StylePart = flat_map-append characters_of (map Character style_sheet) (Tag (codes "/style") ∷ []) ∙ append-nil (text_of (map Character style_sheet)) ∙ text_characters style_sheet
@@ -91,7 +91,7 @@ parts_show (part ∷ parts) =
 part_nests : (part : Part) (around tags : List (List ℕ)) → nests_in around (tags_of (part_tokens part) ++ tags) ≡ nests_in around (markup_tag part ++ tags)
 part_nests (MarkupPart markup) around tags = refl
 part_nests (LogPart style text) around tags = passage_nests Log style text around tags
-part_nests (NamePart name) around tags = passage_nests Name plain_style name around tags
+part_nests (TextPart text) around tags = passage_nests Monochrome plain_style text around tags
 part_nests (NumberPart number) around tags = ap (λ (t : List (List ℕ)). nests_in around (t ++ tags)) (tags_characters (number_text number))
 part_nests (TitlePart title) around tags =
     let end : List (List ℕ) = codes "/title" ∷ [] in

@@ -6,8 +6,8 @@ use Rattle.std.proofs.lemmas.Bool.{and_parts, and_from, cond-true, eqb-true}
 use Rattle.std.proofs.lemmas.List.{append_assoc, append-nil}
 use Rattle.std.proofs.lemmas.List.Concat.{flat_map-append}
 use Rattle.std.proofs.lemmas.List.Folds.{list_all-append}
-use Rattle.redo_html.specs.declared.form.Form.{Form}
-use Rattle.redo_html.specs.declared.form.Form.TheVariants.{Log, Name, Title}
+use Rattle.redo_html.specs.declared.text_kind.TextKind.{TextKind}
+use Rattle.redo_html.specs.declared.text_kind.TextKind.TheVariants.{Log, Monochrome, Title}
 use Rattle.redo_html.specs.declared.look.Look.{Look}
 use Rattle.redo_html.specs.declared.style.Hue.{Hue}
 use Rattle.redo_html.specs.declared.style.Hue.TheVariants.{Plain, Red, Green, Yellow, Blue, Magenta, Cyan}
@@ -45,17 +45,17 @@ style_end_reads : (bold : Bool) → ReadsAs (60 ∷ ((47 ∷ style_name bold) ++
 style_end_reads true behind = refl
 style_end_reads false behind = refl
 
-mark_reads : (form : Form) (tag : List ℕ) → ReadsAs (60 ∷ (tag ++ 62 ∷ [])) (Tag tag ∷ []) → ReadsAs (mark_html form tag) (mark_tokens form tag)
+mark_reads : (kind : TextKind) (tag : List ℕ) → ReadsAs (60 ∷ (tag ++ 62 ∷ [])) (Tag tag ∷ []) → ReadsAs (mark_html kind tag) (mark_tokens kind tag)
 mark_reads Log tag reads = reads
-mark_reads Name tag reads = reads
+mark_reads Monochrome tag reads = reads
 mark_reads Title tag reads = λ behind. refl
 
-inline_reads : (form : Form) (inline : Inline) → ReadsAs (inline_html form inline) (inline_tokens form inline)
-inline_reads form UnprintableStart = mark_reads form (codes "i") (λ behind. refl)
-inline_reads form UnprintableEnd = mark_reads form (codes "/i") (λ behind. refl)
-inline_reads form (StyleStart style) = mark_reads form (style_name style.bold ++ hue_class style.hue) (style_reads style.bold style.hue)
-inline_reads form (StyleEnd style) = mark_reads form (47 ∷ style_name style.bold) (style_end_reads style.bold)
-inline_reads form (Text code_point count) = escaped_reads Normal tt (code_points_text code_point count) (code_points_clean code_point count)
+inline_reads : (kind : TextKind) (inline : Inline) → ReadsAs (inline_html kind inline) (inline_tokens kind inline)
+inline_reads kind UnprintableStart = mark_reads kind (codes "i") (λ behind. refl)
+inline_reads kind UnprintableEnd = mark_reads kind (codes "/i") (λ behind. refl)
+inline_reads kind (StyleStart style) = mark_reads kind (style_name style.bold ++ hue_class style.hue) (style_reads style.bold style.hue)
+inline_reads kind (StyleEnd style) = mark_reads kind (47 ∷ style_name style.bold) (style_end_reads style.bold)
+inline_reads kind (Text code_point count) = escaped_reads Normal tt (code_points_text code_point count) (code_points_clean code_point count)
 
 title_inline_reads : (context : Context) → HasReferences context → (inline : Inline) → ReadsIn context (inline_html Title inline) (inline_tokens Title inline)
 title_inline_reads context has UnprintableStart behind = refl
@@ -64,9 +64,9 @@ title_inline_reads context has (StyleStart style) behind = refl
 title_inline_reads context has (StyleEnd style) behind = refl
 title_inline_reads context has (Text code_point count) behind = escaped_reads context has (code_points_text code_point count) (code_points_clean code_point count) behind
 
-pub passage_reads : (form : Form) (style : Style) (bytes : List ℕ) → ReadsAs (passage_html form style bytes) (passage_tokens form style bytes)
+pub passage_reads : (kind : TextKind) (style : Style) (bytes : List ℕ) → ReadsAs (passage_html kind style bytes) (passage_tokens kind style bytes)
 unfolding html_from
-passage_reads form style bytes = each_reads Normal (inline_html form) (inline_tokens form) (inline_reads form) (inlines_from (start_look style) (runs_of (symbols form bytes)))
+passage_reads kind style bytes = each_reads Normal (inline_html kind) (inline_tokens kind) (inline_reads kind) (inlines_from (start_look style) (runs_of (symbols kind bytes)))
 
 -- Text without marks is read in each context whose text may have references.
 pub title_passage_reads : (context : Context) → HasReferences context → (style : Style) (bytes : List ℕ) → ReadsIn context (passage_html Title style bytes) (passage_tokens Title style bytes)
@@ -84,65 +84,65 @@ tags_characters [] = refl
 tags_characters (byte ∷ text) = tags_characters text
 
 -- The text and the tags of parts of a passage.
-abbrev text_in : Form → List Inline → List ℕ
-text_in form inlines = text_of (flat_map (inline_tokens form) inlines)
+abbrev text_in : TextKind → List Inline → List ℕ
+text_in kind inlines = text_of (flat_map (inline_tokens kind) inlines)
 
-abbrev tags_in : Form → List Inline → List (List ℕ)
-tags_in form inlines = tags_of (flat_map (inline_tokens form) inlines)
+abbrev tags_in : TextKind → List Inline → List (List ℕ)
+tags_in kind inlines = tags_of (flat_map (inline_tokens kind) inlines)
 
-text_in-append : (form : Form) (a b : List Inline) → text_in form (a ++ b) ≡ text_in form a ++ text_in form b
-text_in-append form a b = ap text_of (flat_map-append (inline_tokens form) a b) ∙ flat_map-append characters_of (flat_map (inline_tokens form) a) (flat_map (inline_tokens form) b)
+text_in-append : (kind : TextKind) (a b : List Inline) → text_in kind (a ++ b) ≡ text_in kind a ++ text_in kind b
+text_in-append kind a b = ap text_of (flat_map-append (inline_tokens kind) a b) ∙ flat_map-append characters_of (flat_map (inline_tokens kind) a) (flat_map (inline_tokens kind) b)
 
-tags_in-append : (form : Form) (a b : List Inline) → tags_in form (a ++ b) ≡ tags_in form a ++ tags_in form b
-tags_in-append form a b = ap tags_of (flat_map-append (inline_tokens form) a b) ∙ flat_map-append tag_of (flat_map (inline_tokens form) a) (flat_map (inline_tokens form) b)
+tags_in-append : (kind : TextKind) (a b : List Inline) → tags_in kind (a ++ b) ≡ tags_in kind a ++ tags_in kind b
+tags_in-append kind a b = ap tags_of (flat_map-append (inline_tokens kind) a b) ∙ flat_map-append tag_of (flat_map (inline_tokens kind) a) (flat_map (inline_tokens kind) b)
 
-no_text : (form : Form) (tag : List ℕ) → text_of (mark_tokens form tag) ≡ []
+no_text : (kind : TextKind) (tag : List ℕ) → text_of (mark_tokens kind tag) ≡ []
 no_text Log tag = refl
-no_text Name tag = refl
+no_text Monochrome tag = refl
 no_text Title tag = refl
 
-abbrev IsSilent : Form → List Inline → Type 0
-IsSilent form inlines = text_in form inlines ≡ []
+abbrev IsSilent : TextKind → List Inline → Type 0
+IsSilent kind inlines = text_in kind inlines ≡ []
 
-silent_append : (form : Form) (a b : List Inline) → IsSilent form a → IsSilent form b → IsSilent form (a ++ b)
-silent_append form a b first second = text_in-append form a b ∙ ap (λ (t : List ℕ). t ++ text_in form b) first ∙ second
+silent_append : (kind : TextKind) (a b : List Inline) → IsSilent kind a → IsSilent kind b → IsSilent kind (a ++ b)
+silent_append kind a b first second = text_in-append kind a b ∙ ap (λ (t : List ℕ). t ++ text_in kind b) first ∙ second
 
-silent_if : (form : Form) (wanted : Bool) (mark : Inline) → inline_tokens form mark ≡ mark_tokens form (mark_text mark) → IsSilent form (mark_if wanted mark)
-silent_if form false mark is = refl
-silent_if form true mark is = ap text_of (append-nil (inline_tokens form mark) ∙ is) ∙ no_text form (mark_text mark)
+silent_if : (kind : TextKind) (wanted : Bool) (mark : Inline) → inline_tokens kind mark ≡ mark_tokens kind (mark_text mark) → IsSilent kind (mark_if wanted mark)
+silent_if kind false mark is = refl
+silent_if kind true mark is = ap text_of (append-nil (inline_tokens kind mark) ∙ is) ∙ no_text kind (mark_text mark)
 
-silent_styles : (form : Form) (look : Look) (same : Bool) → IsSilent form (if same then [] else style_end look.current ++ style_start look.wanted)
-silent_styles form look true = refl
-silent_styles form look false =
-    silent_append form (style_end look.current) (style_start look.wanted) (silent_if form (has_element look.current) (StyleEnd look.current) refl) (silent_if form (has_element look.wanted) (StyleStart look.wanted) refl)
+silent_styles : (kind : TextKind) (look : Look) (same : Bool) → IsSilent kind (if same then [] else style_end look.current ++ style_start look.wanted)
+silent_styles kind look true = refl
+silent_styles kind look false =
+    silent_append kind (style_end look.current) (style_start look.wanted) (silent_if kind (has_element look.current) (StyleEnd look.current) refl) (silent_if kind (has_element look.wanted) (StyleStart look.wanted) refl)
 
-silent_marks : (form : Form) (look : Look) (unprintable : Bool) → IsSilent form (marks_between look unprintable)
-silent_marks form look unprintable =
+silent_marks : (kind : TextKind) (look : Look) (unprintable : Bool) → IsSilent kind (marks_between look unprintable)
+silent_marks kind look unprintable =
     let same = is_same_style look.wanted look.current in
     let styles = if same then [] else style_end look.current ++ style_start look.wanted in
     let first = mark_if (look.unprintable && not (same && unprintable)) UnprintableEnd in
     let last = mark_if (unprintable && not (same && look.unprintable)) UnprintableStart in
-    silent_append form (first ++ styles) last (silent_append form first styles (silent_if form (look.unprintable && not (same && unprintable)) UnprintableEnd refl) (silent_styles form look same)) (silent_if form (unprintable && not (same && look.unprintable)) UnprintableStart refl)
+    silent_append kind (first ++ styles) last (silent_append kind first styles (silent_if kind (look.unprintable && not (same && unprintable)) UnprintableEnd refl) (silent_styles kind look same)) (silent_if kind (unprintable && not (same && look.unprintable)) UnprintableStart refl)
 
-runs_text : (form : Form) (look : Look) (runs : List Run) → text_in form (inlines_from look runs) ≡ flat_map run_text runs
-runs_text form look [] = silent_append form (mark_if look.unprintable UnprintableEnd) (style_end look.current) (silent_if form look.unprintable UnprintableEnd refl) (silent_if form (has_element look.current) (StyleEnd look.current) refl)
-runs_text form look (Restyle numbers ∷ runs) = runs_text form (with_wanted look (restyled look.wanted numbers)) runs
-runs_text form look (CodePoints code_point count ∷ runs) =
+runs_text : (kind : TextKind) (look : Look) (runs : List Run) → text_in kind (inlines_from look runs) ≡ flat_map run_text runs
+runs_text kind look [] = silent_append kind (mark_if look.unprintable UnprintableEnd) (style_end look.current) (silent_if kind look.unprintable UnprintableEnd refl) (silent_if kind (has_element look.current) (StyleEnd look.current) refl)
+runs_text kind look (Restyle numbers ∷ runs) = runs_text kind (with_wanted look (restyled look.wanted numbers)) runs
+runs_text kind look (CodePoints code_point count ∷ runs) =
     let unprintable = is_unprintable code_point in
     let rest = inlines_from (after_code_point look unprintable) runs in
     let text = code_points_text code_point count in
-    text_in-append form (marks_between look unprintable) (Text code_point count ∷ rest) ∙ ap (λ (t : List ℕ). t ++ text_in form (Text code_point count ∷ rest)) (silent_marks form look unprintable)
-    ∙ flat_map-append characters_of (map Character text) (flat_map (inline_tokens form) rest) ∙ ap (λ (t : List ℕ). t ++ text_in form rest) (text_characters text) ∙ ap (λ (t : List ℕ). text ++ t) (runs_text form (after_code_point look unprintable) runs)
+    text_in-append kind (marks_between look unprintable) (Text code_point count ∷ rest) ∙ ap (λ (t : List ℕ). t ++ text_in kind (Text code_point count ∷ rest)) (silent_marks kind look unprintable)
+    ∙ flat_map-append characters_of (map Character text) (flat_map (inline_tokens kind) rest) ∙ ap (λ (t : List ℕ). t ++ text_in kind rest) (text_characters text) ∙ ap (λ (t : List ℕ). text ++ t) (runs_text kind (after_code_point look unprintable) runs)
 
-pub passage_text : (form : Form) (style : Style) (bytes : List ℕ) → text_of (passage_tokens form style bytes) ≡ shown_text form bytes
-passage_text form style bytes = runs_text form (start_look style) (runs_of (symbols form bytes))
+pub passage_text : (kind : TextKind) (style : Style) (bytes : List ℕ) → text_of (passage_tokens kind style bytes) ≡ shown_text kind bytes
+passage_text kind style bytes = runs_text kind (start_look style) (runs_of (symbols kind bytes))
 
 -- ---- the tags
 
 -- Code points have no tags.
-text_tags : (form : Form) (code_point count : ℕ) (inlines : List Inline) → tags_in form (Text code_point count ∷ inlines) ≡ tags_in form inlines
-text_tags form code_point count inlines =
-    flat_map-append tag_of (map Character (code_points_text code_point count)) (flat_map (inline_tokens form) inlines) ∙ ap (λ (t : List (List ℕ)). t ++ tags_in form inlines) (tags_characters (code_points_text code_point count))
+text_tags : (kind : TextKind) (code_point count : ℕ) (inlines : List Inline) → tags_in kind (Text code_point count ∷ inlines) ≡ tags_in kind inlines
+text_tags kind code_point count inlines =
+    flat_map-append tag_of (map Character (code_points_text code_point count)) (flat_map (inline_tokens kind) inlines) ∙ ap (λ (t : List (List ℕ)). t ++ tags_in kind inlines) (tags_characters (code_points_text code_point count))
 
 no_tags : (inlines : List Inline) → tags_in Title inlines ≡ []
 no_tags [] = refl
@@ -181,45 +181,45 @@ style_end_is_mark : (bold : Bool) → is_mark (47 ∷ style_name bold) ≡ true
 style_end_is_mark true = refl
 style_end_is_mark false = refl
 
-mark_tags : (form : Form) (tag : List ℕ) → is_mark tag ≡ true → AreMarks (tags_of (mark_tokens form tag))
+mark_tags : (kind : TextKind) (tag : List ℕ) → is_mark tag ≡ true → AreMarks (tags_of (mark_tokens kind tag))
 mark_tags Log tag is = and_from (is_mark tag) true is refl
-mark_tags Name tag is = and_from (is_mark tag) true is refl
+mark_tags Monochrome tag is = and_from (is_mark tag) true is refl
 mark_tags Title tag is = refl
 
-marks_if : (form : Form) (wanted : Bool) (mark : Inline) → inline_tokens form mark ≡ mark_tokens form (mark_text mark) → (wanted ≡ true → is_mark (mark_text mark) ≡ true) → AreMarks (tags_in form (mark_if wanted mark))
-marks_if form false mark is one = refl
-marks_if form true mark is one = subst (λ (ts : List Token). AreMarks (tags_of ts)) (sym (append-nil (inline_tokens form mark) ∙ is)) (mark_tags form (mark_text mark) (one refl))
+marks_if : (kind : TextKind) (wanted : Bool) (mark : Inline) → inline_tokens kind mark ≡ mark_tokens kind (mark_text mark) → (wanted ≡ true → is_mark (mark_text mark) ≡ true) → AreMarks (tags_in kind (mark_if wanted mark))
+marks_if kind false mark is one = refl
+marks_if kind true mark is one = subst (λ (ts : List Token). AreMarks (tags_of ts)) (sym (append-nil (inline_tokens kind mark) ∙ is)) (mark_tags kind (mark_text mark) (one refl))
 
-abbrev marks_in : Form → List Inline → Type 0
-marks_in form inlines = AreMarks (tags_in form inlines)
+abbrev marks_in : TextKind → List Inline → Type 0
+marks_in kind inlines = AreMarks (tags_in kind inlines)
 
-marks_in-append : (form : Form) (a b : List Inline) → marks_in form a → marks_in form b → marks_in form (a ++ b)
-marks_in-append form a b first second = subst AreMarks (sym (tags_in-append form a b)) (marks_append (tags_in form a) (tags_in form b) first second)
+marks_in-append : (kind : TextKind) (a b : List Inline) → marks_in kind a → marks_in kind b → marks_in kind (a ++ b)
+marks_in-append kind a b first second = subst AreMarks (sym (tags_in-append kind a b)) (marks_append (tags_in kind a) (tags_in kind b) first second)
 
-style_marks : (form : Form) (look : Look) (same : Bool) → marks_in form (if same then [] else style_end look.current ++ style_start look.wanted)
-style_marks form look true = refl
-style_marks form look false =
-    marks_in-append form (style_end look.current) (style_start look.wanted) (marks_if form (has_element look.current) (StyleEnd look.current) refl (λ has. style_end_is_mark look.current.bold))
-    (marks_if form (has_element look.wanted) (StyleStart look.wanted) refl (λ has. style_is_mark look.wanted.bold look.wanted.hue has))
+style_marks : (kind : TextKind) (look : Look) (same : Bool) → marks_in kind (if same then [] else style_end look.current ++ style_start look.wanted)
+style_marks kind look true = refl
+style_marks kind look false =
+    marks_in-append kind (style_end look.current) (style_start look.wanted) (marks_if kind (has_element look.current) (StyleEnd look.current) refl (λ has. style_end_is_mark look.current.bold))
+    (marks_if kind (has_element look.wanted) (StyleStart look.wanted) refl (λ has. style_is_mark look.wanted.bold look.wanted.hue has))
 
-between_marks : (form : Form) (look : Look) (unprintable : Bool) → marks_in form (marks_between look unprintable)
-between_marks form look unprintable =
+between_marks : (kind : TextKind) (look : Look) (unprintable : Bool) → marks_in kind (marks_between look unprintable)
+between_marks kind look unprintable =
     let same = is_same_style look.wanted look.current in
     let styles = if same then [] else style_end look.current ++ style_start look.wanted in
     let first = mark_if (look.unprintable && not (same && unprintable)) UnprintableEnd in
     let last = mark_if (unprintable && not (same && look.unprintable)) UnprintableStart in
-    marks_in-append form (first ++ styles) last (marks_in-append form first styles (marks_if form (look.unprintable && not (same && unprintable)) UnprintableEnd refl (λ wanted. refl)) (style_marks form look same))
-    (marks_if form (unprintable && not (same && look.unprintable)) UnprintableStart refl (λ wanted. refl))
+    marks_in-append kind (first ++ styles) last (marks_in-append kind first styles (marks_if kind (look.unprintable && not (same && unprintable)) UnprintableEnd refl (λ wanted. refl)) (style_marks kind look same))
+    (marks_if kind (unprintable && not (same && look.unprintable)) UnprintableStart refl (λ wanted. refl))
 
-runs_marks : (form : Form) (look : Look) (runs : List Run) → marks_in form (inlines_from look runs)
-runs_marks form look [] =
-    marks_in-append form (mark_if look.unprintable UnprintableEnd) (style_end look.current) (marks_if form look.unprintable UnprintableEnd refl (λ wanted. refl)) (marks_if form (has_element look.current) (StyleEnd look.current) refl (λ has. style_end_is_mark look.current.bold))
-runs_marks form look (Restyle numbers ∷ runs) = runs_marks form (with_wanted look (restyled look.wanted numbers)) runs
-runs_marks form look (CodePoints code_point count ∷ runs) =
+runs_marks : (kind : TextKind) (look : Look) (runs : List Run) → marks_in kind (inlines_from look runs)
+runs_marks kind look [] =
+    marks_in-append kind (mark_if look.unprintable UnprintableEnd) (style_end look.current) (marks_if kind look.unprintable UnprintableEnd refl (λ wanted. refl)) (marks_if kind (has_element look.current) (StyleEnd look.current) refl (λ has. style_end_is_mark look.current.bold))
+runs_marks kind look (Restyle numbers ∷ runs) = runs_marks kind (with_wanted look (restyled look.wanted numbers)) runs
+runs_marks kind look (CodePoints code_point count ∷ runs) =
     let unprintable = is_unprintable code_point in
     let rest = inlines_from (after_code_point look unprintable) runs in
-    marks_in-append form (marks_between look unprintable) (Text code_point count ∷ rest) (between_marks form look unprintable)
-    (subst AreMarks (sym (text_tags form code_point count rest)) (runs_marks form (after_code_point look unprintable) runs))
+    marks_in-append kind (marks_between look unprintable) (Text code_point count ∷ rest) (between_marks kind look unprintable)
+    (subst AreMarks (sym (text_tags kind code_point count rest)) (runs_marks kind (after_code_point look unprintable) runs))
 
 -- ---- nesting
 
@@ -233,9 +233,9 @@ push_if wanted name around = if wanted then name ∷ around else around
 abbrev opened : Bool → Style → List (List ℕ) → List (List ℕ)
 opened unprintable style around = push_if unprintable (codes "i") (push_if (has_element style) (style_name style.bold) around)
 
-tags_if : (form : Form) → has_marks form ≡ true → (wanted : Bool) (mark : Inline) → inline_tokens form mark ≡ mark_tokens form (mark_text mark) → tags_in form (mark_if wanted mark) ≡ tag_if wanted (mark_text mark)
-tags_if form has false mark is = refl
-tags_if form has true mark is = ap tags_of (append-nil (inline_tokens form mark) ∙ is ∙ cond-true (has_marks form) (Tag (mark_text mark) ∷ []) [] has)
+tags_if : (kind : TextKind) → has_marks kind ≡ true → (wanted : Bool) (mark : Inline) → inline_tokens kind mark ≡ mark_tokens kind (mark_text mark) → tags_in kind (mark_if wanted mark) ≡ tag_if wanted (mark_text mark)
+tags_if kind has false mark is = refl
+tags_if kind has true mark is = ap tags_of (append-nil (inline_tokens kind mark) ∙ is ∙ cond-true (has_marks kind) (Tag (mark_text mark) ∷ []) [] has)
 
 unprintable_ends : (unprintable : Bool) (around tags : List (List ℕ)) → nests_in (push_if unprintable (codes "i") around) (tag_if unprintable (codes "/i") ++ tags) ≡ nests_in around tags
 unprintable_ends true around tags = refl
@@ -310,19 +310,19 @@ between_nests look unprintable false was around tags is unprintable_is = by was 
     by false true = styles (codes "i" ∷ tags)
     by false false = styles tags
 
-styles_tags : (form : Form) → has_marks form ≡ true → (look : Look) (same : Bool) → tags_in form (if same then [] else style_end look.current ++ style_start look.wanted)
+styles_tags : (kind : TextKind) → has_marks kind ≡ true → (look : Look) (same : Bool) → tags_in kind (if same then [] else style_end look.current ++ style_start look.wanted)
     ≡ tag_if (not same && has_element look.current) (47 ∷ style_name look.current.bold) ++ tag_if (not same && has_element look.wanted) (style_name look.wanted.bold ++ hue_class look.wanted.hue)
-styles_tags form has look true = refl
-styles_tags form has look false =
-    tags_in-append form (style_end look.current) (style_start look.wanted)
-    ∙ ap (λ (t : List (List ℕ)). t ++ tags_in form (style_start look.wanted)) (tags_if form has (has_element look.current) (StyleEnd look.current) refl)
-    ∙ ap (λ (t : List (List ℕ)). tag_if (has_element look.current) (47 ∷ style_name look.current.bold) ++ t) (tags_if form has (has_element look.wanted) (StyleStart look.wanted) refl)
+styles_tags kind has look true = refl
+styles_tags kind has look false =
+    tags_in-append kind (style_end look.current) (style_start look.wanted)
+    ∙ ap (λ (t : List (List ℕ)). t ++ tags_in kind (style_start look.wanted)) (tags_if kind has (has_element look.current) (StyleEnd look.current) refl)
+    ∙ ap (λ (t : List (List ℕ)). tag_if (has_element look.current) (47 ∷ style_name look.current.bold) ++ t) (tags_if kind has (has_element look.wanted) (StyleStart look.wanted) refl)
 
 four_parts : (a b c d e : List (List ℕ)) → ((a ++ (b ++ c)) ++ d) ++ e ≡ a ++ (b ++ (c ++ (d ++ e)))
 four_parts a b c d e = append_assoc (a ++ (b ++ c)) d e ∙ append_assoc a (b ++ c) (d ++ e) ∙ ap (λ (t : List (List ℕ)). a ++ t) (append_assoc b c (d ++ e))
 
-marks_nest : (form : Form) → has_marks form ≡ true → (look : Look) (unprintable : Bool) (around tags : List (List ℕ)) → nests_in (opened look.unprintable look.current around) (tags_in form (marks_between look unprintable) ++ tags) ≡ nests_in (opened unprintable look.wanted around) tags
-marks_nest form has look unprintable around tags =
+marks_nest : (kind : TextKind) → has_marks kind ≡ true → (look : Look) (unprintable : Bool) (around tags : List (List ℕ)) → nests_in (opened look.unprintable look.current around) (tags_in kind (marks_between look unprintable) ++ tags) ≡ nests_in (opened unprintable look.wanted around) tags
+marks_nest kind has look unprintable around tags =
     let same = is_same_style look.wanted look.current in
     let styles = if same then [] else style_end look.current ++ style_start look.wanted in
     let a = look.unprintable && not (same && unprintable) in
@@ -330,39 +330,39 @@ marks_nest form has look unprintable around tags =
     let ends = tag_if (not same && has_element look.current) (47 ∷ style_name look.current.bold) in
     let starts = tag_if (not same && has_element look.wanted) (style_name look.wanted.bold ++ hue_class look.wanted.hue) in
     ap (λ (t : List (List ℕ)). nests_in (opened look.unprintable look.current around) (t ++ tags))
-    (tags_in-append form (mark_if a UnprintableEnd ++ styles) (mark_if d UnprintableStart) ∙ ap (λ (t : List (List ℕ)). t ++ tags_in form (mark_if d UnprintableStart)) (tags_in-append form (mark_if a UnprintableEnd) styles)
-    ∙ ap (λ (t : List (List ℕ)). (t ++ tags_in form styles) ++ tags_in form (mark_if d UnprintableStart)) (tags_if form has a UnprintableEnd refl)
-    ∙ ap (λ (t : List (List ℕ)). (tag_if a (codes "/i") ++ t) ++ tags_in form (mark_if d UnprintableStart)) (styles_tags form has look same)
-    ∙ ap (λ (t : List (List ℕ)). (tag_if a (codes "/i") ++ (ends ++ starts)) ++ t) (tags_if form has d UnprintableStart refl))
+    (tags_in-append kind (mark_if a UnprintableEnd ++ styles) (mark_if d UnprintableStart) ∙ ap (λ (t : List (List ℕ)). t ++ tags_in kind (mark_if d UnprintableStart)) (tags_in-append kind (mark_if a UnprintableEnd) styles)
+    ∙ ap (λ (t : List (List ℕ)). (t ++ tags_in kind styles) ++ tags_in kind (mark_if d UnprintableStart)) (tags_if kind has a UnprintableEnd refl)
+    ∙ ap (λ (t : List (List ℕ)). (tag_if a (codes "/i") ++ t) ++ tags_in kind (mark_if d UnprintableStart)) (styles_tags kind has look same)
+    ∙ ap (λ (t : List (List ℕ)). (tag_if a (codes "/i") ++ (ends ++ starts)) ++ t) (tags_if kind has d UnprintableStart refl))
     ∙ ap (nests_in (opened look.unprintable look.current around)) (four_parts (tag_if a (codes "/i")) ends starts (tag_if d (codes "i")) tags)
     ∙ between_nests look unprintable same look.unprintable around tags refl refl
 
-runs_nest : (form : Form) → has_marks form ≡ true → (look : Look) (runs : List Run) (around tags : List (List ℕ)) → nests_in (opened look.unprintable look.current around) (tags_in form (inlines_from look runs) ++ tags) ≡ nests_in around tags
-runs_nest form has look [] around tags =
+runs_nest : (kind : TextKind) → has_marks kind ≡ true → (look : Look) (runs : List Run) (around tags : List (List ℕ)) → nests_in (opened look.unprintable look.current around) (tags_in kind (inlines_from look runs) ++ tags) ≡ nests_in around tags
+runs_nest kind has look [] around tags =
     let end = style_end look.current in
     ap (λ (t : List (List ℕ)). nests_in (opened look.unprintable look.current around) (t ++ tags))
-    (tags_in-append form (mark_if look.unprintable UnprintableEnd) end ∙ ap (λ (t : List (List ℕ)). t ++ tags_in form end) (tags_if form has look.unprintable UnprintableEnd refl)
-    ∙ ap (λ (t : List (List ℕ)). tag_if look.unprintable (codes "/i") ++ t) (tags_if form has (has_element look.current) (StyleEnd look.current) refl))
+    (tags_in-append kind (mark_if look.unprintable UnprintableEnd) end ∙ ap (λ (t : List (List ℕ)). t ++ tags_in kind end) (tags_if kind has look.unprintable UnprintableEnd refl)
+    ∙ ap (λ (t : List (List ℕ)). tag_if look.unprintable (codes "/i") ++ t) (tags_if kind has (has_element look.current) (StyleEnd look.current) refl))
     ∙ ap (nests_in (opened look.unprintable look.current around)) (append_assoc (tag_if look.unprintable (codes "/i")) (tag_if (has_element look.current) (47 ∷ style_name look.current.bold)) tags)
     ∙ unprintable_ends look.unprintable (push_if (has_element look.current) (style_name look.current.bold) around) (tag_if (has_element look.current) (47 ∷ style_name look.current.bold) ++ tags)
     ∙ style_ends (has_element look.current) look.current.bold around tags
-runs_nest form has look (Restyle numbers ∷ runs) around tags = runs_nest form has (with_wanted look (restyled look.wanted numbers)) runs around tags
-runs_nest form has look (CodePoints code_point count ∷ runs) around tags =
+runs_nest kind has look (Restyle numbers ∷ runs) around tags = runs_nest kind has (with_wanted look (restyled look.wanted numbers)) runs around tags
+runs_nest kind has look (CodePoints code_point count ∷ runs) around tags =
     let unprintable = is_unprintable code_point in
     let rest = inlines_from (after_code_point look unprintable) runs in
-    ap (λ (t : List (List ℕ)). nests_in (opened look.unprintable look.current around) (t ++ tags)) (tags_in-append form (marks_between look unprintable) (Text code_point count ∷ rest) ∙ ap (λ (t : List (List ℕ)). tags_in form (marks_between look unprintable) ++ t) (text_tags form code_point count rest))
-    ∙ ap (nests_in (opened look.unprintable look.current around)) (append_assoc (tags_in form (marks_between look unprintable)) (tags_in form rest) tags)
-    ∙ marks_nest form has look unprintable around (tags_in form rest ++ tags) ∙ runs_nest form has (after_code_point look unprintable) runs around tags
+    ap (λ (t : List (List ℕ)). nests_in (opened look.unprintable look.current around) (t ++ tags)) (tags_in-append kind (marks_between look unprintable) (Text code_point count ∷ rest) ∙ ap (λ (t : List (List ℕ)). tags_in kind (marks_between look unprintable) ++ t) (text_tags kind code_point count rest))
+    ∙ ap (nests_in (opened look.unprintable look.current around)) (append_assoc (tags_in kind (marks_between look unprintable)) (tags_in kind rest) tags)
+    ∙ marks_nest kind has look unprintable around (tags_in kind rest ++ tags) ∙ runs_nest kind has (after_code_point look unprintable) runs around tags
 
-pub passage_nests : (form : Form) (style : Style) (bytes : List ℕ) (around tags : List (List ℕ)) → nests_in around (tags_of (passage_tokens form style bytes) ++ tags) ≡ nests_in around tags
+pub passage_nests : (kind : TextKind) (style : Style) (bytes : List ℕ) (around tags : List (List ℕ)) → nests_in around (tags_of (passage_tokens kind style bytes) ++ tags) ≡ nests_in around tags
 passage_nests Log style bytes around tags = runs_nest Log refl (start_look style) (runs_of (symbols Log bytes)) around tags
-passage_nests Name style bytes around tags = runs_nest Name refl (start_look style) (runs_of (symbols Name bytes)) around tags
+passage_nests Monochrome style bytes around tags = runs_nest Monochrome refl (start_look style) (runs_of (symbols Monochrome bytes)) around tags
 passage_nests Title style bytes around tags = ap (λ (t : List (List ℕ)). nests_in around (t ++ tags)) (title_tags style bytes)
 
-pub passage_is_read : (form : Form) (style : Style) (bytes : List ℕ) → IsReadAsShown form style bytes
-passage_is_read form style bytes = record {
-  reads = passage_reads form style bytes;
-  text = passage_text form style bytes;
-  marks = runs_marks form (start_look style) (runs_of (symbols form bytes));
-  nests = passage_nests form style bytes;
+pub passage_is_read : (kind : TextKind) (style : Style) (bytes : List ℕ) → IsReadAsShown kind style bytes
+passage_is_read kind style bytes = record {
+  reads = passage_reads kind style bytes;
+  text = passage_text kind style bytes;
+  marks = runs_marks kind (start_look style) (runs_of (symbols kind bytes));
+  nests = passage_nests kind style bytes;
 }

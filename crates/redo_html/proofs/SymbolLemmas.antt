@@ -10,7 +10,7 @@ use Rattle.std.proofs.lemmas.List.Folds.{list_any-append, list_any_more}
 use Rattle.bstr.specs.Utf8.{decoded, good}
 use Rattle.bstr.proofs.lemmas.PieceLemmas.{value-1, piece-bounds}
 use Rattle.bstr.proofs.lemmas.SoundLemmas.{SpellsChar-decoded}
-use Rattle.redo_html.specs.declared.form.Form.{Form}
+use Rattle.redo_html.specs.declared.text_kind.TextKind.{TextKind}
 use Rattle.redo_html.specs.Passage.{escaped_byte}
 use Rattle.redo_html.specs.Laws.{is_plain}
 use Rattle.redo_html.specs.Shown.{is_unprintable, is_control, is_between, unseen_ranges, Run, with_code_point, runs_of}
@@ -21,15 +21,15 @@ use Rattle.redo_html.specs.Private.Writing.{IsSequence, BeginsOther, symbol_code
 
 -- ---- symbols, one after the other
 
-pub symbols-nil : (form : Form) → symbols form [] ≡ []
+pub symbols-nil : (kind : TextKind) → symbols kind [] ≡ []
 unfolding symbols_after
-symbols-nil form = refl
+symbols-nil kind = refl
 
-skipped_symbols : (form : Form) (skipped : ℕ) (bytes : List ℕ) → symbols_after form skipped bytes ≡ symbols form (drop skipped bytes)
+skipped_symbols : (kind : TextKind) (skipped : ℕ) (bytes : List ℕ) → symbols_after kind skipped bytes ≡ symbols kind (drop skipped bytes)
 unfolding symbols_after
-skipped_symbols form zero bytes = refl
-skipped_symbols form (suc skipped) [] = refl
-skipped_symbols form (suc skipped) (byte ∷ bytes) = skipped_symbols form skipped bytes
+skipped_symbols kind zero bytes = refl
+skipped_symbols kind (suc skipped) [] = refl
+skipped_symbols kind (suc skipped) (byte ∷ bytes) = skipped_symbols kind skipped bytes
 
 code_point_some : (char : Option ℕ) (size : ℕ) → 0 < size → 0 < size_of char size
 code_point_some None size some = omega arith
@@ -63,14 +63,14 @@ sequence_parts bytes some = by (begins_sequence bytes) refl
         let len : sequence_len bytes ≡ 3 + parameter_count bytes = cond-true (begins_sequence bytes) (3 + parameter_count bytes) 0 is in
         record { size = len; within = omega (arith, inside, len) }
 
-pub symbol_bounds : (form : Form) (bytes : List ℕ) → 0 < length bytes → (0 < symbol_len form bytes) × (symbol_len form bytes ≤ length bytes)
+pub symbol_bounds : (kind : TextKind) (bytes : List ℕ) → 0 < length bytes → (0 < symbol_len kind bytes) × (symbol_len kind bytes ≤ length bytes)
 unfolding symbol_len is_sequence
-symbol_bounds form bytes some = by (is_sequence form bytes) refl
+symbol_bounds kind bytes some = by (is_sequence kind bytes) refl
   where
-    by : (sequence : Bool) → is_sequence form bytes ≡ sequence → (0 < symbol_len form bytes) × (symbol_len form bytes ≤ length bytes)
+    by : (sequence : Bool) → is_sequence kind bytes ≡ sequence → (0 < symbol_len kind bytes) × (symbol_len kind bytes ≤ length bytes)
     by false is = rw is (code_point_bounds bytes some)
     by true is =
-        let positive = ltb-true 0 (sequence_len bytes) (and_parts (has_colours form) (nat_lt 0 (sequence_len bytes)) is).1 in
+        let positive = ltb-true 0 (sequence_len bytes) (and_parts (has_colours kind) (nat_lt 0 (sequence_len bytes)) is).1 in
         let parts = sequence_parts bytes positive in
         rw is (positive, parts.within)
 
@@ -78,12 +78,12 @@ drop_cons : (byte : ℕ) (bytes : List ℕ) (n : ℕ) → 0 < n → drop (n - 1)
 drop_cons byte bytes zero some = absurd (omega arith)
 drop_cons byte bytes (suc n) some = ap (λ (k : ℕ). drop k bytes) (omega arith)
 
-pub symbols-step : (form : Form) (bytes : List ℕ) → 0 < length bytes → symbols form bytes ≡ first_symbol form bytes ∷ symbols form (drop (symbol_len form bytes) bytes)
+pub symbols-step : (kind : TextKind) (bytes : List ℕ) → 0 < length bytes → symbols kind bytes ≡ first_symbol kind bytes ∷ symbols kind (drop (symbol_len kind bytes) bytes)
 unfolding symbols_after
-symbols-step form [] some = absurd (omega arith)
-symbols-step form (byte ∷ bytes) some =
-    ap (λ (rest : List Symbol). first_symbol form (byte ∷ bytes) ∷ rest)
-    (skipped_symbols form (symbol_len form (byte ∷ bytes) - 1) bytes ∙ ap (symbols form) (drop_cons byte bytes (symbol_len form (byte ∷ bytes)) (symbol_bounds form (byte ∷ bytes) some).0))
+symbols-step kind [] some = absurd (omega arith)
+symbols-step kind (byte ∷ bytes) some =
+    ap (λ (rest : List Symbol). first_symbol kind (byte ∷ bytes) ∷ rest)
+    (skipped_symbols kind (symbol_len kind (byte ∷ bytes) - 1) bytes ∙ ap (symbols kind) (drop_cons byte bytes (symbol_len kind (byte ∷ bytes)) (symbol_bounds kind (byte ∷ bytes) some).0))
 
 -- ---- plain bytes
 
@@ -102,14 +102,14 @@ plain_others byte plain = ⊎_elim (λ not_plain. absurd (let e : true ≡ false
 pub plain_visible : (byte : ℕ) → is_plain byte ≡ true → is_unprintable byte ≡ false
 plain_visible byte plain = not-true (is_unprintable byte) (and_parts (not (byte == 27)) (not (is_unprintable byte)) (plain_facts byte plain)).1
 
-pub no_sequence : (form : Form) (byte : ℕ) (bytes : List ℕ) → (byte == 27) ≡ false → is_sequence form (byte ∷ bytes) ≡ false
+pub no_sequence : (kind : TextKind) (byte : ℕ) (bytes : List ℕ) → (byte == 27) ≡ false → is_sequence kind (byte ∷ bytes) ≡ false
 unfolding is_sequence sequence_len
-no_sequence form byte bytes other = and_right (has_colours form) (nat_lt 0 (sequence_len (byte ∷ bytes))) (rw other refl)
+no_sequence kind byte bytes other = and_right (has_colours kind) (nat_lt 0 (sequence_len (byte ∷ bytes))) (rw other refl)
 
-pub plain_symbol : (form : Form) (byte : ℕ) (bytes : List ℕ) → is_plain byte ≡ true → (first_symbol form (byte ∷ bytes) ≡ CodePoint byte) × (symbol_len form (byte ∷ bytes) ≡ 1)
+pub plain_symbol : (kind : TextKind) (byte : ℕ) (bytes : List ℕ) → is_plain byte ≡ true → (first_symbol kind (byte ∷ bytes) ≡ CodePoint byte) × (symbol_len kind (byte ∷ bytes) ≡ 1)
 unfolding first_symbol symbol_len first_code_point code_point_len
-plain_symbol form byte bytes plain =
-    let none = no_sequence form byte bytes (not-true (byte == 27) (and_parts (not (byte == 27)) (not (is_unprintable byte)) (plain_facts byte plain)).0) in
+plain_symbol kind byte bytes plain =
+    let none = no_sequence kind byte bytes (not-true (byte == 27) (and_parts (not (byte == 27)) (not (is_unprintable byte)) (plain_facts byte plain)).0) in
     let all = byte ∷ bytes in
     let decodes : decoded all ≡ good byte 1 = value-1 (length all) byte (slice_index all 1) (slice_index all 2) (slice_index all 3) (omega arith, (let below = plain_below byte plain in omega arith)) in
     (rw (none, decodes) refl, rw (none, decodes) refl)
@@ -134,9 +134,9 @@ unfolding is_unprintable
 unprintable_byte byte below = agree_below_at (λ b. is_unprintable (0xDC00 + b)) (λ b. true) 256 byte refl below
 
 -- The bytes of a visible code point are its UTF-8.
-pub visible_bytes : (form : Form) (bytes : List ℕ) (code_point : ℕ) → 0 < length bytes → slice_index bytes 0 < 256 → first_symbol form bytes ≡ CodePoint code_point → is_unprintable code_point ≡ false → take (symbol_len form bytes) bytes ≡ encode_utf8 code_point
+pub visible_bytes : (kind : TextKind) (bytes : List ℕ) (code_point : ℕ) → 0 < length bytes → slice_index bytes 0 < 256 → first_symbol kind bytes ≡ CodePoint code_point → is_unprintable code_point ≡ false → take (symbol_len kind bytes) bytes ≡ encode_utf8 code_point
 unfolding first_symbol symbol_len first_code_point code_point_len
-visible_bytes form bytes code_point some byte first visible = by (is_sequence form bytes) refl
+visible_bytes kind bytes code_point some byte first visible = by (is_sequence kind bytes) refl
   where
     spelled : (char : Option ℕ) → (decoded bytes).char ≡ char → code_point_of char (slice_index bytes 0) ≡ code_point → take (size_of char (decoded bytes).size) bytes ≡ encode_utf8 code_point
     spelled None is same = absurd (let e : false ≡ true = sym visible ∙ ap is_unprintable (sym same) ∙ unprintable_byte (slice_index bytes 0) byte in cc)
@@ -144,10 +144,10 @@ visible_bytes form bytes code_point some byte first visible = by (is_sequence fo
         let spells = SpellsChar-decoded bytes c is in
         ap (λ (b : List ℕ). take (decoded bytes).size b) spells.bytes ∙ take_at (encode_utf8 c) (drop (decoded bytes).size bytes) (decoded bytes).size spells.width ∙ ap encode_utf8 same
 
-    by : (sequence : Bool) → is_sequence form bytes ≡ sequence → take (symbol_len form bytes) bytes ≡ encode_utf8 code_point
-    by true is = absurd (let e : Sequence (sequence_numbers bytes) ≡ CodePoint code_point = sym (cond-true (is_sequence form bytes) (Sequence (sequence_numbers bytes)) (CodePoint (first_code_point bytes)) is) ∙ first in cc)
+    by : (sequence : Bool) → is_sequence kind bytes ≡ sequence → take (symbol_len kind bytes) bytes ≡ encode_utf8 code_point
+    by true is = absurd (let e : Sequence (sequence_numbers bytes) ≡ CodePoint code_point = sym (cond-true (is_sequence kind bytes) (Sequence (sequence_numbers bytes)) (CodePoint (first_code_point bytes)) is) ∙ first in cc)
     by false is =
-        let same : CodePoint (first_code_point bytes) ≡ CodePoint code_point = sym (cond-false (is_sequence form bytes) (Sequence (sequence_numbers bytes)) (CodePoint (first_code_point bytes)) is) ∙ first in
+        let same : CodePoint (first_code_point bytes) ≡ CodePoint code_point = sym (cond-false (is_sequence kind bytes) (Sequence (sequence_numbers bytes)) (CodePoint (first_code_point bytes)) is) ∙ first in
         rw is (spelled (decoded bytes).char refl cc)
 
 -- ---- runs
@@ -238,18 +238,18 @@ module _ (bytes : List ℕ) (char : Option ℕ) (decodes : char ≡ (decoded byt
 
 -- ---- the first symbol
 
-module _ (form : Form) (bytes : List ℕ) where
-  pub sequence_symbol : has_colours form ≡ true → 0 < sequence_len bytes → (None ≡ symbol_code_point (first_symbol form bytes)) × (sequence_len bytes ≡ symbol_len form bytes)
+module _ (kind : TextKind) (bytes : List ℕ) where
+  pub sequence_symbol : has_colours kind ≡ true → 0 < sequence_len bytes → (None ≡ symbol_code_point (first_symbol kind bytes)) × (sequence_len bytes ≡ symbol_len kind bytes)
   unfolding is_sequence first_symbol symbol_len
   sequence_symbol has some =
-      let is : is_sequence form bytes ≡ true = and_from (has_colours form) (nat_lt 0 (sequence_len bytes)) has (lt-ltb 0 (sequence_len bytes) some) in
+      let is : is_sequence kind bytes ≡ true = and_from (has_colours kind) (nat_lt 0 (sequence_len bytes)) has (lt-ltb 0 (sequence_len bytes) some) in
       (rw is refl, rw is refl)
 
-  pub code_point_symbol : (has_colours form ≡ false) ⊎ (sequence_len bytes ≡ 0) → (Some (first_code_point bytes) ≡ symbol_code_point (first_symbol form bytes)) × (code_point_len bytes ≡ symbol_len form bytes)
+  pub code_point_symbol : (has_colours kind ≡ false) ⊎ (sequence_len bytes ≡ 0) → (Some (first_code_point bytes) ≡ symbol_code_point (first_symbol kind bytes)) × (code_point_len bytes ≡ symbol_len kind bytes)
   unfolding is_sequence first_symbol symbol_len
   code_point_symbol none =
-      let is : is_sequence form bytes ≡ false =
-      ⊎_elim (λ no. and_left (has_colours form) (nat_lt 0 (sequence_len bytes)) no) (λ zero. and_right (has_colours form) (nat_lt 0 (sequence_len bytes)) (le-ltb 0 (sequence_len bytes) (omega (arith, zero)))) none in
+      let is : is_sequence kind bytes ≡ false =
+      ⊎_elim (λ no. and_left (has_colours kind) (nat_lt 0 (sequence_len bytes)) no) (λ zero. and_right (has_colours kind) (nat_lt 0 (sequence_len bytes)) (le-ltb 0 (sequence_len bytes) (omega (arith, zero)))) none in
       (rw is refl, rw is refl)
 
 -- ---- unprintable code points
@@ -294,12 +294,12 @@ range_before code_point i below past none =
     list_any_more (is_between code_point) unseen_ranges i (0, 0) below ∙ or_from _ _ none (and_right (nat_le range.0 code_point) (nat_le code_point range.1) (lt-leb code_point range.1 past))
 
 -- A first symbol that is no code point is a sequence.
-pub sequence_found : (form : Form) (bytes : List ℕ) → None ≡ symbol_code_point (first_symbol form bytes) → (first_symbol form bytes ≡ Sequence (sequence_numbers bytes)) × IsSequence bytes (symbol_len form bytes)
+pub sequence_found : (kind : TextKind) (bytes : List ℕ) → None ≡ symbol_code_point (first_symbol kind bytes) → (first_symbol kind bytes ≡ Sequence (sequence_numbers bytes)) × IsSequence bytes (symbol_len kind bytes)
 unfolding first_symbol symbol_len is_sequence
-sequence_found form bytes none = by (is_sequence form bytes) refl
+sequence_found kind bytes none = by (is_sequence kind bytes) refl
   where
-    by : (sequence : Bool) → is_sequence form bytes ≡ sequence → (first_symbol form bytes ≡ Sequence (sequence_numbers bytes)) × IsSequence bytes (symbol_len form bytes)
+    by : (sequence : Bool) → is_sequence kind bytes ≡ sequence → (first_symbol kind bytes ≡ Sequence (sequence_numbers bytes)) × IsSequence bytes (symbol_len kind bytes)
     by true is =
-        let positive = ltb-true 0 (sequence_len bytes) (and_parts (has_colours form) (nat_lt 0 (sequence_len bytes)) is).1 in
-        (cond-true (is_sequence form bytes) (Sequence (sequence_numbers bytes)) (CodePoint (first_code_point bytes)) is, rw is (sequence_parts bytes positive))
-    by false is = absurd (let code_point : None ≡ Some (first_code_point bytes) = none ∙ ap symbol_code_point (cond-false (is_sequence form bytes) (Sequence (sequence_numbers bytes)) (CodePoint (first_code_point bytes)) is) in cc)
+        let positive = ltb-true 0 (sequence_len bytes) (and_parts (has_colours kind) (nat_lt 0 (sequence_len bytes)) is).1 in
+        (cond-true (is_sequence kind bytes) (Sequence (sequence_numbers bytes)) (CodePoint (first_code_point bytes)) is, rw is (sequence_parts bytes positive))
+    by false is = absurd (let code_point : None ≡ Some (first_code_point bytes) = none ∙ ap symbol_code_point (cond-false (is_sequence kind bytes) (Sequence (sequence_numbers bytes)) (CodePoint (first_code_point bytes)) is) in cc)

@@ -9,8 +9,8 @@ use Rattle.std.proofs.lemmas.Bool.Decides.{nat_tests}
 use Rattle.std.proofs.lemmas.Str.{IsUtf8-nil, IsUtf8-from_ascii, IsUtf8-append, IsUtf8-encode}
 use Rattle.bstr.specs.Utf8.{decoded}
 use Rattle.bstr.proofs.lemmas.SoundLemmas.{SpellsChar-decoded}
-use Rattle.redo_html.specs.declared.form.Form.{Form}
-use Rattle.redo_html.specs.declared.form.Form.TheVariants.{Log, Name, Title}
+use Rattle.redo_html.specs.declared.text_kind.TextKind.{TextKind}
+use Rattle.redo_html.specs.declared.text_kind.TextKind.TheVariants.{Log, Monochrome, Title}
 use Rattle.redo_html.specs.declared.look.Look.{Look}
 use Rattle.redo_html.specs.declared.markup.Markup.{Markup}
 use Rattle.redo_html.specs.declared.markup.Markup.TheVariants.{Doctype, Html, EndHtml, Head, EndHead, Charset, Viewport, ColorScheme, Referrer, Policy, BodyGood, BodyBad, BodyOpen, EndBody, Header, EndHeader, Title1, EndTitle1, Sign, EndSign, Nav, EndNav, Main, EndMain, FailedSection, SummarySection, TreeSection, TimelineSection, EndSection, FailedHeading, SummaryHeading, TreeHeading, TimelineHeading, EndHeading, FailedLink, SummaryLink, TreeLink, TimelineLink, TargetLink, OutputLink, EndLink, Article, EndArticle, Title3, EndTitle3, Paragraph, MetaParagraph, QuietParagraph, CutParagraph, ProblemParagraph, EndParagraph, Unordered, Tree, EndUnordered, Ordered, OrderedFrom, EndOrdered, Item, NoteItem, TargetItem, EndItem, Details, OpenDetails, QuietDetails, MoreDetails, EndDetails, Summary, EndSummary, Pre, EndPre, Bdi, EndBdi, Code, EndCode, ExitBadge, OpenBadge, EndBadge, Warnings, EndWarnings, Small, EndSmall, Footer, EndFooter, DescriptionList, EndDescriptionList, Div, EndDiv, Term, EndTerm, Description, EndDescription, Columns, Table, EndTable, TableBody, EndTableBody, TableRow, EndTableRow, RowHeading, EndRowHeading, NumberCell, MeterCell, EndCell, TimelineScroll}
@@ -22,7 +22,7 @@ use Rattle.redo_html.specs.Chart.Node.{StartTag, EndTag, Words}
 use Rattle.redo_html.specs.Html.{Normal, is_digit}
 use Rattle.redo_html.specs.Laws.{is_byte, has_bytes, node_has_bytes}
 use Rattle.redo_html.specs.Parts.{Part, part_html}
-use Rattle.redo_html.specs.Parts.Part.{MarkupPart, LogPart, NamePart, NumberPart, TitlePart, StylePart, ChartPart, MeterPart}
+use Rattle.redo_html.specs.Parts.Part.{MarkupPart, LogPart, TextPart, NumberPart, TitlePart, StylePart, ChartPart, MeterPart}
 use Rattle.redo_html.specs.Passage.{Inline, escaped, hue_class, style_name, has_marks, mark_html, inline_html, has_element, style_start, style_end, is_same_style, mark_if, marks_between, after_code_point, with_wanted, start_look, inlines_from, html_from, passage_html}
 use Rattle.redo_html.specs.Passage.Inline.{UnprintableStart, UnprintableEnd, StyleStart, StyleEnd, Text}
 use Rattle.redo_html.specs.Shown.{is_between, is_unprintable, lower_hex, upper_hex, notation, number_text, unprintable_text, Run, with_code_point, runs_of, code_points_text, run_text, shown_text}
@@ -124,20 +124,20 @@ abbrev IsShowableSymbol : Symbol → Type 0
 IsShowableSymbol (CodePoint code_point) = IsShowable code_point
 IsShowableSymbol (Sequence numbers) = ⊤
 
-first_showable : (form : Form) (bytes : List ℕ) → slice_index bytes 0 < 256 → IsShowableSymbol (first_symbol form bytes)
+first_showable : (kind : TextKind) (bytes : List ℕ) → slice_index bytes 0 < 256 → IsShowableSymbol (first_symbol kind bytes)
 unfolding first_symbol first_code_point
-first_showable form bytes below = cond_both (is_sequence form bytes) _ _ IsShowableSymbol (λ is. tt) (λ is. by (decoded bytes).char refl)
+first_showable kind bytes below = cond_both (is_sequence kind bytes) _ _ IsShowableSymbol (λ is. tt) (λ is. by (decoded bytes).char refl)
   where
     by : (char : Option ℕ) → (decoded bytes).char ≡ char → IsShowable (code_point_of (decoded bytes).char (slice_index bytes 0))
     by None is visible = absurd (let e : true ≡ false = sym (unprintable_byte (slice_index bytes 0) below) ∙ ap (λ (o : Option ℕ). is_unprintable (code_point_of o (slice_index bytes 0))) (sym is) ∙ visible in cc)
     by (Some c) is visible = subst (λ (o : Option ℕ). IsScalar (code_point_of o (slice_index bytes 0))) (sym is) (SpellsChar-decoded bytes c is).scalar
 
-symbols_showable : (form : Form) (skipped : ℕ) (bytes : List ℕ) → list_all is_byte bytes ≡ true → AllByRecursion IsShowableSymbol (symbols_after form skipped bytes)
+symbols_showable : (kind : TextKind) (skipped : ℕ) (bytes : List ℕ) → list_all is_byte bytes ≡ true → AllByRecursion IsShowableSymbol (symbols_after kind skipped bytes)
 unfolding symbols_after
-symbols_showable form skipped [] are = tt
-symbols_showable form zero (byte ∷ bytes) are =
-    let parts = and_parts (is_byte byte) (list_all is_byte bytes) are in (first_showable form (byte ∷ bytes) (ltb-true byte 256 parts.0), symbols_showable form (symbol_len form (byte ∷ bytes) - 1) bytes parts.1)
-symbols_showable form (suc skipped) (byte ∷ bytes) are = symbols_showable form skipped bytes (and_parts (is_byte byte) (list_all is_byte bytes) are).1
+symbols_showable kind skipped [] are = tt
+symbols_showable kind zero (byte ∷ bytes) are =
+    let parts = and_parts (is_byte byte) (list_all is_byte bytes) are in (first_showable kind (byte ∷ bytes) (ltb-true byte 256 parts.0), symbols_showable kind (symbol_len kind (byte ∷ bytes) - 1) bytes parts.1)
+symbols_showable kind (suc skipped) (byte ∷ bytes) are = symbols_showable kind skipped bytes (and_parts (is_byte byte) (list_all is_byte bytes) are).1
 
 abbrev IsShowableRun : Run → Type 0
 IsShowableRun (CodePoints code_point count) = IsShowable code_point
@@ -162,11 +162,11 @@ run_utf8 (CodePoints code_point count) showable = code_points_utf8 code_point co
 run_utf8 (Restyle numbers) showable = IsUtf8-nil
 
 -- The runs of bytes are showable.
-text_showable : (form : Form) (bytes : List ℕ) → list_all is_byte bytes ≡ true → AllByRecursion IsShowableRun (runs_of (symbols form bytes))
-text_showable form bytes are = runs_showable (symbols form bytes) (symbols_showable form 0 bytes are)
+text_showable : (kind : TextKind) (bytes : List ℕ) → list_all is_byte bytes ≡ true → AllByRecursion IsShowableRun (runs_of (symbols kind bytes))
+text_showable kind bytes are = runs_showable (symbols kind bytes) (symbols_showable kind 0 bytes are)
 
-pub shown_utf8 : (form : Form) (bytes : List ℕ) → list_all is_byte bytes ≡ true → IsUtf8 (shown_text form bytes)
-shown_utf8 form bytes are = each_utf8 run_text IsShowableRun run_utf8 (runs_of (symbols form bytes)) (text_showable form bytes are)
+pub shown_utf8 : (kind : TextKind) (bytes : List ℕ) → list_all is_byte bytes ≡ true → IsUtf8 (shown_text kind bytes)
+shown_utf8 kind bytes are = each_utf8 run_text IsShowableRun run_utf8 (runs_of (symbols kind bytes)) (text_showable kind bytes are)
 
 -- ---- HTML
 
@@ -177,8 +177,8 @@ IsShowableInline (StyleStart style) = ⊤
 IsShowableInline (StyleEnd style) = ⊤
 IsShowableInline (Text code_point count) = IsShowable code_point
 
-mark_utf8 : (form : Form) (tag : List ℕ) → list_all is_low tag ≡ true → IsUtf8 (mark_html form tag)
-mark_utf8 form tag low = cond_both (has_marks form) _ _ IsUtf8 (λ has. ascii (60 ∷ (tag ++ 62 ∷ [])) (and_from true _ refl (all_append is_low tag (62 ∷ []) low refl))) (λ none. IsUtf8-nil)
+mark_utf8 : (kind : TextKind) (tag : List ℕ) → list_all is_low tag ≡ true → IsUtf8 (mark_html kind tag)
+mark_utf8 kind tag low = cond_both (has_marks kind) _ _ IsUtf8 (λ has. ascii (60 ∷ (tag ++ 62 ∷ [])) (and_from true _ refl (all_append is_low tag (62 ∷ []) low refl))) (λ none. IsUtf8-nil)
 
 style_low : (bold : Bool) (hue : Hue) → list_all is_low (style_name bold ++ hue_class hue) ≡ true
 style_low true Plain = refl
@@ -200,12 +200,12 @@ style_end_low : (bold : Bool) → list_all is_low (47 ∷ style_name bold) ≡ t
 style_end_low true = refl
 style_end_low false = refl
 
-inline_utf8 : (form : Form) (inline : Inline) → IsShowableInline inline → IsUtf8 (inline_html form inline)
-inline_utf8 form UnprintableStart showable = mark_utf8 form (codes "i") refl
-inline_utf8 form UnprintableEnd showable = mark_utf8 form (codes "/i") refl
-inline_utf8 form (StyleStart style) showable = mark_utf8 form (style_name style.bold ++ hue_class style.hue) (style_low style.bold style.hue)
-inline_utf8 form (StyleEnd style) showable = mark_utf8 form (47 ∷ style_name style.bold) (style_end_low style.bold)
-inline_utf8 form (Text code_point count) showable = escaped_utf8 code_point count showable
+inline_utf8 : (kind : TextKind) (inline : Inline) → IsShowableInline inline → IsUtf8 (inline_html kind inline)
+inline_utf8 kind UnprintableStart showable = mark_utf8 kind (codes "i") refl
+inline_utf8 kind UnprintableEnd showable = mark_utf8 kind (codes "/i") refl
+inline_utf8 kind (StyleStart style) showable = mark_utf8 kind (style_name style.bold ++ hue_class style.hue) (style_low style.bold style.hue)
+inline_utf8 kind (StyleEnd style) showable = mark_utf8 kind (47 ∷ style_name style.bold) (style_end_low style.bold)
+inline_utf8 kind (Text code_point count) showable = escaped_utf8 code_point count showable
 
 both_showable : (a b : List Inline) → AllByRecursion IsShowableInline a → AllByRecursion IsShowableInline b → AllByRecursion IsShowableInline (a ++ b)
 both_showable [] b first second = second
@@ -233,10 +233,10 @@ inlines_showable look (CodePoints code_point count ∷ runs) all =
     both_showable (marks_between look (is_unprintable code_point)) (Text code_point count ∷ inlines_from (after_code_point look (is_unprintable code_point)) runs) (between_showable look (is_unprintable code_point))
     (all.0, inlines_showable (after_code_point look (is_unprintable code_point)) runs all.1)
 
-pub passage_utf8 : (form : Form) (style : Style) (bytes : List ℕ) → list_all is_byte bytes ≡ true → IsUtf8 (passage_html form style bytes)
+pub passage_utf8 : (kind : TextKind) (style : Style) (bytes : List ℕ) → list_all is_byte bytes ≡ true → IsUtf8 (passage_html kind style bytes)
 unfolding html_from
-passage_utf8 form style bytes are =
-    each_utf8 (inline_html form) IsShowableInline (inline_utf8 form) (inlines_from (start_look style) (runs_of (symbols form bytes))) (inlines_showable (start_look style) (runs_of (symbols form bytes)) (text_showable form bytes are))
+passage_utf8 kind style bytes are =
+    each_utf8 (inline_html kind) IsShowableInline (inline_utf8 kind) (inlines_from (start_look style) (runs_of (symbols kind bytes))) (inlines_showable (start_look style) (runs_of (symbols kind bytes)) (text_showable kind bytes are))
 
 -- ---- tags
 
@@ -374,7 +374,7 @@ nodes_utf8 (node ∷ nodes) well are =
 part_utf8 : (part : Part) → has_bytes part ≡ true → IsUtf8 (part_html part)
 part_utf8 (MarkupPart markup) are = ascii (markup_html markup) (markup_low markup)
 part_utf8 (LogPart style text) are = passage_utf8 Log style text are
-part_utf8 (NamePart name) are = passage_utf8 Name plain_style name are
+part_utf8 (TextPart text) are = passage_utf8 Monochrome plain_style text are
 part_utf8 (NumberPart number) are = ascii (number_text number) (number_low number)
 part_utf8 (TitlePart title) are =
     IsUtf8-append (codes "<title>" ++ passage_html Title plain_style title) (codes "</title>") (IsUtf8-append (codes "<title>") (passage_html Title plain_style title) (ascii (codes "<title>") refl) (passage_utf8 Title plain_style title are)) (ascii (codes "</title>") refl)

@@ -6,7 +6,7 @@ use Rattle.std.proofs.lemmas.List.{append_assoc, append-nil}
 use Rattle.redo_device.specs.declared.feed.Broken.{Broken}
 use Rattle.redo_device.specs.Sink.{Output, append_output, Writes}
 use Rattle.redo_device.proofs.WritesLemmas.{at_first, in_middle, at_last, one_more, append_nothing}
-use Rattle.redo_html.specs.declared.form.Form.{Form}
+use Rattle.redo_html.specs.declared.text_kind.TextKind.{TextKind}
 use Rattle.redo_html.specs.declared.look.Look.{Look}
 use Rattle.redo_html.specs.declared.style.Style.{Style}
 use Rattle.redo_html.specs.Passage.{html_from, passage_html}
@@ -57,14 +57,14 @@ failed_part before middle after text part rest broken done failed so_far wrote =
     in_middle before text middle after so_far.prefix part rest broken done failed so_far.wrote wrote (append_assoc so_far.prefix part rest ∙ so_far.splits)
 
 -- A write of some of a passage failed.
-pub some_failed : (before after : Option Output) (form : Form) (look : Look) (bytes : List ℕ) (broken : Broken) (done : Result (Look × ℕ) Broken) → IsErr done → Writes before after (html_from form look bytes) (Err broken) → WroteSomeOrFailed before after form look bytes done
-some_failed before after form look bytes broken (Ok step) failed wrote = absurd (cc)
-some_failed before after form look bytes broken (Err other) failed wrote = wrote
+pub some_failed : (before after : Option Output) (kind : TextKind) (look : Look) (bytes : List ℕ) (broken : Broken) (done : Result (Look × ℕ) Broken) → IsErr done → Writes before after (html_from kind look bytes) (Err broken) → WroteSomeOrFailed before after kind look bytes done
+some_failed before after kind look bytes broken (Ok step) failed wrote = absurd (cc)
+some_failed before after kind look bytes broken (Err other) failed wrote = wrote
 
 -- A write of a passage failed.
-pub passage_failed : (before after : Option Output) (form : Form) (style : Style) (bytes : List ℕ) (broken : Broken) (done : Result Style Broken) → IsErr done → Writes before after (passage_html form style bytes) (Err broken) → WrotePassage before after form style bytes done
-passage_failed before after form style bytes broken (Ok last) failed wrote = absurd (cc)
-passage_failed before after form style bytes broken (Err other) failed wrote = wrote
+pub passage_failed : (before after : Option Output) (kind : TextKind) (style : Style) (bytes : List ℕ) (broken : Broken) (done : Result Style Broken) → IsErr done → Writes before after (passage_html kind style bytes) (Err broken) → WrotePassage before after kind style bytes done
+passage_failed before after kind style bytes broken (Ok last) failed wrote = absurd (cc)
+passage_failed before after kind style bytes broken (Err other) failed wrote = wrote
 
 -- The same writes, of an equal text.
 pub writes_as : (before after : Option Output) (text other : List ℕ) (done : Result (Unit {0}) Broken) → text ≡ other → Writes before after text done → Writes before after other done

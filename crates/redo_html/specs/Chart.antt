@@ -10,7 +10,7 @@ use Rattle.redo_html.specs.declared.chart.ChartItem.{ChartItem}
 use Rattle.redo_html.specs.declared.chart.ChartItem.TheVariants as item
 use Rattle.redo_html.specs.declared.chart.GroupKind.{GroupKind}
 use Rattle.redo_html.specs.declared.chart.GroupKind.TheVariants.{Axis, Parents, Recipes, Untimed}
-use Rattle.redo_html.specs.declared.form.Form.TheVariants.{Title}
+use Rattle.redo_html.specs.declared.text_kind.TextKind.TheVariants.{Title}
 use Rattle.redo_html.specs.Html.{Token}
 use Rattle.redo_html.specs.Html.Token.{Tag}
 use Rattle.redo_html.specs.Passage.{passage_html, passage_tokens}

@@ -2,7 +2,7 @@
 use Rattle.std.specs.Prelude.{ℕ, Bool, ◌==◌, not, List, [], ◌∷◌, fold}
 use Rattle.std.specs.List.{flat_map}
 use Rattle.redo_line.specs.Lines.{with_line_feed}
-use Rattle.redo_html.specs.declared.form.Form.TheVariants.{Log}
+use Rattle.redo_html.specs.declared.text_kind.TextKind.TheVariants.{Log}
 use Rattle.redo_html.specs.declared.style.Style.{Style}
 use Rattle.redo_html.specs.Parts.{Part, part_html}
 use Rattle.redo_html.specs.Parts.Part.{LogPart}

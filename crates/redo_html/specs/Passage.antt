@@ -1,8 +1,8 @@
 -- A passage of text as HTML: what it shows, with marks for unprintable code points and for styles. All elements that are begun in a passage end in it.
 use Rattle.std.specs.Prelude.{ℕ, Bool, true, false, ◌==◌, ◌||◌, ◌&&◌, not, List, [], ◌∷◌, ◌++◌, map, codes, if◌then◌else◌}
 use Rattle.std.specs.List.{flat_map}
-use Rattle.redo_html.specs.declared.form.Form.{Form}
-use Rattle.redo_html.specs.declared.form.Form.TheVariants.{Log, Name, Title}
+use Rattle.redo_html.specs.declared.text_kind.TextKind.{TextKind}
+use Rattle.redo_html.specs.declared.text_kind.TextKind.TheVariants.{Log, Monochrome, Title}
 use Rattle.redo_html.specs.declared.look.Look.{Look}
 use Rattle.redo_html.specs.declared.style.Hue.{Hue}
 use Rattle.redo_html.specs.declared.style.Hue.TheVariants.{Plain, Red, Green, Yellow, Blue, Magenta, Cyan}
@@ -52,31 +52,31 @@ mark_text (StyleEnd style) = 47 ∷ style_name style.bold
 mark_text (Text code_point count) = []
 
 -- In a `title` there are no elements.
-abbrev pub has_marks : Form → Bool
+abbrev pub has_marks : TextKind → Bool
 has_marks Log = true
-has_marks Name = true
+has_marks Monochrome = true
 has_marks Title = false
 
-abbrev pub mark_html : Form → List ℕ → List ℕ
-mark_html form tag = if has_marks form then 60 ∷ (tag ++ 62 ∷ []) else []
+abbrev pub mark_html : TextKind → List ℕ → List ℕ
+mark_html kind tag = if has_marks kind then 60 ∷ (tag ++ 62 ∷ []) else []
 
-abbrev pub mark_tokens : Form → List ℕ → List Token
-mark_tokens form tag = if has_marks form then Tag tag ∷ [] else []
+abbrev pub mark_tokens : TextKind → List ℕ → List Token
+mark_tokens kind tag = if has_marks kind then Tag tag ∷ [] else []
 
 -- A part of a passage, as it is written and as it is read.
-abbrev pub inline_html : Form → Inline → List ℕ
-inline_html form (Text code_point count) = escaped (code_points_text code_point count)
-inline_html form UnprintableStart = mark_html form (mark_text UnprintableStart)
-inline_html form UnprintableEnd = mark_html form (mark_text UnprintableEnd)
-inline_html form (StyleStart style) = mark_html form (mark_text (StyleStart style))
-inline_html form (StyleEnd style) = mark_html form (mark_text (StyleEnd style))
+abbrev pub inline_html : TextKind → Inline → List ℕ
+inline_html kind (Text code_point count) = escaped (code_points_text code_point count)
+inline_html kind UnprintableStart = mark_html kind (mark_text UnprintableStart)
+inline_html kind UnprintableEnd = mark_html kind (mark_text UnprintableEnd)
+inline_html kind (StyleStart style) = mark_html kind (mark_text (StyleStart style))
+inline_html kind (StyleEnd style) = mark_html kind (mark_text (StyleEnd style))
 
-abbrev pub inline_tokens : Form → Inline → List Token
-inline_tokens form (Text code_point count) = map Character (code_points_text code_point count)
-inline_tokens form UnprintableStart = mark_tokens form (mark_text UnprintableStart)
-inline_tokens form UnprintableEnd = mark_tokens form (mark_text UnprintableEnd)
-inline_tokens form (StyleStart style) = mark_tokens form (mark_text (StyleStart style))
-inline_tokens form (StyleEnd style) = mark_tokens form (mark_text (StyleEnd style))
+abbrev pub inline_tokens : TextKind → Inline → List Token
+inline_tokens kind (Text code_point count) = map Character (code_points_text code_point count)
+inline_tokens kind UnprintableStart = mark_tokens kind (mark_text UnprintableStart)
+inline_tokens kind UnprintableEnd = mark_tokens kind (mark_text UnprintableEnd)
+inline_tokens kind (StyleStart style) = mark_tokens kind (mark_text (StyleStart style))
+inline_tokens kind (StyleEnd style) = mark_tokens kind (mark_text (StyleEnd style))
 
 -- A style other than the page's own has an element.
 abbrev pub is_plain_hue : Hue → Bool
@@ -140,12 +140,12 @@ inlines_from look (CodePoints code_point count ∷ runs) = marks_between look (i
 inlines_from look (Restyle numbers ∷ runs) = inlines_from (with_wanted look (restyled look.wanted numbers)) runs
 
 -- The HTML of the rest of a passage.
-unfoldable pub html_from : Form → Look → List ℕ → List ℕ
-html_from form look bytes = flat_map (inline_html form) (inlines_from look (runs_of (symbols form bytes)))
+unfoldable pub html_from : TextKind → Look → List ℕ → List ℕ
+html_from kind look bytes = flat_map (inline_html kind) (inlines_from look (runs_of (symbols kind bytes)))
 
 -- A passage that begins with this style, as it is written and as it is read.
-abbrev pub passage_html : Form → Style → List ℕ → List ℕ
-passage_html form style bytes = html_from form (start_look style) bytes
+abbrev pub passage_html : TextKind → Style → List ℕ → List ℕ
+passage_html kind style bytes = html_from kind (start_look style) bytes
 
-abbrev pub passage_tokens : Form → Style → List ℕ → List Token
-passage_tokens form style bytes = flat_map (inline_tokens form) (inlines_from (start_look style) (runs_of (symbols form bytes)))
+abbrev pub passage_tokens : TextKind → Style → List ℕ → List Token
+passage_tokens kind style bytes = flat_map (inline_tokens kind) (inlines_from (start_look style) (runs_of (symbols kind bytes)))

@@ -2,7 +2,7 @@
 use Rattle.std.specs.Prelude.{ℕ, suc, ◌+◌, ◌-◌, ◌/◌, ◌%◌, Bool, true, false, ◌==◌, ◌||◌, ◌&&◌, not, nat_le, nat_lt, List, [], ◌∷◌, ◌++◌, codes, decimal, encode_utf8, if◌then◌else◌}
 use Rattle.std.specs.Fmt.{digit_glyph}
 use Rattle.std.specs.List.{flat_map, list_any, repeat}
-use Rattle.redo_html.specs.declared.form.Form.{Form}
+use Rattle.redo_html.specs.declared.text_kind.TextKind.{TextKind}
 use Rattle.redo_html.specs.Symbols.{Symbol, symbols}
 use Rattle.redo_html.specs.Symbols.Symbol.{CodePoint, Sequence}
 
@@ -84,5 +84,5 @@ run_text (CodePoints code_point count) = code_points_text code_point count
 run_text (Restyle numbers) = []
 
 -- What a reader sees of a text.
-abbrev pub shown_text : Form → List ℕ → List ℕ
-shown_text form bytes = flat_map run_text (runs_of (symbols form bytes))
+abbrev pub shown_text : TextKind → List ℕ → List ℕ
+shown_text kind bytes = flat_map run_text (runs_of (symbols kind bytes))

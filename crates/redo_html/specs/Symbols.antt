@@ -2,8 +2,8 @@
 use Rattle.std.specs.Prelude.{ℕ, zero, suc, ◌+◌, ◌-◌, ◌*◌, min, Bool, true, false, ◌==◌, ◌||◌, ◌&&◌, nat_le, nat_lt, List, [], ◌∷◌, take, drop, Option, None, Some, slice_index, if◌then◌else◌}
 use Rattle.std.specs.List.{prefix_len}
 use Rattle.bstr.specs.Utf8.{decoded}
-use Rattle.redo_html.specs.declared.form.Form.{Form}
-use Rattle.redo_html.specs.declared.form.Form.TheVariants.{Log, Name, Title}
+use Rattle.redo_html.specs.declared.text_kind.TextKind.{TextKind}
+use Rattle.redo_html.specs.declared.text_kind.TextKind.TheVariants.{Log, Monochrome, Title}
 
 -- A code point is a character of valid UTF-8, by its number. A byte that is no part of such a character is a code point of its own: its number is
 -- U+DC00 plus the byte, which is the number of no character. (Python's `surrogateescape` does the same.)
@@ -56,28 +56,28 @@ unfoldable pub sequence_numbers : List ℕ → List ℕ
 sequence_numbers bytes = if final_byte bytes == 109 then numbers_from 0 (take (parameter_count bytes) (drop 2 bytes)) else []
 
 -- Only the text of a log has colours. In a name, each ESC is a code point.
-abbrev pub has_colours : Form → Bool
+abbrev pub has_colours : TextKind → Bool
 has_colours Log = true
-has_colours Name = false
+has_colours Monochrome = false
 has_colours Title = false
 
 -- Whether a sequence is at the start of some bytes.
-unfoldable pub is_sequence : Form → List ℕ → Bool
-is_sequence form bytes = has_colours form && nat_lt 0 (sequence_len bytes)
+unfoldable pub is_sequence : TextKind → List ℕ → Bool
+is_sequence kind bytes = has_colours kind && nat_lt 0 (sequence_len bytes)
 
 -- The first symbol of some bytes, and the number of its bytes.
-unfoldable pub first_symbol : Form → List ℕ → Symbol
-first_symbol form bytes = if is_sequence form bytes then Sequence (sequence_numbers bytes) else CodePoint (first_code_point bytes)
+unfoldable pub first_symbol : TextKind → List ℕ → Symbol
+first_symbol kind bytes = if is_sequence kind bytes then Sequence (sequence_numbers bytes) else CodePoint (first_code_point bytes)
 
-unfoldable pub symbol_len : Form → List ℕ → ℕ
-symbol_len form bytes = if is_sequence form bytes then sequence_len bytes else code_point_len bytes
+unfoldable pub symbol_len : TextKind → List ℕ → ℕ
+symbol_len kind bytes = if is_sequence kind bytes then sequence_len bytes else code_point_len bytes
 
 -- The symbols of some bytes, without the first `skipped` bytes, which belong to the symbol before them.
-unfoldable pub symbols_after : Form → ℕ → List ℕ → List Symbol
-symbols_after form skipped [] = []
-symbols_after form zero (byte ∷ bytes) = first_symbol form (byte ∷ bytes) ∷ symbols_after form (symbol_len form (byte ∷ bytes) - 1) bytes
-symbols_after form (suc skipped) (byte ∷ bytes) = symbols_after form skipped bytes
+unfoldable pub symbols_after : TextKind → ℕ → List ℕ → List Symbol
+symbols_after kind skipped [] = []
+symbols_after kind zero (byte ∷ bytes) = first_symbol kind (byte ∷ bytes) ∷ symbols_after kind (symbol_len kind (byte ∷ bytes) - 1) bytes
+symbols_after kind (suc skipped) (byte ∷ bytes) = symbols_after kind skipped bytes
 
 -- The symbols of a text.
-abbrev pub symbols : Form → List ℕ → List Symbol
-symbols form bytes = symbols_after form 0 bytes
+abbrev pub symbols : TextKind → List ℕ → List Symbol
+symbols kind bytes = symbols_after kind 0 bytes

@@ -58,7 +58,7 @@
 #![tactic(auto)]
 
 mod chart;
-mod form;
+mod text_kind;
 mod laws;
 mod lines;
 mod look;
@@ -78,6 +78,6 @@ pub use laws::{
 };
 pub use lines::write_log_lines;
 pub use markup::{Markup, write_markup, write_number};
-pub use passage::{write_log_text, write_name, write_title_text};
+pub use passage::{write_log_text, write_text, write_title_text};
 pub use piece::{Piece, write_pieces};
 pub use style::{Hue, Style};

@@ -150,7 +150,7 @@ pub enum Markup {
     Pre,
     /// `</pre>`
     EndPre,
-    /// A name, whose code points don't change the direction of the text around it. `<bdi>`
+    /// A name, whose letters don't change the direction of the text around it. `<bdi>`
     Bdi,
     /// `</bdi>`
     EndBdi,

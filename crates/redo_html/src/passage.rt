@@ -2,7 +2,7 @@
 ghost use Rattle.std.specs.Prelude.{◌≡◌, ◌≤◌, ◌<◌, ◌↔◌, ◌∷◌, ◌++◌, ◌&&◌, not, [], true, false, IsTrue, Some, length, take, encode_utf8};
 ghost use Rattle.std.specs.List.{flat_map, list_all};
 ghost use Rattle.redo_device.specs.Sink.{Writes};
-ghost use Rattle.redo_html.specs.declared.form.Form.TheVariants as form;
+ghost use Rattle.redo_html.specs.declared.text_kind.TextKind.TheVariants as text_kind;
 ghost use Rattle.redo_html.specs.Passage.{escaped, has_element, is_same_style, mark_text, has_marks, inline_html, marks_between, passage_html, html_from};
 ghost use Rattle.redo_html.specs.Passage.Inline.{StyleStart, StyleEnd};
 ghost use Rattle.redo_html.specs.Laws.{is_plain};
@@ -12,7 +12,7 @@ ghost use Rattle.redo_html.specs.Symbols.{first_symbol, symbol_len};
 ghost use Rattle.redo_html.specs.Symbols.Symbol.{CodePoint};
 ghost use Rattle.redo_html.specs.Private.Writing.{WrotePassage, WroteSomeOrFailed, IsRepeated, IsVerbatim, optional_mark};
 
-use crate::form::Form;
+use crate::text_kind::TextKind;
 use crate::look::{Look, at_start, with_code_point, with_style};
 use crate::notation::write_unprintable;
 use crate::style::{Hue, Style, after_sequence, has_own_element, is_same};
@@ -21,19 +21,19 @@ use redo_device::{Broken, Sink, push_all};
 
 /// Writes text of a log that begins with this style. Its colours are shown, and end with the text.
 pub fn write_log_text<W: Sink>(style: Style, bytes: &[u8], out: &mut W) -> Result<(), Broken>
-    ensures { Writes (W.written out.old) (W.written out.new) (passage_html form.Log style bytes.now) result }
+    ensures { Writes (W.written out.old) (W.written out.new) (passage_html text_kind.Log style bytes.now) result }
 {
-    match write_passage(Form::Log, style, bytes, out) {
+    match write_passage(TextKind::Log, style, bytes, out) {
         Ok(_) => Ok(()),
         Err(broken) => Err(broken),
     }
 }
 
 /// Writes a name, or words of the program.
-pub fn write_name<W: Sink>(bytes: &[u8], out: &mut W) -> Result<(), Broken>
-    ensures { Writes (W.written out.old) (W.written out.new) (passage_html form.Name plain_style bytes.now) result }
+pub fn write_text<W: Sink>(bytes: &[u8], out: &mut W) -> Result<(), Broken>
+    ensures { Writes (W.written out.old) (W.written out.new) (passage_html text_kind.Monochrome plain_style bytes.now) result }
 {
-    match write_passage(Form::Name, Style::PLAIN, bytes, out) {
+    match write_passage(TextKind::Monochrome, Style::PLAIN, bytes, out) {
         Ok(_) => Ok(()),
         Err(broken) => Err(broken),
     }
@@ -41,9 +41,9 @@ pub fn write_name<W: Sink>(bytes: &[u8], out: &mut W) -> Result<(), Broken>
 
 /// Writes the text of a title, which has no elements.
 pub fn write_title_text<W: Sink>(bytes: &[u8], out: &mut W) -> Result<(), Broken>
-    ensures { Writes (W.written out.old) (W.written out.new) (passage_html form.Title plain_style bytes.now) result }
+    ensures { Writes (W.written out.old) (W.written out.new) (passage_html text_kind.Title plain_style bytes.now) result }
 {
-    match write_passage(Form::Title, Style::PLAIN, bytes, out) {
+    match write_passage(TextKind::Title, Style::PLAIN, bytes, out) {
         Ok(_) => Ok(()),
         Err(broken) => Err(broken),
     }
@@ -51,39 +51,39 @@ pub fn write_title_text<W: Sink>(bytes: &[u8], out: &mut W) -> Result<(), Broken
 
 /// Writes a passage that begins with this style. Returns the style at its end.
 pub fn write_passage<W: Sink>(
-    form: Form,
+    kind: TextKind,
     style: Style,
     bytes: &[u8],
     out: &mut W,
 ) -> Result<Style, Broken>
-    ensures { WrotePassage (W.written out.old) (W.written out.new) form style bytes.now result }
+    ensures { WrotePassage (W.written out.old) (W.written out.new) kind style bytes.now result }
 {
     let mut look = at_start(style);
     let mut done = 0;
     while done < bytes.len() {
-        let (next, len) = write_some(form, look, &bytes[done..], out)?;
+        let (next, len) = write_some(kind, look, &bytes[done..], out)?;
         look = next;
         done += len;
     }
-    write_end(form, look, out)?;
+    write_end(kind, look, out)?;
     Ok(look.wanted)
 }
 
 // Writes the start of the rest of a passage, which isn't empty. Returns the look after it, and the number of its bytes.
 fn write_some<W: Sink>(
-    form: Form,
+    kind: TextKind,
     look: Look,
     bytes: &[u8],
     out: &mut W,
 ) -> Result<(Look, usize), Broken>
     requires { 0 < length bytes.now }
-    ensures { WroteSomeOrFailed (W.written out.old) (W.written out.new) form look bytes.now result }
+    ensures { WroteSomeOrFailed (W.written out.old) (W.written out.new) kind look bytes.now result }
 {
     let verbatim = verbatim_len(bytes);
     if verbatim > 0 {
-        return write_verbatim(form, look, bytes, verbatim, out);
+        return write_verbatim(kind, look, bytes, verbatim, out);
     }
-    let (symbol, len) = symbol_at(form, bytes);
+    let (symbol, len) = symbol_at(kind, bytes);
     match symbol {
         None => Ok((
             with_style(look, after_sequence(look.wanted, bytes, len)),
@@ -91,9 +91,9 @@ fn write_some<W: Sink>(
         )),
         Some(code_point) => {
             if is_unprintable_code_point(code_point) {
-                write_unprintable_run(form, look, code_point, bytes, out)
+                write_unprintable_run(kind, look, code_point, bytes, out)
             } else {
-                write_visible(form, look, code_point, bytes, len, out)
+                write_visible(kind, look, code_point, bytes, len, out)
             }
         }
     }
@@ -101,7 +101,7 @@ fn write_some<W: Sink>(
 
 // Writes code points that are written as they are.
 fn write_verbatim<W: Sink>(
-    form: Form,
+    kind: TextKind,
     look: Look,
     bytes: &[u8],
     len: usize,
@@ -109,16 +109,16 @@ fn write_verbatim<W: Sink>(
 ) -> Result<(Look, usize), Broken>
     requires some { 0 < len }
     requires verbatim { IsVerbatim bytes.now len }
-    ensures { WroteSomeOrFailed (W.written out.old) (W.written out.new) form look bytes.now result }
+    ensures { WroteSomeOrFailed (W.written out.old) (W.written out.new) kind look bytes.now result }
 {
-    write_marks(form, look, false, out)?;
+    write_marks(kind, look, false, out)?;
     push_all(out, &bytes[..len])?;
     Ok((with_code_point(look, false), len))
 }
 
 // Writes a code point that is not unprintable.
 fn write_visible<W: Sink>(
-    form: Form,
+    kind: TextKind,
     look: Look,
     code_point: u32,
     bytes: &[u8],
@@ -126,45 +126,45 @@ fn write_visible<W: Sink>(
     out: &mut W,
 ) -> Result<(Look, usize), Broken>
     requires some { 0 < length bytes.now }
-    requires code_point { first_symbol form bytes.now ≡ CodePoint code_point }
+    requires code_point { first_symbol kind bytes.now ≡ CodePoint code_point }
     requires visible { is_unprintable code_point ≡ false }
-    requires len { len ≡ symbol_len form bytes.now }
-    ensures { WroteSomeOrFailed (W.written out.old) (W.written out.new) form look bytes.now result }
+    requires len { len ≡ symbol_len kind bytes.now }
+    ensures { WroteSomeOrFailed (W.written out.old) (W.written out.new) kind look bytes.now result }
 {
-    write_marks(form, look, false, out)?;
+    write_marks(kind, look, false, out)?;
     write_code_point(code_point, &bytes[..len], out)?;
     Ok((with_code_point(look, false), len))
 }
 
 // Writes the unprintable code point at the start, as often as it occurs in a row.
 fn write_unprintable_run<W: Sink>(
-    form: Form,
+    kind: TextKind,
     look: Look,
     code_point: u32,
     bytes: &[u8],
     out: &mut W,
 ) -> Result<(Look, usize), Broken>
     requires some { 0 < length bytes.now }
-    requires code_point { first_symbol form bytes.now ≡ CodePoint code_point }
+    requires code_point { first_symbol kind bytes.now ≡ CodePoint code_point }
     requires unprintable { is_unprintable code_point ≡ true }
-    ensures { WroteSomeOrFailed (W.written out.old) (W.written out.new) form look bytes.now result }
+    ensures { WroteSomeOrFailed (W.written out.old) (W.written out.new) kind look bytes.now result }
 {
-    let (count, len) = repeats(form, code_point, bytes);
-    write_marks(form, look, true, out)?;
+    let (count, len) = repeats(kind, code_point, bytes);
+    write_marks(kind, look, true, out)?;
     write_unprintable(code_point, count, out)?;
     Ok((with_code_point(look, true), len))
 }
 
 // Returns how often the code point at the start occurs in a row, and the number of bytes of all of them.
-fn repeats(form: Form, code_point: u32, bytes: &[u8]) -> (usize, usize)
+fn repeats(kind: TextKind, code_point: u32, bytes: &[u8]) -> (usize, usize)
     requires some { 0 < length bytes.now }
-    requires code_point { first_symbol form bytes.now ≡ CodePoint code_point }
-    ensures { IsRepeated form code_point bytes.now result.0 result.1 }
+    requires code_point { first_symbol kind bytes.now ≡ CodePoint code_point }
+    ensures { IsRepeated kind code_point bytes.now result.0 result.1 }
 {
     let mut count = 0;
     let mut len = 0;
     while len < bytes.len() {
-        let (symbol, more) = symbol_at(form, &bytes[len..]);
+        let (symbol, more) = symbol_at(kind, &bytes[len..]);
         if !is_code_point(symbol, code_point) {
             return (count, len);
         }
@@ -200,8 +200,8 @@ fn write_code_point<W: Sink>(code_point: u32, bytes: &[u8], out: &mut W) -> Resu
 }
 
 // Writes the marks before a code point.
-fn write_marks<W: Sink>(form: Form, look: Look, unprintable: bool, out: &mut W) -> Result<(), Broken>
-    ensures { Writes (W.written out.old) (W.written out.new) (flat_map (inline_html form) (marks_between look unprintable)) result }
+fn write_marks<W: Sink>(kind: TextKind, look: Look, unprintable: bool, out: &mut W) -> Result<(), Broken>
+    ensures { Writes (W.written out.old) (W.written out.new) (flat_map (inline_html kind) (marks_between look unprintable)) result }
 {
     let unprintable_ends = ends_unprintable(look, unprintable);
     let style_ends = ends_style(look);
@@ -209,10 +209,10 @@ fn write_marks<W: Sink>(form: Form, look: Look, unprintable: bool, out: &mut W) 
     let unprintable_starts = starts_unprintable(look, unprintable);
     let end_tag = style_end_tag(look.current);
     let start_tag = style_start_tag(look.wanted);
-    write_mark(form, unprintable_ends, b"</i>", out)?;
-    write_mark(form, style_ends, end_tag, out)?;
-    write_mark(form, style_starts, start_tag, out)?;
-    write_mark(form, unprintable_starts, b"<i>", out)
+    write_mark(kind, unprintable_ends, b"</i>", out)?;
+    write_mark(kind, style_ends, end_tag, out)?;
+    write_mark(kind, style_starts, start_tag, out)?;
+    write_mark(kind, unprintable_starts, b"<i>", out)
 }
 
 // Returns whether the mark for unprintable code points ends before a code point.
@@ -242,31 +242,31 @@ fn starts_style(look: Look) -> bool
 }
 
 // Writes the marks at the end of a passage.
-fn write_end<W: Sink>(form: Form, look: Look, out: &mut W) -> Result<(), Broken>
-    ensures { Writes (W.written out.old) (W.written out.new) (html_from form look []) result }
+fn write_end<W: Sink>(kind: TextKind, look: Look, out: &mut W) -> Result<(), Broken>
+    ensures { Writes (W.written out.old) (W.written out.new) (html_from kind look []) result }
 {
     let style_ends = has_own_element(look.current);
     let end_tag = style_end_tag(look.current);
-    write_mark(form, look.unprintable, b"</i>", out)?;
-    write_mark(form, style_ends, end_tag, out)
+    write_mark(kind, look.unprintable, b"</i>", out)?;
+    write_mark(kind, style_ends, end_tag, out)
 }
 
-fn write_mark<W: Sink>(form: Form, wanted: bool, tag: &[u8], out: &mut W) -> Result<(), Broken>
-    ensures { Writes (W.written out.old) (W.written out.new) (optional_mark form wanted tag.now) result }
+fn write_mark<W: Sink>(kind: TextKind, wanted: bool, tag: &[u8], out: &mut W) -> Result<(), Broken>
+    ensures { Writes (W.written out.old) (W.written out.new) (optional_mark kind wanted tag.now) result }
 {
-    if wanted && shows_marks(form) {
+    if wanted && shows_marks(kind) {
         push_all(out, tag)
     } else {
         Ok(())
     }
 }
 
-fn shows_marks(form: Form) -> bool
-    ensures { result ≡ has_marks form }
+fn shows_marks(kind: TextKind) -> bool
+    ensures { result ≡ has_marks kind }
 {
-    match form {
-        Form::Log | Form::Name => true,
-        Form::Title => false,
+    match kind {
+        TextKind::Log | TextKind::Monochrome => true,
+        TextKind::Title => false,
     }
 }
 

@@ -6,7 +6,7 @@ ghost use Rattle.redo_html.specs.Shown.{is_unprintable, is_control, is_between, 
 ghost use Rattle.redo_html.specs.Symbols.{first_code_point, code_point_len, is_parameter, sequence_len, has_colours, first_symbol, symbol_len};
 ghost use Rattle.redo_html.specs.Private.Writing.{IsVerbatim, unprintable_bit_if, symbol_code_point};
 
-use crate::form::Form;
+use crate::text_kind::TextKind;
 use bstr::decode_utf8;
 
 // Characters that can't be seen, by their first and last numbers, and bytes that are no part of a character. The ranges are in
@@ -135,12 +135,12 @@ fn is_plain_byte(byte: u8) -> bool
 }
 
 /// Returns the code point that is the first symbol of `bytes`, or `None` if that is a sequence; and the number of its bytes.
-pub fn symbol_at(form: Form, bytes: &[u8]) -> (Option<u32>, usize)
+pub fn symbol_at(kind: TextKind, bytes: &[u8]) -> (Option<u32>, usize)
     requires { 0 < length bytes.now }
-    ensures code_point { result.0 ≡ symbol_code_point (first_symbol form bytes.now) }
-    ensures len { result.1 ≡ symbol_len form bytes.now }
+    ensures code_point { result.0 ≡ symbol_code_point (first_symbol kind bytes.now) }
+    ensures len { result.1 ≡ symbol_len kind bytes.now }
 {
-    if !is_log(form) {
+    if !is_log(kind) {
         let (code_point, len) = code_point_at(bytes);
         return (Some(code_point), len);
     }
@@ -152,12 +152,12 @@ pub fn symbol_at(form: Form, bytes: &[u8]) -> (Option<u32>, usize)
     (Some(code_point), len)
 }
 
-fn is_log(form: Form) -> bool
-    ensures { result ≡ has_colours form }
+fn is_log(kind: TextKind) -> bool
+    ensures { result ≡ has_colours kind }
 {
-    match form {
-        Form::Log => true,
-        Form::Name | Form::Title => false,
+    match kind {
+        TextKind::Log => true,
+        TextKind::Monochrome | TextKind::Title => false,
     }
 }
 

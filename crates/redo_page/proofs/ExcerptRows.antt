@@ -8,7 +8,7 @@ use Rattle.redo_html.specs.declared.markup.Markup.{Markup}
 use Rattle.redo_html.specs.declared.markup.Markup.TheVariants as markup
 use Rattle.redo_html.specs.Passage.{html_from}
 use Rattle.redo_html.specs.Parts.{Part, part_html}
-use Rattle.redo_html.specs.Parts.Part.{MarkupPart, LogPart, NamePart, NumberPart}
+use Rattle.redo_html.specs.Parts.Part.{MarkupPart, LogPart, TextPart, NumberPart}
 use Rattle.redo_html.specs.Shown.{is_unprintable, number_text, unprintable_text, notation}
 use Rattle.redo_html.specs.Style.{plain_style}
 use Rattle.redo_html.specs.Symbols.{first_code_point, first_symbol, is_sequence, code_point_len, sequence_len, sequence_numbers, symbol_len, symbols_after}
@@ -51,7 +51,7 @@ cuts_are = (refl, (refl, (refl, (refl, (refl, (refl, (refl, (refl, (refl, (refl,
 -- The bytes that parts show.
 abbrev bytes_of : Part → List ℕ
 bytes_of (LogPart style bytes) = bytes
-bytes_of (NamePart bytes) = bytes
+bytes_of (TextPart bytes) = bytes
 bytes_of part = []
 
 abbrev bytes : List Part → List ℕ
@@ -116,7 +116,7 @@ abbrev tag : Markup → Part
 tag markup = MarkupPart markup
 
 abbrev words : List ℕ → Part
-words text = NamePart text
+words text = TextPart text
 
 -- A letter of two bytes, and a sequence of four.
 may_cut_are :

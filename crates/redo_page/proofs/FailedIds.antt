@@ -11,7 +11,7 @@ use Rattle.redo_html.specs.declared.markup.Markup.TheVariants as markup
 use Rattle.redo_html.specs.declared.style.Style.{Style}
 use Rattle.redo_html.specs.Lines.{line_parts, style_after}
 use Rattle.redo_html.specs.Parts.{Part}
-use Rattle.redo_html.specs.Parts.Part.{MarkupPart, LogPart, NamePart, NumberPart}
+use Rattle.redo_html.specs.Parts.Part.{MarkupPart, LogPart, TextPart, NumberPart}
 use Rattle.redo_html.specs.Style.{plain_style}
 use Rattle.redo_line.specs.Lines.{with_line_feed}
 use Rattle.redo_outline.specs.declared.node.Node.{Node}
@@ -84,7 +84,7 @@ articles_below nodes = all_take (λ number. nat_lt number (length nodes)) max_ar
 
 pub article_took_bare : (took : Option ℕ) → Bare (article_took took)
 article_took_bare None = refl
-article_took_bare (Some ms) = words_bare [] (NamePart MIDDLE_DOT.now ∷ []) (duration_words ms) refl refl
+article_took_bare (Some ms) = words_bare [] (TextPart MIDDLE_DOT.now ∷ []) (duration_words ms) refl refl
 
 pub path_bare : (logs : List Log) (nodes : List Node) (levels : ℕ) (place : Option ℕ) → Bare (path_parts logs nodes levels place)
 unfolding path_parts
@@ -205,12 +205,12 @@ module _ (count : ℕ) (listed : List ℕ) where
         refer_if (nat_lt 0 (length places)) (same_refer {others = rows} (more_same rows (unlisted_parts (length places)) (unlisted_bare (length places)))
         (rows_refer (λ number. nat_lt number count) (target_row logs nodes causes) (target_row_refers causes) (take max_rows places) (all_take (λ number. nat_lt number count) max_rows places below)))
       where
-        more_same : (rows unlisted : List Part) → Bare unlisted → references (MarkupPart markup.MoreDetails ∷ MarkupPart markup.Summary ∷ NumberPart (length places) ∷ NamePart heading ∷ MarkupPart markup.EndSummary ∷ MarkupPart list
+        more_same : (rows unlisted : List Part) → Bare unlisted → references (MarkupPart markup.MoreDetails ∷ MarkupPart markup.Summary ∷ NumberPart (length places) ∷ TextPart heading ∷ MarkupPart markup.EndSummary ∷ MarkupPart list
             ∷ (rows ++ (MarkupPart markup.EndOrdered ∷ (unlisted ++ MarkupPart markup.EndDetails ∷ [])))) ≡ references rows
         more_same rows unlisted unlisted_is =
             ap (λ t. t ++ references (rows ++ (MarkupPart markup.EndOrdered ∷ (unlisted ++ MarkupPart markup.EndDetails ∷ [])))) (sym (append-nil (reference (MarkupPart list))) ∙ bare) ∙ simp (flat_map-append, append-nil, unlisted_is)
 
-    section_same : (a b c d e : List Part) → references (MarkupPart markup.FailedSection ∷ MarkupPart markup.FailedHeading ∷ NamePart WHAT_FAILED.now ∷ MarkupPart markup.EndHeading ∷ (a ++ (b ++ (c ++ (d ++ (e ++ MarkupPart markup.EndSection ∷ []))))))
+    section_same : (a b c d e : List Part) → references (MarkupPart markup.FailedSection ∷ MarkupPart markup.FailedHeading ∷ TextPart WHAT_FAILED.now ∷ MarkupPart markup.EndHeading ∷ (a ++ (b ++ (c ++ (d ++ (e ++ MarkupPart markup.EndSection ∷ []))))))
         ≡ references (MarkupPart markup.FailedSection ∷ (a ++ (b ++ (c ++ (d ++ e)))))
     section_same a b c d e = simp (flat_map-append, append-nil)
 

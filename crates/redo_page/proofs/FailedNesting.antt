@@ -8,7 +8,7 @@ use Rattle.redo_html.specs.declared.markup.Markup.TheVariants as markup
 use Rattle.redo_html.specs.declared.style.Style.{Style}
 use Rattle.redo_html.specs.Lines.{line_parts, style_after}
 use Rattle.redo_html.specs.Parts.{Part}
-use Rattle.redo_html.specs.Parts.Part.{MarkupPart, NamePart, NumberPart}
+use Rattle.redo_html.specs.Parts.Part.{MarkupPart, TextPart, NumberPart}
 use Rattle.redo_html.specs.Style.{plain_style}
 use Rattle.redo_line.specs.Lines.{with_line_feed}
 use Rattle.redo_outline.specs.declared.node.Node.{Node}
@@ -85,7 +85,7 @@ module _ (logs : List Log) where
 
 article_took_nests : (took : Option ℕ) → Nest (article_took took)
 article_took_nests None = record { leads = λ around tags. refl }
-article_took_nests (Some ms) = words_nest {inside = []} [] (NamePart MIDDLE_DOT.now ∷ []) (duration_words ms) (record { leads = λ around tags. refl }) (record { leads = λ around tags. refl })
+article_took_nests (Some ms) = words_nest {inside = []} [] (TextPart MIDDLE_DOT.now ∷ []) (duration_words ms) (record { leads = λ around tags. refl }) (record { leads = λ around tags. refl })
 
 module _ (logs : List Log) (nodes : List Node) where
   path_nests : (levels : ℕ) (place : Option ℕ) → Nest (path_parts logs nodes levels place)
@@ -121,7 +121,7 @@ module _ (logs : List Log) (nodes : List Node) where
   more_nest {list} causes list_leads heading places =
       nest_if (nat_lt 0 (length places)) (listed (flat_map (target_row logs nodes causes) (take max_rows places)) (unlisted_parts (length places)) (nest_each (target_row logs nodes causes) (target_row_nests causes) (take max_rows places)) (unlisted_nests (length places)))
     where
-      listed : (rows unlisted : List Part) → Nest rows → Nest unlisted → Nest (MarkupPart markup.MoreDetails ∷ MarkupPart markup.Summary ∷ NumberPart (length places) ∷ NamePart heading ∷ MarkupPart markup.EndSummary ∷ MarkupPart list
+      listed : (rows unlisted : List Part) → Nest rows → Nest unlisted → Nest (MarkupPart markup.MoreDetails ∷ MarkupPart markup.Summary ∷ NumberPart (length places) ∷ TextPart heading ∷ MarkupPart markup.EndSummary ∷ MarkupPart list
           ∷ (rows ++ (MarkupPart markup.EndOrdered ∷ (unlisted ++ MarkupPart markup.EndDetails ∷ []))))
       listed rows unlisted rows_nest unlisted_nest = record { leads = λ around tags. simp (joined, list_leads.leads, rows_nest.leads, unlisted_nest.leads) }
 

@@ -12,7 +12,7 @@ use Rattle.redo_logs.specs.Logs.{Log}
 use Rattle.redo_html.specs.declared.markup.Markup.TheVariants as markup
 use Rattle.redo_html.specs.Passage.{html_from}
 use Rattle.redo_html.specs.Parts.{Part, part_html}
-use Rattle.redo_html.specs.Parts.Part.{MarkupPart, NamePart, NumberPart}
+use Rattle.redo_html.specs.Parts.Part.{MarkupPart, TextPart, NumberPart}
 use Rattle.redo_html.specs.Shown.{is_unprintable, number_text, unprintable_text, notation}
 use Rattle.redo_html.specs.Symbols.{first_code_point, first_symbol, is_sequence, code_point_len, sequence_len, sequence_numbers, symbol_len, symbols_after}
 use Rattle.redo_outline.specs.declared.node.Node.{Node}
@@ -293,7 +293,7 @@ no_failure_below_it = refl
 took_are :
     (article_took None ≡ [])
     × (article_took (Some 1234)
-    ≡ NumberPart 1 ∷ NamePart (codes ".") ∷ NumberPart 2 ∷ NumberPart 3 ∷ NamePart (codes " s") ∷ NamePart (32 ∷ 0xC2 ∷ 0xB7 ∷ 32 ∷ []) ∷ [])
+    ≡ NumberPart 1 ∷ TextPart (codes ".") ∷ NumberPart 2 ∷ NumberPart 3 ∷ TextPart (codes " s") ∷ TextPart (32 ∷ 0xC2 ∷ 0xB7 ∷ 32 ∷ []) ∷ [])
 unfolding duration_words
 took_are = (refl, refl)
 

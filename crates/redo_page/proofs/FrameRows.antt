@@ -8,7 +8,7 @@ use Rattle.redo_html.specs.Shown.{number_text}
 use Rattle.redo_html.specs.declared.markup.Markup.{Markup}
 use Rattle.redo_html.specs.declared.markup.Markup.TheVariants as markup
 use Rattle.redo_html.specs.Parts.{Part}
-use Rattle.redo_html.specs.Parts.Part.{MarkupPart, NamePart, NumberPart, TitlePart, StylePart}
+use Rattle.redo_html.specs.Parts.Part.{MarkupPart, TextPart, NumberPart, TitlePart, StylePart}
 use Rattle.redo_logs.specs.declared.log_state.LogState.TheVariants.{Ended}
 use Rattle.redo_logs.specs.Logs.{Log}
 use Rattle.redo_options.specs.declared.options.Options.{Options}
@@ -25,7 +25,7 @@ abbrev tag : Markup → Part
 tag markup = MarkupPart markup
 
 abbrev words : List ℕ → Part
-words text = NamePart text
+words text = TextPart text
 
 abbrev number : ℕ → Part
 number value = NumberPart value

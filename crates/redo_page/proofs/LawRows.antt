@@ -11,7 +11,7 @@ use Rattle.redo_html.specs.declared.markup.Markup.TheVariants as markup
 use Rattle.redo_html.specs.Chart.{Drawing, Shape}
 use Rattle.redo_html.specs.Chart.Shape.{BarShape}
 use Rattle.redo_html.specs.Parts.{Part}
-use Rattle.redo_html.specs.Parts.Part.{MarkupPart, LogPart, NamePart, NumberPart, TitlePart, StylePart, ChartPart, MeterPart}
+use Rattle.redo_html.specs.Parts.Part.{MarkupPart, LogPart, TextPart, NumberPart, TitlePart, StylePart, ChartPart, MeterPart}
 use Rattle.redo_html.specs.Style.{plain_style}
 use Rattle.redo_outline.specs.declared.node.Node.{Node}
 use Rattle.redo_outline.specs.Contents.{Contents}
@@ -32,7 +32,7 @@ drawing = record { height = 9; lanes = 1; layers = record { kind = Recipes; shap
 abbrev parts : List Part
 parts =
     MarkupPart (markup.TargetItem 3) ∷ MarkupPart (markup.Details 4) ∷ LogPart plain_style (codes "a\n") ∷ MarkupPart (markup.OpenDetails 5) ∷ MarkupPart (markup.TargetLink 6)
-    ∷ NamePart (codes "b") ∷ MarkupPart (markup.OutputLink 7) ∷ NumberPart 9 ∷ MarkupPart (markup.Article 8) ∷ TitlePart (codes "c") ∷ StylePart ∷ LogPart plain_style (codes "d\n")
+    ∷ TextPart (codes "b") ∷ MarkupPart (markup.OutputLink 7) ∷ NumberPart 9 ∷ MarkupPart (markup.Article 8) ∷ TitlePart (codes "c") ∷ StylePart ∷ LogPart plain_style (codes "d\n")
     ∷ ChartPart drawing ∷ MeterPart 12 ∷ []
 
 target_ids_are : target_ids parts ≡ 3 ∷ 4 ∷ 5 ∷ []

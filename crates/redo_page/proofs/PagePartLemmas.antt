@@ -7,7 +7,7 @@ use Rattle.std.proofs.lemmas.List.{append_assoc, append-nil}
 use Rattle.redo_logs.specs.Logs.{Log}
 use Rattle.redo_html.specs.declared.markup.Markup.TheVariants as markup
 use Rattle.redo_html.specs.Parts.{Part}
-use Rattle.redo_html.specs.Parts.Part.{MarkupPart, NamePart}
+use Rattle.redo_html.specs.Parts.Part.{MarkupPart, TextPart}
 use Rattle.redo_outline.specs.declared.node.Node.{Node}
 use Rattle.redo_page.specs.declared.labels.TheConstants.{COUNT_NOT_CLOSED, FAILED_WITH_THESE, MORE_FAILED, WHAT_FAILED}
 use Rattle.redo_page.specs.declared.frame.Verdict.{Verdict}
@@ -49,7 +49,7 @@ part_among f (other ∷ numbers) number among = by (part_among f numbers number)
 section_has_article : (logs : List Log) (nodes : List Node) (shown others above unclosed : List ℕ) (place : ℕ) → is_among shown place ≡ true → IsPartOf (article_parts logs nodes place) (section_parts logs nodes shown others above unclosed)
 unfolding section_parts
 section_has_article logs nodes shown others above unclosed place among =
-    part_later (MarkupPart markup.FailedSection ∷ MarkupPart markup.FailedHeading ∷ NamePart WHAT_FAILED.now ∷ MarkupPart markup.EndHeading ∷ [])
+    part_later (MarkupPart markup.FailedSection ∷ MarkupPart markup.FailedHeading ∷ TextPart WHAT_FAILED.now ∷ MarkupPart markup.EndHeading ∷ [])
     (part_later (list_parts logs nodes shown)
     (part_earlier (more_parts logs nodes (markup.OrderedFrom (suc max_articles)) true MORE_FAILED.now others
     ++ (more_parts logs nodes markup.Ordered false FAILED_WITH_THESE.now above

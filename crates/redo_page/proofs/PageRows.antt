@@ -23,7 +23,7 @@ use Rattle.redo_html.specs.Symbols.{first_code_point, first_symbol, is_sequence,
 use Rattle.redo_html.specs.declared.markup.Markup.{Markup}
 use Rattle.redo_html.specs.declared.markup.Markup.TheVariants as markup
 use Rattle.redo_html.specs.Parts.{Part}
-use Rattle.redo_html.specs.Parts.Part.{MarkupPart, LogPart, NamePart, NumberPart, TitlePart, StylePart, ChartPart}
+use Rattle.redo_html.specs.Parts.Part.{MarkupPart, LogPart, TextPart, NumberPart, TitlePart, StylePart, ChartPart}
 use Rattle.redo_page.specs.Excerpt.{in_tree_parts}
 use Rattle.redo_page.specs.Failed.{article_of, article_parts, article_row, cause_of_node, cause_parts, failed_parts, list_parts, more_parts, nothing_parts, output_parts, path_parts, row_parts, section_parts, whole_parts}
 use Rattle.redo_page.specs.Frame.{footer_parts, is_safe}
@@ -41,7 +41,7 @@ abbrev tag : Markup → Part
 tag markup = MarkupPart markup
 
 abbrev words : List ℕ → Part
-words text = NamePart text
+words text = TextPart text
 
 abbrev name : List ℕ → List Part → List Part
 name text rest = tag markup.Bdi ∷ words text ∷ tag markup.EndBdi ∷ rest
@@ -325,7 +325,7 @@ title_of (TitlePart title) = title ∷ []
 title_of part = []
 
 abbrev words_of : Part → List (List ℕ)
-words_of (NamePart text) = text ∷ []
+words_of (TextPart text) = text ∷ []
 words_of part = []
 
 title_is : flat_map title_of (page_parts (request (codes "t") false false) made (codes "a" ∷ [])) ≡ (0xE2 ∷ 0x9C ∷ 0x93 ∷ (codes " t " ++ 0xC2 ∷ 0xB7 ∷ codes " 2 targets made, none failed")) ∷ []

@@ -9,7 +9,7 @@ use Rattle.redo_logs.specs.Logs.{Log}
 use Rattle.redo_html.specs.declared.markup.Markup.TheVariants as markup
 use Rattle.redo_html.specs.declared.markup.Markup.TheVariants.{SummarySection}
 use Rattle.redo_html.specs.Parts.{Part}
-use Rattle.redo_html.specs.Parts.Part.{MarkupPart, NamePart, NumberPart}
+use Rattle.redo_html.specs.Parts.Part.{MarkupPart, TextPart, NumberPart}
 use Rattle.redo_outline.specs.declared.node.Node.{Node}
 use Rattle.redo_outline.specs.Facts.{target_at}
 use Rattle.redo_page.specs.declared.labels.TheConstants.{AT_MOST, AT_ONCE, FAILED, FEW_TIMES_OF, LOGS, LONGEST, MOST_WARNINGS, NO_TIMES, OF, SUM_OF_TIMES, TARGETS, TIMES_UNKNOWN, TOOK, WARNED_LINES}
@@ -52,7 +52,7 @@ tiles_bare facts targets first above =
     (bare_then (took_tile facts) (timed_tiles facts) (bare_if (is_some facts.window) (tile TOOK.now (words_parts (duration_words facts.took))) (tile_bare TOOK.now (words_parts (duration_words facts.took)) (plain_bare (duration_words facts.took))))
     (bare_if (is_timed facts) (sum ++ at_once)
     (bare_then sum at_once (tile_bare SUM_OF_TIMES.now (words_parts (duration_words facts.sum)) (plain_bare (duration_words facts.sum)))
-    (tile_bare AT_ONCE.now (at_once_parts facts) (words_bare [] (NamePart AT_MOST.now ∷ NumberPart facts.most ∷ []) (tenths_words facts.sum facts.took) refl refl))))))))
+    (tile_bare AT_ONCE.now (at_once_parts facts) (words_bare [] (TextPart AT_MOST.now ∷ NumberPart facts.most ∷ []) (tenths_words facts.sum facts.took) refl refl))))))))
 
 measure_bare : (measure : Measure) (value : ℕ) → Bare (measure_parts measure value)
 measure_bare Milliseconds value = plain_bare (duration_words value)
@@ -61,9 +61,9 @@ measure_bare Count value = refl
 why_bare : (facts : Facts) → Bare (why_parts facts)
 why_bare facts = bare_if (not (is_timed facts)) _ (by (known_count facts == 0))
   where
-    by : (none : Bool) → Bare (MarkupPart markup.QuietParagraph ∷ ((if none then NamePart NO_TIMES.now ∷ []
-        else NamePart FEW_TIMES_OF.now ∷ NumberPart (length facts.marks) ∷ NamePart OF.now ∷ NumberPart (known_count facts)
-        ∷ NamePart TIMES_UNKNOWN.now ∷ []) ++ MarkupPart markup.EndParagraph ∷ []))
+    by : (none : Bool) → Bare (MarkupPart markup.QuietParagraph ∷ ((if none then TextPart NO_TIMES.now ∷ []
+        else TextPart FEW_TIMES_OF.now ∷ NumberPart (length facts.marks) ∷ TextPart OF.now ∷ NumberPart (known_count facts)
+        ∷ TextPart TIMES_UNKNOWN.now ∷ []) ++ MarkupPart markup.EndParagraph ∷ []))
     by true = refl
     by false = refl
 

@@ -4,7 +4,7 @@ use Rattle.std.specs.Prelude.{◌==◌, ◌&&◌, true, false, codes, is_some, l
 use Rattle.redo_logs.specs.Logs.{Log}
 use Rattle.redo_html.specs.declared.markup.Markup.TheVariants as markup
 use Rattle.redo_html.specs.Parts.{Part}
-use Rattle.redo_html.specs.Parts.Part.{MarkupPart, NamePart, NumberPart}
+use Rattle.redo_html.specs.Parts.Part.{MarkupPart, TextPart, NumberPart}
 use Rattle.redo_outline.specs.declared.node.Node.{Node}
 use Rattle.redo_outline.specs.Facts.{target_at}
 use Rattle.redo_page.specs.declared.labels.TheConstants.{AT_ONCE, FAILED, FEW_TIMES_OF, LOGS, LONGEST, MOST_WARNINGS, NO_TIMES, OF, SUMMARY, SUM_OF_TIMES, TARGETS, TIMES_UNKNOWN, TOOK, WARNED_LINES}
@@ -57,9 +57,9 @@ why_nests facts =
     (then_lead {middle = codes "p" ∷ []} {parts = MarkupPart markup.QuietParagraph ∷ []} (record { leads = λ around tags. refl })
     (then_lead (lead_in (codes "p" ∷ []) (unknown_nests (known_count facts == 0))) (record { leads = λ around tags. refl })))
   where
-    unknown_nests : (none : Bool) → Nest (if none then NamePart NO_TIMES.now ∷ []
-        else NamePart FEW_TIMES_OF.now ∷ NumberPart (length facts.marks) ∷ NamePart OF.now ∷ NumberPart (known_count facts)
-        ∷ NamePart TIMES_UNKNOWN.now ∷ [])
+    unknown_nests : (none : Bool) → Nest (if none then TextPart NO_TIMES.now ∷ []
+        else TextPart FEW_TIMES_OF.now ∷ NumberPart (length facts.marks) ∷ TextPart OF.now ∷ NumberPart (known_count facts)
+        ∷ TextPart TIMES_UNKNOWN.now ∷ [])
     unknown_nests true = record { leads = λ around tags. refl }
     unknown_nests false = record { leads = λ around tags. refl }
 
@@ -89,7 +89,7 @@ module _ (logs : List Log) (nodes : List Node) where
   pub summary_nests : (facts : Facts) → Nest (summary_parts logs nodes facts)
   unfolding summary_parts
   summary_nests facts =
-      then_lead {middle = codes "dl" ∷ codes "section" ∷ []} {parts = MarkupPart markup.SummarySection ∷ MarkupPart markup.SummaryHeading ∷ NamePart SUMMARY.now ∷ MarkupPart markup.EndHeading ∷ MarkupPart markup.DescriptionList ∷ []} (record { leads = λ around tags. refl })
+      then_lead {middle = codes "dl" ∷ codes "section" ∷ []} {parts = MarkupPart markup.SummarySection ∷ MarkupPart markup.SummaryHeading ∷ TextPart SUMMARY.now ∷ MarkupPart markup.EndHeading ∷ MarkupPart markup.DescriptionList ∷ []} (record { leads = λ around tags. refl })
       (then_lead (lead_in (codes "dl" ∷ codes "section" ∷ []) (tiles_nest facts (length nodes) (length (first_failures nodes)) (length (places_where failed_above 0 nodes))))
       (then_lead {middle = codes "section" ∷ []} {parts = MarkupPart markup.EndDescriptionList ∷ []} (record { leads = λ around tags. refl })
       (then_lead (lead_in (codes "section" ∷ []) (tables_nest (shown_longest facts) facts.warned))

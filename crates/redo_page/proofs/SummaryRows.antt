@@ -5,7 +5,7 @@ use Rattle.std.specs.Prelude.{codes, take}
 use Rattle.redo_html.specs.declared.markup.Markup.{Markup}
 use Rattle.redo_html.specs.declared.markup.Markup.TheVariants as markup
 use Rattle.redo_html.specs.Parts.{Part}
-use Rattle.redo_html.specs.Parts.Part.{MarkupPart, MeterPart, NamePart, NumberPart}
+use Rattle.redo_html.specs.Parts.Part.{MarkupPart, MeterPart, TextPart, NumberPart}
 use Rattle.redo_logs.specs.declared.log_state.LogState.TheVariants.{Ended}
 use Rattle.redo_logs.specs.Logs.{Log}
 use Rattle.redo_outline.specs.declared.node.Node.{Node}
@@ -24,7 +24,7 @@ abbrev tag : Markup → Part
 tag markup = MarkupPart markup
 
 abbrev words : List ℕ → Part
-words text = NamePart text
+words text = TextPart text
 
 abbrev number : ℕ → Part
 number value = NumberPart value
@@ -154,7 +154,7 @@ tiles_are = (refl, refl)
 
 -- The words of some parts.
 abbrev words_of : Part → List (List ℕ)
-words_of (NamePart text) = text ∷ []
+words_of (TextPart text) = text ∷ []
 words_of part = []
 
 tile_words_are :

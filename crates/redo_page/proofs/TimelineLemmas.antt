@@ -12,7 +12,7 @@ use Rattle.redo_html.specs.Chart.{drawing_links}
 use Rattle.redo_html.specs.declared.markup.Markup.TheVariants as markup
 use Rattle.redo_html.specs.declared.markup.Markup.TheVariants.{TimelineSection}
 use Rattle.redo_html.specs.Parts.{Part}
-use Rattle.redo_html.specs.Parts.Part.{ChartPart, MarkupPart, NamePart}
+use Rattle.redo_html.specs.Parts.Part.{ChartPart, MarkupPart, TextPart}
 use Rattle.redo_logs.specs.Logs.{Log}
 use Rattle.redo_outline.specs.declared.node.Node.{Node}
 use Rattle.redo_page.specs.declared.labels.TheConstants.{TIMELINE}
@@ -33,7 +33,7 @@ marks_nest marks known = nest_if (not (marks == 0)) (record { leads = λ around 
 
 start_leads : (facts : Facts) → Leads [] (timeline_start facts) (codes "div" ∷ codes "section" ∷ [])
 start_leads facts =
-    then_lead {middle = codes "section" ∷ []} {parts = MarkupPart markup.TimelineSection ∷ MarkupPart markup.TimelineHeading ∷ NamePart TIMELINE.now ∷ MarkupPart markup.EndHeading ∷ []} (record { leads = λ around tags. refl })
+    then_lead {middle = codes "section" ∷ []} {parts = MarkupPart markup.TimelineSection ∷ MarkupPart markup.TimelineHeading ∷ TextPart TIMELINE.now ∷ MarkupPart markup.EndHeading ∷ []} (record { leads = λ around tags. refl })
     (then_lead {others = MarkupPart markup.TimelineScroll ∷ []} (lead_in (codes "section" ∷ []) (marks_nest (length facts.marks) (known_count facts))) (record { leads = λ around tags. refl }))
 
 pub timeline_nests : (logs : List Log) (nodes : List Node) (facts : Facts) → Nest (timeline_parts logs nodes facts)

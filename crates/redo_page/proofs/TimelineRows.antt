@@ -8,7 +8,7 @@ use Rattle.redo_html.specs.declared.markup.Markup.TheVariants as markup
 use Rattle.redo_html.specs.Chart.{Drawing, Shape}
 use Rattle.redo_html.specs.Chart.Shape.{BarShape}
 use Rattle.redo_html.specs.Parts.{Part}
-use Rattle.redo_html.specs.Parts.Part.{ChartPart, MarkupPart, NamePart, NumberPart}
+use Rattle.redo_html.specs.Parts.Part.{ChartPart, MarkupPart, TextPart, NumberPart}
 use Rattle.redo_chart.specs.Laws.{shapes_of}
 use Rattle.redo_logs.specs.declared.log_state.LogState.TheVariants.{Ended}
 use Rattle.redo_logs.specs.Logs.{Log}
@@ -25,7 +25,7 @@ abbrev tag : Markup → Part
 tag markup = MarkupPart markup
 
 abbrev words : List ℕ → Part
-words text = NamePart text
+words text = TextPart text
 
 abbrev number : ℕ → Part
 number value = NumberPart value

@@ -15,7 +15,7 @@ use Rattle.redo_view.specs.Event.{Event}
 use Rattle.redo_view.specs.Event.Event.{Requested, Mentioned, EntryShown, LogEnds}
 use Rattle.redo_html.specs.declared.markup.Markup.TheVariants as markup
 use Rattle.redo_html.specs.Parts.{Part}
-use Rattle.redo_html.specs.Parts.Part.{MarkupPart, NamePart}
+use Rattle.redo_html.specs.Parts.Part.{MarkupPart, TextPart}
 use Rattle.redo_outline.specs.declared.node.Node.{Node}
 use Rattle.redo_outline.specs.Contents.{Contents}
 use Rattle.redo_outline.specs.Contents.Contents.{Nothing, Shown, Opened}
@@ -72,7 +72,7 @@ group_end_bare left = bare_if (left == 1) nested_end refl
 pub note_bare : (kind text : List ℕ) → Bare (note_parts kind text)
 note_bare kind text = by (bytes_eq kind (codes "check"))
   where
-    by : (check : Bool) → Bare (if check then note_parts (codes "check") text else MarkupPart markup.NoteItem ∷ NamePart (note_prefix kind) ∷ NamePart text ∷ MarkupPart markup.EndItem ∷ [])
+    by : (check : Bool) → Bare (if check then note_parts (codes "check") text else MarkupPart markup.NoteItem ∷ TextPart (note_prefix kind) ∷ TextPart text ∷ MarkupPart markup.EndItem ∷ [])
     by true = refl
     by false = refl
 
@@ -140,7 +140,7 @@ module _ (build : Build) where
   moved_refers : (place : ℕ) → InTree (moved_parts build place) []
   moved_refers place = by (has_article build place) (is_short (node_at build.nodes place)) refl
     where
-      by : (has short : Bool) → has_article build place ≡ has → InTree (parts_if (has && short) (MarkupPart markup.NoteItem ∷ MarkupPart (markup.OutputLink place) ∷ NamePart SHOWN_ABOVE.now ∷ MarkupPart markup.EndLink ∷ MarkupPart markup.EndItem ∷ [])) []
+      by : (has short : Bool) → has_article build place ≡ has → InTree (parts_if (has && short) (MarkupPart markup.NoteItem ∷ MarkupPart (markup.OutputLink place) ∷ TextPart SHOWN_ABOVE.now ∷ MarkupPart markup.EndLink ∷ MarkupPart markup.EndItem ∷ [])) []
       by true true is = same_refer {others = MarkupPart (markup.OutputLink place) ∷ []} refl (article_link_refers place is)
       by true false is = bare_refers [] refl
       by false short is = bare_refers [] refl

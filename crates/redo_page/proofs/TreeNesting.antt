@@ -13,7 +13,7 @@ use Rattle.redo_view.specs.Event.Event.{Requested, Mentioned, EntryShown, LogEnd
 use Rattle.redo_html.specs.declared.markup.Markup.TheVariants as markup
 use Rattle.redo_html.specs.declared.markup.Markup.TheVariants.{EndItem, Pre, EndPre}
 use Rattle.redo_html.specs.Parts.{Part}
-use Rattle.redo_html.specs.Parts.Part.{MarkupPart, NamePart}
+use Rattle.redo_html.specs.Parts.Part.{MarkupPart, TextPart}
 use Rattle.redo_outline.specs.declared.node.Node.{Node}
 use Rattle.redo_outline.specs.Contents.{Contents}
 use Rattle.redo_outline.specs.Contents.Contents.{Nothing, Shown, Opened}
@@ -112,7 +112,7 @@ request_nests name = record { leads = λ around tags. refl }
 note_nests : (kind text : List ℕ) → Nest (note_parts kind text)
 note_nests kind text = by (bytes_eq kind (codes "check"))
   where
-    by : (check : Bool) → Nest (if check then note_parts (codes "check") text else MarkupPart markup.NoteItem ∷ NamePart (note_prefix kind) ∷ NamePart text ∷ MarkupPart markup.EndItem ∷ [])
+    by : (check : Bool) → Nest (if check then note_parts (codes "check") text else MarkupPart markup.NoteItem ∷ TextPart (note_prefix kind) ∷ TextPart text ∷ MarkupPart markup.EndItem ∷ [])
     by true = record { leads = λ around tags. refl }
     by false = record { leads = λ around tags. refl }
 

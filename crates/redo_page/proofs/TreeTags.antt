@@ -12,7 +12,7 @@ use Rattle.redo_view.specs.Event.{Event}
 use Rattle.redo_view.specs.Event.Event.{Requested, Mentioned, EntryShown, LogEnds}
 use Rattle.redo_html.specs.declared.markup.Markup.TheVariants as markup
 use Rattle.redo_html.specs.Parts.{Part}
-use Rattle.redo_html.specs.Parts.Part.{MarkupPart, NamePart}
+use Rattle.redo_html.specs.Parts.Part.{MarkupPart, TextPart}
 use Rattle.redo_html.specs.Style.{plain_style}
 use Rattle.redo_outline.specs.declared.node.Node.{Node}
 use Rattle.redo_outline.specs.Contents.{Contents}
@@ -87,7 +87,7 @@ after_line_same before other line same =
 note_same : (kind text : List ℕ) → markups (note_parts kind text) ≡ markups (note_parts [] [])
 note_same kind text = by (bytes_eq kind (codes "check"))
   where
-    by : (check : Bool) → markups (if check then note_parts (codes "check") text else MarkupPart markup.NoteItem ∷ NamePart (note_prefix kind) ∷ NamePart text ∷ MarkupPart markup.EndItem ∷ []) ≡ markups (note_parts [] [])
+    by : (check : Bool) → markups (if check then note_parts (codes "check") text else MarkupPart markup.NoteItem ∷ TextPart (note_prefix kind) ∷ TextPart text ∷ MarkupPart markup.EndItem ∷ []) ≡ markups (note_parts [] [])
     by true = refl
     by false = refl
 

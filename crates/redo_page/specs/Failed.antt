@@ -6,7 +6,7 @@ use Rattle.redo_html.specs.declared.markup.Markup.{Markup}
 use Rattle.redo_html.specs.declared.markup.Markup.TheVariants as markup
 use Rattle.redo_html.specs.Lines.{line_parts}
 use Rattle.redo_html.specs.Parts.{Part}
-use Rattle.redo_html.specs.Parts.Part.{MarkupPart, LogPart, NamePart, NumberPart}
+use Rattle.redo_html.specs.Parts.Part.{MarkupPart, LogPart, TextPart, NumberPart}
 use Rattle.redo_html.specs.Style.{plain_style}
 use Rattle.redo_outline.specs.declared.node.Node.{Node}
 use Rattle.redo_outline.specs.Facts.{entries_at, texts_of}
@@ -53,7 +53,7 @@ no_failure_below below = if below == 0 then [] else NO_FAILURE_BELOW.now
 -- Instead of the output of a target that printed nothing.
 unfoldable pub nothing_parts : Node → List Part
 nothing_parts node =
-    MarkupPart markup.QuietParagraph ∷ NamePart NOTHING_CAPTURED.now ∷ NamePart (no_failure_below node.below) ∷ MarkupPart markup.EndParagraph ∷ []
+    MarkupPart markup.QuietParagraph ∷ TextPart NOTHING_CAPTURED.now ∷ TextPart (no_failure_below node.below) ∷ MarkupPart markup.EndParagraph ∷ []
 
 -- ---- causes
 
@@ -63,7 +63,7 @@ max_cause = 160
 -- Why a target failed, in one line.
 unfoldable pub cause_parts : Option (List ℕ) → List Part
 cause_parts None = []
-cause_parts (Some line) = NamePart (codes " ") ∷ MarkupPart markup.Code ∷ LogPart plain_style (cut_to max_cause line) ∷ MarkupPart markup.EndCode ∷ []
+cause_parts (Some line) = TextPart (codes " ") ∷ MarkupPart markup.Code ∷ LogPart plain_style (cut_to max_cause line) ∷ MarkupPart markup.EndCode ∷ []
 
 -- ---- lists
 
@@ -74,7 +74,7 @@ max_rows = 200
 unfoldable pub unlisted_parts : ℕ → List Part
 unlisted_parts count =
     parts_if (nat_lt max_rows count)
-    (MarkupPart markup.QuietParagraph ∷ NamePart AND.now ∷ NumberPart (count - max_rows) ∷ NamePart MORE_IN_TREE.now ∷ MarkupPart markup.EndParagraph ∷ [])
+    (MarkupPart markup.QuietParagraph ∷ TextPart AND.now ∷ NumberPart (count - max_rows) ∷ TextPart MORE_IN_TREE.now ∷ MarkupPart markup.EndParagraph ∷ [])
 
 module _ (logs : List Log) where
   -- What a target printed.
@@ -105,7 +105,7 @@ module _ (logs : List Log) where
 -- How long a target took, before its path.
 abbrev pub article_took : Option ℕ → List Part
 article_took None = []
-article_took (Some ms) = words_parts (duration_words ms) ++ (NamePart MIDDLE_DOT.now ∷ [])
+article_took (Some ms) = words_parts (duration_words ms) ++ (TextPart MIDDLE_DOT.now ∷ [])
 
 module _ (logs : List Log) (nodes : List Node) where
   -- ---- articles
@@ -113,9 +113,9 @@ module _ (logs : List Log) (nodes : List Node) where
   -- The logs around a target, at most `levels` of them, the outermost first, with `›` (U+203A) after each; `…` (U+2026) if there are more.
   unfoldable pub path_parts : ℕ → Option ℕ → List Part
   path_parts levels None = []
-  path_parts zero (Some place) = NamePart MORE_ABOVE.now ∷ []
+  path_parts zero (Some place) = TextPart MORE_ABOVE.now ∷ []
   path_parts (suc levels) (Some place) =
-      path_parts levels (node_at nodes place).parent ++ (name_parts (name_of logs (node_at nodes place)) ++ NamePart PATH_SEPARATOR.now ∷ [])
+      path_parts levels (node_at nodes place).parent ++ (name_parts (name_of logs (node_at nodes place)) ++ TextPart PATH_SEPARATOR.now ∷ [])
 
   abbrev pub max_path : ℕ
   max_path = 4
@@ -151,14 +151,14 @@ module _ (logs : List Log) (nodes : List Node) where
   unfoldable pub more_parts : Markup → Bool → List ℕ → List ℕ → List Part
   more_parts list causes heading places =
       parts_if (nat_lt 0 (length places))
-      (MarkupPart markup.MoreDetails ∷ MarkupPart markup.Summary ∷ NumberPart (length places) ∷ NamePart heading ∷ MarkupPart markup.EndSummary ∷ MarkupPart list
+      (MarkupPart markup.MoreDetails ∷ MarkupPart markup.Summary ∷ NumberPart (length places) ∷ TextPart heading ∷ MarkupPart markup.EndSummary ∷ MarkupPart list
       ∷ (flat_map (target_row causes) (take max_rows places) ++ (MarkupPart markup.EndOrdered ∷ (unlisted_parts (length places) ++ MarkupPart markup.EndDetails ∷ []))))
 
   -- ---- the section
 
   unfoldable pub section_parts : List ℕ → List ℕ → List ℕ → List ℕ → List Part
   section_parts articles others above unclosed =
-      MarkupPart markup.FailedSection ∷ MarkupPart markup.FailedHeading ∷ NamePart WHAT_FAILED.now ∷ MarkupPart markup.EndHeading
+      MarkupPart markup.FailedSection ∷ MarkupPart markup.FailedHeading ∷ TextPart WHAT_FAILED.now ∷ MarkupPart markup.EndHeading
       ∷ (list_parts articles
       ++ (flat_map article_parts articles
       ++ (more_parts (markup.OrderedFrom (suc max_articles)) true MORE_FAILED.now others

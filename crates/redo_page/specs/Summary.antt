@@ -4,7 +4,7 @@ use Rattle.std.specs.List.{flat_map}
 use Rattle.redo_logs.specs.Logs.{Log}
 use Rattle.redo_html.specs.declared.markup.Markup.TheVariants as markup
 use Rattle.redo_html.specs.Parts.{Part}
-use Rattle.redo_html.specs.Parts.Part.{MarkupPart, MeterPart, NamePart, NumberPart}
+use Rattle.redo_html.specs.Parts.Part.{MarkupPart, MeterPart, TextPart, NumberPart}
 use Rattle.redo_outline.specs.declared.node.Node.{Node}
 use Rattle.redo_outline.specs.Facts.{saturated, target_at}
 use Rattle.redo_page.specs.declared.labels.TheConstants.{ABOVE, AND_COUNT, AT_MOST, AT_ONCE, FAILED, FEW_TIMES_OF, LOGS, LONGEST, MOST_WARNINGS, NO_TIMES, OF, SUMMARY, SUM_OF_TIMES, TARGETS, TIMES_UNKNOWN, TOOK, WARNED_LINES}
@@ -22,7 +22,7 @@ use Rattle.redo_units.specs.Sizes.{size_words, tenths_words}
 -- ---- tiles
 
 abbrev pub tile_start : List ℕ → List Part
-tile_start term = MarkupPart markup.Div ∷ MarkupPart markup.Term ∷ NamePart term ∷ MarkupPart markup.EndTerm ∷ MarkupPart markup.Description ∷ []
+tile_start term = MarkupPart markup.Div ∷ MarkupPart markup.Term ∷ TextPart term ∷ MarkupPart markup.EndTerm ∷ MarkupPart markup.Description ∷ []
 
 abbrev pub tile_end : List Part
 tile_end = MarkupPart markup.EndDescription ∷ MarkupPart markup.EndDiv ∷ []
@@ -32,7 +32,7 @@ abbrev pub tile : List ℕ → List Part → List Part
 tile term description = tile_start term ++ (description ++ tile_end)
 
 abbrev pub above_parts : ℕ → List Part
-above_parts above = parts_if (not (above == 0)) (NamePart AND_COUNT.now ∷ NumberPart above ∷ NamePart ABOVE.now ∷ [])
+above_parts above = parts_if (not (above == 0)) (TextPart AND_COUNT.now ∷ NumberPart above ∷ TextPart ABOVE.now ∷ [])
 
 -- How many targets failed, and how many of those above them.
 abbrev pub failed_counts : ℕ → ℕ → List Part
@@ -40,7 +40,7 @@ failed_counts first above = (NumberPart first ∷ []) ++ above_parts above
 
 -- How many recipes ran at once, on average and at most.
 abbrev pub at_once_parts : Facts → List Part
-at_once_parts facts = words_parts (tenths_words facts.sum facts.took) ++ (NamePart AT_MOST.now ∷ NumberPart facts.most ∷ [])
+at_once_parts facts = words_parts (tenths_words facts.sum facts.took) ++ (TextPart AT_MOST.now ∷ NumberPart facts.most ∷ [])
 
 abbrev pub took_tile : Facts → List Part
 took_tile facts = parts_if (is_some facts.window) (tile TOOK.now (words_parts (duration_words facts.took)))
@@ -78,9 +78,9 @@ known_count facts = saturated (length facts.parents + length facts.recipes + len
 
 abbrev pub unknown_parts : ℕ → ℕ → List Part
 unknown_parts unknown targets =
-    if targets == 0 then NamePart NO_TIMES.now ∷ []
-    else NamePart FEW_TIMES_OF.now ∷ NumberPart unknown ∷ NamePart OF.now ∷ NumberPart targets
-    ∷ NamePart TIMES_UNKNOWN.now ∷ []
+    if targets == 0 then TextPart NO_TIMES.now ∷ []
+    else TextPart FEW_TIMES_OF.now ∷ NumberPart unknown ∷ TextPart OF.now ∷ NumberPart targets
+    ∷ TextPart TIMES_UNKNOWN.now ∷ []
 
 -- Why there is no timeline, unless there is one.
 abbrev pub why_parts : Facts → List Part
@@ -90,7 +90,7 @@ why_parts facts =
 
 abbrev pub table_start : List ℕ → List Part
 table_start heading =
-    MarkupPart markup.Div ∷ MarkupPart markup.Title3 ∷ NamePart heading ∷ MarkupPart markup.EndTitle3 ∷ MarkupPart markup.Table ∷ MarkupPart markup.TableBody ∷ []
+    MarkupPart markup.Div ∷ MarkupPart markup.Title3 ∷ TextPart heading ∷ MarkupPart markup.EndTitle3 ∷ MarkupPart markup.Table ∷ MarkupPart markup.TableBody ∷ []
 
 -- The value of the first rank.
 abbrev pub largest_of : List Rank → ℕ
@@ -121,7 +121,7 @@ module _ (logs : List Log) (nodes : List Node) where
 
   unfoldable pub summary_parts : Facts → List Part
   summary_parts facts =
-      MarkupPart markup.SummarySection ∷ MarkupPart markup.SummaryHeading ∷ NamePart SUMMARY.now ∷ MarkupPart markup.EndHeading ∷ MarkupPart markup.DescriptionList
+      MarkupPart markup.SummarySection ∷ MarkupPart markup.SummaryHeading ∷ TextPart SUMMARY.now ∷ MarkupPart markup.EndHeading ∷ MarkupPart markup.DescriptionList
       ∷ (tiles facts (length nodes) (length (first_failures nodes)) (length (places_where failed_above 0 nodes))
       ++ (MarkupPart markup.EndDescriptionList
       ∷ (tables_parts (shown_longest facts) facts.warned

@@ -16,7 +16,7 @@ use Rattle.redo_view.specs.Event.Event.{Requested, Mentioned, EntryShown, LogEnd
 use Rattle.redo_html.specs.declared.markup.Markup.{Markup}
 use Rattle.redo_html.specs.declared.markup.Markup.TheVariants as markup
 use Rattle.redo_html.specs.Parts.{Part}
-use Rattle.redo_html.specs.Parts.Part.{MarkupPart, NamePart, NumberPart}
+use Rattle.redo_html.specs.Parts.Part.{MarkupPart, TextPart, NumberPart}
 use Rattle.redo_outline.specs.declared.node.Node.{Node}
 use Rattle.redo_outline.specs.Contents.{Contents}
 use Rattle.redo_outline.specs.Contents.Contents.{Nothing, Shown, Opened}
@@ -130,7 +130,7 @@ is_same_place (Some one) (Some other) = one == other
 abbrev pub group_parts : ℕ → List Part
 group_parts size =
     parts_if (not (size == 0))
-    (MarkupPart markup.Item ∷ MarkupPart markup.QuietDetails ∷ MarkupPart markup.Summary ∷ NumberPart size ∷ NamePart SILENT_TARGETS.now ∷ MarkupPart markup.EndSummary ∷ MarkupPart markup.Unordered ∷ [])
+    (MarkupPart markup.Item ∷ MarkupPart markup.QuietDetails ∷ MarkupPart markup.Summary ∷ NumberPart size ∷ TextPart SILENT_TARGETS.now ∷ MarkupPart markup.EndSummary ∷ MarkupPart markup.Unordered ∷ [])
 
 -- The end of a group after a log, with which `left` logs were left of the group; 0 if the log is in no group.
 abbrev pub group_end : ℕ → List Part
@@ -148,7 +148,7 @@ empty_start place heading = (MarkupPart (markup.TargetItem place) ∷ []) ++ hea
 
 -- How deep a log is that is not nested.
 abbrev pub depth_parts : ℕ → List Part
-depth_parts depth = NamePart (codes " ") ∷ MarkupPart markup.Small ∷ NamePart LEVEL.now ∷ NumberPart depth ∷ MarkupPart markup.EndSmall ∷ MarkupPart markup.EndItem ∷ []
+depth_parts depth = TextPart (codes " ") ∷ MarkupPart markup.Small ∷ TextPart LEVEL.now ∷ NumberPart depth ∷ MarkupPart markup.EndSmall ∷ MarkupPart markup.EndItem ∷ []
 
 abbrev pub details_markup : Bool → ℕ → Markup
 details_markup expanded place = if expanded then markup.OpenDetails place else markup.Details place
@@ -173,8 +173,8 @@ note_prefix kind = if length kind == 0 then [] else codes "redo: "
 -- A record of a check, or another note.
 abbrev pub note_parts : List ℕ → List ℕ → List Part
 note_parts kind text =
-    if bytes_eq kind (codes "check") then MarkupPart markup.NoteItem ∷ NamePart (codes "(") ∷ NamePart text ∷ NamePart (codes ")") ∷ MarkupPart markup.EndItem ∷ []
-    else MarkupPart markup.NoteItem ∷ NamePart (note_prefix kind) ∷ NamePart text ∷ MarkupPart markup.EndItem ∷ []
+    if bytes_eq kind (codes "check") then MarkupPart markup.NoteItem ∷ TextPart (codes "(") ∷ TextPart text ∷ TextPart (codes ")") ∷ MarkupPart markup.EndItem ∷ []
+    else MarkupPart markup.NoteItem ∷ TextPart (note_prefix kind) ∷ TextPart text ∷ MarkupPart markup.EndItem ∷ []
 
 module _ (build : Build) where
   abbrev pub has_article : ℕ → Bool
@@ -209,7 +209,7 @@ module _ (build : Build) where
   abbrev pub moved_parts : ℕ → List Part
   moved_parts place =
       parts_if (is_moved place)
-      (MarkupPart markup.NoteItem ∷ MarkupPart (markup.OutputLink place) ∷ NamePart SHOWN_ABOVE.now ∷ MarkupPart markup.EndLink ∷ MarkupPart markup.EndItem ∷ [])
+      (MarkupPart markup.NoteItem ∷ MarkupPart (markup.OutputLink place) ∷ TextPart SHOWN_ABOVE.now ∷ MarkupPart markup.EndLink ∷ MarkupPart markup.EndItem ∷ [])
 
   -- A log that is not nested. What it contains follows it in the same list.
   abbrev pub flat_start : ℕ → ℕ → List Part → List Part
@@ -217,7 +217,7 @@ module _ (build : Build) where
 
   abbrev pub flat_end : ℕ → List Part
   flat_end place =
-      (MarkupPart markup.NoteItem ∷ NamePart END_OF.now ∷ []) ++ (name_parts (target_at build.logs (node_at build.nodes place).number) ++ (MarkupPart markup.EndItem ∷ []))
+      (MarkupPart markup.NoteItem ∷ TextPart END_OF.now ∷ []) ++ (name_parts (target_at build.logs (node_at build.nodes place).number) ++ (MarkupPart markup.EndItem ∷ []))
 
   -- A log that is nested.
   abbrev pub nested_start : Bool → ℕ → List Part → List Part
@@ -281,7 +281,7 @@ module _ (build : Build) where
 
   abbrev pub done_parts : ℤ → List ℕ → List Part
   done_parts status name =
-      (MarkupPart markup.NoteItem ∷ NamePart NEEDS.now ∷ []) ++ (linked_parts (place_of_name name) name ++ (exit_parts status ++ (MarkupPart markup.EndItem ∷ [])))
+      (MarkupPart markup.NoteItem ∷ TextPart NEEDS.now ∷ []) ++ (linked_parts (place_of_name name) name ++ (exit_parts status ++ (MarkupPart markup.EndItem ∷ [])))
 
   -- A mention that opens no log.
   abbrev pub mention_parts : How → List ℕ → Opening → List Part
@@ -342,8 +342,8 @@ module _ (build : Build) where
 -- The section with the tree.
 abbrev pub section_start : List Part
 section_start =
-    MarkupPart markup.TreeSection ∷ MarkupPart markup.TreeHeading ∷ NamePart ALL_LOGS.now ∷ MarkupPart markup.EndHeading ∷ MarkupPart markup.QuietParagraph
-    ∷ NamePart TREE_IS.now ∷ MarkupPart markup.EndParagraph ∷ MarkupPart markup.Tree ∷ []
+    MarkupPart markup.TreeSection ∷ MarkupPart markup.TreeHeading ∷ TextPart ALL_LOGS.now ∷ MarkupPart markup.EndHeading ∷ MarkupPart markup.QuietParagraph
+    ∷ TextPart TREE_IS.now ∷ MarkupPart markup.EndParagraph ∷ MarkupPart markup.Tree ∷ []
 
 abbrev pub section_end : List Part
 section_end = MarkupPart markup.EndUnordered ∷ MarkupPart markup.EndSection ∷ []

@@ -66,8 +66,8 @@ fn write_nothing<W: Sink>(node: &Node, page: &mut PageWriter<'_, W>)
 {
     page.put(&[
         Piece::Markup(Markup::QuietParagraph),
-        Piece::Name(NOTHING_CAPTURED),
-        Piece::Name(no_failure_below(node.below)),
+        Piece::Text(NOTHING_CAPTURED),
+        Piece::Text(no_failure_below(node.below)),
         Piece::Markup(Markup::EndParagraph),
     ])
 }
@@ -103,7 +103,7 @@ fn write_cause_line<W: Sink>(cause: Option<&[u8]>, page: &mut PageWriter<'_, W>)
     match cause {
         None => {}
         Some(line) => page.put(&[
-            Piece::Name(b" "),
+            Piece::Text(b" "),
             Piece::Markup(Markup::Code),
             Piece::Log(Style::PLAIN, cut_to(MAX_CAUSE, line)),
             Piece::Markup(Markup::EndCode),
@@ -137,13 +137,13 @@ fn write_path<W: Sink>(
         return;
     };
     if levels == 0 {
-        page.put(&[Piece::Name(MORE_ABOVE)]);
+        page.put(&[Piece::Text(MORE_ABOVE)]);
         return;
     }
     let node = node_at(nodes, place);
     write_path(table, nodes, levels - 1, node.parent, page);
     write_target(table, node.number, page);
-    page.put(&[Piece::Name(PATH_SEPARATOR)]);
+    page.put(&[Piece::Text(PATH_SEPARATOR)]);
 }
 
 // Writes how long a target took, if this is known.
@@ -154,7 +154,7 @@ fn write_took<W: Sink>(took: Option<u64>, page: &mut PageWriter<'_, W>)
         return;
     };
     write_words(&duration(ms), page);
-    page.put(&[Piece::Name(MIDDLE_DOT)]);
+    page.put(&[Piece::Text(MIDDLE_DOT)]);
 }
 
 fn write_article_of<W: Sink>(

@@ -78,7 +78,7 @@ fn write_line<W: Sink>(line: &[u8], page: &mut PageWriter<'_, W>)
 {
     page.put(&[
         Piece::Log(Style::PLAIN, cut_to(MAX_EXCERPT_LINE, line)),
-        Piece::Name(line_end(line)),
+        Piece::Text(line_end(line)),
     ])
 }
 
@@ -162,7 +162,7 @@ pub fn write_in_tree<W: Sink>(place: usize, text: &[u8], page: &mut PageWriter<'
 {
     page.put(&[
         Piece::Markup(Markup::TargetLink(place as u64)),
-        Piece::Name(text),
+        Piece::Text(text),
         Piece::Markup(Markup::EndLink),
     ])
 }
@@ -175,7 +175,7 @@ fn write_left_out<W: Sink>(place: usize, count: usize, page: &mut PageWriter<'_,
     page.put(&[
         Piece::Markup(Markup::CutParagraph),
         Piece::Number(count as u64),
-        Piece::Name(plural(count as u64, MORE_LINE, MORE_LINES)),
+        Piece::Text(plural(count as u64, MORE_LINE, MORE_LINES)),
     ]);
     write_in_tree(place, IN_ITS_LOG, page);
     page.put(&[Piece::Markup(Markup::EndParagraph)]);

@@ -258,9 +258,9 @@ fn write_unlisted<W: Sink>(count: usize, page: &mut PageWriter<'_, W>)
     }
     page.put(&[
         Piece::Markup(Markup::QuietParagraph),
-        Piece::Name(AND),
+        Piece::Text(AND),
         Piece::Number((count - MAX_ROWS) as u64),
-        Piece::Name(MORE_IN_TREE),
+        Piece::Text(MORE_IN_TREE),
         Piece::Markup(Markup::EndParagraph),
     ])
 }
@@ -285,7 +285,7 @@ fn write_more<W: Sink>(
         Piece::Markup(Markup::MoreDetails),
         Piece::Markup(Markup::Summary),
         Piece::Number(places.len() as u64),
-        Piece::Name(heading),
+        Piece::Text(heading),
         Piece::Markup(Markup::EndSummary),
         Piece::Markup(list),
     ]);
@@ -369,7 +369,7 @@ fn write_section<W: Sink>(
     page.put(&[
         Piece::Markup(Markup::FailedSection),
         Piece::Markup(Markup::FailedHeading),
-        Piece::Name(WHAT_FAILED),
+        Piece::Text(WHAT_FAILED),
         Piece::Markup(Markup::EndHeading),
     ]);
     write_list(table, nodes, articles, page);

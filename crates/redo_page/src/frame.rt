@@ -174,7 +174,7 @@ fn write_title<W: Sink>(title: &[u8], page: &mut PageWriter<'_, W>)
     }
     page.put(&[
         Piece::Markup(Markup::Paragraph),
-        Piece::Name(title),
+        Piece::Text(title),
         Piece::Markup(Markup::EndParagraph),
     ])
 }
@@ -212,7 +212,7 @@ fn write_nav_item<W: Sink>(link: Markup, text: &[u8], page: &mut PageWriter<'_, 
     page.put(&[
         Piece::Markup(Markup::Item),
         Piece::Markup(link),
-        Piece::Name(text),
+        Piece::Text(text),
         Piece::Markup(Markup::EndLink),
         Piece::Markup(Markup::EndItem),
     ])
@@ -222,7 +222,7 @@ fn write_date<W: Sink>(secs: u64, page: &mut PageWriter<'_, W>)
     ensures { WroteParts W.written page.old page.new (date_parts (date_text_of secs)) }
 {
     if let Some(text) = date(secs) {
-        page.put(&[Piece::Name(&text), Piece::Name(MIDDLE_DOT)]);
+        page.put(&[Piece::Text(&text), Piece::Text(MIDDLE_DOT)]);
     }
 }
 
@@ -235,7 +235,7 @@ fn write_began<W: Sink>(window: Option<Window>, took: u64, page: &mut PageWriter
     };
     page.put(&[Piece::Markup(Markup::MetaParagraph)]);
     write_date(window.began / 1000, page);
-    page.put(&[Piece::Name(BUILD_TOOK)]);
+    page.put(&[Piece::Text(BUILD_TOOK)]);
     write_words(&duration(took), page);
     page.put(&[Piece::Markup(Markup::EndParagraph)]);
 }
@@ -281,10 +281,10 @@ fn write_heading<W: Sink>(verdict: Verdict, heading: &[u8], page: &mut PageWrite
         Piece::Markup(Markup::Header),
         Piece::Markup(Markup::Title1),
         Piece::Markup(Markup::Sign),
-        Piece::Name(verdict.sign()),
+        Piece::Text(verdict.sign()),
         Piece::Markup(Markup::EndSign),
-        Piece::Name(b" "),
-        Piece::Name(heading),
+        Piece::Text(b" "),
+        Piece::Text(heading),
         Piece::Markup(Markup::EndTitle1),
     ])
 }
@@ -315,7 +315,7 @@ fn write_log_count<W: Sink>(logs: usize, page: &mut PageWriter<'_, W>)
     let logs = logs as u64;
     page.put(&[
         Piece::Number(logs),
-        Piece::Name(plural(logs, LOG_IN, LOGS_IN)),
+        Piece::Text(plural(logs, LOG_IN, LOGS_IN)),
     ])
 }
 
@@ -332,26 +332,26 @@ pub fn write_footer<'a, W: Sink>(
         Piece::Markup(Markup::EndMain),
         Piece::Markup(Markup::Footer),
         Piece::Markup(Markup::Paragraph),
-        Piece::Name(MADE_BY),
+        Piece::Text(MADE_BY),
         Piece::Markup(Markup::Code),
-        Piece::Name(PROGRAM),
+        Piece::Text(PROGRAM),
         Piece::Markup(Markup::EndCode),
-        Piece::Name(OF),
+        Piece::Text(OF),
     ]);
     write_log_count(logs, page);
     page.put(&[
         Piece::Markup(Markup::Code),
-        Piece::Name(dir),
+        Piece::Text(dir),
         Piece::Markup(Markup::EndCode),
-        Piece::Name(AS_ONE_TEXT),
+        Piece::Text(AS_ONE_TEXT),
         Piece::Markup(Markup::Code),
-        Piece::Name(command),
+        Piece::Text(command),
         Piece::Markup(Markup::EndCode),
         Piece::Markup(Markup::EndParagraph),
         Piece::Markup(Markup::EndFooter),
         Piece::Markup(Markup::EndBody),
         Piece::Markup(Markup::EndHtml),
-        Piece::Name(b"\n"),
+        Piece::Text(b"\n"),
     ])
 }
 

@@ -68,7 +68,7 @@ fn write_done<W: Sink>(
 )
     ensures { WroteParts W.written page.old page.new (done_parts (build_value build.now) status name.now) }
 {
-    page.put(&[Piece::Markup(Markup::NoteItem), Piece::Name(NEEDS)]);
+    page.put(&[Piece::Markup(Markup::NoteItem), Piece::Text(NEEDS)]);
     write_linked(build.place_of_name(name), name.bytes(), page);
     write_exit(status, page);
     page.put(&[Piece::Markup(Markup::EndItem)])
@@ -87,16 +87,16 @@ fn write_note<W: Sink>(kind: &[u8], text: &[u8], page: &mut PageWriter<'_, W>)
     if kind == b"check".as_slice() {
         page.put(&[
             Piece::Markup(Markup::NoteItem),
-            Piece::Name(b"("),
-            Piece::Name(text),
-            Piece::Name(b")"),
+            Piece::Text(b"("),
+            Piece::Text(text),
+            Piece::Text(b")"),
             Piece::Markup(Markup::EndItem),
         ])
     } else {
         page.put(&[
             Piece::Markup(Markup::NoteItem),
-            Piece::Name(note_prefix(kind)),
-            Piece::Name(text),
+            Piece::Text(note_prefix(kind)),
+            Piece::Text(text),
             Piece::Markup(Markup::EndItem),
         ])
     }

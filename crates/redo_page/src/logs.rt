@@ -54,7 +54,7 @@ fn write_moved<W: Sink>(build: &BuildRef<'_>, place: usize, page: &mut PageWrite
     page.put(&[
         Piece::Markup(Markup::NoteItem),
         Piece::Markup(Markup::OutputLink(place as u64)),
-        Piece::Name(SHOWN_ABOVE),
+        Piece::Text(SHOWN_ABOVE),
         Piece::Markup(Markup::EndLink),
         Piece::Markup(Markup::EndItem),
     ])
@@ -77,9 +77,9 @@ fn write_depth<W: Sink>(depth: usize, page: &mut PageWriter<'_, W>)
     ensures { WroteParts W.written page.old page.new (depth_parts depth) }
 {
     page.put(&[
-        Piece::Name(b" "),
+        Piece::Text(b" "),
         Piece::Markup(Markup::Small),
-        Piece::Name(LEVEL),
+        Piece::Text(LEVEL),
         Piece::Number(depth as u64),
         Piece::Markup(Markup::EndSmall),
         Piece::Markup(Markup::EndItem),
@@ -105,7 +105,7 @@ fn write_flat_start<W: Sink>(
 fn write_flat_end<W: Sink>(build: &BuildRef<'_>, place: usize, page: &mut PageWriter<'_, W>)
     ensures { WroteParts W.written page.old page.new (flat_end (build_value build.now) place) }
 {
-    page.put(&[Piece::Markup(Markup::NoteItem), Piece::Name(END_OF)]);
+    page.put(&[Piece::Markup(Markup::NoteItem), Piece::Text(END_OF)]);
     write_name(build.target(build.node(place).number), page);
     page.put(&[Piece::Markup(Markup::EndItem)])
 }
@@ -213,7 +213,7 @@ fn write_group<W: Sink>(size: usize, page: &mut PageWriter<'_, W>)
         Piece::Markup(Markup::QuietDetails),
         Piece::Markup(Markup::Summary),
         Piece::Number(size as u64),
-        Piece::Name(SILENT_TARGETS),
+        Piece::Text(SILENT_TARGETS),
         Piece::Markup(Markup::EndSummary),
         Piece::Markup(Markup::Unordered),
     ])

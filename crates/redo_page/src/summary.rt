@@ -42,7 +42,7 @@ fn write_tile_start<W: Sink>(term: &[u8], page: &mut PageWriter<'_, W>)
     page.put(&[
         Piece::Markup(Markup::Div),
         Piece::Markup(Markup::Term),
-        Piece::Name(term),
+        Piece::Text(term),
         Piece::Markup(Markup::EndTerm),
         Piece::Markup(Markup::Description),
     ]);
@@ -90,9 +90,9 @@ fn write_above<W: Sink>(above: usize, page: &mut PageWriter<'_, W>)
         return;
     }
     page.put(&[
-        Piece::Name(AND_COUNT),
+        Piece::Text(AND_COUNT),
         Piece::Number(above as u64),
-        Piece::Name(ABOVE),
+        Piece::Text(ABOVE),
     ]);
 }
 
@@ -110,7 +110,7 @@ fn write_at_once_tile<W: Sink>(summary: &Summary, page: &mut PageWriter<'_, W>)
 {
     write_tile_start(AT_ONCE, page);
     write_words(&tenths(summary.sum(), summary.took()), page);
-    page.put(&[Piece::Name(AT_MOST), Piece::Number(summary.most() as u64)]);
+    page.put(&[Piece::Text(AT_MOST), Piece::Number(summary.most() as u64)]);
     write_tile_end(page);
 }
 
@@ -245,7 +245,7 @@ fn write_table_start<W: Sink>(heading: &[u8], page: &mut PageWriter<'_, W>)
     page.put(&[
         Piece::Markup(Markup::Div),
         Piece::Markup(Markup::Title3),
-        Piece::Name(heading),
+        Piece::Text(heading),
         Piece::Markup(Markup::EndTitle3),
         Piece::Markup(Markup::Table),
         Piece::Markup(Markup::TableBody),
@@ -298,14 +298,14 @@ fn write_unknown<W: Sink>(unknown: u64, targets: u64, page: &mut PageWriter<'_, 
     ensures { WroteParts W.written page.old page.new (unknown_parts unknown targets) }
 {
     if targets == 0 {
-        page.put(&[Piece::Name(NO_TIMES)]);
+        page.put(&[Piece::Text(NO_TIMES)]);
     } else {
         page.put(&[
-            Piece::Name(FEW_TIMES_OF),
+            Piece::Text(FEW_TIMES_OF),
             Piece::Number(unknown),
-            Piece::Name(OF),
+            Piece::Text(OF),
             Piece::Number(targets),
-            Piece::Name(TIMES_UNKNOWN),
+            Piece::Text(TIMES_UNKNOWN),
         ]);
     }
 }
@@ -340,7 +340,7 @@ pub fn write_summary<W: Sink>(
     page.put(&[
         Piece::Markup(Markup::SummarySection),
         Piece::Markup(Markup::SummaryHeading),
-        Piece::Name(SUMMARY),
+        Piece::Text(SUMMARY),
         Piece::Markup(Markup::EndHeading),
         Piece::Markup(Markup::DescriptionList),
     ]);

@@ -253,10 +253,10 @@ fn write_section_start<W: Sink>(out: &mut W) -> Result<(), Broken>
         &[
             Piece::Markup(Markup::TreeSection),
             Piece::Markup(Markup::TreeHeading),
-            Piece::Name(ALL_LOGS),
+            Piece::Text(ALL_LOGS),
             Piece::Markup(Markup::EndHeading),
             Piece::Markup(Markup::QuietParagraph),
-            Piece::Name(TREE_IS),
+            Piece::Text(TREE_IS),
             Piece::Markup(Markup::EndParagraph),
             Piece::Markup(Markup::Tree),
         ],

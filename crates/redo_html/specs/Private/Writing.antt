@@ -3,9 +3,9 @@ use Rattle.std.specs.Prelude.{◌≡◌, ⊤, ℕ, ◌+◌, fold, ◌<◌, ◌�
 use Rattle.std.specs.List.{flat_map, list_all}
 use Rattle.redo_device.specs.declared.feed.Broken.{Broken}
 use Rattle.redo_device.specs.Sink.{Output, append_output, Writes}
-use Rattle.redo_html.specs.declared.form.Form.{Form}
+use Rattle.redo_html.specs.declared.text_kind.TextKind.{TextKind}
 use Rattle.redo_html.specs.declared.look.Look.{Look}
-use Rattle.redo_html.specs.declared.form.Form.TheVariants.{Log}
+use Rattle.redo_html.specs.declared.text_kind.TextKind.TheVariants.{Log}
 use Rattle.redo_html.specs.declared.style.Style.{Style}
 use Rattle.redo_html.specs.Lines.{style_after_symbol, style_after, style_after_lines, lines_html}
 use Rattle.redo_html.specs.Passage.{has_marks, html_from, passage_html}
@@ -22,26 +22,26 @@ pub record WroteUpTo (before after : Option Output) (text rest : List ℕ) : Typ
   pub wrote : after ≡ append_output before prefix 0
   pub splits : prefix ++ rest ≡ text
 
--- The style at the end of a text in any form.
-abbrev pub style_in : Form → Style → List ℕ → Style
-style_in form style bytes = fold style_after_symbol style (symbols form bytes)
+-- The style at the end of a text of any kind.
+abbrev pub style_in : TextKind → Style → List ℕ → Style
+style_in kind style bytes = fold style_after_symbol style (symbols kind bytes)
 
 -- The first `count` bytes, at least one, were written as a part of a passage, and then the look is `next`.
-pub record WroteSome (before after : Option Output) (form : Form) (look : Look) (bytes : List ℕ) (next : Look) (count : ℕ) : Type 0 where
+pub record WroteSome (before after : Option Output) (kind : TextKind) (look : Look) (bytes : List ℕ) (next : Look) (count : ℕ) : Type 0 where
   pub some : 0 < count
   pub within : count ≤ length bytes
-  pub wrote : WroteUpTo before after (html_from form look bytes) (html_from form next (drop count bytes))
-  pub style : style_in form next.wanted (drop count bytes) ≡ style_in form look.wanted bytes
+  pub wrote : WroteUpTo before after (html_from kind look bytes) (html_from kind next (drop count bytes))
+  pub style : style_in kind next.wanted (drop count bytes) ≡ style_in kind look.wanted bytes
 
 -- Some of a passage was written, or a write failed.
-abbrev pub WroteSomeOrFailed : Option Output → Option Output → Form → Look → List ℕ → Result (Look × ℕ) Broken → Type 0
-WroteSomeOrFailed before after form look bytes (Ok step) = WroteSome before after form look bytes step.0 step.1
-WroteSomeOrFailed before after form look bytes (Err broken) = Writes before after (html_from form look bytes) (Err broken)
+abbrev pub WroteSomeOrFailed : Option Output → Option Output → TextKind → Look → List ℕ → Result (Look × ℕ) Broken → Type 0
+WroteSomeOrFailed before after kind look bytes (Ok step) = WroteSome before after kind look bytes step.0 step.1
+WroteSomeOrFailed before after kind look bytes (Err broken) = Writes before after (html_from kind look bytes) (Err broken)
 
 -- A passage was written, and at its end the style is `last`, or a write failed.
-abbrev pub WrotePassage : Option Output → Option Output → Form → Style → List ℕ → Result Style Broken → Type 0
-WrotePassage before after form style bytes (Ok last) = (after ≡ append_output before (passage_html form style bytes) 0) × (last ≡ style_in form style bytes)
-WrotePassage before after form style bytes (Err broken) = Writes before after (passage_html form style bytes) (Err broken)
+abbrev pub WrotePassage : Option Output → Option Output → TextKind → Style → List ℕ → Result Style Broken → Type 0
+WrotePassage before after kind style bytes (Ok last) = (after ≡ append_output before (passage_html kind style bytes) 0) × (last ≡ style_in kind style bytes)
+WrotePassage before after kind style bytes (Err broken) = Writes before after (passage_html kind style bytes) (Err broken)
 
 -- The first `len` bytes are one line or more, and are written as one passage.
 pub record BeginsPassage (style : Style) (bytes : List ℕ) (len : ℕ) : Type 0 where
@@ -61,7 +61,7 @@ pub record IsVerbatim (bytes : List ℕ) (len : ℕ) : Type 0 where
   pub code_points : List ℕ
   pub verbatim : list_all is_verbatim code_points ≡ true
   pub bytes_are : take len bytes ≡ flat_map encode_utf8 code_points
-  pub symbols_are : (form : Form) → symbols form bytes ≡ map CodePoint code_points ++ symbols form (drop len bytes)
+  pub symbols_are : (kind : TextKind) → symbols kind bytes ≡ map CodePoint code_points ++ symbols kind (drop len bytes)
 
 -- The code point that a symbol is, if it is one.
 abbrev pub symbol_code_point : Symbol → Option ℕ
@@ -75,16 +75,16 @@ BeginsOther code_point (Sequence numbers ∷ symbols) = ⊤
 BeginsOther code_point (CodePoint other ∷ symbols) = (code_point == other) ≡ false
 
 -- The symbols of some bytes begin with a code point that occurs `count` times in a row, and no more often. These are the first `len` bytes.
-pub record IsRepeated (form : Form) (code_point : ℕ) (bytes : List ℕ) (count len : ℕ) : Type 0 where
+pub record IsRepeated (kind : TextKind) (code_point : ℕ) (bytes : List ℕ) (count len : ℕ) : Type 0 where
   pub some : 0 < count
   pub bytes_taken : 0 < len
   pub within : len ≤ length bytes
-  pub repeated : symbols form bytes ≡ replicate count (CodePoint code_point) ++ symbols form (drop len bytes)
-  pub other : BeginsOther code_point (symbols form (drop len bytes))
+  pub repeated : symbols kind bytes ≡ replicate count (CodePoint code_point) ++ symbols kind (drop len bytes)
+  pub other : BeginsOther code_point (symbols kind (drop len bytes))
 
--- A mark, if it is wanted and the form has marks.
-abbrev pub optional_mark : Form → Bool → List ℕ → List ℕ
-optional_mark form wanted html = if wanted && has_marks form then html else []
+-- A mark, if it is wanted and this kind of text has marks.
+abbrev pub optional_mark : TextKind → Bool → List ℕ → List ℕ
+optional_mark kind wanted html = if wanted && has_marks kind then html else []
 
 -- A sequence is at the start of some bytes, and has `len` bytes.
 pub record IsSequence (bytes : List ℕ) (len : ℕ) : Type 0 where

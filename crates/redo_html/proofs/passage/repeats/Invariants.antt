@@ -9,7 +9,7 @@ invariant-loop-len l = record {
   within : l.len ≤ length l.bytes;
   bytes_taken : l.count ≤ l.len;
   none : l.count ≡ 0 → l.len ≡ 0;
-  repeated : symbols l.form l.bytes ≡ replicate l.count (CodePoint l.code_point) ++ symbols l.form (drop l.len l.bytes);
+  repeated : symbols l.kind l.bytes ≡ replicate l.count (CodePoint l.code_point) ++ symbols l.kind (drop l.len l.bytes);
 }
 
 abbrev pub decreases-loop-len : goal.decreases-loop-len

@@ -10,25 +10,25 @@ use Rattle.redo_html.proofs.passage.write_unprintable_run.Goals as goal
 pub returns-in_err-write_marks : goal.returns-in_err-write_marks
 returns-in_err-write_marks g c =
     let bytes = c.args.bytes.now in
-    let form = c.args.form in
+    let kind = c.args.kind in
     let look = c.args.look in
     let found = c.repeats-count.result in
-    marks_failed _ form look bytes (flat_map (inline_html form) (marks_between look true)) (unprintable_text c.args.code_point found.0) true found.1 (unprintable_written form look bytes c.args.code_point found.0 found.1 c.requires.unprintable c.repeats-count.ensures) _ _ _ c.from_residual.ensures.0 c.in_err-write_marks.ensures
+    marks_failed _ kind look bytes (flat_map (inline_html kind) (marks_between look true)) (unprintable_text c.args.code_point found.0) true found.1 (unprintable_written kind look bytes c.args.code_point found.0 found.1 c.requires.unprintable c.repeats-count.ensures) _ _ _ c.from_residual.ensures.0 c.in_err-write_marks.ensures
 
 pub returns-in_err-write_unprintable : goal.returns-in_err-write_unprintable
 returns-in_err-write_unprintable g c =
     let bytes = c.args.bytes.now in
-    let form = c.args.form in
+    let kind = c.args.kind in
     let look = c.args.look in
     let found = c.repeats-count.result in
-    part_failed _ form look bytes (flat_map (inline_html form) (marks_between look true)) (unprintable_text c.args.code_point found.0) true found.1 (unprintable_written form look bytes c.args.code_point found.0 found.1 c.requires.unprintable c.repeats-count.ensures) _ _ _ _
+    part_failed _ kind look bytes (flat_map (inline_html kind) (marks_between look true)) (unprintable_text c.args.code_point found.0) true found.1 (unprintable_written kind look bytes c.args.code_point found.0 found.1 c.requires.unprintable c.repeats-count.ensures) _ _ _ _
     c.from_residual-in_err-write_unprintable.ensures.0 c.in_ok-write_marks.ensures c.in_err-write_unprintable.ensures
 
 pub returns : goal.returns
 returns g c =
     let bytes = c.args.bytes.now in
-    let form = c.args.form in
+    let kind = c.args.kind in
     let look = c.args.look in
     let found = c.repeats-count.result in
-    both_written _ form look bytes (flat_map (inline_html form) (marks_between look true)) (unprintable_text c.args.code_point found.0) true found.1 (unprintable_written form look bytes c.args.code_point found.0 found.1 c.requires.unprintable c.repeats-count.ensures)
-    _ _ _ c.with_code_point.ensures (repeated_style form look.wanted bytes c.args.code_point found.0 found.1 c.repeats-count.ensures) c.repeats-count.ensures.bytes_taken c.repeats-count.ensures.within c.in_ok-write_marks.ensures c.in_ok-write_unprintable.ensures
+    both_written _ kind look bytes (flat_map (inline_html kind) (marks_between look true)) (unprintable_text c.args.code_point found.0) true found.1 (unprintable_written kind look bytes c.args.code_point found.0 found.1 c.requires.unprintable c.repeats-count.ensures)
+    _ _ _ c.with_code_point.ensures (repeated_style kind look.wanted bytes c.args.code_point found.0 found.1 c.repeats-count.ensures) c.repeats-count.ensures.bytes_taken c.repeats-count.ensures.within c.in_ok-write_marks.ensures c.in_ok-write_unprintable.ensures

@@ -8,23 +8,23 @@ use Rattle.redo_html.proofs.passage.write_verbatim.Goals as goal
 pub returns-in_err-write_marks : goal.returns-in_err-write_marks
 returns-in_err-write_marks g c =
     let bytes = c.args.bytes.now in
-    let form = c.args.form in
+    let kind = c.args.kind in
     let look = c.args.look in
-    marks_failed _ form look bytes (flat_map (inline_html form) (marks_between look false)) (take c.args.len bytes) false c.args.len (verbatim_step form look bytes c.args.len c.requires.some c.requires.verbatim)
+    marks_failed _ kind look bytes (flat_map (inline_html kind) (marks_between look false)) (take c.args.len bytes) false c.args.len (verbatim_step kind look bytes c.args.len c.requires.some c.requires.verbatim)
     _ _ _ c.from_residual.ensures.0 c.in_err-write_marks.ensures
 
 pub returns-in_err-push_all : goal.returns-in_err-push_all
 returns-in_err-push_all g c =
     let bytes = c.args.bytes.now in
-    let form = c.args.form in
+    let kind = c.args.kind in
     let look = c.args.look in
-    part_failed _ form look bytes (flat_map (inline_html form) (marks_between look false)) (take c.args.len bytes) false c.args.len (verbatim_step form look bytes c.args.len c.requires.some c.requires.verbatim)
+    part_failed _ kind look bytes (flat_map (inline_html kind) (marks_between look false)) (take c.args.len bytes) false c.args.len (verbatim_step kind look bytes c.args.len c.requires.some c.requires.verbatim)
     _ _ _ _ c.from_residual-in_err-push_all.ensures.0 c.in_ok-write_marks.ensures c.in_err-push_all.ensures
 
 pub returns : goal.returns
 returns g c =
     let bytes = c.args.bytes.now in
-    let form = c.args.form in
+    let kind = c.args.kind in
     let look = c.args.look in
-    both_written _ form look bytes (flat_map (inline_html form) (marks_between look false)) (take c.args.len bytes) false c.args.len (verbatim_step form look bytes c.args.len c.requires.some c.requires.verbatim)
-    _ _ _ c.with_code_point.ensures (verbatim_style form look.wanted bytes c.args.len c.requires.verbatim) c.requires.some c.requires.verbatim.within c.in_ok-write_marks.ensures c.in_ok-push_all.ensures
+    both_written _ kind look bytes (flat_map (inline_html kind) (marks_between look false)) (take c.args.len bytes) false c.args.len (verbatim_step kind look bytes c.args.len c.requires.some c.requires.verbatim)
+    _ _ _ c.with_code_point.ensures (verbatim_style kind look.wanted bytes c.args.len c.requires.verbatim) c.requires.some c.requires.verbatim.within c.in_ok-write_marks.ensures c.in_ok-push_all.ensures

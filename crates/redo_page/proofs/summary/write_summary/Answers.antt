@@ -1,7 +1,7 @@
 use Rattle.std.proofs.Common.{ap, length, ◌∷◌, [], ◌++◌, ◌∙◌}
 use Rattle.std.specs.Prelude.{codes}
 use Rattle.redo_html.specs.declared.markup.Markup.TheVariants as markup
-use Rattle.redo_html.specs.Parts.Part.{MarkupPart, NamePart}
+use Rattle.redo_html.specs.Parts.Part.{MarkupPart, TextPart}
 use Rattle.redo_page.specs.declared.labels.TheConstants.{SUMMARY}
 use Rattle.redo_page.specs.Summary.{summary_parts, tables_parts, tiles, why_parts}
 use Rattle.redo_page.proofs.PartLoops.{wrote_as}
@@ -16,7 +16,7 @@ returns g c =
     let first = ap length (c.as_slice-first.ensures.value ∙ c.requires.first) in
     let above = ap length (c.as_slice-above.ensures.value ∙ c.requires.above) in
     wrote_as g.W.Sink.written c.args.page.now c.put-3.new.self _ _
-    (λ i. MarkupPart markup.SummarySection ∷ MarkupPart markup.SummaryHeading ∷ NamePart SUMMARY.now ∷ MarkupPart markup.EndHeading ∷ MarkupPart markup.DescriptionList
+    (λ i. MarkupPart markup.SummarySection ∷ MarkupPart markup.SummaryHeading ∷ TextPart SUMMARY.now ∷ MarkupPart markup.EndHeading ∷ MarkupPart markup.DescriptionList
     ∷ (tiles facts (length nodes) (first i) (above i)
     ++ (MarkupPart markup.EndDescriptionList
     ∷ (tables_parts c.args.table.now nodes (c.shown_longest.ensures i) (c.warned.ensures i) ++ (why_parts facts ++ MarkupPart markup.EndSection ∷ [])))))

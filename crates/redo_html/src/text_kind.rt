@@ -1,12 +1,12 @@
-//! The forms in which text is shown.
+//! The kinds of text that a page shows.
 
-/// How text is shown.
+/// A kind of text, which decides how it is shown.
 #[derive(Clone, Copy)]
-pub enum Form {
+pub enum TextKind {
     /// The text of a log: compilers set colours in it.
     Log,
     /// A name, or words of the program: without colours.
-    Name,
+    Monochrome,
     /// The title of a page: without elements.
     Title,
 }
