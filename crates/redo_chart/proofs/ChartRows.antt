@@ -77,9 +77,9 @@ durations :
 unfolding duration_words decimal_text digits
 durations = refl
 
--- A bar of the target at this place, or of several of which it is the first.
+-- A bar of the target at this position, or of several of which it is the first.
 abbrev bar : ℕ → ℕ → ℕ → ℕ → Bar
-bar place count began ended = record { lane = 2; x = 7; width = 350; place = place; count = count; began = began; ended = ended; failed = true }
+bar position count began ended = record { lane = 2; x = 7; width = 350; position = position; count = count; began = began; ended = ended; failed = true }
 
 titles :
     title_of logs nodes Recipes (bar 0 1 1000 2500) ∷ title_of logs nodes Parents (bar 1 1 0 60000) ∷ title_of logs nodes Recipes (bar 2 1 9 5) ∷ title_of logs nodes Untimed (bar 3 1 5 5) ∷ title_of logs nodes Recipes (bar 2 3 10 30)
@@ -103,7 +103,7 @@ bands = (refl, refl, refl, refl, refl, refl, refl, refl, refl)
 -- ---- bars
 
 abbrev wide : ℕ → Bar
-wide width = record { lane = 2; x = 7; width = width; place = 0; count = 1; began = 1000; ended = 2500; failed = true }
+wide width = record { lane = 2; x = 7; width = width; position = 0; count = 1; began = 1000; ended = 2500; failed = true }
 
 labels :
     (label_of (codes "out/b.o") 13 (wide 350) ≡ Some (codes "b.o")) × (label_of (codes "out/b.o") 13 (wide 349) ≡ None) × (label_of (codes "out/b.o") 12 (wide 350) ≡ None) × (label_of (codes "b/") 18 (wide 5000) ≡ None)
@@ -111,16 +111,16 @@ labels = (refl, refl, refl, refl)
 
 drawn :
     (drawn_bar logs nodes (recipes_band 1 3) (wide 400)
-    ≡ record { place = 0; x = 7; y = 76; width = 400; height = 16; failed = true; title = codes "out/b.o, 1.50 s, exit -1"; label = Some (codes "b.o") })
-    × (drawn_bar logs nodes (marks_band 1 3) (wide 30) ≡ record { place = 0; x = 7; y = 128; width = 30; height = 12; failed = true; title = codes "out/b.o, exit -1"; label = None })
+    ≡ record { position = 0; x = 7; y = 76; width = 400; height = 16; failed = true; title = codes "out/b.o, 1.50 s, exit -1"; label = Some (codes "b.o") })
+    × (drawn_bar logs nodes (marks_band 1 3) (wide 30) ≡ record { position = 0; x = 7; y = 128; width = 30; height = 12; failed = true; title = codes "out/b.o, exit -1"; label = None })
     × (bar_layer logs nodes parents_band [] ≡ record { kind = Parents; shapes = [] })
 unfolding duration_words decimal_text digits
 drawn = (refl, refl, refl)
 
 -- A bar of the fourth target, in the sixth lane.
 drawn_lower :
-    drawn_bar logs nodes (recipes_band 1 3) (record { lane = 5; x = 9; width = 400; place = 3; count = 1; began = 1000; ended = 2500; failed = false })
-    ≡ record { place = 3; x = 9; y = 130; width = 400; height = 16; failed = false; title = codes "t, 1.50 s, exit 12"; label = Some (codes "t") }
+    drawn_bar logs nodes (recipes_band 1 3) (record { lane = 5; x = 9; width = 400; position = 3; count = 1; began = 1000; ended = 2500; failed = false })
+    ≡ record { position = 3; x = 9; y = 130; width = 400; height = 16; failed = false; title = codes "t, 1.50 s, exit 12"; label = Some (codes "t") }
 unfolding duration_words decimal_text digits
 drawn_lower = refl
 
@@ -143,7 +143,7 @@ axes = (refl, refl, refl)
 -- ---- charts
 
 abbrev pub span : ℕ → ℕ → ℕ → Bool → Span
-span place began ended failed = record { began = began; place = place; ended = ended; failed = failed }
+span position began ended failed = record { began = began; position = position; ended = ended; failed = failed }
 
 -- A window in which a unit is a millisecond.
 abbrev pub window : Window
@@ -155,8 +155,8 @@ chart =
     (span 2 1000 5000 false ∷ span 0 3000 10500 true ∷ span 4 6000 6010 false ∷ span 3 6012 6020 false ∷ []) (span 3 11000 11000 true ∷ [])
 
 abbrev drawn_at : ℕ → ℕ → ℕ → ℕ → ℕ → Bool → List ℕ → Option (List ℕ) → Shape
-drawn_at place x y width height failed title label =
-    BarShape (record { place = place; x = x; y = y; width = width; height = height; failed = failed; title = title; label = label })
+drawn_at position x y width height failed title label =
+    BarShape (record { position = position; x = x; y = y; width = width; height = height; failed = failed; title = title; label = label })
 
 sizes : (chart.height ≡ 102) × (chart.lanes ≡ 2) × (map (λ (layer : Layer). layer.kind) chart.layers ≡ Axis ∷ Parents ∷ Recipes ∷ Untimed ∷ [])
 unfolding tick_step_of

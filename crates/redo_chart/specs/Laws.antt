@@ -10,16 +10,16 @@ use Rattle.redo_logs.specs.Logs.{Log}
 use Rattle.redo_outline.specs.declared.node.Node.{Node}
 use Rattle.redo_timeline.specs.declared.span.Span.{Span}
 use Rattle.redo_timeline.specs.declared.span.Window.{Window}
-use Rattle.redo_timeline.specs.Bars.{bar_of, began_of, has_failed, place_of, units, width_of}
+use Rattle.redo_timeline.specs.Bars.{bar_of, began_of, has_failed, position_of, units, width_of}
 use Rattle.redo_timeline.specs.Laws.{EachBar, IsSlimIfJoined, spans_of}
 use Rattle.redo_timeline.specs.Timeline.{bars_of}
 use Rattle.redo_chart.specs.Bands.{max_mark_lanes, max_parent_lanes, max_recipe_lanes}
 use Rattle.redo_chart.specs.Targets.{last_part, name_at}
 use Rattle.redo_chart.specs.Titles.{title_of}
 
--- Whether the places of all spans are below this number.
+-- Whether the positions of all spans are below this number.
 abbrev pub are_below : ℕ → List Span → Bool
-are_below count spans = list_all (λ (span : Span). nat_lt span.place count) spans
+are_below count spans = list_all (λ (span : Span). nat_lt span.position count) spans
 
 -- A number for each kind of layer, and the shapes in the layers of one kind.
 abbrev pub code : GroupKind → ℕ
@@ -51,13 +51,13 @@ Includes window bar span = (bar.x ≤ units window span.began) × (units window 
 -- that part is empty.
 pub record SaysOf (logs : List Log) (nodes : List Node) (window : Window) (kind : GroupKind) (spans : List Span) (bar : DrawnBar)
     : Type 0 where
-  pub target : bar.place ≡ place_of spans
+  pub target : bar.position ≡ position_of spans
   pub begins : bar.x ≡ units window (began_of spans)
   pub lasts : bar.width ≡ max (width_of window spans) (if has_failed spans then 30 else 10)
   pub fails : bar.failed ≡ has_failed spans
   pub title : bar.title ≡ title_of logs nodes kind (bar_of window 0 spans)
-  pub label : IfSome bar.label (λ label. last_part (name_at logs nodes (place_of spans)) ≡ Some label)
-  pub labelled : 350 ≤ bar.width → 10 < bar.height → bar.label ≡ last_part (name_at logs nodes (place_of spans))
+  pub label : IfSome bar.label (λ label. last_part (name_at logs nodes (position_of spans)) ≡ Some label)
+  pub labelled : 350 ≤ bar.width → 10 < bar.height → bar.label ≡ last_part (name_at logs nodes (position_of spans))
   pub times : AllByRecursion (Includes window bar) spans
 
 -- A shape is a bar, and says this of some spans.

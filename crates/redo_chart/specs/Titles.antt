@@ -34,12 +34,12 @@ duration_after word Untimed ms = []
 -- The tooltip of the bar of one target, and of several.
 abbrev pub title_of_one : List Log → List Node → GroupKind → Bar → List ℕ
 title_of_one logs nodes kind bar =
-    name_at logs nodes bar.place ++ (duration_after (codes ", ") kind (bar.ended - bar.began) ++ status_text (status_at nodes bar.place))
+    name_at logs nodes bar.position ++ (duration_after (codes ", ") kind (bar.ended - bar.began) ++ status_text (status_at nodes bar.position))
 
 abbrev pub title_of_many : List Log → List Node → GroupKind → Bar → List ℕ
 title_of_many logs nodes kind bar =
     decimal_text bar.count ++ (codes " targets" ++ (duration_after (codes " in ") kind (bar.ended - bar.began)
-    ++ (codes ", from " ++ name_at logs nodes bar.place)))
+    ++ (codes ", from " ++ name_at logs nodes bar.position)))
 
 abbrev pub title_of : List Log → List Node → GroupKind → Bar → List ℕ
 title_of logs nodes kind bar = if bar.count == 1 then title_of_one logs nodes kind bar else title_of_many logs nodes kind bar

@@ -11,8 +11,8 @@ ghost use Rattle.redo_chart.specs.Bands.{max_mark_lanes, max_parent_lanes, max_r
 ghost use Rattle.redo_chart.specs.Laws.{AreRows, DrawsAll, IsNoBar, are_below, chart_bars, chart_lanes, kinds_of, rows_of, shapes_of};
 ghost use Rattle.redo_chart.specs.Timeline.{timeline_drawing};
 
-/// The bars lead to shown targets only: if the places of all spans are below a number, those to which the bars lead are, too.
-pub fn bars_lead_to_places()
+/// The bars lead to shown targets only: if the positions of all spans are below a number, those to which the bars lead are, too.
+pub fn bars_lead_to_positions()
     ensures { (logs : List Log) (nodes : List Node) (window : Window) (parents recipes marks : List Span) (count : ℕ) →
         are_below count (parents ++ (recipes ++ marks)) ≡ true
         → list_all (λ link. nat_lt link count) (drawing_links (timeline_drawing logs nodes window parents recipes marks)) ≡ true }

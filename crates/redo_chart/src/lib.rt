@@ -19,6 +19,6 @@ mod timeline;
 mod titles;
 
 pub use laws::{
-    axis_has_no_bars, bars_are_in_rows, bars_lead_to_places, bars_say_when_targets_ran,
+    axis_has_no_bars, bars_are_in_rows, bars_lead_to_positions, bars_say_when_targets_ran,
 };
 pub use timeline::write_timeline;

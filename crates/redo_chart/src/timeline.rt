@@ -33,7 +33,7 @@ const MAX_MARK_LANES: usize = 1;
 /// targets of which only one time is known (`marks`). A mark begins and ends at this time. Each bar leads to its target in the tree of the
 /// page, has a tooltip, and a label if it is large enough.
 ///
-/// `nodes` are the shown targets, and a span has the place of its node. A bar whose place is past the last node has an empty name and
+/// `nodes` are the shown targets, and a span has the position of its node. A bar whose position is past the last node has an empty name and
 /// an unknown status. The width of the window must be from 1 to 2^44 - 1 milliseconds.
 ///
 /// If an allocation or a write fails, a prefix was written, possibly nothing, and no write followed one that failed. All is laid out before

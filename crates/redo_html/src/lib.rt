@@ -58,17 +58,17 @@
 #![tactic(auto)]
 
 mod chart;
-mod text_kind;
 mod laws;
 mod lines;
 mod look;
 mod markup;
-mod passage;
 mod notation;
+mod passage;
 mod piece;
 mod style;
 mod style_sheet;
 mod symbol;
+mod text_kind;
 
 pub use chart::{Anchor, Bar, Chart, ChartGroup, ChartItem, GroupKind, write_chart, write_meter};
 pub use laws::{

@@ -3,7 +3,7 @@ mod ContentsLemmas
 mod FactsLemmas
 mod OutlineLemmas
 mod OutlineRows
-mod PlacesLemmas
+mod PositionsLemmas
 mod StatusLemmas
 mod SummaryLemmas
 mod SweepLemmas

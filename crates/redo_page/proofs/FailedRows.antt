@@ -20,7 +20,7 @@ use Rattle.redo_page.specs.Errors.{begins_with}
 use Rattle.redo_page.specs.Excerpt.{cut_to, excerpt_line_end, excerpt_line_parts, excerpt_parts, in_tree_parts, left_out_parts}
 use Rattle.redo_page.specs.declared.failed.Failures.{Failures}
 use Rattle.redo_page.specs.declared.labels.TheConstants.{MORE_ABOVE, PATH_SEPARATOR}
-use Rattle.redo_page.specs.Failed.{AreFailures, article_of, article_parts, article_row, article_took, cause_of_node, cause_parts, failed_above, failed_parts, is_unclosed, list_parts, more_parts, nothing_parts, output_parts, path_parts, places_where, row_parts, section_parts, target_row, unlisted_parts, whole_parts}
+use Rattle.redo_page.specs.Failed.{AreFailures, article_of, article_parts, article_row, article_took, cause_of_node, cause_parts, failed_above, failed_parts, is_unclosed, list_parts, more_parts, nothing_parts, output_parts, path_parts, positions_where, row_parts, section_parts, target_row, unlisted_parts, whole_parts}
 use Rattle.redo_page.specs.Laws.{target_links}
 use Rattle.redo_units.specs.Durations.{duration_words}
 
@@ -136,10 +136,10 @@ more_than_one = refl
 
 -- The starts of articles and of lists, and the links to articles.
 abbrev marks_of : Part → List Part
-marks_of (MarkupPart (markup.Article place)) = MarkupPart (markup.Article place) ∷ []
+marks_of (MarkupPart (markup.Article position)) = MarkupPart (markup.Article position) ∷ []
 marks_of (MarkupPart markup.Ordered) = MarkupPart markup.Ordered ∷ []
 marks_of (MarkupPart (markup.OrderedFrom first)) = MarkupPart (markup.OrderedFrom first) ∷ []
-marks_of (MarkupPart (markup.OutputLink place)) = MarkupPart (markup.OutputLink place) ∷ []
+marks_of (MarkupPart (markup.OutputLink position)) = MarkupPart (markup.OutputLink position) ∷ []
 marks_of (MarkupPart markup.MoreDetails) = MarkupPart markup.MoreDetails ∷ []
 marks_of part = []
 
@@ -147,10 +147,10 @@ abbrev marks : List Part → List ℕ
 marks parts = html (flat_map marks_of parts)
 
 abbrev outputs : List ℕ → List ℕ
-outputs places = flat_map (λ place. codes "<a href=\"#f" ++ (number_text place ++ codes "\">")) places
+outputs positions = flat_map (λ position. codes "<a href=\"#f" ++ (number_text position ++ codes "\">")) positions
 
 abbrev articles : List ℕ → List ℕ
-articles places = flat_map (λ place. codes "<article id=\"f" ++ (number_text place ++ codes "\">")) places
+articles positions = flat_map (λ position. codes "<article id=\"f" ++ (number_text position ++ codes "\">")) positions
 
 abbrev cs : ℕ → List Node
 cs count = replicate count c
@@ -174,14 +174,14 @@ abbrev twelve : List Node
 twelve = replicate 10 (record c { parent = None }) ++ record b { parent = None } ∷ record c { parent = None } ∷ []
 
 abbrev listed : ℕ → List ℕ
-listed place = codes "<li><a href=\"#f" ++ (number_text place ++ codes "\"><bdi>c</bdi></a> <strong class=\"x\">exit 2</strong></li>")
+listed position = codes "<li><a href=\"#f" ++ (number_text position ++ codes "\"><bdi>c</bdi></a> <strong class=\"x\">exit 2</strong></li>")
 
 abbrev article : ℕ → List ℕ
-article place =
+article position =
     codes "<article id=\"f"
-    ++ (number_text place
+    ++ (number_text position
     ++ (codes "\"><h3><bdi>c</bdi> <strong class=\"x\">exit 2</strong></h3><p class=\"meta\"><a href=\"#t"
-    ++ (number_text place ++ codes "\">its place in the tree</a></p><p class=\"quiet\">It printed nothing that was captured.</p></article>")))
+    ++ (number_text position ++ codes "\">its place in the tree</a></p><p class=\"quiet\">It printed nothing that was captured.</p></article>")))
 
 -- The first ten have articles. The list of the others goes on with number 11, and says why they failed.
 twelve_failures :
@@ -229,21 +229,21 @@ one_unlisted = refl
 abbrev nodes : List Node
 nodes = node 0 None (Some (pos 2)) 0 3 true ∷ b ∷ node 2 (Some 0) None 0 0 false ∷ node 3 (Some 0) (Some (pos 0)) 0 0 false ∷ []
 
-above_are : places_where failed_above 0 nodes ≡ 0 ∷ []
+above_are : positions_where failed_above 0 nodes ≡ 0 ∷ []
 above_are = refl
 
 -- A target that is made, though one below it failed.
-none_above : places_where failed_above 0 (node 0 None (Some (pos 0)) 0 1 true ∷ b ∷ []) ≡ []
+none_above : positions_where failed_above 0 (node 0 None (Some (pos 0)) 0 1 true ∷ b ∷ []) ≡ []
 none_above = refl
 
-unclosed_are : places_where is_unclosed 0 nodes ≡ 2 ∷ []
+unclosed_are : positions_where is_unclosed 0 nodes ≡ 2 ∷ []
 unclosed_are = refl
 
 failures_are : (failures : Failures) → failures.first.items ≡ 1 ∷ [] → failures.above.items ≡ 0 ∷ [] → failures.unclosed.items ≡ 2 ∷ [] → AreFailures nodes failures
 failures_are failures first above unclosed = record { first = first; above = above; unclosed = unclosed }
 
 -- A requested target, and one with others below it, are not at the end of a path.
-none_unclosed : places_where is_unclosed 0 (node 0 None None 0 0 false ∷ node 1 (Some 0) None 0 1 false ∷ []) ≡ []
+none_unclosed : positions_where is_unclosed 0 (node 0 None None 0 0 false ∷ node 1 (Some 0) None 0 1 false ∷ []) ≡ []
 none_unclosed = refl
 
 -- ---- outputs
@@ -268,7 +268,7 @@ long_output = refl
 abbrev many_lines : List Log
 many_lines = log (codes "e") (replicate 20 (Text (codes "a")) ++ Text (codes "error") ∷ replicate 85 (Text (codes "a"))) ∷ []
 
--- Where lines are left out, a link leads to the place of the target.
+-- Where lines are left out, a link leads to the position of the target.
 excerpt_links : target_links (output_parts many_lines 5 (node 0 None (Some (pos 1)) 301 0 false)) ≡ 5 ∷ 5 ∷ []
 unfolding output_parts excerpt_parts excerpt_line_parts excerpt_line_end cut_to left_out_parts in_tree_parts begins_with
 excerpt_links = refl

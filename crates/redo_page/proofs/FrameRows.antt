@@ -177,7 +177,7 @@ requested_are = refl
 -- Only if most times are known, there is a link to the timeline.
 header_links_are :
     (section_links (header_parts [] logs Made [] [] (facts None 0)) ≡ codes "summary" ∷ codes "tree" ∷ [])
-    × (section_links (header_parts [] logs Failed [] [] (record (facts (Some (record { began = 7; width = 1 })) 1) { recipes = record { began = 7; place = 0; ended = 8; failed = false } ∷ [] }))
+    × (section_links (header_parts [] logs Failed [] [] (record (facts (Some (record { began = 7; width = 1 })) 1) { recipes = record { began = 7; position = 0; ended = 8; failed = false } ∷ [] }))
     ≡ codes "failed" ∷ codes "summary" ∷ codes "timeline" ∷ codes "tree" ∷ [])
 unfolding duration_words dates.date_text_of dates.date_parts dates.period_of
 header_links_are = (refl, refl)

@@ -222,11 +222,11 @@ facts_bare node = simp (flat_map-append, badge_bare node.status, took_bare node.
 pub how_bare : (shown : Bool) (how : How) → Bare (how_parts shown how)
 how_bare shown how = bare_if shown _ refl
 
--- A place, if there is one, is below a number.
+-- A position, if there is one, is below a number.
 abbrev pub IsBelow : ℕ → Option ℕ → Type 0
 IsBelow count None = Unit {0}
-IsBelow count (Some place) = nat_lt place count ≡ true
+IsBelow count (Some position) = nat_lt position count ≡ true
 
-pub linked_refers : {count : ℕ} {articles : List ℕ} (place : Option ℕ) (name : List ℕ) → IsBelow count place → Refer count articles (linked_parts place name) [] []
+pub linked_refers : {count : ℕ} {articles : List ℕ} (position : Option ℕ) (name : List ℕ) → IsBelow count position → Refer count articles (linked_parts position name) [] []
 linked_refers None name below = bare_refers (name_parts name) refl
-linked_refers (Some place) name below = same_refer {others = MarkupPart (TargetLink place) ∷ []} refl (link_refers place below)
+linked_refers (Some position) name below = same_refer {others = MarkupPart (TargetLink position) ∷ []} refl (link_refers position below)

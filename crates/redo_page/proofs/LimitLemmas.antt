@@ -5,7 +5,7 @@ use Rattle.std.proofs.lemmas.Bool.{cases_lt, le-leb, leb-false, leb-true, lt-leb
 use Rattle.redo_outline.specs.declared.node.Node.{Node}
 use Rattle.redo_page.specs.Excerpt.{last_where}
 use Rattle.redo_page.specs.Limits.{at_most, bytes_shown, fit_in, highest_level, limit_if, limits_from}
-use Rattle.redo_page.specs.Tree.{Build, place_of}
+use Rattle.redo_page.specs.Tree.{Build, position_of}
 use Rattle.redo_trim.specs.declared.limit.Limit.{Limit}
 use Rattle.std.proofs.lemmas.List.{append_assoc}
 use Rattle.std.proofs.lemmas.List.Sums.{sum_by-cons}
@@ -99,7 +99,7 @@ none_higher budget nodes level above within = leb-false (bytes_shown (Some level
 -- ---- limits, one by one
 
 -- The limit of one log more.
-pub next_limit : (build : Build) (level number count : ℕ) → number < count → (limits after : List Limit) (limit : Limit) → limit ≡ limit_if build level (place_of build.nodes number) → after ≡ limits ++ (limit ∷ [])
+pub next_limit : (build : Build) (level number count : ℕ) → number < count → (limits after : List Limit) (limit : Limit) → limit ≡ limit_if build level (position_of build.nodes number) → after ≡ limits ++ (limit ∷ [])
     → limits ++ limits_from build level number (count - number) ≡ limits_from build level 0 count → after ++ limits_from build level (number + 1) (count - (number + 1)) ≡ limits_from build level 0 count
 next_limit build level number count below limits after limit limit_is after_is so_far =
     let rest = limits_from build level (suc number) (count - suc number) in

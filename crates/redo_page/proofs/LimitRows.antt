@@ -5,7 +5,7 @@ use Rattle.redo_logs.specs.declared.log_state.LogState.TheVariants.{Ended}
 use Rattle.redo_logs.specs.Logs.{Log}
 use Rattle.redo_options.specs.declared.options.Options.{Options}
 use Rattle.redo_outline.specs.declared.node.Node.{Node}
-use Rattle.redo_page.specs.Limits.{at_most, bytes_shown, fit_in, highest_level, level_for, limit_at, limit_if, limits_from, limits_of, min_level, place_limit, tree_limits}
+use Rattle.redo_page.specs.Limits.{at_most, bytes_shown, fit_in, highest_level, level_for, limit_at, limit_if, limits_from, limits_of, min_level, position_limit, tree_limits}
 use Rattle.redo_page.specs.Tree.{Build}
 use Rattle.redo_trim.specs.declared.limit.Limit.{Limit}
 
@@ -97,11 +97,11 @@ abbrev build : Build
 build = record { logs = logs; options = options; nodes = nodes; articles = 1 ∷ 2 ∷ [] }
 
 -- A log that has as many bytes as the level is shown whole.
-places_are :
-    (place_limit build 5000 0 ≡ limit 1250 16250) × (place_limit build 19999 0 ≡ limit 4999 5000) × (place_limit build 20000 0 ≡ whole) × (place_limit build 5000 1 ≡ whole)
-    × (place_limit build 5000 2 ≡ limit 1250 36251) × (place_limit (record build { articles = [] }) 5000 1 ≡ limit 1250 36250)
+positions_are :
+    (position_limit build 5000 0 ≡ limit 1250 16250) × (position_limit build 19999 0 ≡ limit 4999 5000) × (position_limit build 20000 0 ≡ whole) × (position_limit build 5000 1 ≡ whole)
+    × (position_limit build 5000 2 ≡ limit 1250 36251) × (position_limit (record build { articles = [] }) 5000 1 ≡ limit 1250 36250)
     × (limit_if build 5000 None ≡ whole) × (limit_if build 5000 (Some 0) ≡ limit 1250 16250)
-places_are = (refl, refl, refl, refl, refl, refl, refl, refl)
+positions_are = (refl, refl, refl, refl, refl, refl, refl, refl)
 
 numbers_are :
     (limits_from build 5000 0 4 ≡ limit 1250 36251 ∷ whole ∷ limit 1250 16250 ∷ whole ∷ []) × (limits_from build 5000 2 1 ≡ limit 1250 16250 ∷ []) × (limits_from build 5000 0 0 ≡ [])

@@ -112,13 +112,13 @@ charts_found verdict timed some timeline = by verdict timed some
     by Made false true = last
     by Made false false = last
 
-module _ (nodes : List Node) (facts : Facts) (places : AreOfNodes nodes facts) where
+module _ (nodes : List Node) (facts : Facts) (positions : AreOfNodes nodes facts) where
   top_refers : (title : List ℕ) (logs : List Log) (verdict : Verdict) (title_is heading : List ℕ)
       → Refers (length nodes) (articles nodes) (top_parts_of title logs verdict title_is heading nodes facts) [] ((articles nodes ++ []) ++ []) (top_sections verdict (has_timeline facts) (failed_section (first_failures nodes)))
   unfolding top_parts_of
   top_refers title logs verdict title_is heading =
       then_refer (bare_refers (head_parts title_is verdict) (head_bare title_is verdict))
-      (then_refer (header_refers title logs verdict heading nodes facts) (then_refer (failed_refers logs nodes) (summary_refers (length nodes) (articles nodes) logs nodes facts places.longest places.warned)))
+      (then_refer (header_refers title logs verdict heading nodes facts) (then_refer (failed_refers logs nodes) (summary_refers (length nodes) (articles nodes) logs nodes facts positions.longest positions.warned)))
 
 -- There is a link to each section.
 module _ (logs : List Log) (nodes : List Node) (facts : Facts) where
@@ -143,9 +143,9 @@ module _ (logs : List Log) (nodes : List Node) (facts : Facts) where
       by false false true (Some window) = refl
       by false false false (Some window) = refl
 
--- The times of shown targets lead to places of nodes.
-abbrev pub HavePlaces : Type 0
-HavePlaces = (nodes : List Node) (times : List Times) → AreOfNodes nodes (summary_of nodes times)
+-- The times of shown targets lead to positions of nodes.
+abbrev pub HavePositions : Type 0
+HavePositions = (nodes : List Node) (times : List Times) → AreOfNodes nodes (summary_of nodes times)
 
 -- No log is left out of the tree.
 abbrev pub KeepLogs : Type 0
@@ -157,7 +157,7 @@ outline_counted request logs requested =
     let events = page_events request logs requested in
     length-map (outline_of logs events) (with_times (map run_times request.times)) ∙ nodes_counted logs (target_status logs events) None 0 (contents_of events)
 
-module _ (have : HavePlaces) (lead : BarsLead) (keep : KeepLogs) (request : Request) (logs : List Log) (requested : List (List ℕ)) where
+module _ (have : HavePositions) (lead : BarsLead) (keep : KeepLogs) (request : Request) (logs : List Log) (requested : List (List ℕ)) where
   abbrev parts : List Part
   parts = page_parts request logs requested
 
@@ -178,9 +178,9 @@ module _ (have : HavePlaces) (lead : BarsLead) (keep : KeepLogs) (request : Requ
       (page_sections (verdict_of nodes) (has_timeline facts) (failed_section (first_failures nodes)) (timeline_found logs nodes facts (is_timed facts) facts.window))
   unfolding page_parts
   page_refers =
-      let places = have nodes request.times in
-      then_refer (top_refers nodes facts places request.title logs (verdict_of nodes) (title_text request.title (verdict_of nodes) (heading_of nodes)) (heading_of nodes))
-      (then_refer (then_refer (timeline_refers lead (length nodes) (articles nodes) logs nodes facts places.parents places.recipes places.marks) (tree_refers logs (options_of request) nodes shown))
+      let positions = have nodes request.times in
+      then_refer (top_refers nodes facts positions request.title logs (verdict_of nodes) (title_text request.title (verdict_of nodes) (heading_of nodes)) (heading_of nodes))
+      (then_refer (then_refer (timeline_refers lead (length nodes) (articles nodes) logs nodes facts positions.parents positions.recipes positions.marks) (tree_refers logs (options_of request) nodes shown))
       (bare_refers (footer_parts request.dir (command request.dir (options_of request) requested) (length nodes)) (footer_bare request.dir (command request.dir (options_of request) requested) (length nodes))))
 
   pub page_target_ids : target_ids parts ≡ numbers_from 0 (length nodes)

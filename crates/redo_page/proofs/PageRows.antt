@@ -28,7 +28,7 @@ use Rattle.redo_page.specs.Excerpt.{in_tree_parts}
 use Rattle.redo_page.specs.Failed.{article_of, article_parts, article_row, cause_of_node, cause_parts, failed_parts, list_parts, more_parts, nothing_parts, output_parts, path_parts, row_parts, section_parts, whole_parts}
 use Rattle.redo_page.specs.Frame.{footer_parts, is_safe}
 use Rattle.redo_page.specs.Summary.{rank_parts, summary_parts, table_parts, tables_parts}
-use Rattle.redo_page.specs.Laws.{article_ids, article_links, log_bytes, placed_lines}
+use Rattle.redo_page.specs.Laws.{article_ids, article_links, log_bytes, positioned_lines}
 use Rattle.redo_page.specs.Page.{Request, body_parts, options_of, page_contents, page_events, page_facts, page_html, page_outline, page_parts, request_of, run_times, top_parts_of, tree_contents}
 use Rattle.redo_summary.specs.Summary.{Facts}
 use Rattle.redo_timeline.specs.declared.span.Window.{Window}
@@ -128,14 +128,14 @@ facts_are :
     page_facts timed made (codes "a" ∷ []) ≡ record {
       window = Some window;
       took = 2500;
-      parents = record { began = 1795829211000; place = 0; ended = 1795829213500; failed = false } ∷ [];
-      recipes = record { began = 1795829211200; place = 1; ended = 1795829213000; failed = false } ∷ [];
+      parents = record { began = 1795829211000; position = 0; ended = 1795829213500; failed = false } ∷ [];
+      recipes = record { began = 1795829211200; position = 1; ended = 1795829213000; failed = false } ∷ [];
       marks = [];
       sum = 1800;
       most = 1;
       warnings = 0;
       bytes = 2;
-      longest = record { value = 1800; place = 1 } ∷ [];
+      longest = record { value = 1800; position = 1 } ∷ [];
       warned = [];
     }
 unfolding show_log show_log_within
@@ -151,7 +151,7 @@ abbrev limited : ℕ → Request
 limited bytes = record (request [] false false) { max_bytes = bytes }
 
 abbrev line_count : Contents → ℕ
-line_count contents = length (placed_lines None 0 contents)
+line_count contents = length (positioned_lines None 0 contents)
 
 -- Without a limit, or within it, all lines are shown. Otherwise, the first line ends in the first 1,024 bytes, and three lines begin in the
 -- last 3,072.

@@ -15,7 +15,7 @@ use Rattle.redo_outline.specs.Facts.{target_at}
 use Rattle.redo_page.specs.declared.labels.TheConstants.{AT_MOST, AT_ONCE, FAILED, FEW_TIMES_OF, LOGS, LONGEST, MOST_WARNINGS, NO_TIMES, OF, SUM_OF_TIMES, TARGETS, TIMES_UNKNOWN, TOOK, WARNED_LINES}
 use Rattle.redo_page.specs.declared.summary.Measure.{Measure}
 use Rattle.redo_page.specs.declared.summary.Measure.TheVariants.{Milliseconds, Count}
-use Rattle.redo_page.specs.Failed.{failed_above, places_where}
+use Rattle.redo_page.specs.Failed.{failed_above, positions_where}
 use Rattle.redo_page.specs.Summary.{at_once_parts, failed_counts, known_count, largest_of, measure_parts, rank_parts, shown_longest, summary_parts, table_parts, tables_parts, tile, tile_end, tile_start, tiles, timed_tiles, took_tile, unknown_parts, why_parts}
 use Rattle.redo_page.specs.Targets.{linked_parts}
 use Rattle.redo_page.specs.Tree.{first_failures, node_at}
@@ -68,12 +68,12 @@ why_bare facts = bare_if (not (is_timed facts)) _ (by (known_count facts == 0))
     by false = refl
 
 module _ (count : ℕ) (listed : List ℕ) (logs : List Log) (nodes : List Node) where
-  row_refers : (measure : Measure) (largest : ℕ) (rank : Rank) → rank.place < count → Refer count listed (rank_parts logs nodes measure largest rank) [] []
+  row_refers : (measure : Measure) (largest : ℕ) (rank : Rank) → rank.position < count → Refer count listed (rank_parts logs nodes measure largest rank) [] []
   unfolding rank_parts
   row_refers measure largest rank below =
-      let name = target_at logs (node_at nodes rank.place).number in
-      same_refer {others = linked_parts (Some rank.place) name} (simp (flat_map-append, badge_bare (node_at nodes rank.place).status, measure_bare measure rank.value))
-      (linked_refers (Some rank.place) name (lt-ltb rank.place count below))
+      let name = target_at logs (node_at nodes rank.position).number in
+      same_refer {others = linked_parts (Some rank.position) name} (simp (flat_map-append, badge_bare (node_at nodes rank.position).status, measure_bare measure rank.value))
+      (linked_refers (Some rank.position) name (lt-ltb rank.position count below))
 
   rows_refer : (measure : Measure) (largest : ℕ) (ranks : List Rank) → AreRanksBelow count ranks → Refer count listed (flat_map (rank_parts logs nodes measure largest) ranks) [] []
   rows_refer measure largest [] below = bare_refers [] refl
@@ -102,6 +102,6 @@ module _ (count : ℕ) (listed : List ℕ) (logs : List Log) (nodes : List Node)
   unfolding summary_parts
   summary_refers facts longest warned =
       same_refer {others = MarkupPart SummarySection ∷ tables_parts logs nodes (shown_longest facts) facts.warned}
-      (simp (flat_map-append, append-nil, tiles_bare facts (length nodes) (length (first_failures nodes)) (length (places_where failed_above 0 nodes)), why_bare facts))
+      (simp (flat_map-append, append-nil, tiles_bare facts (length nodes) (length (first_failures nodes)) (length (positions_where failed_above 0 nodes)), why_bare facts))
       (then_refer {parts = MarkupPart SummarySection ∷ []} (record { target_ids_are = refl; article_ids_are = refl; target_links_lead = refl; article_links_lead = refl; sections_are = refl })
       (tables_refer (shown_longest facts) facts.warned (longest_below facts longest) warned))

@@ -10,7 +10,7 @@ use Rattle.redo_outline.specs.Facts.{target_at}
 use Rattle.redo_page.specs.declared.labels.TheConstants.{AT_ONCE, FAILED, FEW_TIMES_OF, LOGS, LONGEST, MOST_WARNINGS, NO_TIMES, OF, SUMMARY, SUM_OF_TIMES, TARGETS, TIMES_UNKNOWN, TOOK, WARNED_LINES}
 use Rattle.redo_page.specs.declared.summary.Measure.{Measure}
 use Rattle.redo_page.specs.declared.summary.Measure.TheVariants.{Milliseconds, Count}
-use Rattle.redo_page.specs.Failed.{failed_above, places_where}
+use Rattle.redo_page.specs.Failed.{failed_above, positions_where}
 use Rattle.redo_page.specs.Summary.{above_parts, at_once_parts, failed_counts, known_count, largest_of, measure_parts, rank_parts, shown_longest, summary_parts, table_parts, table_start, tables_parts, tile, tile_end, tile_start, tiles, timed_tiles, took_tile, unknown_parts, why_parts}
 use Rattle.redo_page.specs.Tree.{first_failures, node_at}
 use Rattle.redo_page.specs.Words.{word_part, words_parts}
@@ -68,7 +68,7 @@ module _ (logs : List Log) (nodes : List Node) where
   unfolding rank_parts
   row_nests measure largest rank = record {
     leads = λ around tags.
-        simp (joined, (linked_nests (Some rank.place) (target_at logs (node_at nodes rank.place).number)).leads, (badge_nests (node_at nodes rank.place).status).leads, (measure_nests measure rank.value).leads);
+        simp (joined, (linked_nests (Some rank.position) (target_at logs (node_at nodes rank.position).number)).leads, (badge_nests (node_at nodes rank.position).status).leads, (measure_nests measure rank.value).leads);
   }
 
   table_nests : (measure : Measure) (heading : List ℕ) (ranks : List Rank) → Nest (table_parts logs nodes measure heading ranks)
@@ -90,7 +90,7 @@ module _ (logs : List Log) (nodes : List Node) where
   unfolding summary_parts
   summary_nests facts =
       then_lead {middle = codes "dl" ∷ codes "section" ∷ []} {parts = MarkupPart markup.SummarySection ∷ MarkupPart markup.SummaryHeading ∷ TextPart SUMMARY.now ∷ MarkupPart markup.EndHeading ∷ MarkupPart markup.DescriptionList ∷ []} (record { leads = λ around tags. refl })
-      (then_lead (lead_in (codes "dl" ∷ codes "section" ∷ []) (tiles_nest facts (length nodes) (length (first_failures nodes)) (length (places_where failed_above 0 nodes))))
+      (then_lead (lead_in (codes "dl" ∷ codes "section" ∷ []) (tiles_nest facts (length nodes) (length (first_failures nodes)) (length (positions_where failed_above 0 nodes))))
       (then_lead {middle = codes "section" ∷ []} {parts = MarkupPart markup.EndDescriptionList ∷ []} (record { leads = λ around tags. refl })
       (then_lead (lead_in (codes "section" ∷ []) (tables_nest (shown_longest facts) facts.warned))
       (then_lead (lead_in (codes "section" ∷ []) (why_nests facts)) (record { leads = λ around tags. refl })))))

@@ -60,10 +60,10 @@ abbrev nodes : List Node
 nodes = node 2 None (Some (pos 1)) true ∷ node 0 (Some 0) (Some (pos 0)) false ∷ node 1 (Some 0) (Some (pos 2)) false ∷ []
 
 abbrev span : ℕ → Span
-span place = record { began = 0; place = place; ended = 9; failed = false }
+span position = record { began = 0; position = position; ended = 9; failed = false }
 
 abbrev rank : ℕ → ℕ → Rank
-rank value place = record { value = value; place = place }
+rank value position = record { value = value; position = position }
 
 -- No time is known.
 abbrev unknown : Facts

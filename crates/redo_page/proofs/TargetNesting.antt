@@ -62,6 +62,6 @@ facts_nest node = record {
 pub how_nests : (shown : Bool) (how : How) → Nest (how_parts shown how)
 how_nests shown how = nest_if shown (record { leads = λ around tags. refl })
 
-pub linked_nests : (place : Option ℕ) (name : List ℕ) → Nest (linked_parts place name)
+pub linked_nests : (position : Option ℕ) (name : List ℕ) → Nest (linked_parts position name)
 linked_nests None name = name_nests name
-linked_nests (Some place) name = record { leads = λ around tags. refl }
+linked_nests (Some position) name = record { leads = λ around tags. refl }

@@ -47,9 +47,9 @@ timeline_nests logs nodes facts = by facts.window
 
 below_test : (count : ℕ) (spans : List Span) → AreSpansBelow count spans → are_below count spans ≡ true
 below_test count [] below = refl
-below_test count (span ∷ spans) below = and_from (nat_lt span.place count) (are_below count spans) (lt-ltb span.place count below.0) (below_test count spans below.1)
+below_test count (span ∷ spans) below = and_from (nat_lt span.position count) (are_below count spans) (lt-ltb span.position count below.0) (below_test count spans below.1)
 
--- The bars of a chart lead to places below a number if the places of all spans are below it.
+-- The bars of a chart lead to positions below a number if the positions of all spans are below it.
 abbrev pub BarsLead : Type 0
 BarsLead = (logs : List Log) (nodes : List Node) (window : Window) (parents recipes marks : List Span) (count : ℕ) → are_below count (parents ++ (recipes ++ marks)) ≡ true
     → list_all (λ link. nat_lt link count) (drawing_links (timeline_drawing logs nodes window parents recipes marks)) ≡ true
@@ -65,7 +65,7 @@ start_same marks known = bare_if (not (marks == 0)) _ refl
 module _ (lead : BarsLead) (count : ℕ) (listed : List ℕ) (logs : List Log) (nodes : List Node) (facts : Facts) where
   all_below : AreSpansBelow count facts.parents → AreSpansBelow count facts.recipes → AreSpansBelow count facts.marks → are_below count (facts.parents ++ (facts.recipes ++ facts.marks)) ≡ true
   all_below parents recipes marks =
-      let test = λ (span : Span). nat_lt span.place count in
+      let test = λ (span : Span). nat_lt span.position count in
       list_all-append test facts.parents (facts.recipes ++ facts.marks)
       ∙ and_from (are_below count facts.parents) (are_below count (facts.recipes ++ facts.marks)) (below_test count facts.parents parents)
       (list_all-append test facts.recipes facts.marks ∙ and_from (are_below count facts.recipes) (are_below count facts.marks) (below_test count facts.recipes recipes) (below_test count facts.marks marks))

@@ -60,7 +60,7 @@ abbrev nodes : List Node
 nodes = node 0 None 0 ∷ node 2 (Some 0) 0 ∷ node 1 (Some 0) 0 ∷ node 3 (Some 0) 1 ∷ []
 
 abbrev span : ℕ → ℕ → ℕ → Span
-span place began ended = record { began = began; place = place; ended = ended; failed = false }
+span position began ended = record { began = began; position = position; ended = ended; failed = false }
 
 abbrev window : Window
 window = record { began = 1000; width = 10000 }
@@ -131,11 +131,11 @@ ends_are = (refl, refl)
 -- ---- the section
 
 abbrev drawn_at : ℕ → ℕ → ℕ → ℕ → ℕ → Bool → List ℕ → Option (List ℕ) → Shape
-drawn_at place x y width height failed title label = BarShape (record { place = place; x = x; y = y; width = width; height = height; failed = failed; title = title; label = label })
+drawn_at position x y width height failed title label = BarShape (record { position = position; x = x; y = y; width = width; height = height; failed = failed; title = title; label = label })
 
 -- With a mark of the last target, which failed.
 abbrev chart : Drawing
-chart = facts_drawing logs nodes (record known { marks = record { began = 9000; place = 3; ended = 9000; failed = true } ∷ [] }) window
+chart = facts_drawing logs nodes (record known { marks = record { began = 9000; position = 3; ended = 9000; failed = true } ∷ [] }) window
 
 chart_is :
     (chart.height ≡ 102) × (chart.lanes ≡ 2) × (shapes_of Parents chart ≡ drawn_at 0 0 20 10000 12 false (codes "all, 10.0 s") (Some (codes "all")) ∷ [])

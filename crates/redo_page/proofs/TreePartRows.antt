@@ -21,7 +21,7 @@ use Rattle.redo_outline.specs.Contents.Contents.{Nothing, Shown, Opened}
 use Rattle.redo_page.specs.declared.block.Pending.{Pending}
 use Rattle.redo_page.specs.declared.block.Pending.TheVariants as pending
 use Rattle.redo_page.specs.declared.level.Level.{Level}
-use Rattle.redo_page.specs.Tree.{Build, after_item, after_log, after_shown, after_text, closing_parts, contents_parts, depth_parts, details_markup, done_parts, empty_start, end_cmp, entry_parts, failed_first, failure_cmp, first_failures, flat_end, flat_start, group_end, group_left, group_parts, group_size, group_start, has_article, has_failed, has_one_child, heading_parts, is_empty, is_expanded, is_moved, is_moved_if, is_same_place, is_seen, is_silent, item_parts, level_of, log_end, log_start, mention_parts, moved_parts, nested_start, node_at, node_if, note_parts, opening_parts, opening_place, place_of, place_of_name, request_parts, section_end, section_start, seen_parts, shown_parts, is_in_level, text_parts, top_level, tree_parts}
+use Rattle.redo_page.specs.Tree.{Build, after_item, after_log, after_shown, after_text, closing_parts, contents_parts, depth_parts, details_markup, done_parts, empty_start, end_cmp, entry_parts, failed_first, failure_cmp, first_failures, flat_end, flat_start, group_end, group_left, group_parts, group_size, group_start, has_article, has_failed, has_one_child, heading_parts, is_empty, is_expanded, is_moved, is_moved_if, is_same_position, is_seen, is_silent, item_parts, level_of, log_end, log_start, mention_parts, moved_parts, nested_start, node_at, node_if, note_parts, opening_parts, opening_position, position_of, position_of_name, request_parts, section_end, section_start, seen_parts, shown_parts, is_in_level, text_parts, top_level, tree_parts}
 
 abbrev tag : Markup → Part
 tag markup = MarkupPart markup
@@ -69,7 +69,7 @@ abbrev build : Build
 build = build_of false nodes (1 ∷ [])
 
 abbrev level : Option ℕ → Bool → ℕ → Level
-level place expanded depth = record { place = place; expanded = expanded; depth = depth }
+level position expanded depth = record { position = position; expanded = expanded; depth = depth }
 
 abbrev block : Pending
 block = pending.Text (record { lines = 1; bytes = 2; style = plain_style })
@@ -102,7 +102,7 @@ ends_compared :
     × (end_cmp None (Some 2) ≡ Greater) × (end_cmp None None ≡ Equal)
 ends_compared = (refl, refl, refl, refl, refl, refl)
 
--- Equal ends, and unknown ones, are compared by their places.
+-- Equal ends, and unknown ones, are compared by their positions.
 failures_compared :
     (failure_cmp (failed_at (Some 8) ∷ failed_at (Some 8) ∷ []) 0 1 ≡ Less) × (failure_cmp (failed_at None ∷ failed_at None ∷ []) 1 0 ≡ Greater)
     × (failure_cmp (failed_at None ∷ failed_at (Some 8) ∷ []) 1 0 ≡ Less)
@@ -119,25 +119,25 @@ one_child_are = (refl, refl, refl, refl, refl)
 silent_are : (is_silent None ≡ false) × (is_silent (Some b) ≡ false) × (is_silent (Some (record b { silent = 3 })) ≡ true)
 silent_are = (refl, refl, refl)
 
--- ---- places
+-- ---- positions
 
-places_are : (place_of nodes 1 ≡ Some 2) × (place_of nodes 7 ≡ None) × (node_at nodes 1 ≡ a) × (node_if nodes None ≡ None) × (node_if nodes (Some 1) ≡ Some a)
-places_are = (refl, refl, refl, refl, refl)
+positions_are : (position_of nodes 1 ≡ Some 2) × (position_of nodes 7 ≡ None) × (node_at nodes 1 ≡ a) × (node_if nodes None ≡ None) × (node_if nodes (Some 1) ≡ Some a)
+positions_are = (refl, refl, refl, refl, refl)
 
 same_are :
-    (is_same_place None None ≡ true) × (is_same_place None (Some 0) ≡ false) × (is_same_place (Some 0) None ≡ false) × (is_same_place (Some 1) (Some 1) ≡ true)
-    × (is_same_place (Some 1) (Some 2) ≡ false)
+    (is_same_position None None ≡ true) × (is_same_position None (Some 0) ≡ false) × (is_same_position (Some 0) None ≡ false) × (is_same_position (Some 1) (Some 1) ≡ true)
+    × (is_same_position (Some 1) (Some 2) ≡ false)
 same_are = (refl, refl, refl, refl, refl)
 
 openings_are :
-    (opening_place build NotOpened ≡ None) × (opening_place build (OpenedBefore 1) ≡ Some 2) × (opening_place build (OpensHere 2) ≡ Some 0)
-    × (place_of_name build (codes "b") ≡ Some 2) × (place_of_name build (codes "x") ≡ None) × (place_of_name (build_of false (c ∷ []) []) (codes "b") ≡ None)
+    (opening_position build NotOpened ≡ None) × (opening_position build (OpenedBefore 1) ≡ Some 2) × (opening_position build (OpensHere 2) ≡ Some 0)
+    × (position_of_name build (codes "b") ≡ Some 2) × (position_of_name build (codes "x") ≡ None) × (position_of_name (build_of false (c ∷ []) []) (codes "b") ≡ None)
 openings_are = (refl, refl, refl, refl, refl, refl)
 
-places_in_level_are :
+positions_in_level_are :
     (is_in_level build top_level None ≡ false) × (is_in_level build top_level (Some 0) ≡ true) × (is_in_level build (level (Some 0) true 1) (Some 2) ≡ true)
     × (is_in_level build (level (Some 2) true 1) (Some 2) ≡ false)
-places_in_level_are = (refl, refl, refl, refl)
+positions_in_level_are = (refl, refl, refl, refl)
 
 -- ---- articles and levels
 
@@ -282,7 +282,7 @@ notes_are :
 notes_are = (refl, refl, refl)
 
 abbrev link : ℕ → List ℕ → List Part → List Part
-link place target rest = tag (markup.TargetLink place) ∷ name target (tag markup.EndLink ∷ rest)
+link position target rest = tag (markup.TargetLink position) ∷ name target (tag markup.EndLink ∷ rest)
 
 done_are :
     (done_parts build (negsuc 0) (codes "b") ≡ tag markup.NoteItem ∷ words (codes "needs ") ∷ link 2 (codes "b") (words (codes " ") ∷ tag markup.ExitBadge ∷ words (codes "exit ") ∷ words (codes "-") ∷ number 1 ∷ tag markup.EndBadge ∷ tag markup.EndItem ∷ []))

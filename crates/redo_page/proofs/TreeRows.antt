@@ -226,7 +226,7 @@ none_there = refl
 -- A log at depth 59 is nested, and one at depth 60 isn't. The output of the second one is in an article.
 abbrev one_log : List Node → ℕ → List ℕ
 one_log nodes depth =
-    flat_map part_html (contents_parts (record { logs = log (codes "a") [] ∷ []; options = plain; nodes = nodes; articles = articles nodes }) (record { place = Some 7; expanded = true; depth = depth }) 0 pending.Nothing
+    flat_map part_html (contents_parts (record { logs = log (codes "a") [] ∷ []; options = plain; nodes = nodes; articles = articles nodes }) (record { position = Some 7; expanded = true; depth = depth }) 0 pending.Nothing
     (Opened (Mentioned 1 9 Made (codes "a") (OpensHere 0)) 0 (Shown (EntryShown 2 (Text (codes "x"))) (Shown (EntryShown 2 (Note 9 (codes "n") (codes "y"))) Nothing)) Nothing))
 
 abbrev shown : Node
@@ -248,7 +248,7 @@ long_is = refl
 
 -- A log in the deepest log that is nested is not nested.
 levels_are :
-    flat_map part_html (contents_parts (record { logs = log (codes "a") [] ∷ log (codes "b") [] ∷ []; options = plain; nodes = shown ∷ record shown { number = 1 } ∷ []; articles = [] }) (record { place = Some 7; expanded = false; depth = 59 }) 0 pending.Nothing
+    flat_map part_html (contents_parts (record { logs = log (codes "a") [] ∷ log (codes "b") [] ∷ []; options = plain; nodes = shown ∷ record shown { number = 1 } ∷ []; articles = [] }) (record { position = Some 7; expanded = false; depth = 59 }) 0 pending.Nothing
     (Opened (Mentioned 1 9 Made (codes "a") (OpensHere 0)) 0 (Opened (Mentioned 1 9 Made (codes "b") (OpensHere 1)) 1 (Shown (EntryShown 2 (Text (codes "x"))) Nothing) Nothing) Nothing))
     ≡ codes "<li><details id=\"t0\"><summary><bdi>a</bdi> <strong class=\"o\">not closed</strong> <small>1 line</small></summary><ul><li id=\"t1\"><bdi>b</bdi> <strong class=\"o\">not closed</strong> <small>1 line</small> <small>level 60</small></li><li><pre>\nx\n</pre></li><li class=\"note\">end of <bdi>b</bdi></li></ul></details></li>"
 unfolding symbols_after first_symbol symbol_len is_sequence sequence_len sequence_numbers first_code_point code_point_len is_unprintable notation unprintable_text number_text encode_utf8 digits html_from

@@ -75,22 +75,22 @@ stretches_from kept at (line ∷ lines) =
 -- ---- parts
 
 unfoldable pub in_tree_parts : ℕ → List ℕ → List Part
-in_tree_parts place text = MarkupPart (markup.TargetLink place) ∷ TextPart text ∷ MarkupPart markup.EndLink ∷ []
+in_tree_parts position text = MarkupPart (markup.TargetLink position) ∷ TextPart text ∷ MarkupPart markup.EndLink ∷ []
 
 -- How many lines are left out. They are in the log of the target, which may be cut in the tree.
 unfoldable pub left_out_parts : ℕ → ℕ → List Part
-left_out_parts place count =
+left_out_parts position count =
     MarkupPart markup.CutParagraph ∷ NumberPart count ∷ TextPart (plural count MORE_LINE.now MORE_LINES.now)
-    ∷ (in_tree_parts place IN_ITS_LOG.now ++ MarkupPart markup.EndParagraph ∷ [])
+    ∷ (in_tree_parts position IN_ITS_LOG.now ++ MarkupPart markup.EndParagraph ∷ [])
 
 abbrev pub stretch_parts : ℕ → Stretch → List Part
-stretch_parts place (Shown lines) = MarkupPart markup.Pre ∷ (flat_map excerpt_line_parts lines ++ MarkupPart markup.EndPre ∷ [])
-stretch_parts place (LeftOut count) = left_out_parts place count
+stretch_parts position (Shown lines) = MarkupPart markup.Pre ∷ (flat_map excerpt_line_parts lines ++ MarkupPart markup.EndPre ∷ [])
+stretch_parts position (LeftOut count) = left_out_parts position count
 
 -- The position of the first line that reports an error; the number of lines if there is none.
 abbrev pub error_position : List (List ℕ) → ℕ
 error_position lines = position_or_len is_error lines
 
--- The excerpt of the output of the target at a place.
+-- The excerpt of the output of the target at a position.
 unfoldable pub excerpt_parts : ℕ → List (List ℕ) → List Part
-excerpt_parts place lines = flat_map (stretch_parts place) (stretches_from (is_kept (length lines) (error_position lines)) 0 lines)
+excerpt_parts position lines = flat_map (stretch_parts position) (stretches_from (is_kept (length lines) (error_position lines)) 0 lines)

@@ -22,10 +22,10 @@ use Rattle.redo_page.specs.Tree.{first_failures, has_failed, is_short, max_artic
 
 -- ---- which targets failed
 
--- The places of the nodes for which this holds. The first node has the place `place`.
-abbrev pub places_where : (Node → Bool) → ℕ → List Node → List ℕ
-places_where holds place [] = []
-places_where holds place (node ∷ nodes) = if holds node then place ∷ places_where holds (suc place) nodes else places_where holds (suc place) nodes
+-- The positions of the nodes for which this holds. The first node has the position `position`.
+abbrev pub positions_where : (Node → Bool) → ℕ → List Node → List ℕ
+positions_where holds position [] = []
+positions_where holds position (node ∷ nodes) = if holds node then position ∷ positions_where holds (suc position) nodes else positions_where holds (suc position) nodes
 
 -- Whether a target failed, and one below it.
 abbrev pub failed_above : Node → Bool
@@ -35,11 +35,11 @@ failed_above node = has_failed node && node.fails_below
 abbrev pub is_unclosed : Node → Bool
 is_unclosed node = is_none node.status && (node.below == 0 && is_some node.parent)
 
--- Whether these are the places of the targets that the section names.
+-- Whether these are the positions of the targets that the section names.
 pub record AreFailures (nodes : List Node) (failures : Failures) : Type 0 where
   pub first : failures.first.items ≡ first_failures nodes
-  pub above : failures.above.items ≡ places_where failed_above 0 nodes
-  pub unclosed : failures.unclosed.items ≡ places_where is_unclosed 0 nodes
+  pub above : failures.above.items ≡ positions_where failed_above 0 nodes
+  pub unclosed : failures.unclosed.items ≡ positions_where is_unclosed 0 nodes
 
 -- ---- outputs
 
@@ -85,10 +85,10 @@ module _ (logs : List Log) where
   name_of node = target_at logs node.number
 
   unfoldable pub output_parts : ℕ → Node → List Part
-  output_parts place node =
+  output_parts position node =
       if node.lines == 0 then nothing_parts node
       else if is_short node then whole_parts (printed_by node)
-      else excerpt_parts place (printed_by node)
+      else excerpt_parts position (printed_by node)
 
   unfoldable pub cause_of_node : Node → List Part
   cause_of_node node = cause_parts (cause_of (printed_by node))
@@ -113,46 +113,46 @@ module _ (logs : List Log) (nodes : List Node) where
   -- The logs around a target, at most `levels` of them, the outermost first, with `›` (U+203A) after each; `…` (U+2026) if there are more.
   unfoldable pub path_parts : ℕ → Option ℕ → List Part
   path_parts levels None = []
-  path_parts zero (Some place) = TextPart MORE_ABOVE.now ∷ []
-  path_parts (suc levels) (Some place) =
-      path_parts levels (node_at nodes place).parent ++ (name_parts (name_of logs (node_at nodes place)) ++ TextPart PATH_SEPARATOR.now ∷ [])
+  path_parts zero (Some position) = TextPart MORE_ABOVE.now ∷ []
+  path_parts (suc levels) (Some position) =
+      path_parts levels (node_at nodes position).parent ++ (name_parts (name_of logs (node_at nodes position)) ++ TextPart PATH_SEPARATOR.now ∷ [])
 
   abbrev pub max_path : ℕ
   max_path = 4
 
   unfoldable pub article_of : ℕ → Node → List Part
-  article_of place node =
-      MarkupPart (markup.Article place) ∷ MarkupPart markup.Title3
+  article_of position node =
+      MarkupPart (markup.Article position) ∷ MarkupPart markup.Title3
       ∷ (name_parts (name_of logs node)
       ++ (badge_parts node.status
       ++ (MarkupPart markup.EndTitle3 ∷ MarkupPart markup.MetaParagraph
       ∷ (article_took node.took
       ++ (path_parts max_path node.parent
-      ++ (in_tree_parts place PLACE_IN_TREE.now
-      ++ (MarkupPart markup.EndParagraph ∷ (output_parts logs place node ++ MarkupPart markup.EndArticle ∷ []))))))))
+      ++ (in_tree_parts position PLACE_IN_TREE.now
+      ++ (MarkupPart markup.EndParagraph ∷ (output_parts logs position node ++ MarkupPart markup.EndArticle ∷ []))))))))
 
   -- Where a target that failed is, and what it printed.
   unfoldable pub article_parts : ℕ → List Part
-  article_parts place = article_of place (node_at nodes place)
+  article_parts position = article_of position (node_at nodes position)
 
   -- ---- lists
 
   -- The articles in short, if there is more than one.
   unfoldable pub article_row : ℕ → List Part
-  article_row place = row_parts logs (markup.OutputLink place) true (node_at nodes place)
+  article_row position = row_parts logs (markup.OutputLink position) true (node_at nodes position)
 
   unfoldable pub list_parts : List ℕ → List Part
-  list_parts places = parts_if (nat_lt 1 (length places)) (MarkupPart markup.Ordered ∷ (flat_map article_row places ++ MarkupPart markup.EndOrdered ∷ []))
+  list_parts positions = parts_if (nat_lt 1 (length positions)) (MarkupPart markup.Ordered ∷ (flat_map article_row positions ++ MarkupPart markup.EndOrdered ∷ []))
 
   unfoldable pub target_row : Bool → ℕ → List Part
-  target_row causes place = row_parts logs (markup.TargetLink place) causes (node_at nodes place)
+  target_row causes position = row_parts logs (markup.TargetLink position) causes (node_at nodes position)
 
   -- More targets, closed.
   unfoldable pub more_parts : Markup → Bool → List ℕ → List ℕ → List Part
-  more_parts list causes heading places =
-      parts_if (nat_lt 0 (length places))
-      (MarkupPart markup.MoreDetails ∷ MarkupPart markup.Summary ∷ NumberPart (length places) ∷ TextPart heading ∷ MarkupPart markup.EndSummary ∷ MarkupPart list
-      ∷ (flat_map (target_row causes) (take max_rows places) ++ (MarkupPart markup.EndOrdered ∷ (unlisted_parts (length places) ++ MarkupPart markup.EndDetails ∷ []))))
+  more_parts list causes heading positions =
+      parts_if (nat_lt 0 (length positions))
+      (MarkupPart markup.MoreDetails ∷ MarkupPart markup.Summary ∷ NumberPart (length positions) ∷ TextPart heading ∷ MarkupPart markup.EndSummary ∷ MarkupPart list
+      ∷ (flat_map (target_row causes) (take max_rows positions) ++ (MarkupPart markup.EndOrdered ∷ (unlisted_parts (length positions) ++ MarkupPart markup.EndDetails ∷ []))))
 
   -- ---- the section
 
@@ -169,4 +169,4 @@ module _ (logs : List Log) (nodes : List Node) where
   unfoldable pub failed_parts : List Part
   failed_parts =
       parts_if (nat_lt 0 (length (first_failures nodes)))
-      (section_parts (take max_articles (first_failures nodes)) (drop max_articles (first_failures nodes)) (places_where failed_above 0 nodes) (places_where is_unclosed 0 nodes))
+      (section_parts (take max_articles (first_failures nodes)) (drop max_articles (first_failures nodes)) (positions_where failed_above 0 nodes) (positions_where is_unclosed 0 nodes))

@@ -4,7 +4,7 @@ use Rattle.redo_outline.specs.declared.node.Node.{Node}
 use Rattle.redo_page.specs.Excerpt.{last_where}
 use Rattle.redo_logs.specs.Logs.{Log}
 use Rattle.redo_options.specs.declared.options.Options.{Options}
-use Rattle.redo_page.specs.Tree.{Build, articles, is_moved, node_at, place_of}
+use Rattle.redo_page.specs.Tree.{Build, articles, is_moved, node_at, position_of}
 use Rattle.redo_trim.specs.declared.limit.Limit.{Limit}
 use Rattle.redo_trim.specs.Trim.{no_limit}
 
@@ -40,19 +40,19 @@ abbrev pub limit_at : ℕ → ℕ → Limit
 limit_at level bytes = record { head = level / 4; tail = bytes - (level - level / 4) }
 
 module _ (build : Build) where
-  -- The limit of the log at a place. An output that is in an article isn't cut.
-  abbrev pub place_limit : ℕ → ℕ → Limit
-  place_limit level place =
-      if nat_lt level (node_at build.nodes place).bytes && not (is_moved build place) then limit_at level (node_at build.nodes place).bytes else no_limit
+  -- The limit of the log at a position. An output that is in an article isn't cut.
+  abbrev pub position_limit : ℕ → ℕ → Limit
+  position_limit level position =
+      if nat_lt level (node_at build.nodes position).bytes && not (is_moved build position) then limit_at level (node_at build.nodes position).bytes else no_limit
 
   abbrev pub limit_if : ℕ → Option ℕ → Limit
   limit_if level None = no_limit
-  limit_if level (Some place) = place_limit level place
+  limit_if level (Some position) = position_limit level position
 
   -- The limits of `count` logs, of which the first one has the number `number`.
   abbrev pub limits_from : ℕ → ℕ → ℕ → List Limit
   limits_from level number zero = []
-  limits_from level number (suc count) = limit_if level (place_of build.nodes number) ∷ limits_from level (suc number) count
+  limits_from level number (suc count) = limit_if level (position_of build.nodes number) ∷ limits_from level (suc number) count
 
   -- The limits of all logs, by their numbers.
   abbrev pub limits_of : Option ℕ → ℕ → List Limit

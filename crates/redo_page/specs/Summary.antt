@@ -10,7 +10,7 @@ use Rattle.redo_outline.specs.Facts.{saturated, target_at}
 use Rattle.redo_page.specs.declared.labels.TheConstants.{ABOVE, AND_COUNT, AT_MOST, AT_ONCE, FAILED, FEW_TIMES_OF, LOGS, LONGEST, MOST_WARNINGS, NO_TIMES, OF, SUMMARY, SUM_OF_TIMES, TARGETS, TIMES_UNKNOWN, TOOK, WARNED_LINES}
 use Rattle.redo_page.specs.declared.summary.Measure.{Measure}
 use Rattle.redo_page.specs.declared.summary.Measure.TheVariants.{Milliseconds, Count}
-use Rattle.redo_page.specs.Failed.{failed_above, places_where}
+use Rattle.redo_page.specs.Failed.{failed_above, positions_where}
 use Rattle.redo_page.specs.Targets.{badge_parts, linked_parts, parts_if}
 use Rattle.redo_page.specs.Tree.{first_failures, node_at}
 use Rattle.redo_page.specs.Words.{words_parts}
@@ -102,8 +102,8 @@ module _ (logs : List Log) (nodes : List Node) where
   unfoldable pub rank_parts : Measure → ℕ → Rank → List Part
   rank_parts measure largest rank =
       MarkupPart markup.TableRow ∷ MarkupPart markup.RowHeading
-      ∷ (linked_parts (Some rank.place) (target_at logs (node_at nodes rank.place).number)
-      ++ (badge_parts (node_at nodes rank.place).status
+      ∷ (linked_parts (Some rank.position) (target_at logs (node_at nodes rank.position).number)
+      ++ (badge_parts (node_at nodes rank.position).status
       ++ (MarkupPart markup.EndRowHeading ∷ MarkupPart markup.NumberCell
       ∷ (measure_parts measure rank.value
       ++ (MarkupPart markup.EndCell ∷ MarkupPart markup.MeterCell ∷ MeterPart (meter_width rank.value largest) ∷ MarkupPart markup.EndCell ∷ MarkupPart markup.EndTableRow ∷ [])))))
@@ -122,7 +122,7 @@ module _ (logs : List Log) (nodes : List Node) where
   unfoldable pub summary_parts : Facts → List Part
   summary_parts facts =
       MarkupPart markup.SummarySection ∷ MarkupPart markup.SummaryHeading ∷ TextPart SUMMARY.now ∷ MarkupPart markup.EndHeading ∷ MarkupPart markup.DescriptionList
-      ∷ (tiles facts (length nodes) (length (first_failures nodes)) (length (places_where failed_above 0 nodes))
+      ∷ (tiles facts (length nodes) (length (first_failures nodes)) (length (positions_where failed_above 0 nodes))
       ++ (MarkupPart markup.EndDescriptionList
       ∷ (tables_parts (shown_longest facts) facts.warned
       ++ (why_parts facts ++ MarkupPart markup.EndSection ∷ []))))

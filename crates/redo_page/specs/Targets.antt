@@ -79,7 +79,7 @@ how_word Unchanged = UNCHANGED.now
 abbrev pub how_parts : Bool → How → List Part
 how_parts shown how = parts_if shown (TextPart (codes " ") ∷ MarkupPart Small ∷ TextPart (how_word how) ∷ MarkupPart EndSmall ∷ [])
 
--- A name that leads to the place of a target in the tree, if it is there.
+-- A name that leads to the position of a target in the tree, if it is there.
 abbrev pub linked_parts : Option ℕ → List ℕ → List Part
 linked_parts None name = name_parts name
-linked_parts (Some place) name = MarkupPart (TargetLink place) ∷ (name_parts name ++ MarkupPart EndLink ∷ [])
+linked_parts (Some position) name = MarkupPart (TargetLink position) ∷ (name_parts name ++ MarkupPart EndLink ∷ [])

@@ -1,6 +1,6 @@
 //! How much of long logs a page shows.
 ghost use Rattle.std.specs.Prelude.{◌≡◌, IfOk, length};
-ghost use Rattle.redo_page.specs.Limits.{at_most, fit_in, highest_level, level_for, limit_at, limit_if, limits_of, place_limit};
+ghost use Rattle.redo_page.specs.Limits.{at_most, fit_in, highest_level, level_for, limit_at, limit_if, limits_of, position_limit};
 ghost use Rattle.redo_page.specs.Private.Referring.{build_value};
 
 use crate::build::BuildRef;
@@ -80,23 +80,23 @@ fn limit_at(level: u64, bytes: u64) -> Limit
     }
 }
 
-fn place_limit(build: &BuildRef<'_>, level: u64, place: usize) -> Limit
-    ensures { result ≡ place_limit (build_value build.now) level place }
+fn position_limit(build: &BuildRef<'_>, level: u64, position: usize) -> Limit
+    ensures { result ≡ position_limit (build_value build.now) level position }
 {
-    let bytes = build.node(place).bytes;
-    if level < bytes && !build.is_moved(place) {
+    let bytes = build.node(position).bytes;
+    if level < bytes && !build.is_moved(position) {
         limit_at(level, bytes)
     } else {
         NO_LIMIT
     }
 }
 
-fn limit_if(build: &BuildRef<'_>, level: u64, place: Option<usize>) -> Limit
-    ensures { result ≡ limit_if (build_value build.now) level place }
+fn limit_if(build: &BuildRef<'_>, level: u64, position: Option<usize>) -> Limit
+    ensures { result ≡ limit_if (build_value build.now) level position }
 {
-    match place {
+    match position {
         None => NO_LIMIT,
-        Some(place) => place_limit(build, level, place),
+        Some(position) => position_limit(build, level, position),
     }
 }
 
@@ -113,7 +113,7 @@ pub fn limits_of(
         return Ok(limits);
     };
     for number in 0..build.table.len() {
-        limits.push(limit_if(build, level, build.outline.place_of(number)))?;
+        limits.push(limit_if(build, level, build.outline.position_of(number)))?;
     }
     Ok(limits)
 }

@@ -164,14 +164,14 @@ fn write_body<W: Sink>(
     options: &Options,
     requested: &[TargetName],
     outline: &Outline,
-    places: &[usize],
+    positions: &[usize],
     summary: &Summary,
     out: &mut W,
 ) -> Result<(), FormFault>
     requires ended { list_all has_ended table.now ≡ true }
     requires known { find_unknown table.now requested.now ≡ None }
     requires outline { length outline.now ≡ log_count (contents_of (shown_events table.now options.now requested.now)) }
-    requires articles { places.now ≡ articles outline.now }
+    requires articles { positions.now ≡ articles outline.now }
     ensures { FormWrites (W.written out.old) (W.written out.new) (flat_map part_html (body_parts table.now options.now
         request.now.max_bytes requested.now outline.now summary.now)) result }
 {
@@ -182,7 +182,7 @@ fn write_body<W: Sink>(
         options,
         requested,
         outline,
-        places,
+        positions,
         request.max_bytes,
         out,
     )

@@ -170,12 +170,12 @@ fn write_row<W: Sink>(
 )
     ensures { WroteParts W.written page.old page.new (rank_parts table.now nodes.now measure largest rank) }
 {
-    let node = node_at(nodes, rank.place);
+    let node = node_at(nodes, rank.position);
     page.put(&[
         Piece::Markup(Markup::TableRow),
         Piece::Markup(Markup::RowHeading),
     ]);
-    write_linked(Some(rank.place), target_at(table, node.number), page);
+    write_linked(Some(rank.position), target_at(table, node.number), page);
     write_badge(node.status, page);
     page.put(&[
         Piece::Markup(Markup::EndRowHeading),

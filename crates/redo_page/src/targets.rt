@@ -26,14 +26,14 @@ pub fn write_name<W: Sink>(name: &[u8], page: &mut PageWriter<'_, W>)
     ])
 }
 
-/// Writes a name that leads to the place of a target in the tree, if it is there.
-pub fn write_linked<W: Sink>(place: Option<usize>, name: &[u8], page: &mut PageWriter<'_, W>)
-    ensures { WroteParts W.written page.old page.new (linked_parts place name.now) }
+/// Writes a name that leads to the position of a target in the tree, if it is there.
+pub fn write_linked<W: Sink>(position: Option<usize>, name: &[u8], page: &mut PageWriter<'_, W>)
+    ensures { WroteParts W.written page.old page.new (linked_parts position name.now) }
 {
-    match place {
+    match position {
         None => write_name(name, page),
-        Some(place) => page.put(&[
-            Piece::Markup(Markup::TargetLink(place as u64)),
+        Some(position) => page.put(&[
+            Piece::Markup(Markup::TargetLink(position as u64)),
             Piece::Markup(Markup::Bdi),
             Piece::Text(name),
             Piece::Markup(Markup::EndBdi),

@@ -22,7 +22,7 @@ began_at time = record { began = Some time; ended = None }
 abbrev pub ended_at : ℕ → Times
 ended_at time = record { began = None; ended = Some time }
 
--- A node, by the number of its log, the place of its parent, its status, its number of bytes and its number of warnings.
+-- A node, by the number of its log, the position of its parent, its status, its number of bytes and its number of warnings.
 abbrev pub node : ℕ → Option ℕ → Option ℤ → ℕ → ℕ → Node
 node number parent status bytes warnings = record {
   number = number;
@@ -42,19 +42,19 @@ node number parent status bytes warnings = record {
 }
 
 abbrev pub target : ℕ → Option ℕ → Times → Target
-target place parent times = record { place = place; parent = parent; failed = false; times = times }
+target position parent times = record { position = position; parent = parent; failed = false; times = times }
 
 abbrev pub failed_target : ℕ → Option ℕ → Times → Target
-failed_target place parent times = record { place = place; parent = parent; failed = true; times = times }
+failed_target position parent times = record { position = position; parent = parent; failed = true; times = times }
 
 abbrev pub span : ℕ → ℕ → ℕ → Span
-span place began ended = record { began = began; place = place; ended = ended; failed = false }
+span position began ended = record { began = began; position = position; ended = ended; failed = false }
 
 abbrev pub failed : ℕ → ℕ → ℕ → Span
-failed place began ended = record { began = began; place = place; ended = ended; failed = true }
+failed position began ended = record { began = began; position = position; ended = ended; failed = true }
 
 abbrev pub rank : ℕ → ℕ → Rank
-rank value place = record { value = value; place = place }
+rank value position = record { value = value; position = position }
 
 -- ---- targets
 
@@ -103,7 +103,7 @@ family = target 0 None (ran 10 20) ∷ failed_target 1 (Some 0) (ran 5 15) ∷ f
 split_family : (parents_of family ≡ span 0 10 20 ∷ []) × (recipes_of family ≡ failed 1 5 15 ∷ failed 2 12 18 ∷ span 3 13 19 ∷ [])
 split_family = (refl, refl)
 
--- The target at place 1 ran the one at place 3, and is in the span of the one at place 0, which ran it.
+-- The target at position 1 ran the one at position 3, and is in the span of the one at position 0, which ran it.
 abbrev nested : List Target
 nested = target 0 None (ran 10 90) ∷ failed_target 1 (Some 0) (ran 20 80) ∷ target 2 (Some 0) (began_at 30) ∷ target 3 (Some 1) (ran 30 40) ∷ []
 
@@ -146,7 +146,7 @@ all_times = refl
 spans_are_cut : (duration (span 0 3 9) ≡ 6) × (duration (span 0 9 3) ≡ 0) × (duration (span 0 0 17592186044415) ≡ 17592186044415) × (duration (span 0 0 17592186044416) ≡ 17592186044415)
 spans_are_cut = (refl, refl, refl, refl)
 
--- Larger values are first, and of equal values lower places.
+-- Larger values are first, and of equal values lower positions.
 ranks_in_order :
     (first_ranks (rank 5 0 ∷ rank 9 1 ∷ rank 7 2 ∷ []) ≡ rank 9 1 ∷ rank 7 2 ∷ rank 5 0 ∷ []) × (first_ranks (rank 5 0 ∷ rank 5 1 ∷ rank 9 2 ∷ rank 5 3 ∷ []) ≡ rank 9 2 ∷ rank 5 0 ∷ rank 5 1 ∷ rank 5 3 ∷ [])
     × (first_ranks (rank 5 3 ∷ rank 5 1 ∷ []) ≡ rank 5 1 ∷ rank 5 3 ∷ []) × (first_ranks [] ≡ [])

@@ -14,20 +14,20 @@ abbrev pub is_in_if_known : Span → Option Span → Bool
 is_in_if_known outer None = false
 is_in_if_known outer (Some span) = is_in outer span
 
--- Whether a place is known and is this one.
-abbrev pub is_place : ℕ → Option ℕ → Bool
-is_place place None = false
-is_place place (Some other) = place == other
+-- Whether a position is known and is this one.
+abbrev pub is_position : ℕ → Option ℕ → Bool
+is_position position None = false
+is_position position (Some other) = position == other
 
 -- Whether the target of a span ran this target: it is the parent of this target, and the span of this target is in its span.
 abbrev pub is_run_by : Span → Target → Bool
-is_run_by span target = is_place span.place target.parent && is_in_if_known span (span_of target)
+is_run_by span target = is_position span.position target.parent && is_in_if_known span (span_of target)
 
 -- Whether the target of a span ran any of these targets.
 abbrev pub ran_others : List Target → Span → Bool
 ran_others targets span = list_any (is_run_by span) targets
 
--- The spans of targets, in order of place.
+-- The spans of targets, in order of position.
 abbrev pub spans_of : List Target → List Span
 spans_of targets = filter_map span_of targets
 
@@ -38,6 +38,6 @@ parents_of targets = filter (ran_others targets) (spans_of targets)
 abbrev pub recipes_of : List Target → List Span
 recipes_of targets = filter (λ span. not (ran_others targets span)) (spans_of targets)
 
--- The marks of targets, in order of place.
+-- The marks of targets, in order of position.
 abbrev pub marks_of : List Target → List Span
 marks_of targets = filter_map mark_of targets

@@ -4,7 +4,7 @@
 //!
 //! # Terms
 //!
-//! - *Shown target*: the target of a node. Its *place* is the position of the node.
+//! - *Shown target*: the target of a node. Its *position* is that of the node.
 //! - *Span*: the time from when a target began to when it ended, if both are known.
 //! - *Mark*: the one time that is known of a target, as a span without length.
 //! - *Parent*: a span in which the span of a target lies that its target ran. All other spans are *recipes*.
@@ -22,7 +22,7 @@ mod totals;
 mod window;
 
 pub use laws::{
-    parents_ran_others, places_are_of_nodes, ranks_are_in_order, spans_are_in_order_of_place,
+    parents_ran_others, positions_are_of_nodes, ranks_are_in_order, spans_are_in_order_of_position,
     spans_are_parents_or_recipes, tables_have_first_ranks,
 };
 pub use rank::Rank;

@@ -1,7 +1,7 @@
 //! Which targets ran others.
 ghost use Rattle.std.specs.Prelude.{◌≡◌, ◌<◌, IfOk, length};
 ghost use Rattle.redo_summary.specs.Parents.{is_in};
-ghost use Rattle.redo_summary.specs.Private.Marking.{AreMarked, ArePlaced, IsMarked};
+ghost use Rattle.redo_summary.specs.Private.Marking.{AreMarked, ArePositioned, IsMarked};
 
 use crate::target::Target;
 use redo_timeline::Span;
@@ -9,7 +9,7 @@ use std::alloc::{AllocError, Global};
 
 /// Returns for each target whether it ran others.
 pub fn find_parents(alloc: Global, targets: &[Target]) -> Result<Vec<bool>, AllocError>
-    requires { ArePlaced targets.now }
+    requires { ArePositioned targets.now }
     ensures length { IfOk result (λ marked. length marked.items ≡ length targets.now) }
     ensures marked { IfOk result (λ marked. AreMarked targets.now targets.now marked.items) }
 {
@@ -22,20 +22,20 @@ pub fn find_parents(alloc: Global, targets: &[Target]) -> Result<Vec<bool>, Allo
 
 // Marks the parent of a target, if it ran the target.
 fn mark_parent(targets: &[Target], target: &Target, marked: &mut [bool])
-    requires placed { ArePlaced targets.now }
+    requires positioned { ArePositioned targets.now }
     requires length { length marked.old ≡ length targets.now }
     ensures { IsMarked targets.now target.now marked.old marked.new }
 {
-    let (Some(place), Some(span)) = (target.parent, target.span()) else {
+    let (Some(position), Some(span)) = (target.parent, target.span()) else {
         return;
     };
-    let Some(parent) = targets.get(place) else {
+    let Some(parent) = targets.get(position) else {
         return;
     };
     if let Some(outer) = parent.span()
         && is_in(&outer, &span)
     {
-        marked[place] = true;
+        marked[position] = true;
     }
 }
 

@@ -1,7 +1,7 @@
 //! The spans and marks of targets.
 ghost use Rattle.std.specs.Prelude.{◌≡◌, IfOk};
 ghost use Rattle.redo_summary.specs.Parents.{marks_of, parents_of, recipes_of};
-ghost use Rattle.redo_summary.specs.Private.Marking.{ArePlaced};
+ghost use Rattle.redo_summary.specs.Private.Marking.{ArePositioned};
 
 use crate::parents::find_parents;
 use crate::target::Target;
@@ -17,16 +17,16 @@ pub struct Spans {
 
 /// Returns the spans of targets.
 pub fn split_spans(alloc: Global, targets: &[Target]) -> Result<Spans, AllocError>
-    requires { ArePlaced targets.now }
+    requires { ArePositioned targets.now }
     ensures parents { IfOk result (λ spans. spans.parents.items ≡ parents_of targets.now) }
     ensures recipes { IfOk result (λ spans. spans.recipes.items ≡ recipes_of targets.now) }
 {
     let ran_others = find_parents(alloc, targets)?;
     let mut parents = Vec::new(alloc);
     let mut recipes = Vec::new(alloc);
-    for (place, target) in targets.iter().enumerate() {
+    for (position, target) in targets.iter().enumerate() {
         match target.span() {
-            Some(span) if ran_others[place] => parents.push(span)?,
+            Some(span) if ran_others[position] => parents.push(span)?,
             Some(span) => recipes.push(span)?,
             None => {}
         }

@@ -101,7 +101,7 @@ impl Summary {
         self.took
     }
 
-    /// Returns the spans of the targets that ran others, in order of place. A target ran others if its log contains the log of another
+    /// Returns the spans of the targets that ran others, in order of position. A target ran others if its log contains the log of another
     /// one, and if its span contains the span of that one, which ended after it began.
     pub fn parents(&self) -> &[Span]
         ensures { result.now ≡ self.now.parents }
@@ -109,14 +109,14 @@ impl Summary {
         self.parents.as_slice()
     }
 
-    /// Returns the spans of all other targets whose times are known, in order of place.
+    /// Returns the spans of all other targets whose times are known, in order of position.
     pub fn recipes(&self) -> &[Span]
         ensures { result.now ≡ self.now.recipes }
     {
         self.recipes.as_slice()
     }
 
-    /// Returns the marks of the targets of which one time is known, in order of place. A requested target of which only the end is
+    /// Returns the marks of the targets of which one time is known, in order of position. A requested target of which only the end is
     /// known has no mark, because the log of a run by make says no more.
     pub fn marks(&self) -> &[Span]
         ensures { result.now ≡ self.now.marks }
@@ -154,7 +154,7 @@ impl Summary {
     }
 
     /// Returns the ten recipes that took longest, the longest one first. Of recipes that took equally long, the one with the lowest
-    /// place is first. A duration is at most 2^44 - 1 milliseconds.
+    /// position is first. A duration is at most 2^44 - 1 milliseconds.
     pub fn longest(&self) -> &[Rank]
         ensures { result.now ≡ self.now.longest }
     {
@@ -162,7 +162,7 @@ impl Summary {
     }
 
     /// Returns the ten targets with the most warnings, the one with the most first, and only those with a warning. Of targets with
-    /// equally many, the one with the lowest place is first.
+    /// equally many, the one with the lowest position is first.
     pub fn warned(&self) -> &[Rank]
         ensures { result.now ≡ self.now.warned }
     {
