@@ -20,10 +20,10 @@ use Rattle.redo_page.specs.Errors.{cause_of}
 use Rattle.redo_page.specs.Excerpt.{Stretch, error_position, excerpt_line_parts, excerpt_parts, in_tree_parts, is_kept, left_out_parts, stretch_parts, stretches_from}
 use Rattle.redo_page.specs.Excerpt.Stretch.{Shown, LeftOut}
 use Rattle.redo_units.specs.Durations.{duration_words}
-use Rattle.redo_page.specs.Failed.{article_of, article_parts, article_took, article_row, cause_if, cause_of_node, cause_parts, failed_above, failed_parts, is_unclosed, list_parts, max_path, max_rows, more_parts, nothing_parts, output_parts, path_parts, positions_where, printed_by, row_parts, section_parts, target_row, unlisted_parts, whole_parts}
+use Rattle.redo_page.specs.Failed.{article_of, article_parts, article_took, article_row, cause_if, cause_of_node, cause_parts, is_dependent_failure, failed_parts, is_unclosed, list_parts, max_path, max_rows, more_parts, nothing_parts, output_parts, path_parts, positions_where, printed_by, row_parts, section_parts, target_row, unlisted_parts, whole_parts}
 use Rattle.redo_page.specs.Laws.{is_among}
 use Rattle.redo_page.specs.Targets.{parts_if}
-use Rattle.redo_page.specs.Tree.{articles, failed_first, first_failures, first_failures_from, is_short, max_articles, node_at}
+use Rattle.redo_page.specs.Tree.{articles, is_root_failure, root_failures, root_failures_from, is_short, max_articles, node_at}
 use Rattle.redo_page.proofs.FailedOrder.{sort-passes}
 use Rattle.redo_page.proofs.Ids.{Bare, Refer, Refers, badge_bare, bare_if, bare_refers, bare_then, link_refers, article_link_refers, reference, references, refer_each, refer_if, same_refer, then_refer, words_bare}
 
@@ -45,12 +45,12 @@ all_drop passes zero numbers all = all
 all_drop passes (suc count) [] all = refl
 all_drop passes (suc count) (number ∷ numbers) all = all_drop passes count numbers (and_parts (passes number) (list_all passes numbers) all).1
 
-first_below : (position : ℕ) (nodes : List Node) → AreBelow (position + length nodes) (first_failures_from position nodes)
-first_below position [] = refl
-first_below position (node ∷ nodes) = by (failed_first node) (ap (λ count. list_all (λ number. nat_lt number count) (first_failures_from (suc position) nodes)) (omega arith) ∙ first_below (suc position) nodes)
+roots_below : (position : ℕ) (nodes : List Node) → AreBelow (position + length nodes) (root_failures_from position nodes)
+roots_below position [] = refl
+roots_below position (node ∷ nodes) = by (is_root_failure node) (ap (λ count. list_all (λ number. nat_lt number count) (root_failures_from (suc position) nodes)) (omega arith) ∙ roots_below (suc position) nodes)
   where
-    by : (first : Bool) → AreBelow (position + length (node ∷ nodes)) (first_failures_from (suc position) nodes) → AreBelow (position + length (node ∷ nodes)) ((if first then position ∷ [] else []) ++ first_failures_from (suc position) nodes)
-    by true others = and_from (nat_lt position (position + length (node ∷ nodes))) (list_all (λ number. nat_lt number (position + length (node ∷ nodes))) (first_failures_from (suc position) nodes)) (lt-ltb position (position + length (node ∷ nodes)) (omega arith)) others
+    by : (first : Bool) → AreBelow (position + length (node ∷ nodes)) (root_failures_from (suc position) nodes) → AreBelow (position + length (node ∷ nodes)) ((if first then position ∷ [] else []) ++ root_failures_from (suc position) nodes)
+    by true others = and_from (nat_lt position (position + length (node ∷ nodes))) (list_all (λ number. nat_lt number (position + length (node ∷ nodes))) (root_failures_from (suc position) nodes)) (lt-ltb position (position + length (node ∷ nodes)) (omega arith)) others
     by false others = others
 
 where_below : (holds : Node → Bool) (position : ℕ) (nodes : List Node) → AreBelow (position + length nodes) (positions_where holds position nodes)
@@ -72,13 +72,13 @@ among_after front (number ∷ numbers) =
     here [] = or_left (number == number) (is_among numbers number) (eq-eqb number number refl)
     here (other ∷ front) = or_right (number == other) (is_among (front ++ (number ∷ numbers)) number) (here front)
 
-first_are_below : (nodes : List Node) → AreBelow (length nodes) (first_failures nodes)
-first_are_below nodes =
-    sort-passes nodes (λ number. nat_lt number (length nodes)) (first_failures_from 0 nodes)
-    (ap (λ count. list_all (λ number. nat_lt number count) (first_failures_from 0 nodes)) (omega arith) ∙ first_below 0 nodes)
+roots_are_below : (nodes : List Node) → AreBelow (length nodes) (root_failures nodes)
+roots_are_below nodes =
+    sort-passes nodes (λ number. nat_lt number (length nodes)) (root_failures_from 0 nodes)
+    (ap (λ count. list_all (λ number. nat_lt number count) (root_failures_from 0 nodes)) (omega arith) ∙ roots_below 0 nodes)
 
 pub articles_below : (nodes : List Node) → AreBelow (length nodes) (articles nodes)
-articles_below nodes = all_take (λ number. nat_lt number (length nodes)) max_articles (first_failures nodes) (first_are_below nodes)
+articles_below nodes = all_take (λ number. nat_lt number (length nodes)) max_articles (root_failures nodes) (roots_are_below nodes)
 
 -- ---- paths
 
@@ -214,28 +214,28 @@ module _ (count : ℕ) (listed : List ℕ) where
         ≡ references (MarkupPart markup.FailedSection ∷ (a ++ (b ++ (c ++ (d ++ e)))))
     section_same a b c d e = simp (flat_map-append, append-nil)
 
-    section_refers : (shown others above unclosed : List ℕ) → AreBelow count shown → list_all (is_among listed) shown ≡ true → AreBelow count others → AreBelow count above → AreBelow count unclosed
-        → Refers count listed (section_parts logs nodes shown others above unclosed) [] (shown ++ []) (MarkupPart markup.FailedSection ∷ [])
+    section_refers : (shown others dependents unclosed : List ℕ) → AreBelow count shown → list_all (is_among listed) shown ≡ true → AreBelow count others → AreBelow count dependents → AreBelow count unclosed
+        → Refers count listed (section_parts logs nodes shown others dependents unclosed) [] (shown ++ []) (MarkupPart markup.FailedSection ∷ [])
     unfolding section_parts
-    section_refers shown others above unclosed shown_below among others_below above_below unclosed_below =
+    section_refers shown others dependents unclosed shown_below among others_below dependents_below unclosed_below =
         let articles_shown = flat_map (article_parts logs nodes) shown in
         let more = more_parts logs nodes (markup.OrderedFrom (suc max_articles)) true MORE_FAILED.now others in
-        let with_these = more_parts logs nodes markup.Ordered false FAILED_WITH_THESE.now above in
+        let with_these = more_parts logs nodes markup.Ordered false FAILED_WITH_THESE.now dependents in
         let not_closed = more_parts logs nodes markup.Ordered false COUNT_NOT_CLOSED.now unclosed in
         same_refer {others = MarkupPart markup.FailedSection ∷ (list_parts logs nodes shown ++ (articles_shown ++ (more ++ (with_these ++ not_closed))))} (section_same (list_parts logs nodes shown) articles_shown more with_these not_closed)
         (then_refer {parts = MarkupPart markup.FailedSection ∷ []} (record { target_ids_are = refl; article_ids_are = refl; target_links_lead = refl; article_links_lead = refl; sections_are = refl })
         (then_refer (list_refers shown among)
         (then_refer (articles_refer shown shown_below)
         (then_refer (more_refers (markup.OrderedFrom (suc max_articles)) true refl MORE_FAILED.now others others_below)
-        (then_refer (more_refers markup.Ordered false refl FAILED_WITH_THESE.now above above_below) (more_refers markup.Ordered false refl COUNT_NOT_CLOSED.now unclosed unclosed_below))))))
+        (then_refer (more_refers markup.Ordered false refl FAILED_WITH_THESE.now dependents dependents_below) (more_refers markup.Ordered false refl COUNT_NOT_CLOSED.now unclosed unclosed_below))))))
 
 -- The section, if a target failed.
 abbrev pub failed_section : List ℕ → List Part
 failed_section first = parts_if (nat_lt 0 (length first)) (MarkupPart markup.FailedSection ∷ [])
 
-pub failed_refers : (logs : List Log) (nodes : List Node) → Refers (length nodes) (articles nodes) (failed_parts logs nodes) [] (articles nodes ++ []) (failed_section (first_failures nodes))
+pub failed_refers : (logs : List Log) (nodes : List Node) → Refers (length nodes) (articles nodes) (failed_parts logs nodes) [] (articles nodes ++ []) (failed_section (root_failures nodes))
 unfolding failed_parts
-failed_refers logs nodes = by (first_failures nodes) (first_are_below nodes)
+failed_refers logs nodes = by (root_failures nodes) (roots_are_below nodes)
   where
     below : (holds : Node → Bool) → AreBelow (length nodes) (positions_where holds 0 nodes)
     below holds = ap (λ count. list_all (λ number. nat_lt number count) (positions_where holds 0 nodes)) (omega arith) ∙ where_below holds 0 nodes
@@ -244,10 +244,10 @@ failed_refers logs nodes = by (first_failures nodes) (first_are_below nodes)
     some condition is refer = rw is refer
 
     by : (first : List ℕ) → AreBelow (length nodes) first
-        → Refers (length nodes) (take max_articles first) (parts_if (nat_lt 0 (length first)) (section_parts logs nodes (take max_articles first) (drop max_articles first) (positions_where failed_above 0 nodes) (positions_where is_unclosed 0 nodes))) [] (take max_articles first ++ []) (failed_section first)
+        → Refers (length nodes) (take max_articles first) (parts_if (nat_lt 0 (length first)) (section_parts logs nodes (take max_articles first) (drop max_articles first) (positions_where is_dependent_failure 0 nodes) (positions_where is_unclosed 0 nodes))) [] (take max_articles first ++ []) (failed_section first)
     by [] first_are = bare_refers [] refl
     by (position ∷ positions) first_are =
         let first = position ∷ positions in
         some (nat_lt 0 (length (position ∷ positions))) (lt-ltb 0 (length (position ∷ positions)) (omega arith))
-        (section_refers (length nodes) (take max_articles first) logs nodes (take max_articles first) (drop max_articles first) (positions_where failed_above 0 nodes) (positions_where is_unclosed 0 nodes)
-        (all_take (λ number. nat_lt number (length nodes)) max_articles first first_are) (among_after [] (take max_articles first)) (all_drop (λ number. nat_lt number (length nodes)) max_articles first first_are) (below failed_above) (below is_unclosed))
+        (section_refers (length nodes) (take max_articles first) logs nodes (take max_articles first) (drop max_articles first) (positions_where is_dependent_failure 0 nodes) (positions_where is_unclosed 0 nodes)
+        (all_take (λ number. nat_lt number (length nodes)) max_articles first first_are) (among_after [] (take max_articles first)) (all_drop (λ number. nat_lt number (length nodes)) max_articles first first_are) (below is_dependent_failure) (below is_unclosed))

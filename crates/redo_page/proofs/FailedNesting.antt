@@ -17,8 +17,8 @@ use Rattle.redo_page.specs.Errors.{cause_of}
 use Rattle.redo_page.specs.Excerpt.{Stretch, error_position, excerpt_line_parts, excerpt_parts, in_tree_parts, is_kept, left_out_parts, stretch_parts, stretches_from}
 use Rattle.redo_page.specs.Excerpt.Stretch.{Shown, LeftOut}
 use Rattle.redo_units.specs.Durations.{duration_words}
-use Rattle.redo_page.specs.Failed.{article_of, article_parts, article_took, article_row, cause_if, cause_of_node, cause_parts, failed_above, failed_parts, is_unclosed, list_parts, max_path, max_rows, more_parts, nothing_parts, output_parts, path_parts, positions_where, printed_by, row_parts, section_parts, target_row, unlisted_parts, whole_parts}
-use Rattle.redo_page.specs.Tree.{first_failures, is_short, max_articles, node_at}
+use Rattle.redo_page.specs.Failed.{article_of, article_parts, article_took, article_row, cause_if, cause_of_node, cause_parts, is_dependent_failure, failed_parts, is_unclosed, list_parts, max_path, max_rows, more_parts, nothing_parts, output_parts, path_parts, positions_where, printed_by, row_parts, section_parts, target_row, unlisted_parts, whole_parts}
+use Rattle.redo_page.specs.Tree.{root_failures, is_short, max_articles, node_at}
 use Rattle.redo_page.proofs.Nesting.{Leads, Nest, nest_if, nest_each, then_lead, joined}
 use Rattle.redo_page.proofs.TargetNesting.{badge_nests, words_nest}
 
@@ -125,15 +125,15 @@ module _ (logs : List Log) (nodes : List Node) where
           ∷ (rows ++ (MarkupPart markup.EndOrdered ∷ (unlisted ++ MarkupPart markup.EndDetails ∷ []))))
       listed rows unlisted rows_nest unlisted_nest = record { leads = λ around tags. simp (joined, list_leads.leads, rows_nest.leads, unlisted_nest.leads) }
 
-  section_nests : (articles others above unclosed : List ℕ) → Nest (section_parts logs nodes articles others above unclosed)
+  section_nests : (articles others dependents unclosed : List ℕ) → Nest (section_parts logs nodes articles others dependents unclosed)
   unfolding section_parts
-  section_nests articles others above unclosed = record {
+  section_nests articles others dependents unclosed = record {
     leads = λ around tags. simp (
       joined,
       (list_nests articles).leads,
       (nest_each (article_parts logs nodes) article_nests articles).leads,
       (more_nest {list = markup.OrderedFrom (suc max_articles)} true (record { leads = λ around tags. refl }) MORE_FAILED.now others).leads,
-      (more_nest {list = markup.Ordered} false (record { leads = λ around tags. refl }) FAILED_WITH_THESE.now above).leads,
+      (more_nest {list = markup.Ordered} false (record { leads = λ around tags. refl }) FAILED_WITH_THESE.now dependents).leads,
       (more_nest {list = markup.Ordered} false (record { leads = λ around tags. refl }) COUNT_NOT_CLOSED.now unclosed).leads,
     );
   }
@@ -141,5 +141,5 @@ module _ (logs : List Log) (nodes : List Node) where
   pub failed_nests : Nest (failed_parts logs nodes)
   unfolding failed_parts
   failed_nests =
-      nest_if (nat_lt 0 (length (first_failures nodes)))
-      (section_nests (take max_articles (first_failures nodes)) (drop max_articles (first_failures nodes)) (positions_where failed_above 0 nodes) (positions_where is_unclosed 0 nodes))
+      nest_if (nat_lt 0 (length (root_failures nodes)))
+      (section_nests (take max_articles (root_failures nodes)) (drop max_articles (root_failures nodes)) (positions_where is_dependent_failure 0 nodes) (positions_where is_unclosed 0 nodes))

@@ -20,7 +20,7 @@ use Rattle.redo_page.specs.Errors.{begins_with}
 use Rattle.redo_page.specs.Excerpt.{cut_to, excerpt_line_end, excerpt_line_parts, excerpt_parts, in_tree_parts, left_out_parts}
 use Rattle.redo_page.specs.declared.failed.Failures.{Failures}
 use Rattle.redo_page.specs.declared.labels.TheConstants.{MORE_ABOVE, PATH_SEPARATOR}
-use Rattle.redo_page.specs.Failed.{AreFailures, article_of, article_parts, article_row, article_took, cause_of_node, cause_parts, failed_above, failed_parts, is_unclosed, list_parts, more_parts, nothing_parts, output_parts, path_parts, positions_where, row_parts, section_parts, target_row, unlisted_parts, whole_parts}
+use Rattle.redo_page.specs.Failed.{AreFailures, article_of, article_parts, article_row, article_took, cause_of_node, cause_parts, is_dependent_failure, failed_parts, is_unclosed, list_parts, more_parts, nothing_parts, output_parts, path_parts, positions_where, row_parts, section_parts, target_row, unlisted_parts, whole_parts}
 use Rattle.redo_page.specs.Laws.{target_links}
 use Rattle.redo_units.specs.Durations.{duration_words}
 
@@ -229,18 +229,18 @@ one_unlisted = refl
 abbrev nodes : List Node
 nodes = node 0 None (Some (pos 2)) 0 3 true ∷ b ∷ node 2 (Some 0) None 0 0 false ∷ node 3 (Some 0) (Some (pos 0)) 0 0 false ∷ []
 
-above_are : positions_where failed_above 0 nodes ≡ 0 ∷ []
-above_are = refl
+dependents_are : positions_where is_dependent_failure 0 nodes ≡ 0 ∷ []
+dependents_are = refl
 
 -- A target that is made, though one below it failed.
-none_above : positions_where failed_above 0 (node 0 None (Some (pos 0)) 0 1 true ∷ b ∷ []) ≡ []
-none_above = refl
+no_dependents : positions_where is_dependent_failure 0 (node 0 None (Some (pos 0)) 0 1 true ∷ b ∷ []) ≡ []
+no_dependents = refl
 
 unclosed_are : positions_where is_unclosed 0 nodes ≡ 2 ∷ []
 unclosed_are = refl
 
-failures_are : (failures : Failures) → failures.first.items ≡ 1 ∷ [] → failures.above.items ≡ 0 ∷ [] → failures.unclosed.items ≡ 2 ∷ [] → AreFailures nodes failures
-failures_are failures first above unclosed = record { first = first; above = above; unclosed = unclosed }
+failures_are : (failures : Failures) → failures.roots.items ≡ 1 ∷ [] → failures.dependents.items ≡ 0 ∷ [] → failures.unclosed.items ≡ 2 ∷ [] → AreFailures nodes failures
+failures_are failures roots dependents unclosed = record { roots = roots; dependents = dependents; unclosed = unclosed }
 
 -- A requested target, and one with others below it, are not at the end of a path.
 none_unclosed : positions_where is_unclosed 0 (node 0 None None 0 0 false ∷ node 1 (Some 0) None 0 1 false ∷ []) ≡ []

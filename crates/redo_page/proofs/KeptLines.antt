@@ -20,7 +20,7 @@ use Rattle.redo_trim.specs.declared.limit.Limit.{Limit}
 use Rattle.redo_trim.specs.Laws.{FitsInto64Bits, head_and_tail, lines_in}
 use Rattle.redo_trim.specs.Trim.{after_shown, gauge_of, kept, limit_of, no_limit, trim, with_shown_all}
 use Rattle.redo_page.specs.Laws.{lines_at, positioned_lines, texts_of}
-use Rattle.redo_page.specs.Limits.{bytes_shown, fit_in, highest_level, limit_at, limit_if, limits_from, limits_of, min_level, position_limit, tree_limits}
+use Rattle.redo_page.specs.Limits.{bytes_shown, fit_in, highest_cap, limit_at, limit_if, limits_from, limits_of, min_cap, position_limit, tree_limits}
 use Rattle.redo_page.specs.Tree.{Build, articles, is_moved, no_node, node_at, position_of}
 use Rattle.redo_page.proofs.LimitLemmas.{fits, last_within}
 use Rattle.redo_page.proofs.PageLines.{Have, HaveLines, direct_lines, opened_lines, texts_at}
@@ -140,22 +140,22 @@ bytes_small times (node ∷ nodes) small (suc position) = bytes_small times node
 no_limit_fits : FitsInto64Bits no_limit
 no_limit_fits = record { head = omega arith; tail = omega arith }
 
-module _ (build : Build) (small : (position : ℕ) → IsSmall (node_at build.nodes position).bytes) (level : ℕ) (low : IsSmall level) where
-  limit_fits : (bytes : ℕ) → IsSmall bytes → FitsInto64Bits (limit_at level bytes)
+module _ (build : Build) (small : (position : ℕ) → IsSmall (node_at build.nodes position).bytes) (cap : ℕ) (low : IsSmall cap) where
+  limit_fits : (bytes : ℕ) → IsSmall bytes → FitsInto64Bits (limit_at cap bytes)
   limit_fits bytes few = record { head = omega (arith, low); tail = omega (arith, few) }
 
-  position_fits : (position : ℕ) → FitsInto64Bits (position_limit build level position)
-  position_fits position = by (nat_lt level (node_at build.nodes position).bytes && not (is_moved build position))
+  position_fits : (position : ℕ) → FitsInto64Bits (position_limit build cap position)
+  position_fits position = by (nat_lt cap (node_at build.nodes position).bytes && not (is_moved build position))
     where
-      by : (cut : Bool) → FitsInto64Bits (if cut then limit_at level (node_at build.nodes position).bytes else no_limit)
+      by : (cut : Bool) → FitsInto64Bits (if cut then limit_at cap (node_at build.nodes position).bytes else no_limit)
       by true = limit_fits (node_at build.nodes position).bytes (small position)
       by false = no_limit_fits
 
-  if_fits : (position : Option ℕ) → FitsInto64Bits (limit_if build level position)
+  if_fits : (position : Option ℕ) → FitsInto64Bits (limit_if build cap position)
   if_fits None = no_limit_fits
   if_fits (Some position) = position_fits position
 
-  each_fits : (first count number : ℕ) → FitsInto64Bits (limit_of (limits_from build level first count) number)
+  each_fits : (first count number : ℕ) → FitsInto64Bits (limit_of (limits_from build cap first count) number)
   each_fits first zero number = no_limit_fits
   each_fits first (suc count) zero = if_fits (position_of build.nodes first)
   each_fits first (suc count) (suc number) = each_fits (suc first) count number
@@ -163,11 +163,11 @@ module _ (build : Build) (small : (position : ℕ) → IsSmall (node_at build.no
 pub limits_fit : (logs : List Log) (options : Options) (nodes : List Node) (budget : ℕ) → budget < 2 ^ 64 → ((position : ℕ) → IsSmall (node_at nodes position).bytes) → (number : ℕ) → FitsInto64Bits (limit_of (tree_limits logs options nodes budget) number)
 limits_fit logs options nodes budget small bytes number = by (budget == 0 || fit_in None budget nodes)
   where
-    by : (none : Bool) → FitsInto64Bits (limit_of (limits_of (record { logs = logs; options = options; nodes = nodes; articles = articles nodes }) (if none then None else Some (max min_level (highest_level budget nodes))) (length logs)) number)
+    by : (none : Bool) → FitsInto64Bits (limit_of (limits_of (record { logs = logs; options = options; nodes = nodes; articles = articles nodes }) (if none then None else Some (max min_cap (highest_cap budget nodes))) (length logs)) number)
     by true = no_limit_fits
     by false =
         let within = last_within (fits budget nodes) budget in
-        each_fits (record { logs = logs; options = options; nodes = nodes; articles = articles nodes }) bytes (max min_level (highest_level budget nodes)) (omega (arith, small, within)) 0 (length logs) number
+        each_fits (record { logs = logs; options = options; nodes = nodes; articles = articles nodes }) bytes (max min_cap (highest_cap budget nodes)) (omega (arith, small, within)) 0 (length logs) number
 
 -- ---- nothing is cut if everything fits
 
@@ -175,7 +175,7 @@ pub fitting_limits : (logs : List Log) (options : Options) (nodes : List Node) (
 fitting_limits logs options nodes budget fit = by (budget == 0) (fit_in None budget nodes) (le-leb (bytes_shown None nodes) budget fit)
   where
     by : (zero fits : Bool) → fits ≡ true
-        → limits_of (record { logs = logs; options = options; nodes = nodes; articles = articles nodes }) (if zero || fits then None else Some (max min_level (highest_level budget nodes))) (length logs) ≡ []
+        → limits_of (record { logs = logs; options = options; nodes = nodes; articles = articles nodes }) (if zero || fits then None else Some (max min_cap (highest_cap budget nodes))) (length logs) ≡ []
     by true fits is = refl
     by false true is = refl
     by false false is = absurd (cc)

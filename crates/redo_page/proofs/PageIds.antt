@@ -22,7 +22,7 @@ use Rattle.redo_page.specs.Frame.{command, footer_parts, head_parts, is_unfinish
 use Rattle.redo_page.specs.Laws.{article_ids, article_links, charts, is_among, numbers_from, page_chart, part_chart, section_id, section_ids, section_link, section_links, target_ids, target_links}
 use Rattle.redo_page.specs.declared.frame.Verdict.{Verdict}
 use Rattle.redo_page.specs.Page.{Request, heading_of, options_of, page_contents, page_events, page_facts, page_outline, page_parts, run_times, top_parts_of}
-use Rattle.redo_page.specs.Tree.{articles, first_failures}
+use Rattle.redo_page.specs.Tree.{articles, root_failures}
 use Rattle.redo_page.proofs.Ids.{Refers, bare_refers, is_section, section, then_refer}
 use Rattle.redo_page.proofs.FrameIds.{footer_bare, head_bare, header_refers, links}
 use Rattle.redo_page.proofs.FailedIds.{failed_refers, failed_section}
@@ -114,7 +114,7 @@ charts_found verdict timed some timeline = by verdict timed some
 
 module _ (nodes : List Node) (facts : Facts) (positions : AreOfNodes nodes facts) where
   top_refers : (title : List ℕ) (logs : List Log) (verdict : Verdict) (title_is heading : List ℕ)
-      → Refers (length nodes) (articles nodes) (top_parts_of title logs verdict title_is heading nodes facts) [] ((articles nodes ++ []) ++ []) (top_sections verdict (has_timeline facts) (failed_section (first_failures nodes)))
+      → Refers (length nodes) (articles nodes) (top_parts_of title logs verdict title_is heading nodes facts) [] ((articles nodes ++ []) ++ []) (top_sections verdict (has_timeline facts) (failed_section (root_failures nodes)))
   unfolding top_parts_of
   top_refers title logs verdict title_is heading =
       then_refer (bare_refers (head_parts title_is verdict) (head_bare title_is verdict))
@@ -127,9 +127,9 @@ module _ (logs : List Log) (nodes : List Node) (facts : Facts) where
   sections_of verdict some timed window = page_sections verdict (is_some window && timed) (parts_if some (MarkupPart FailedSection ∷ [])) (timeline_found logs nodes facts timed window)
 
   sections_linked :
-      section_links (page_sections (verdict_of nodes) (has_timeline facts) (failed_section (first_failures nodes)) (timeline_found logs nodes facts (is_timed facts) facts.window))
-      ≡ section_ids (page_sections (verdict_of nodes) (has_timeline facts) (failed_section (first_failures nodes)) (timeline_found logs nodes facts (is_timed facts) facts.window))
-  sections_linked = by (nat_lt 0 (length (first_failures nodes))) (list_any is_unfinished nodes) (is_timed facts) facts.window
+      section_links (page_sections (verdict_of nodes) (has_timeline facts) (failed_section (root_failures nodes)) (timeline_found logs nodes facts (is_timed facts) facts.window))
+      ≡ section_ids (page_sections (verdict_of nodes) (has_timeline facts) (failed_section (root_failures nodes)) (timeline_found logs nodes facts (is_timed facts) facts.window))
+  sections_linked = by (nat_lt 0 (length (root_failures nodes))) (list_any is_unfinished nodes) (is_timed facts) facts.window
     where
       by : (some unfinished timed : Bool) (window : Option Window)
           → section_links (sections_of (if some then Failed else if unfinished then Unfinished else Made) some timed window) ≡ section_ids (sections_of (if some then Failed else if unfinished then Unfinished else Made) some timed window)
@@ -175,7 +175,7 @@ module _ (have : HavePositions) (lead : BarsLead) (keep : KeepLogs) (request : R
   shown = page_contents request logs requested
 
   page_refers : Refers (length nodes) (articles nodes) parts (numbers_from 0 (log_count shown) ++ []) (((articles nodes ++ []) ++ []) ++ [])
-      (page_sections (verdict_of nodes) (has_timeline facts) (failed_section (first_failures nodes)) (timeline_found logs nodes facts (is_timed facts) facts.window))
+      (page_sections (verdict_of nodes) (has_timeline facts) (failed_section (root_failures nodes)) (timeline_found logs nodes facts (is_timed facts) facts.window))
   unfolding page_parts
   page_refers =
       let positions = have nodes request.times in
@@ -206,7 +206,7 @@ module _ (have : HavePositions) (lead : BarsLead) (keep : KeepLogs) (request : R
   charts_are : charts parts ≡ charts (timeline_found logs nodes facts (is_timed facts) facts.window)
   charts_are =
       in_sections part_chart chart_part parts ∙ ap charts page_refers.sections_are
-      ∙ charts_found (verdict_of nodes) (has_timeline facts) (nat_lt 0 (length (first_failures nodes))) (timeline_found logs nodes facts (is_timed facts) facts.window)
+      ∙ charts_found (verdict_of nodes) (has_timeline facts) (nat_lt 0 (length (root_failures nodes))) (timeline_found logs nodes facts (is_timed facts) facts.window)
 
   pub page_has_chart : (window : Window) → facts.window ≡ Some window → is_timed facts ≡ true → charts parts ≡ page_chart request logs requested window ∷ []
   page_has_chart window is timed = charts_are ∙ ap (λ (w : Option Window). charts (timeline_found logs nodes facts (is_timed facts) w)) is ∙ ap (λ (b : Bool). charts (timeline_found logs nodes facts b (Some window))) timed

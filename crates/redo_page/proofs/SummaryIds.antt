@@ -15,10 +15,10 @@ use Rattle.redo_outline.specs.Facts.{target_at}
 use Rattle.redo_page.specs.declared.labels.TheConstants.{AT_MOST, AT_ONCE, FAILED, FEW_TIMES_OF, LOGS, LONGEST, MOST_WARNINGS, NO_TIMES, OF, SUM_OF_TIMES, TARGETS, TIMES_UNKNOWN, TOOK, WARNED_LINES}
 use Rattle.redo_page.specs.declared.summary.Measure.{Measure}
 use Rattle.redo_page.specs.declared.summary.Measure.TheVariants.{Milliseconds, Count}
-use Rattle.redo_page.specs.Failed.{failed_above, positions_where}
+use Rattle.redo_page.specs.Failed.{is_dependent_failure, positions_where}
 use Rattle.redo_page.specs.Summary.{at_once_parts, failed_counts, known_count, largest_of, measure_parts, rank_parts, shown_longest, summary_parts, table_parts, tables_parts, tile, tile_end, tile_start, tiles, timed_tiles, took_tile, unknown_parts, why_parts}
 use Rattle.redo_page.specs.Targets.{linked_parts}
-use Rattle.redo_page.specs.Tree.{first_failures, node_at}
+use Rattle.redo_page.specs.Tree.{root_failures, node_at}
 use Rattle.redo_page.specs.Words.{word_part, words_parts}
 use Rattle.redo_summary.specs.declared.rank.Rank.{Rank}
 use Rattle.redo_summary.specs.Laws.{AreRanksBelow}
@@ -34,19 +34,19 @@ plain_bare words = bare_each word_part word_bare words
 tile_bare : (term : List ℕ) (description : List Part) → Bare description → Bare (tile term description)
 tile_bare term description bare = bare_then (tile_start term) (description ++ tile_end) refl (bare_then description tile_end bare refl)
 
-failed_bare : (first above : ℕ) → Bare (failed_counts first above)
-failed_bare first above = bare_if (not (above == 0)) _ refl
+failed_bare : (roots dependents : ℕ) → Bare (failed_counts roots dependents)
+failed_bare roots dependents = bare_if (not (dependents == 0)) _ refl
 
-tiles_bare : (facts : Facts) (targets first above : ℕ) → Bare (tiles facts targets first above)
-tiles_bare facts targets first above =
+tiles_bare : (facts : Facts) (targets roots dependents : ℕ) → Bare (tiles facts targets roots dependents)
+tiles_bare facts targets roots dependents =
     let sum = tile SUM_OF_TIMES.now (words_parts (duration_words facts.sum)) in
     let at_once = tile AT_ONCE.now (at_once_parts facts) in
     let timed = took_tile facts ++ timed_tiles facts in
     let logs = tile LOGS.now (words_parts (size_words facts.bytes)) in
     let warnings = tile WARNED_LINES.now (NumberPart facts.warnings ∷ []) in
-    let failed = tile FAILED.now (failed_counts first above) in
+    let failed = tile FAILED.now (failed_counts roots dependents) in
     bare_then (tile TARGETS.now (NumberPart targets ∷ [])) (failed ++ (warnings ++ (logs ++ timed))) (tile_bare TARGETS.now (NumberPart targets ∷ []) refl)
-    (bare_then failed (warnings ++ (logs ++ timed)) (tile_bare FAILED.now (failed_counts first above) (failed_bare first above))
+    (bare_then failed (warnings ++ (logs ++ timed)) (tile_bare FAILED.now (failed_counts roots dependents) (failed_bare roots dependents))
     (bare_then warnings (logs ++ timed) (tile_bare WARNED_LINES.now (NumberPart facts.warnings ∷ []) refl)
     (bare_then logs timed (tile_bare LOGS.now (words_parts (size_words facts.bytes)) (plain_bare (size_words facts.bytes)))
     (bare_then (took_tile facts) (timed_tiles facts) (bare_if (is_some facts.window) (tile TOOK.now (words_parts (duration_words facts.took))) (tile_bare TOOK.now (words_parts (duration_words facts.took)) (plain_bare (duration_words facts.took))))
@@ -102,6 +102,6 @@ module _ (count : ℕ) (listed : List ℕ) (logs : List Log) (nodes : List Node)
   unfolding summary_parts
   summary_refers facts longest warned =
       same_refer {others = MarkupPart SummarySection ∷ tables_parts logs nodes (shown_longest facts) facts.warned}
-      (simp (flat_map-append, append-nil, tiles_bare facts (length nodes) (length (first_failures nodes)) (length (positions_where failed_above 0 nodes)), why_bare facts))
+      (simp (flat_map-append, append-nil, tiles_bare facts (length nodes) (length (root_failures nodes)) (length (positions_where is_dependent_failure 0 nodes)), why_bare facts))
       (then_refer {parts = MarkupPart SummarySection ∷ []} (record { target_ids_are = refl; article_ids_are = refl; target_links_lead = refl; article_links_lead = refl; sections_are = refl })
       (tables_refer (shown_longest facts) facts.warned (longest_below facts longest) warned))

@@ -10,9 +10,9 @@ use Rattle.redo_outline.specs.Facts.{target_at}
 use Rattle.redo_page.specs.declared.labels.TheConstants.{AT_ONCE, FAILED, FEW_TIMES_OF, LOGS, LONGEST, MOST_WARNINGS, NO_TIMES, OF, SUMMARY, SUM_OF_TIMES, TARGETS, TIMES_UNKNOWN, TOOK, WARNED_LINES}
 use Rattle.redo_page.specs.declared.summary.Measure.{Measure}
 use Rattle.redo_page.specs.declared.summary.Measure.TheVariants.{Milliseconds, Count}
-use Rattle.redo_page.specs.Failed.{failed_above, positions_where}
-use Rattle.redo_page.specs.Summary.{above_parts, at_once_parts, failed_counts, known_count, largest_of, measure_parts, rank_parts, shown_longest, summary_parts, table_parts, table_start, tables_parts, tile, tile_end, tile_start, tiles, timed_tiles, took_tile, unknown_parts, why_parts}
-use Rattle.redo_page.specs.Tree.{first_failures, node_at}
+use Rattle.redo_page.specs.Failed.{is_dependent_failure, positions_where}
+use Rattle.redo_page.specs.Summary.{dependents_parts, at_once_parts, failed_counts, known_count, largest_of, measure_parts, rank_parts, shown_longest, summary_parts, table_parts, table_start, tables_parts, tile, tile_end, tile_start, tiles, timed_tiles, took_tile, unknown_parts, why_parts}
+use Rattle.redo_page.specs.Tree.{root_failures, node_at}
 use Rattle.redo_page.specs.Words.{word_part, words_parts}
 use Rattle.redo_summary.specs.declared.rank.Rank.{Rank}
 use Rattle.redo_summary.specs.Summary.{Facts, is_timed}
@@ -30,16 +30,16 @@ tile_nests term description nests =
     then_lead {middle = codes "dd" ∷ codes "div" ∷ []} {parts = tile_start term} (record { leads = λ around tags. refl })
     (then_lead (lead_in (codes "dd" ∷ codes "div" ∷ []) nests) (record { leads = λ around tags. refl }))
 
-failed_nest : (first above : ℕ) → Nest (failed_counts first above)
-failed_nest first above = then_lead {middle = []} {parts = NumberPart first ∷ []} (record { leads = λ around tags. refl }) (nest_if (not (above == 0)) (record { leads = λ around tags. refl }))
+failed_nest : (roots dependents : ℕ) → Nest (failed_counts roots dependents)
+failed_nest roots dependents = then_lead {middle = []} {parts = NumberPart roots ∷ []} (record { leads = λ around tags. refl }) (nest_if (not (dependents == 0)) (record { leads = λ around tags. refl }))
 
 number_nests : (number : ℕ) → Nest (NumberPart number ∷ [])
 number_nests number = record { leads = λ around tags. refl }
 
-tiles_nest : (facts : Facts) (targets first above : ℕ) → Nest (tiles facts targets first above)
-tiles_nest facts targets first above =
+tiles_nest : (facts : Facts) (targets roots dependents : ℕ) → Nest (tiles facts targets roots dependents)
+tiles_nest facts targets roots dependents =
     then_lead (tile_nests TARGETS.now (NumberPart targets ∷ []) (number_nests targets))
-    (then_lead (tile_nests FAILED.now (failed_counts first above) (failed_nest first above))
+    (then_lead (tile_nests FAILED.now (failed_counts roots dependents) (failed_nest roots dependents))
     (then_lead (tile_nests WARNED_LINES.now (NumberPart facts.warnings ∷ []) (number_nests facts.warnings))
     (then_lead (tile_nests LOGS.now (words_parts (size_words facts.bytes)) (plain_nests (size_words facts.bytes)))
     (then_lead (nest_if (is_some facts.window) (tile_nests TOOK.now (words_parts (duration_words facts.took)) (plain_nests (duration_words facts.took))))
@@ -90,7 +90,7 @@ module _ (logs : List Log) (nodes : List Node) where
   unfolding summary_parts
   summary_nests facts =
       then_lead {middle = codes "dl" ∷ codes "section" ∷ []} {parts = MarkupPart markup.SummarySection ∷ MarkupPart markup.SummaryHeading ∷ TextPart SUMMARY.now ∷ MarkupPart markup.EndHeading ∷ MarkupPart markup.DescriptionList ∷ []} (record { leads = λ around tags. refl })
-      (then_lead (lead_in (codes "dl" ∷ codes "section" ∷ []) (tiles_nest facts (length nodes) (length (first_failures nodes)) (length (positions_where failed_above 0 nodes))))
+      (then_lead (lead_in (codes "dl" ∷ codes "section" ∷ []) (tiles_nest facts (length nodes) (length (root_failures nodes)) (length (positions_where is_dependent_failure 0 nodes))))
       (then_lead {middle = codes "section" ∷ []} {parts = MarkupPart markup.EndDescriptionList ∷ []} (record { leads = λ around tags. refl })
       (then_lead (lead_in (codes "section" ∷ []) (tables_nest (shown_longest facts) facts.warned))
       (then_lead (lead_in (codes "section" ∷ []) (why_nests facts)) (record { leads = λ around tags. refl })))))

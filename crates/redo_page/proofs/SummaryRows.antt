@@ -10,7 +10,7 @@ use Rattle.redo_logs.specs.declared.log_state.LogState.TheVariants.{Ended}
 use Rattle.redo_logs.specs.Logs.{Log}
 use Rattle.redo_outline.specs.declared.node.Node.{Node}
 use Rattle.redo_page.specs.declared.summary.Measure.TheVariants.{Milliseconds, Count}
-use Rattle.redo_page.specs.Summary.{above_parts, at_once_parts, failed_counts, known_count, largest_of, measure_parts, meter_width, rank_parts, shown_longest, summary_parts, table_parts, table_start, tables_parts, tile, tile_end, tile_start, tiles, timed_tiles, took_tile, unknown_parts, why_parts}
+use Rattle.redo_page.specs.Summary.{dependents_parts, at_once_parts, failed_counts, known_count, largest_of, measure_parts, meter_width, rank_parts, shown_longest, summary_parts, table_parts, table_start, tables_parts, tile, tile_end, tile_start, tiles, timed_tiles, took_tile, unknown_parts, why_parts}
 use Rattle.redo_page.specs.Words.{word_part, words_parts}
 use Rattle.redo_summary.specs.declared.rank.Rank.{Rank}
 use Rattle.redo_summary.specs.Summary.{Facts}
@@ -109,7 +109,7 @@ tile_is :
 tile_is = (refl, refl, refl)
 
 failures_are :
-    (above_parts 0 ≡ []) × (above_parts 1 ≡ words (codes ", and ") ∷ number 1 ∷ words (codes " above") ∷ [])
+    (dependents_parts 0 ≡ []) × (dependents_parts 1 ≡ words (codes ", and ") ∷ number 1 ∷ words (codes " above") ∷ [])
     × (failed_counts 0 0 ≡ number 0 ∷ []) × (failed_counts 3 0 ≡ number 3 ∷ []) × (failed_counts 3 2 ≡ number 3 ∷ words (codes ", and ") ∷ number 2 ∷ words (codes " above") ∷ [])
 failures_are = (refl, refl, refl, refl, refl)
 

@@ -21,7 +21,7 @@ use Rattle.redo_outline.specs.Contents.Contents.{Nothing, Shown, Opened}
 use Rattle.redo_page.specs.declared.block.Pending.{Pending}
 use Rattle.redo_page.specs.declared.block.Pending.TheVariants as pending
 use Rattle.redo_page.specs.declared.level.Level.{Level}
-use Rattle.redo_page.specs.Tree.{Build, after_item, after_log, after_shown, after_text, closing_parts, contents_parts, depth_parts, details_markup, done_parts, empty_start, end_cmp, entry_parts, failed_first, failure_cmp, first_failures, flat_end, flat_start, group_end, group_left, group_parts, group_size, group_start, has_article, has_failed, has_one_child, heading_parts, is_empty, is_expanded, is_moved, is_moved_if, is_same_position, is_seen, is_silent, item_parts, level_of, log_end, log_start, mention_parts, moved_parts, nested_start, node_at, node_if, note_parts, opening_parts, opening_position, position_of, position_of_name, request_parts, section_end, section_start, seen_parts, shown_parts, is_in_level, text_parts, top_level, tree_parts}
+use Rattle.redo_page.specs.Tree.{Build, after_item, after_log, after_shown, after_text, closing_parts, contents_parts, depth_parts, details_markup, done_parts, empty_start, end_cmp, entry_parts, is_root_failure, failure_cmp, root_failures, flat_end, flat_start, group_end, group_left, group_parts, group_size, group_start, has_article, has_failed, has_one_child, heading_parts, is_empty, is_expanded, is_moved, is_moved_if, is_same_position, is_seen, is_silent, item_parts, level_of, log_end, log_start, mention_parts, moved_parts, nested_start, node_at, node_if, note_parts, opening_parts, opening_position, position_of, position_of_name, request_parts, section_end, section_start, seen_parts, shown_parts, is_in_level, text_parts, top_level, tree_parts}
 
 abbrev tag : Markup → Part
 tag markup = MarkupPart markup
@@ -80,8 +80,8 @@ mention = Mentioned 1 9 Made (codes "a") (OpensHere 0)
 -- ---- what a target is
 
 failed_are :
-    (has_failed a ≡ true) × (has_failed b ≡ false) × (has_failed (node 0 None None 0 0 false) ≡ false) × (failed_first a ≡ true) × (failed_first b ≡ false)
-    × (has_failed (record b { fails_below = true }) ≡ false) × (failed_first (record a { fails_below = true }) ≡ false) × (first_failures (a ∷ b ∷ a ∷ []) ≡ 0 ∷ 2 ∷ [])
+    (has_failed a ≡ true) × (has_failed b ≡ false) × (has_failed (node 0 None None 0 0 false) ≡ false) × (is_root_failure a ≡ true) × (is_root_failure b ≡ false)
+    × (has_failed (record b { fails_below = true }) ≡ false) × (is_root_failure (record a { fails_below = true }) ≡ false) × (root_failures (a ∷ b ∷ a ∷ []) ≡ 0 ∷ 2 ∷ [])
 failed_are = (refl, refl, refl, refl, refl, refl, refl, refl)
 
 -- A target that failed, and one that didn't.
@@ -93,8 +93,8 @@ made_at time = record b { ended = time }
 
 -- Targets that ended first are first, and targets with an unknown end are last. Others are in the order of the tree.
 order_is :
-    (first_failures (failed_at (Some 30) ∷ failed_at (Some 10) ∷ failed_at None ∷ made_at (Some 5) ∷ failed_at (Some 20) ∷ failed_at None ∷ failed_at (Some 10) ∷ []) ≡ 1 ∷ 6 ∷ 4 ∷ 0 ∷ 2 ∷ 5 ∷ [])
-    × (first_failures (failed_at None ∷ made_at None ∷ failed_at (Some 0) ∷ []) ≡ 2 ∷ 0 ∷ [])
+    (root_failures (failed_at (Some 30) ∷ failed_at (Some 10) ∷ failed_at None ∷ made_at (Some 5) ∷ failed_at (Some 20) ∷ failed_at None ∷ failed_at (Some 10) ∷ []) ≡ 1 ∷ 6 ∷ 4 ∷ 0 ∷ 2 ∷ 5 ∷ [])
+    × (root_failures (failed_at None ∷ made_at None ∷ failed_at (Some 0) ∷ []) ≡ 2 ∷ 0 ∷ [])
 order_is = (refl, refl)
 
 ends_compared :

@@ -18,7 +18,7 @@ use Rattle.redo_page.specs.Targets.{parts_if, name_parts, badge_parts}
 use Rattle.redo_outline.specs.Facts.{target_at}
 use Rattle.redo_page.specs.Words.{words_parts}
 use Rattle.redo_units.specs.Durations.{duration_words}
-use Rattle.redo_page.specs.Tree.{first_failures, has_failed, is_short, max_articles, node_at}
+use Rattle.redo_page.specs.Tree.{root_failures, has_failed, is_short, max_articles, node_at}
 
 -- ---- which targets failed
 
@@ -28,8 +28,8 @@ positions_where holds position [] = []
 positions_where holds position (node ∷ nodes) = if holds node then position ∷ positions_where holds (suc position) nodes else positions_where holds (suc position) nodes
 
 -- Whether a target failed, and one below it.
-abbrev pub failed_above : Node → Bool
-failed_above node = has_failed node && node.fails_below
+abbrev pub is_dependent_failure : Node → Bool
+is_dependent_failure node = has_failed node && node.fails_below
 
 -- Whether no record says how a target ended, though it is at the end of a path.
 abbrev pub is_unclosed : Node → Bool
@@ -37,8 +37,8 @@ is_unclosed node = is_none node.status && (node.below == 0 && is_some node.paren
 
 -- Whether these are the positions of the targets that the section names.
 pub record AreFailures (nodes : List Node) (failures : Failures) : Type 0 where
-  pub first : failures.first.items ≡ first_failures nodes
-  pub above : failures.above.items ≡ positions_where failed_above 0 nodes
+  pub roots : failures.roots.items ≡ root_failures nodes
+  pub dependents : failures.dependents.items ≡ positions_where is_dependent_failure 0 nodes
   pub unclosed : failures.unclosed.items ≡ positions_where is_unclosed 0 nodes
 
 -- ---- outputs
@@ -157,16 +157,16 @@ module _ (logs : List Log) (nodes : List Node) where
   -- ---- the section
 
   unfoldable pub section_parts : List ℕ → List ℕ → List ℕ → List ℕ → List Part
-  section_parts articles others above unclosed =
+  section_parts articles others dependents unclosed =
       MarkupPart markup.FailedSection ∷ MarkupPart markup.FailedHeading ∷ TextPart WHAT_FAILED.now ∷ MarkupPart markup.EndHeading
       ∷ (list_parts articles
       ++ (flat_map article_parts articles
       ++ (more_parts (markup.OrderedFrom (suc max_articles)) true MORE_FAILED.now others
-      ++ (more_parts markup.Ordered false FAILED_WITH_THESE.now above
+      ++ (more_parts markup.Ordered false FAILED_WITH_THESE.now dependents
       ++ (more_parts markup.Ordered false COUNT_NOT_CLOSED.now unclosed ++ MarkupPart markup.EndSection ∷ [])))))
 
   -- If no target failed, there is no such section.
   unfoldable pub failed_parts : List Part
   failed_parts =
-      parts_if (nat_lt 0 (length (first_failures nodes)))
-      (section_parts (take max_articles (first_failures nodes)) (drop max_articles (first_failures nodes)) (positions_where failed_above 0 nodes) (positions_where is_unclosed 0 nodes))
+      parts_if (nat_lt 0 (length (root_failures nodes)))
+      (section_parts (take max_articles (root_failures nodes)) (drop max_articles (root_failures nodes)) (positions_where is_dependent_failure 0 nodes) (positions_where is_unclosed 0 nodes))

@@ -14,7 +14,7 @@ use Rattle.redo_page.specs.declared.frame.Verdict.{Verdict}
 use Rattle.redo_page.specs.declared.frame.Verdict.TheVariants.{Failed, Unfinished, Made}
 use Rattle.redo_page.specs.Targets.{parts_if, badge_parts, name_parts, plural}
 use Rattle.redo_outline.specs.Facts.{target_at}
-use Rattle.redo_page.specs.Tree.{first_failures}
+use Rattle.redo_page.specs.Tree.{root_failures}
 use Rattle.redo_page.specs.Words.{words_parts}
 use Rattle.redo_summary.specs.Summary.{Facts}
 use Rattle.redo_page.specs.Timeline.{has_timeline}
@@ -36,10 +36,10 @@ abbrev pub failed_text : ℕ → ℕ → List ℕ
 failed_text failures targets = number_text failures ++ (OF.now ++ counted_text targets TARGET_FAILED.now TARGETS_FAILED.now)
 
 abbrev pub verdict_of : List Node → Verdict
-verdict_of nodes = if nat_lt 0 (length (first_failures nodes)) then Failed else if list_any is_unfinished nodes then Unfinished else Made
+verdict_of nodes = if nat_lt 0 (length (root_failures nodes)) then Failed else if list_any is_unfinished nodes then Unfinished else Made
 
 abbrev pub verdict_text : Verdict → List Node → List ℕ
-verdict_text Failed nodes = failed_text (length (first_failures nodes)) (length nodes)
+verdict_text Failed nodes = failed_text (length (root_failures nodes)) (length nodes)
 verdict_text Unfinished nodes = counted_text (length nodes) TARGET_BEGUN.now TARGETS_BEGUN.now
 verdict_text Made nodes = counted_text (length nodes) TARGET_MADE.now TARGETS_MADE.now
 
@@ -141,13 +141,13 @@ quoted word = if is_safe_word word then word else in_quotes word
 abbrev pub argument : List ℕ → List ℕ
 argument name = codes " " ++ ((if starts_with nat_eq name (codes "-") then codes "./" else []) ++ quoted name)
 
-abbrev pub flag : Bool → List ℕ → List ℕ
-flag given word = if given then word else []
+abbrev pub text_if : Bool → List ℕ → List ℕ
+text_if condition text = if condition then text else []
 
 -- The command that writes the same as one text.
 abbrev pub command : List ℕ → Options → List (List ℕ) → List ℕ
 command dir options requested =
-    codes "redo-log -r" ++ (flag options.unchanged (codes " -u") ++ (flag options.debug_locks (codes " --debug-locks") ++ (codes " --dir=" ++ (quoted dir ++ flat_map argument requested))))
+    codes "redo-log -r" ++ (text_if options.unchanged (codes " -u") ++ (text_if options.debug_locks (codes " --debug-locks") ++ (codes " --dir=" ++ (quoted dir ++ flat_map argument requested))))
 
 abbrev pub log_count_parts : ℕ → List Part
 log_count_parts logs = NumberPart logs ∷ TextPart (plural logs LOG_IN.now LOGS_IN.now) ∷ []

@@ -10,9 +10,9 @@ use Rattle.redo_outline.specs.Facts.{saturated, target_at}
 use Rattle.redo_page.specs.declared.labels.TheConstants.{ABOVE, AND_COUNT, AT_MOST, AT_ONCE, FAILED, FEW_TIMES_OF, LOGS, LONGEST, MOST_WARNINGS, NO_TIMES, OF, SUMMARY, SUM_OF_TIMES, TARGETS, TIMES_UNKNOWN, TOOK, WARNED_LINES}
 use Rattle.redo_page.specs.declared.summary.Measure.{Measure}
 use Rattle.redo_page.specs.declared.summary.Measure.TheVariants.{Milliseconds, Count}
-use Rattle.redo_page.specs.Failed.{failed_above, positions_where}
+use Rattle.redo_page.specs.Failed.{is_dependent_failure, positions_where}
 use Rattle.redo_page.specs.Targets.{badge_parts, linked_parts, parts_if}
-use Rattle.redo_page.specs.Tree.{first_failures, node_at}
+use Rattle.redo_page.specs.Tree.{root_failures, node_at}
 use Rattle.redo_page.specs.Words.{words_parts}
 use Rattle.redo_summary.specs.declared.rank.Rank.{Rank}
 use Rattle.redo_summary.specs.Summary.{Facts, is_timed}
@@ -31,12 +31,12 @@ tile_end = MarkupPart markup.EndDescription ∷ MarkupPart markup.EndDiv ∷ []
 abbrev pub tile : List ℕ → List Part → List Part
 tile term description = tile_start term ++ (description ++ tile_end)
 
-abbrev pub above_parts : ℕ → List Part
-above_parts above = parts_if (not (above == 0)) (TextPart AND_COUNT.now ∷ NumberPart above ∷ TextPart ABOVE.now ∷ [])
+abbrev pub dependents_parts : ℕ → List Part
+dependents_parts dependents = parts_if (not (dependents == 0)) (TextPart AND_COUNT.now ∷ NumberPart dependents ∷ TextPart ABOVE.now ∷ [])
 
 -- How many targets failed, and how many of those above them.
 abbrev pub failed_counts : ℕ → ℕ → List Part
-failed_counts first above = (NumberPart first ∷ []) ++ above_parts above
+failed_counts roots dependents = (NumberPart roots ∷ []) ++ dependents_parts dependents
 
 -- How many recipes ran at once, on average and at most.
 abbrev pub at_once_parts : Facts → List Part
@@ -51,9 +51,9 @@ timed_tiles facts =
     parts_if (is_timed facts) (tile SUM_OF_TIMES.now (words_parts (duration_words facts.sum)) ++ tile AT_ONCE.now (at_once_parts facts))
 
 abbrev pub tiles : Facts → ℕ → ℕ → ℕ → List Part
-tiles facts targets first above =
+tiles facts targets roots dependents =
     tile TARGETS.now (NumberPart targets ∷ [])
-    ++ (tile FAILED.now (failed_counts first above)
+    ++ (tile FAILED.now (failed_counts roots dependents)
     ++ (tile WARNED_LINES.now (NumberPart facts.warnings ∷ [])
     ++ (tile LOGS.now (words_parts (size_words facts.bytes))
     ++ (took_tile facts ++ timed_tiles facts))))
@@ -122,7 +122,7 @@ module _ (logs : List Log) (nodes : List Node) where
   unfoldable pub summary_parts : Facts → List Part
   summary_parts facts =
       MarkupPart markup.SummarySection ∷ MarkupPart markup.SummaryHeading ∷ TextPart SUMMARY.now ∷ MarkupPart markup.EndHeading ∷ MarkupPart markup.DescriptionList
-      ∷ (tiles facts (length nodes) (length (first_failures nodes)) (length (positions_where failed_above 0 nodes))
+      ∷ (tiles facts (length nodes) (length (root_failures nodes)) (length (positions_where is_dependent_failure 0 nodes))
       ++ (MarkupPart markup.EndDescriptionList
       ∷ (tables_parts (shown_longest facts) facts.warned
       ++ (why_parts facts ++ MarkupPart markup.EndSection ∷ []))))

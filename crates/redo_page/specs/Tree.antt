@@ -47,13 +47,13 @@ abbrev pub has_failed : Node → Bool
 has_failed node = is_failure node.status
 
 -- Whether a target failed, and none below it.
-abbrev pub failed_first : Node → Bool
-failed_first node = has_failed node && not node.fails_below
+abbrev pub is_root_failure : Node → Bool
+is_root_failure node = has_failed node && not node.fails_below
 
 -- The positions of the targets that failed with none below them, in the order of the tree.
-abbrev pub first_failures_from : ℕ → List Node → List ℕ
-first_failures_from position [] = []
-first_failures_from position (node ∷ nodes) = (if failed_first node then position ∷ [] else []) ++ first_failures_from (suc position) nodes
+abbrev pub root_failures_from : ℕ → List Node → List ℕ
+root_failures_from position [] = []
+root_failures_from position (node ∷ nodes) = (if is_root_failure node then position ∷ [] else []) ++ root_failures_from (suc position) nodes
 
 -- The target that ended first is first. Targets of which it is unknown when they ended are last.
 abbrev pub end_cmp : Option ℕ → Option ℕ → Ordering
@@ -67,15 +67,15 @@ abbrev pub failure_cmp : List Node → ℕ → ℕ → Ordering
 failure_cmp nodes position other = ordering_then (end_cmp (node_at nodes position).ended (node_at nodes other).ended) (nat_cmp position other)
 
 -- The same positions, in the order in which the targets ended.
-abbrev pub first_failures : List Node → List ℕ
-first_failures nodes = sort (failure_cmp nodes) (first_failures_from 0 nodes)
+abbrev pub root_failures : List Node → List ℕ
+root_failures nodes = sort (failure_cmp nodes) (root_failures_from 0 nodes)
 
 -- The targets that have an article at the top of the page.
 abbrev pub max_articles : ℕ
 max_articles = 10
 
 abbrev pub articles : List Node → List ℕ
-articles nodes = take max_articles (first_failures nodes)
+articles nodes = take max_articles (root_failures nodes)
 
 -- A build, as the tree of its page shows it: its logs, the options, the outline, and the positions of the targets that have an article.
 pub record Build : Type 0 where

@@ -3,8 +3,8 @@ ghost use Rattle.std.specs.Prelude.{◌≡◌, ◌∷◌, ◌++◌, true, false,
 ghost use Rattle.std.specs.List.{flat_map};
 ghost use Rattle.redo_html.specs.declared.markup.Markup.TheVariants.{EndDetails, EndOrdered, Ordered, OrderedFrom};
 ghost use Rattle.redo_html.specs.Parts.Part.{MarkupPart};
-ghost use Rattle.redo_page.specs.Failed.{AreFailures, article_parts, article_row, cause_if, failed_above, failed_parts, is_unclosed, list_parts, more_parts, positions_where, row_parts, section_parts, target_row, unlisted_parts};
-ghost use Rattle.redo_page.specs.Tree.{end_cmp, failure_cmp, first_failures};
+ghost use Rattle.redo_page.specs.Failed.{AreFailures, article_parts, article_row, cause_if, is_dependent_failure, failed_parts, is_unclosed, list_parts, more_parts, positions_where, row_parts, section_parts, target_row, unlisted_parts};
+ghost use Rattle.redo_page.specs.Tree.{end_cmp, failure_cmp, root_failures};
 ghost use Rattle.redo_timeline.specs.Order.{sort};
 ghost use Rattle.redo_page.specs.Private.Writing.{WroteParts};
 ghost use Rattle.redo_page.specs.declared.labels.TheConstants.{COUNT_NOT_CLOSED, FAILED_WITH_THESE, MORE_FAILED};
@@ -23,7 +23,7 @@ use redo_outline::Node;
 use std::alloc::{AllocError, Global};
 use std::cmp::Ordering;
 
-/// The first failures that have articles, at most.
+/// The root failures that have articles, at most.
 pub const MAX_ARTICLES: usize = 10;
 
 const MAX_ROWS: usize = 200;
@@ -32,9 +32,9 @@ const MAX_ROWS: usize = 200;
 #[derive(Drop)]
 pub struct Failures {
     /// Targets that failed without a failure below them, in the order in which they ended. The first ten have articles.
-    pub first: Vec<usize>,
+    pub roots: Vec<usize>,
     /// Targets that failed with a failure below them.
-    pub above: Vec<usize>,
+    pub dependents: Vec<usize>,
     /// Targets at the ends of paths that have no record of how they ended.
     pub unclosed: Vec<usize>,
 }
@@ -43,18 +43,18 @@ pub struct Failures {
 pub fn find_failures(alloc: Global, nodes: &[Node]) -> Result<Failures, AllocError>
     ensures { IfOk result (AreFailures nodes.now) }
 {
-    let first = first_failures(alloc, nodes)?;
-    let above = failures_above(alloc, nodes)?;
+    let roots = root_failures(alloc, nodes)?;
+    let dependents = dependent_failures(alloc, nodes)?;
     let unclosed = unclosed_targets(alloc, nodes)?;
     Ok(Failures {
-        first,
-        above,
+        roots,
+        dependents,
         unclosed,
     })
 }
 
-fn first_failures(alloc: Global, nodes: &[Node]) -> Result<Vec<usize>, AllocError>
-    ensures { IfOk result (λ positions. positions.items ≡ first_failures nodes.now) }
+fn root_failures(alloc: Global, nodes: &[Node]) -> Result<Vec<usize>, AllocError>
+    ensures { IfOk result (λ positions. positions.items ≡ root_failures nodes.now) }
 {
     let mut positions = Vec::new(alloc);
     for position in 0..nodes.len() {
@@ -92,8 +92,8 @@ fn end_cmp(ended: Option<u64>, other: Option<u64>) -> Ordering
     }
 }
 
-fn failures_above(alloc: Global, nodes: &[Node]) -> Result<Vec<usize>, AllocError>
-    ensures { IfOk result (λ positions. positions.items ≡ positions_where failed_above 0 nodes.now) }
+fn dependent_failures(alloc: Global, nodes: &[Node]) -> Result<Vec<usize>, AllocError>
+    ensures { IfOk result (λ positions. positions.items ≡ positions_where is_dependent_failure 0 nodes.now) }
 {
     let mut positions = Vec::new(alloc);
     for position in 0..nodes.len() {
@@ -330,7 +330,7 @@ fn write_others<W: Sink>(
     write_more(table, nodes, list, true, MORE_FAILED, positions, page)
 }
 
-fn write_above<W: Sink>(
+fn write_dependents<W: Sink>(
     table: &LogTable,
     nodes: &[Node],
     positions: &[usize],
@@ -360,11 +360,11 @@ fn write_section<W: Sink>(
     nodes: &[Node],
     articles: &[usize],
     others: &[usize],
-    above: &[usize],
+    dependents: &[usize],
     unclosed: &[usize],
     page: &mut PageWriter<'_, W>,
 )
-    ensures { WroteParts W.written page.old page.new (section_parts table.now nodes.now articles.now others.now above.now unclosed.now) }
+    ensures { WroteParts W.written page.old page.new (section_parts table.now nodes.now articles.now others.now dependents.now unclosed.now) }
 {
     page.put(&[
         Piece::Markup(Markup::FailedSection),
@@ -375,7 +375,7 @@ fn write_section<W: Sink>(
     write_list(table, nodes, articles, page);
     write_articles(table, nodes, articles, page);
     write_others(table, nodes, others, page);
-    write_above(table, nodes, above, page);
+    write_dependents(table, nodes, dependents, page);
     write_unclosed(table, nodes, unclosed, page);
     page.put(&[Piece::Markup(Markup::EndSection)]);
 }
@@ -390,13 +390,13 @@ pub fn write_failed<W: Sink>(
     requires { AreFailures nodes.now failures.now }
     ensures { WroteParts W.written page.old page.new (failed_parts table.now nodes.now) }
 {
-    let first = failures.first.as_slice();
-    if first.is_empty() {
+    let roots = failures.roots.as_slice();
+    if roots.is_empty() {
         return;
     }
-    let articles = first_of(MAX_ARTICLES, first);
-    let others = others_of(MAX_ARTICLES, first);
-    let above = failures.above.as_slice();
+    let articles = first_of(MAX_ARTICLES, roots);
+    let others = others_of(MAX_ARTICLES, roots);
+    let dependents = failures.dependents.as_slice();
     let unclosed = failures.unclosed.as_slice();
-    write_section(table, nodes, articles, others, above, unclosed, page)
+    write_section(table, nodes, articles, others, dependents, unclosed, page)
 }

@@ -10,10 +10,10 @@ ghost use Rattle.redo_view.specs.View.{find_unknown};
 ghost use Rattle.redo_outline.specs.declared.node.Node.{Node};
 ghost use Rattle.redo_outline.specs.Contents.{Contents};
 ghost use Rattle.redo_page.specs.Laws.{AreInOrderOfEnd, HaveSameLogs, IsOwnTag, IsPartOf, article_ids, article_links, blanked, event_lines, is_among, kept_lines, lines_at, log_bytes, markups, numbers_from, page_article, page_chart, page_lines, page_tree, positioned_bytes, section_ids, section_links, target_ids, target_links, texts_of, unmoved_lines, charts, ChartDraws, HasTimeline, page_limit};
-ghost use Rattle.redo_page.specs.Failed.{failed_above, positions_where};
-ghost use Rattle.redo_page.specs.Limits.{bytes_shown, highest_level};
+ghost use Rattle.redo_page.specs.Failed.{is_dependent_failure, positions_where};
+ghost use Rattle.redo_page.specs.Limits.{bytes_shown, highest_cap};
 ghost use Rattle.redo_page.specs.Page.{Request, page_build, page_events, page_facts, page_html, page_outline, page_parts};
-ghost use Rattle.redo_page.specs.Tree.{articles, first_failures, has_failed, is_moved, tree_parts};
+ghost use Rattle.redo_page.specs.Tree.{articles, root_failures, has_failed, is_moved, tree_parts};
 ghost use Rattle.redo_chart.specs.Bands.{max_parent_lanes, max_recipe_lanes, max_mark_lanes};
 ghost use Rattle.redo_chart.specs.Laws.{DrawsAll, shapes_of};
 ghost use Rattle.redo_html.specs.declared.chart.GroupKind.TheVariants.{Parents, Recipes, Untimed};
@@ -72,12 +72,12 @@ pub fn links_lead_to_ids()
     trimmed_events_are_in_tree();
 }
 
-/// Each target that failed is exactly once among the first failures or among those above them. The first failures are in the order in
+/// Each target that failed is exactly once among the root failures or among those above them. The root failures are in the order in
 /// which the targets ended. Targets with an unknown end follow all others. Equal ends, and unknown ones, are in the order of the tree.
 pub fn failures_are_listed()
     ensures listed { (nodes : List Node) →
-        IsPermutation (positions_where has_failed 0 nodes) (first_failures nodes ++ positions_where failed_above 0 nodes) }
-    ensures in_order { (nodes : List Node) → AreInOrderOfEnd nodes (first_failures nodes) }
+        IsPermutation (positions_where has_failed 0 nodes) (root_failures nodes ++ positions_where is_dependent_failure 0 nodes) }
+    ensures in_order { (nodes : List Node) → AreInOrderOfEnd nodes (root_failures nodes) }
 {}
 
 /// The contents of a page have the text lines of the events, each once and in order, if each requested target has a log. The tree shows
@@ -115,11 +115,11 @@ pub fn lines_are_shown()
     head_and_tail_are_kept();
 }
 
-/// Logs that have too many bytes together are cut at the highest level at which they show at most `budget` bytes.
-pub fn level_is_highest()
-    ensures fits { (budget : ℕ) (nodes : List Node) → bytes_shown (Some (highest_level budget nodes)) nodes ≤ budget }
-    ensures highest { (budget level : ℕ) (nodes : List Node) → highest_level budget nodes < level → level ≤ budget →
-        budget < bytes_shown (Some level) nodes }
+/// Logs that have too many bytes together are cut at the highest cap at which they show at most `budget` bytes.
+pub fn cap_is_highest()
+    ensures fits { (budget : ℕ) (nodes : List Node) → bytes_shown (Some (highest_cap budget nodes)) nodes ≤ budget }
+    ensures highest { (budget cap : ℕ) (nodes : List Node) → highest_cap budget nodes < cap → cap ≤ budget →
+        budget < bytes_shown (Some cap) nodes }
 {}
 
 /// Each tag of a page is its own: none comes from a log or a name. The tags of the tree depend only on the outline, on which kind each event

@@ -148,7 +148,7 @@ fn write_outlined<W: Sink>(
     let texts = Texts::new(alloc, request, options, requested, nodes, &failures)?;
     let summary = Summary::new(alloc, nodes, request.times)?;
     write_top(table, request, &texts, nodes, &failures, &summary, out)?;
-    let articles = first_of(MAX_ARTICLES, failures.first.as_slice());
+    let articles = first_of(MAX_ARTICLES, failures.roots.as_slice());
     write_body(
         alloc, table, request, options, requested, outline, articles, &summary, out,
     )?;
@@ -209,7 +209,7 @@ impl Texts {
         requires { AreFailures nodes.now failures.now }
         ensures { IfOk result (AreTexts (request_of request.now) options.now requested.now nodes.now) }
     {
-        let failures = failures.first.len();
+        let failures = failures.roots.len();
         let verdict = Verdict::of(nodes, failures);
         let heading = verdict.text(alloc, nodes, failures)?;
         let title = title_text(alloc, request.title, verdict, &heading)?;

@@ -24,7 +24,7 @@ use crate::build::BuildRef;
 use crate::items::{after_shown, write_end, write_shown};
 use crate::labels::{ALL_LOGS, TREE_IS};
 use crate::level::{Level, OpenLog};
-use crate::limits::{level_for, limits_of};
+use crate::limits::{cap_for, limits_of};
 use crate::logs::{after_log, group_left, write_log_end, write_log_start};
 use crate::step::{Step, step_of};
 use crate::texts::write_lines;
@@ -357,7 +357,7 @@ pub fn write_tree<W: Sink>(
         outline,
         articles: positions,
     };
-    let limits = limits_of(alloc, &build, level_for(outline.nodes(), budget))?;
+    let limits = limits_of(alloc, &build, cap_for(outline.nodes(), budget))?;
     write_section_start(out)?;
     write_all(alloc, build, &limits, requested, out)
 }
