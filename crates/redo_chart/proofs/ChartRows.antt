@@ -9,6 +9,7 @@ use Rattle.redo_html.specs.Chart.Shape.{BarShape, LineShape, TickShape}
 use Rattle.redo_logs.specs.declared.log_state.LogState.TheVariants.{Ended}
 use Rattle.redo_logs.specs.Logs.{Log}
 use Rattle.redo_outline.specs.declared.node.Node.{Node}
+use Rattle.redo_outline.proofs.Nodes.{no_node}
 use Rattle.redo_timeline.specs.declared.bar.Bar.{Bar}
 use Rattle.redo_timeline.specs.declared.span.Span.{Span}
 use Rattle.redo_timeline.specs.declared.span.Window.{Window}
@@ -27,22 +28,7 @@ abbrev pub log : List ℕ → Log
 log target = record { target = target; entries = []; state = Ended }
 
 abbrev pub node : ℕ → Option ℤ → Node
-node number status = record {
-  number = number;
-  parent = None;
-  status = status;
-  lines = 0;
-  bytes = 0;
-  warnings = 0;
-  below = 0;
-  children = 0;
-  others = false;
-  warnings_below = 0;
-  fails_below = false;
-  silent = 0;
-  took = None;
-  ended = None;
-}
+node number status = record no_node { number = number; status = status }
 
 abbrev pub logs : List Log
 logs = log (codes "all") ∷ log (codes "out/a.o") ∷ log (codes "out/b.o") ∷ log (codes "t") ∷ []

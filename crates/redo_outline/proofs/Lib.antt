@@ -1,6 +1,7 @@
 mod CollectingLemmas
 mod ContentsLemmas
 mod FactsLemmas
+pub mod Nodes
 mod OutlineLemmas
 mod OutlineRows
 mod PositionsLemmas

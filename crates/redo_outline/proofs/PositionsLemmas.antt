@@ -7,6 +7,7 @@ use Rattle.std.proofs.lemmas.Iterator.Adapters.{position_from-zero}
 use Rattle.std.proofs.lemmas.List.{length-take-le, take_more}
 use Rattle.redo_outline.specs.declared.node.Node.{Node}
 use Rattle.redo_outline.specs.Private.Positions.{AreNodePositions, IsPositionSet, position_if}
+use Rattle.redo_outline.proofs.Nodes.{no_node}
 
 -- The first position, with one more item at the end.
 from-last : {A : Type 0} (test : A → Bool) (xs : List A) (x : A) (start : ℕ) → position_from test start (xs ++ x ∷ []) ≡ option_or (position_from test start xs) (position_if (test x) (start + length xs))
@@ -26,25 +27,6 @@ position-last test xs x =
 
 pub positions_none : AreNodePositions [] []
 positions_none number = refl
-
--- What a position past the end has.
-abbrev pub no_node : Node
-no_node = record {
-  number = 0;
-  parent = None;
-  status = None;
-  lines = 0;
-  bytes = 0;
-  warnings = 0;
-  below = 0;
-  children = 0;
-  others = false;
-  warnings_below = 0;
-  fails_below = false;
-  silent = 0;
-  took = None;
-  ended = None;
-}
 
 pub positions_more : (nodes : List Node) (k : ℕ) (old new : List (Option ℕ)) → k < length nodes → AreNodePositions (take k nodes) old → IsPositionSet (get_or nodes k no_node).number k old new → AreNodePositions (take (k + 1) nodes) new
 positions_more nodes k old new below so_far set number =

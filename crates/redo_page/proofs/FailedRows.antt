@@ -23,6 +23,7 @@ use Rattle.redo_page.specs.declared.labels.TheConstants.{MORE_ABOVE, PATH_SEPARA
 use Rattle.redo_page.specs.Failed.{AreFailures, article_of, article_parts, article_row, article_took, cause_of_node, cause_parts, is_dependent_failure, failed_parts, is_unclosed, list_parts, more_parts, nothing_parts, output_parts, path_parts, positions_where, row_parts, section_parts, target_row, unlisted_parts, whole_parts}
 use Rattle.redo_page.specs.Laws.{target_links}
 use Rattle.redo_units.specs.Durations.{duration_words}
+use Rattle.redo_page.specs.Tree.{no_node}
 
 abbrev log : List ℕ → List Entry → Log
 log target entries = record { target = target; entries = entries; state = Ended }
@@ -41,22 +42,7 @@ logs =
 
 -- What is known of log `number`. It is in the log at `parent`.
 abbrev node : ℕ → Option ℕ → Option ℤ → ℕ → ℕ → Bool → Node
-node number parent status lines below fails = record {
-  number = number;
-  parent = parent;
-  status = status;
-  lines = lines;
-  bytes = lines;
-  warnings = 0;
-  below = below;
-  children = below;
-  others = false;
-  warnings_below = 0;
-  fails_below = fails;
-  silent = 0;
-  took = None;
-  ended = None;
-}
+node number parent status lines below fails = record no_node { number = number; parent = parent; status = status; lines = lines; bytes = lines; below = below; children = below; fails_below = fails }
 
 abbrev b : Node
 b = node 1 (Some 0) (Some (pos 1)) 2 0 false

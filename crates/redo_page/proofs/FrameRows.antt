@@ -20,6 +20,7 @@ use Rattle.redo_units.specs.Dates as dates
 use Rattle.redo_units.specs.Durations.{duration_words}
 use Rattle.redo_page.specs.Frame.{began_parts, timeline_nav, argument, body_markup, command, failed_nav, footer_parts, head_parts, header_parts, is_safe, log_count_parts, nav_parts, quoted, root_parts, sign_text, title_parts, title_text, titled, top_heading_parts, verdict_of, verdict_text}
 use Rattle.redo_page.specs.Laws.{section_links}
+use Rattle.redo_page.specs.Tree.{no_node}
 
 abbrev tag : Markup → Part
 tag markup = MarkupPart markup
@@ -34,7 +35,7 @@ number value = NumberPart value
 
 -- What is known of a target that is in the log at `parent`.
 abbrev node : Option ℕ → Option ℤ → Bool → Node
-node parent status fails = record { number = 0; parent = parent; status = status; lines = 0; bytes = 0; warnings = 0; below = 0; children = 0; others = false; warnings_below = 0; fails_below = fails; silent = 0; took = None; ended = None }
+node parent status fails = record no_node { parent = parent; status = status; fails_below = fails }
 
 abbrev begun : Node
 begun = node None None false

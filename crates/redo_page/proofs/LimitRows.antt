@@ -6,29 +6,14 @@ use Rattle.redo_logs.specs.Logs.{Log}
 use Rattle.redo_options.specs.declared.options.Options.{Options}
 use Rattle.redo_outline.specs.declared.node.Node.{Node}
 use Rattle.redo_page.specs.Limits.{at_most, bytes_shown, fit_in, highest_cap, cap_for, limit_at, limit_if, limits_from, limits_of, min_cap, position_limit, tree_limits}
-use Rattle.redo_page.specs.Tree.{Build}
+use Rattle.redo_page.specs.Tree.{Build, no_node}
 use Rattle.redo_trim.specs.declared.limit.Limit.{Limit}
 
 -- ---- values
 
 -- The log with this number, in which a target with this status printed this many bytes in two lines.
 abbrev printed : ℕ → Option ℤ → ℕ → Node
-printed number status bytes = record {
-  number = number;
-  parent = None;
-  status = status;
-  lines = 2;
-  bytes = bytes;
-  warnings = 0;
-  below = 0;
-  children = 0;
-  others = true;
-  warnings_below = 0;
-  fails_below = false;
-  silent = 0;
-  took = None;
-  ended = None;
-}
+printed number status bytes = record no_node { number = number; status = status; lines = 2; bytes = bytes; others = true }
 
 abbrev node : ℕ → Node
 node bytes = printed 0 (Some (pos 0)) bytes

@@ -19,6 +19,7 @@ use Rattle.redo_timeline.specs.declared.span.Window.{Window}
 use Rattle.redo_units.specs.Durations.{duration_words}
 use Rattle.redo_units.specs.Sizes.{size_words, tenths_words}
 use Rattle.redo_units.specs.Words.WordValue.{NumberWord, TextWord}
+use Rattle.redo_page.specs.Tree.{no_node}
 
 abbrev tag : Markup → Part
 tag markup = MarkupPart markup
@@ -35,22 +36,7 @@ abbrev log : List ℕ → Log
 log target = record { target = target; entries = []; state = Ended }
 
 abbrev node : ℕ → Option ℕ → Option ℤ → Bool → Node
-node number parent status fails_below = record {
-  number = number;
-  parent = parent;
-  status = status;
-  lines = 0;
-  bytes = 0;
-  warnings = 0;
-  below = 0;
-  children = 0;
-  others = false;
-  warnings_below = 0;
-  fails_below = fails_below;
-  silent = 0;
-  took = None;
-  ended = None;
-}
+node number parent status fails_below = record no_node { number = number; parent = parent; status = status; fails_below = fails_below }
 
 abbrev logs : List Log
 logs = log (codes "a") ∷ log (codes "b") ∷ log (codes "all") ∷ []

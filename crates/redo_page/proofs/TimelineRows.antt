@@ -20,6 +20,7 @@ use Rattle.redo_timeline.specs.declared.span.Window.{Window}
 use Rattle.redo_units.specs.Durations.{duration_words}
 use Rattle.redo_units.specs.Ticks.{tick_step_of, tick_words}
 use Rattle.redo_units.specs.Words.{decimal_text}
+use Rattle.redo_page.specs.Tree.{no_node}
 
 abbrev tag : Markup → Part
 tag markup = MarkupPart markup
@@ -36,22 +37,7 @@ abbrev log : List ℕ → Log
 log target = record { target = target; entries = []; state = Ended }
 
 abbrev node : ℕ → Option ℕ → ℕ → Node
-node number parent status = record {
-  number = number;
-  parent = parent;
-  status = Some (pos status);
-  lines = 0;
-  bytes = 0;
-  warnings = 0;
-  below = 0;
-  children = 0;
-  others = false;
-  warnings_below = 0;
-  fails_below = false;
-  silent = 0;
-  took = None;
-  ended = None;
-}
+node number parent status = record no_node { number = number; parent = parent; status = Some (pos status) }
 
 abbrev logs : List Log
 logs = log (codes "all") ∷ log (codes "a") ∷ log (codes "b") ∷ log (codes "c") ∷ []

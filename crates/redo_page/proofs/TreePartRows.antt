@@ -21,7 +21,7 @@ use Rattle.redo_outline.specs.Contents.Contents.{Nothing, Shown, Opened}
 use Rattle.redo_page.specs.declared.block.Pending.{Pending}
 use Rattle.redo_page.specs.declared.block.Pending.TheVariants as pending
 use Rattle.redo_page.specs.declared.level.Level.{Level}
-use Rattle.redo_page.specs.Tree.{Build, after_item, after_log, after_shown, after_text, closing_parts, contents_parts, depth_parts, details_markup, done_parts, empty_start, end_cmp, entry_parts, is_root_failure, failure_cmp, root_failures, flat_end, flat_start, group_end, group_left, group_parts, group_size, group_start, has_article, has_failed, has_one_child, heading_parts, is_empty, is_expanded, is_moved, is_moved_if, is_same_position, is_seen, is_silent, item_parts, level_of, log_end, log_start, mention_parts, moved_parts, nested_start, node_at, node_if, note_parts, opening_parts, opening_position, position_of, position_of_name, request_parts, section_end, section_start, seen_parts, shown_parts, is_in_level, text_parts, top_level, tree_parts}
+use Rattle.redo_page.specs.Tree.{Build, after_item, after_log, after_shown, after_text, closing_parts, contents_parts, depth_parts, details_markup, done_parts, empty_start, end_cmp, entry_parts, failure_cmp, flat_end, flat_start, group_end, group_left, group_parts, group_size, group_start, has_article, has_failed, has_one_child, heading_parts, is_empty, is_expanded, is_in_level, is_moved, is_moved_if, is_root_failure, is_same_position, is_seen, is_silent, item_parts, level_of, log_end, log_start, mention_parts, moved_parts, nested_start, no_node, node_at, node_if, note_parts, opening_parts, opening_position, position_of, position_of_name, request_parts, root_failures, section_end, section_start, seen_parts, shown_parts, text_parts, top_level, tree_parts}
 
 abbrev tag : Markup → Part
 tag markup = MarkupPart markup
@@ -44,7 +44,7 @@ abbrev logs : List Log
 logs = log (codes "a") ∷ log (codes "b") ∷ log (codes "c") ∷ []
 
 abbrev node : ℕ → Option ℕ → Option ℤ → ℕ → ℕ → Bool → Node
-node number parent status lines children others = record { number = number; parent = parent; status = status; lines = lines; bytes = lines; warnings = 0; below = 0; children = children; others = others; warnings_below = 0; fails_below = false; silent = 0; took = None; ended = None }
+node number parent status lines children others = record no_node { number = number; parent = parent; status = status; lines = lines; bytes = lines; children = children; others = others }
 
 -- `c` is requested, and has two logs in it and something else. Of these `a` failed, and printed one line, and `b` has nothing in it.
 abbrev c : Node

@@ -28,7 +28,7 @@ use Rattle.redo_page.specs.declared.block.Block.{Block}
 use Rattle.redo_page.specs.declared.block.Pending.{Pending}
 use Rattle.redo_page.specs.declared.block.Pending.TheVariants as pending
 use Rattle.redo_page.specs.Blocks.{after_line, fits, line_parts}
-use Rattle.redo_page.specs.Tree.{articles, contents_parts, is_short, node_at, top_level, tree_parts}
+use Rattle.redo_page.specs.Tree.{articles, contents_parts, is_short, no_node, node_at, top_level, tree_parts}
 
 record Row : Type 0 where
   logs : List Log
@@ -194,7 +194,7 @@ groups = refl
 -- ---- limits
 
 abbrev node : Option ℤ → ℕ → ℕ → Bool → Node
-node status lines bytes fails_below = record { number = 0; parent = None; status = status; lines = lines; bytes = bytes; warnings = 0; below = 0; children = 0; others = true; warnings_below = 0; fails_below = fails_below; silent = 0; took = None; ended = None }
+node status lines bytes fails_below = record no_node { status = status; lines = lines; bytes = bytes; others = true; fails_below = fails_below }
 
 -- Which targets have an article: those that failed, and none below them.
 abbrev failed : Node

@@ -11,7 +11,7 @@ use Rattle.redo_timeline.specs.Order.{insert_sorted, sort}
 use Rattle.redo_outline.specs.declared.node.Node.{Node}
 use Rattle.redo_summary.specs.declared.rank.Rank.{Rank}
 use Rattle.redo_summary.specs.Laws.{AreInOrder, IsBefore, IsBeforeFirst, IsTable}
-use Rattle.redo_summary.proofs.TargetLemmas.{no_node}
+use Rattle.redo_outline.proofs.Nodes.{no_node}
 use Rattle.redo_summary.specs.Ranks.{duration, first_ranks, longest_of, rank_cmp, rank_of, warnings_from}
 
 module _ {K : Type 0} (cmp : K → K → Ordering) where

@@ -6,28 +6,11 @@ use Rattle.redo_outline.specs.declared.node.Node.{Node}
 use Rattle.redo_summary.specs.declared.target.Target.{Target}
 use Rattle.redo_summary.specs.Private.Marking.{ArePositioned}
 use Rattle.redo_summary.specs.Targets.{no_times, target_of, targets_from, targets_of}
+use Rattle.redo_outline.proofs.Nodes.{no_node}
 
 -- What a position past the end has.
 abbrev pub no_target : Target
 no_target = record { position = 0; parent = None; failed = false; times = no_times }
-
-abbrev pub no_node : Node
-no_node = record {
-  number = 0;
-  parent = None;
-  status = None;
-  lines = 0;
-  bytes = 0;
-  warnings = 0;
-  below = 0;
-  children = 0;
-  others = false;
-  warnings_below = 0;
-  fails_below = false;
-  silent = 0;
-  took = None;
-  ended = None;
-}
 
 targets-last : (times : List Times) (position : ℕ) (nodes : List Node) (node : Node) → targets_from times position (nodes ++ node ∷ []) ≡ targets_from times position nodes ++ target_of times (position + length nodes) node ∷ []
 targets-last times position [] node = ap (λ (n : ℕ). target_of times n node ∷ []) (omega arith)

@@ -3,7 +3,7 @@ use Rattle.std.proofs.Math.Seq.{drop-cons, get_or-append_seam, set-append_seam, 
 use Rattle.std.proofs.lemmas.List.{append_assoc, length-map, length-take, map-append}
 use Rattle.redo_outline.specs.declared.node.Node.{Node}
 use Rattle.redo_outline.specs.Outline.{with_times}
-use Rattle.redo_outline.proofs.PositionsLemmas.{no_node}
+use Rattle.redo_outline.proofs.Nodes.{no_node}
 use Rattle.redo_outline.proofs.outline.set_times.Goals as goal
 
 -- Nodes of which the first `i` were changed by a function.

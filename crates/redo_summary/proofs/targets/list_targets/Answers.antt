@@ -1,7 +1,8 @@
 use Rattle.std.proofs.Common.{◌++◌, ◌∷◌, [], take, ap, ◌∙◌, subst, sym}
 use Rattle.redo_summary.specs.Private.Marking.{ArePositioned}
 use Rattle.redo_summary.specs.Targets.{targets_of}
-use Rattle.redo_summary.proofs.TargetLemmas.{no_node, positioned, targets_more}
+use Rattle.redo_outline.proofs.Nodes.{no_node}
+use Rattle.redo_summary.proofs.TargetLemmas.{positioned, targets_more}
 use Rattle.redo_summary.proofs.targets.list_targets.Goals as goal
 
 pub loop-position-preserved : goal.loop-position-preserved
