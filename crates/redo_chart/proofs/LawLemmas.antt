@@ -23,7 +23,7 @@ use Rattle.redo_timeline.proofs.CoverLemmas.{Includes as InTime}
 use Rattle.redo_timeline.proofs.LawLemmas.{all_imply, drawn_once, joined, joined_narrow, lanes-permutation}
 use Rattle.redo_chart.specs.declared.band.Band.{Band}
 use Rattle.redo_chart.specs.Axis.{last_tick, tick_shapes}
-use Rattle.redo_chart.specs.Bands.{marks_band, max_mark_lanes, max_parent_lanes, max_recipe_lanes, parents_band, recipes_band}
+use Rattle.redo_chart.specs.Bands.{marks_band, max_mark_lanes, max_caller_lanes, max_recipe_lanes, callers_band, recipes_band}
 use Rattle.redo_chart.specs.Bars.{bar_shapes, drawn_bar, label_of}
 use Rattle.redo_chart.specs.Laws.{Draws, DrawsAll, Includes, all_bars, are_below}
 use Rattle.redo_chart.specs.Targets.{last_part, name_at}
@@ -101,20 +101,20 @@ module _ (window : Window) (count : ℕ) where
       ∙ and_both _ _ a (list_all-append is_below second (third ++ []) ∙ and_both _ _ b (list_all-append is_below third [] ∙ and_both _ true c refl))
 
   -- The links of a chart: its axis has none.
-  pub links_below : (logs : List Log) (nodes : List Node) (parents recipes marks : List Span) → are_below count (parents ++ (recipes ++ marks)) ≡ true → list_all is_below (drawing_links (timeline_drawing logs nodes window parents recipes marks)) ≡ true
-  links_below logs nodes parents recipes marks below =
+  pub links_below : (logs : List Log) (nodes : List Node) (callers recipes marks : List Span) → are_below count (callers ++ (recipes ++ marks)) ≡ true → list_all is_below (drawing_links (timeline_drawing logs nodes window callers recipes marks)) ≡ true
+  links_below logs nodes callers recipes marks below =
       let test : Span → Bool = λ span. nat_lt span.position count in
-      let split = sym (list_all-append test parents (recipes ++ marks)) ∙ below in
-      let others = sym (list_all-append test recipes marks) ∙ and_right (are_below count parents) _ split in
-      let first = timeline_of window max_parent_lanes parents in
+      let split = sym (list_all-append test callers (recipes ++ marks)) ∙ below in
+      let others = sym (list_all-append test recipes marks) ∙ and_right (are_below count callers) _ split in
+      let first = timeline_of window max_caller_lanes callers in
       let second = timeline_of window max_recipe_lanes recipes in
       let third = timeline_of window max_mark_lanes marks in
-      let upper = flat_map shape_links (bar_shapes logs nodes parents_band first.bars) in
+      let upper = flat_map shape_links (bar_shapes logs nodes callers_band first.bars) in
       let middle = flat_map shape_links (bar_shapes logs nodes (recipes_band first.lane_count second.lane_count) second.bars) in
       let lower = flat_map shape_links (bar_shapes logs nodes (marks_band first.lane_count second.lane_count) third.bars) in
       ap (λ (links : List ℕ). list_all is_below (links ++ (upper ++ (middle ++ (lower ++ [])))))
       (axis_links (height_of first.lane_count second.lane_count third.lane_count - 4) window.width (tick_step_of window.width) (range_with_len 0 (last_tick window.width + 1)))
-      ∙ all_below upper middle lower (group_below logs nodes parents_band max_parent_lanes parents (and_left _ _ split))
+      ∙ all_below upper middle lower (group_below logs nodes callers_band max_caller_lanes callers (and_left _ _ split))
       (group_below logs nodes (recipes_band first.lane_count second.lane_count) max_recipe_lanes recipes (and_left _ _ others))
       (group_below logs nodes (marks_band first.lane_count second.lane_count) max_mark_lanes marks (and_right (are_below count recipes) _ others))
 

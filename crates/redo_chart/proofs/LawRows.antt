@@ -26,7 +26,7 @@ tests = (refl, refl, refl, refl, refl)
 kinds : kinds_of (record { height = 0; lanes = 0; layers = record { kind = Untimed; shapes = [] } ∷ record { kind = Axis; shapes = [] } ∷ [] }) ≡ Untimed ∷ Axis ∷ []
 kinds = refl
 
--- One lane of parents, two of recipes, of which the first one has two bars, and one of marks.
+-- One lane of callers, two of recipes, of which the first one has two bars, and one of marks.
 lanes :
     (map length (chart_lanes window (span 1 1000 11000 false ∷ []) (span 2 1000 5000 false ∷ span 0 3000 10500 true ∷ span 4 6000 6010 false ∷ []) (span 3 11000 11000 true ∷ [])) ≡ 1 ∷ 2 ∷ 1 ∷ 1 ∷ [])
     × (flat_map shape_links (chart_bars chart) ≡ 1 ∷ 2 ∷ 4 ∷ 0 ∷ 3 ∷ [])

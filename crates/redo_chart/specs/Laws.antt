@@ -3,7 +3,7 @@ use Rattle.std.specs.Prelude.{◌≡◌, ℕ, ◌+◌, ◌==◌, ◌<◌, ◌≤
 use Rattle.std.specs.List.{AllByRecursion, AllZip, flat_map, list_all}
 use Rattle.std.specs.List.Sorted.{IsPermutation}
 use Rattle.redo_html.specs.declared.chart.GroupKind.{GroupKind}
-use Rattle.redo_html.specs.declared.chart.GroupKind.TheVariants.{Axis, Parents, Recipes, Untimed}
+use Rattle.redo_html.specs.declared.chart.GroupKind.TheVariants.{Axis, Callers, Recipes, Untimed}
 use Rattle.redo_html.specs.Chart.{DrawnBar, Drawing, Layer, Shape}
 use Rattle.redo_html.specs.Chart.Shape.{BarShape, LineShape, TickShape}
 use Rattle.redo_logs.specs.Logs.{Log}
@@ -13,7 +13,7 @@ use Rattle.redo_timeline.specs.declared.span.Window.{Window}
 use Rattle.redo_timeline.specs.Bars.{bar_of, began_of, has_failed, position_of, units, width_of}
 use Rattle.redo_timeline.specs.Laws.{EachBar, IsSlimIfJoined, spans_of}
 use Rattle.redo_timeline.specs.Timeline.{bars_of}
-use Rattle.redo_chart.specs.Bands.{max_mark_lanes, max_parent_lanes, max_recipe_lanes}
+use Rattle.redo_chart.specs.Bands.{max_mark_lanes, max_caller_lanes, max_recipe_lanes}
 use Rattle.redo_chart.specs.Targets.{last_part, name_at}
 use Rattle.redo_chart.specs.Titles.{title_of}
 
@@ -24,7 +24,7 @@ are_below count spans = list_all (λ (span : Span). nat_lt span.position count) 
 -- A number for each kind of layer, and the shapes in the layers of one kind.
 abbrev pub code : GroupKind → ℕ
 code Axis = 0
-code Parents = 1
+code Callers = 1
 code Recipes = 2
 code Untimed = 3
 
@@ -80,11 +80,11 @@ pub record DrawsAll (logs : List Log) (nodes : List Node) (window : Window) (kin
 
 -- The lanes of a chart, and the shapes of its groups of bars, from the top.
 abbrev pub chart_lanes : Window → List Span → List Span → List Span → List (List (List Span))
-chart_lanes window parents recipes marks =
-    bars_of window max_parent_lanes parents ++ (bars_of window max_recipe_lanes recipes ++ bars_of window max_mark_lanes marks)
+chart_lanes window callers recipes marks =
+    bars_of window max_caller_lanes callers ++ (bars_of window max_recipe_lanes recipes ++ bars_of window max_mark_lanes marks)
 
 abbrev pub chart_bars : Drawing → List Shape
-chart_bars drawing = shapes_of Parents drawing ++ (shapes_of Recipes drawing ++ shapes_of Untimed drawing)
+chart_bars drawing = shapes_of Callers drawing ++ (shapes_of Recipes drawing ++ shapes_of Untimed drawing)
 
 -- The shapes of each lane, as many as it has bars.
 abbrev pub rows_of : List (List (List Span)) → List Shape → List (List Shape)

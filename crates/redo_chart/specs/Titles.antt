@@ -1,7 +1,7 @@
 -- The tooltips of bars.
 use Rattle.std.specs.Prelude.{ℕ, zero, suc, ◌-◌, ◌==◌, List, [], ◌++◌, Option, None, Some, ℤ, pos, negsuc, codes, if◌then◌else◌}
 use Rattle.redo_html.specs.declared.chart.GroupKind.{GroupKind}
-use Rattle.redo_html.specs.declared.chart.GroupKind.TheVariants.{Axis, Parents, Recipes, Untimed}
+use Rattle.redo_html.specs.declared.chart.GroupKind.TheVariants.{Axis, Callers, Recipes, Untimed}
 use Rattle.redo_logs.specs.Logs.{Log}
 use Rattle.redo_outline.specs.declared.node.Node.{Node}
 use Rattle.redo_timeline.specs.declared.bar.Bar.{Bar}
@@ -27,7 +27,7 @@ status_text (Some status) = before_magnitude status ++ decimal_text (magnitude s
 -- How long the targets of a bar ran, after this word. The text is empty for targets of which only one time is known.
 abbrev pub duration_after : List ℕ → GroupKind → ℕ → List ℕ
 duration_after word Axis ms = []
-duration_after word Parents ms = word ++ duration_text ms
+duration_after word Callers ms = word ++ duration_text ms
 duration_after word Recipes ms = word ++ duration_text ms
 duration_after word Untimed ms = []
 

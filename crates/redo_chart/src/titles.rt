@@ -89,7 +89,7 @@ fn push_duration(
 {
     match kind {
         GroupKind::Axis | GroupKind::Untimed => Ok(()),
-        GroupKind::Parents | GroupKind::Recipes => {
+        GroupKind::Callers | GroupKind::Recipes => {
             text.extend_from_slice(word)?;
             push_words(&duration(ms), text)
         }

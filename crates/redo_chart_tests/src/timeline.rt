@@ -95,7 +95,7 @@ fn chart_is_written(rt: HostRuntime) -> Result<(), Fail> {
 fn node(number: u32, status: Option<i32>) -> Node {
     Node {
         number,
-        parent: None,
+        caller: None,
         status,
         lines: 0,
         bytes: 0,

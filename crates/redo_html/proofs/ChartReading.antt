@@ -9,7 +9,7 @@ use Rattle.std.proofs.lemmas.List.Concat.{flat_map-append}
 use Rattle.std.proofs.lemmas.Slice.Eq.{bytes_eq-Decides}
 use Rattle.redo_html.specs.declared.chart.Anchor.TheVariants as anchor
 use Rattle.redo_html.specs.declared.chart.GroupKind.{GroupKind}
-use Rattle.redo_html.specs.declared.chart.GroupKind.TheVariants.{Axis, Parents, Recipes, Untimed}
+use Rattle.redo_html.specs.declared.chart.GroupKind.TheVariants.{Axis, Callers, Recipes, Untimed}
 use Rattle.redo_html.specs.Chart.{Attribute, Drawing, Layer, Node, Shape, chart_attributes, drawing_nodes, group_attributes, lanes_word, layer_nodes, meter_nodes, node_html, node_tokens, nodes_html, nodes_tokens, shape_nodes, tag_text}
 use Rattle.redo_html.specs.Chart.Node.{StartTag, EndTag, Words}
 use Rattle.redo_html.specs.Chart.Shape.{LineShape, TickShape, BarShape}
@@ -75,8 +75,8 @@ bar_contexts kind target x y width height true title None = refl
 bar_contexts kind target x y width height false title None = refl
 bar_contexts Axis target x y width height true title (Some label) = refl
 bar_contexts Axis target x y width height false title (Some label) = refl
-bar_contexts Parents target x y width height true title (Some label) = refl
-bar_contexts Parents target x y width height false title (Some label) = refl
+bar_contexts Callers target x y width height true title (Some label) = refl
+bar_contexts Callers target x y width height false title (Some label) = refl
 bar_contexts Recipes target x y width height true title (Some label) = refl
 bar_contexts Recipes target x y width height false title (Some label) = refl
 bar_contexts Untimed target x y width height true title (Some label) = refl
@@ -91,7 +91,7 @@ shape_contexts kind (BarShape bar) = bar_contexts kind bar.target bar.x bar.y ba
 
 group_begins : (kind : GroupKind) → next_context in_chart (StartTag (codes "g") (group_attributes kind)) ≡ Some in_group
 group_begins Axis = refl
-group_begins Parents = refl
+group_begins Callers = refl
 group_begins Recipes = refl
 group_begins Untimed = refl
 

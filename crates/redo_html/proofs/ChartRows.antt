@@ -10,7 +10,7 @@ use Rattle.redo_html.specs.declared.chart.ChartGroup.{ChartGroup}
 use Rattle.redo_html.specs.declared.chart.ChartItem.{ChartItem}
 use Rattle.redo_html.specs.declared.chart.ChartItem.TheVariants as item
 use Rattle.redo_html.specs.declared.chart.GroupKind.{GroupKind}
-use Rattle.redo_html.specs.declared.chart.GroupKind.TheVariants.{Axis, Parents, Recipes, Untimed}
+use Rattle.redo_html.specs.declared.chart.GroupKind.TheVariants.{Axis, Callers, Recipes, Untimed}
 use Rattle.redo_html.specs.declared.markup.Markup.TheVariants.{EndCell}
 use Rattle.redo_html.specs.declared.piece.Piece.TheVariants as piece
 use Rattle.redo_html.specs.Chart.{Drawing, drawing_links, drawing_of, layer_nodes, layer_of, nodes_html, percent_text, shape_nodes, shape_of}
@@ -47,7 +47,7 @@ full =
     ∷ item.Line 2500 86
     ∷ item.Tick 2500 anchor.Middle (at (codes "1 s"))
     ∷ item.Tick 9876 anchor.End (at (codes "<" ++ (1 ∷ []) ++ codes ">")) ∷ [])
-    ∷ group Parents (
+    ∷ group Callers (
     bar 0 0 20 10000 12 false (codes "all, 4 s") (Some (at (codes "all")))
     ∷ bar 1 5 34 9995 12 true (codes "lib, exit 2") (Some (at (codes "lib"))) ∷ [])
     ∷ group Recipes (
@@ -74,8 +74,8 @@ shape_rows =
     ∷ shape Axis (item.Line 2500 86) (codes "<line x1=\"25.00%\" x2=\"25.00%\" y1=\"15\" y2=\"86\"></line>")
     ∷ shape Axis (item.Tick 2500 anchor.Middle (at (codes "1 s"))) (codes "<text x=\"25.00%\" y=\"11\" text-anchor=\"middle\">1 s</text>")
     ∷ shape Axis (item.Tick 9876 anchor.End (at (codes "<" ++ (1 ∷ []) ++ codes ">"))) (codes "<text x=\"98.76%\" y=\"11\" text-anchor=\"end\">&lt;^A&gt;</text>")
-    ∷ shape Parents (bar 0 0 20 10000 12 false (codes "all, 4 s") (Some (at (codes "all")))) (codes "<a href=\"#t0\" tabindex=\"-1\"><svg x=\"0.00%\" y=\"20\" width=\"100.00%\" height=\"12\"><title>all, 4 s</title><rect width=\"100%\" height=\"12\"></rect><text x=\"4\" y=\"9\" fill=\"currentColor\">all</text></svg></a>")
-    ∷ shape Parents (bar 1 5 34 9995 12 true (codes "lib, exit 2") (Some (at (codes "lib")))) (codes "<a href=\"#t1\" tabindex=\"-1\"><svg x=\"0.05%\" y=\"34\" width=\"99.95%\" height=\"12\"><title>lib, exit 2</title><rect width=\"100%\" height=\"12\" class=\"f\" fill=\"#c62828\"></rect><text x=\"4\" y=\"9\" fill=\"#fff\">lib</text></svg></a>")
+    ∷ shape Callers (bar 0 0 20 10000 12 false (codes "all, 4 s") (Some (at (codes "all")))) (codes "<a href=\"#t0\" tabindex=\"-1\"><svg x=\"0.00%\" y=\"20\" width=\"100.00%\" height=\"12\"><title>all, 4 s</title><rect width=\"100%\" height=\"12\"></rect><text x=\"4\" y=\"9\" fill=\"currentColor\">all</text></svg></a>")
+    ∷ shape Callers (bar 1 5 34 9995 12 true (codes "lib, exit 2") (Some (at (codes "lib")))) (codes "<a href=\"#t1\" tabindex=\"-1\"><svg x=\"0.05%\" y=\"34\" width=\"99.95%\" height=\"12\"><title>lib, exit 2</title><rect width=\"100%\" height=\"12\" class=\"f\" fill=\"#c62828\"></rect><text x=\"4\" y=\"9\" fill=\"#fff\">lib</text></svg></a>")
     ∷ shape Recipes (bar 7 1234 54 30 16 false (codes "out/<a>&\"b'.o, 0.01 s") None) (codes "<a href=\"#t7\" tabindex=\"-1\"><rect x=\"12.34%\" y=\"54\" width=\"0.30%\" height=\"16\"><title>out/&lt;a&gt;&amp;\"b'.o, 0.01 s</title></rect></a>")
     ∷ shape Recipes (bar 8 1264 54 700 16 true (codes "</title>" ++ (255 ∷ [])) None) (codes "<a href=\"#t8\" tabindex=\"-1\"><rect x=\"12.64%\" y=\"54\" width=\"7.00%\" height=\"16\" class=\"f\" fill=\"#c62828\"><title>&lt;/title&gt;\\xff</title></rect></a>")
     ∷ shape Recipes (bar 9 2000 72 350 16 true (codes "c, exit 1") (Some (at (codes "a<b>&")))) (codes "<a href=\"#t9\" tabindex=\"-1\"><svg x=\"20.00%\" y=\"72\" width=\"3.50%\" height=\"16\"><title>c, exit 1</title><rect width=\"100%\" height=\"16\" class=\"f\" fill=\"#c62828\"></rect><text x=\"4\" y=\"12\" fill=\"#fff\">a&lt;b&gt;&amp;</text></svg></a>")
@@ -98,7 +98,7 @@ group_row group html = record { group = group; html = html }
 abbrev group_rows : List GroupRow
 group_rows =
     group_row (group Axis (item.Line 7 8 ∷ [])) (codes "<g class=\"axis\" stroke=\"#8886\" fill=\"currentColor\" stroke-width=\".5\"><line x1=\"0.07%\" x2=\"0.07%\" y1=\"15\" y2=\"8\"></line></g>")
-    ∷ group_row (group Parents (item.Line 7 8 ∷ [])) (codes "<g class=\"w\" fill=\"#8886\"><line x1=\"0.07%\" x2=\"0.07%\" y1=\"15\" y2=\"8\"></line></g>")
+    ∷ group_row (group Callers (item.Line 7 8 ∷ [])) (codes "<g class=\"w\" fill=\"#8886\"><line x1=\"0.07%\" x2=\"0.07%\" y1=\"15\" y2=\"8\"></line></g>")
     ∷ group_row (group Recipes (item.Line 7 8 ∷ [])) (codes "<g class=\"k\" fill=\"#3a6ea5\"><line x1=\"0.07%\" x2=\"0.07%\" y1=\"15\" y2=\"8\"></line></g>")
     ∷ group_row (group Untimed ([])) (codes "<g class=\"e\" fill=\"#8a6d3b\"></g>")
     ∷ []
@@ -118,7 +118,7 @@ abbrev rows : List Row
 rows =
     row (part_of (piece.Chart (chart 5 1 []))) (codes "<svg role=\"img\" aria-label=\"A bar for each target, from its start to its end, in 1 lane\" width=\"100%\" height=\"5\" font-size=\"11\"></svg>")
     ∷ row (part_of (piece.Chart (chart 6 0 []))) (codes "<svg role=\"img\" aria-label=\"A bar for each target, from its start to its end, in 0 lanes\" width=\"100%\" height=\"6\" font-size=\"11\"></svg>")
-    ∷ row (part_of (piece.Chart (chart 7 8 (group Parents [] ∷ group Untimed [] ∷ [])))) (codes "<svg role=\"img\" aria-label=\"A bar for each target, from its start to its end, in 8 lanes\" width=\"100%\" height=\"7\" font-size=\"11\"><g class=\"w\" fill=\"#8886\"></g><g class=\"e\" fill=\"#8a6d3b\"></g></svg>")
+    ∷ row (part_of (piece.Chart (chart 7 8 (group Callers [] ∷ group Untimed [] ∷ [])))) (codes "<svg role=\"img\" aria-label=\"A bar for each target, from its start to its end, in 8 lanes\" width=\"100%\" height=\"7\" font-size=\"11\"><g class=\"w\" fill=\"#8886\"></g><g class=\"e\" fill=\"#8a6d3b\"></g></svg>")
     ∷ row (part_of (piece.Meter 6320)) (codes "<svg width=\"100%\" height=\"10\" aria-hidden=\"true\"><rect width=\"63.20%\" height=\"10\" fill=\"#3a6ea5\"></rect></svg>")
     ∷ row (part_of (piece.Meter 5)) (codes "<svg width=\"100%\" height=\"10\" aria-hidden=\"true\"><rect width=\"0.05%\" height=\"10\" fill=\"#3a6ea5\"></rect></svg>")
     ∷ row (part_of (piece.Meter 10000)) (codes "<svg width=\"100%\" height=\"10\" aria-hidden=\"true\"><rect width=\"100.00%\" height=\"10\" fill=\"#3a6ea5\"></rect></svg>")

@@ -9,7 +9,7 @@ use Rattle.redo_html.specs.declared.chart.ChartGroup.{ChartGroup}
 use Rattle.redo_html.specs.declared.chart.ChartItem.{ChartItem}
 use Rattle.redo_html.specs.declared.chart.ChartItem.TheVariants as item
 use Rattle.redo_html.specs.declared.chart.GroupKind.{GroupKind}
-use Rattle.redo_html.specs.declared.chart.GroupKind.TheVariants.{Axis, Parents, Recipes, Untimed}
+use Rattle.redo_html.specs.declared.chart.GroupKind.TheVariants.{Axis, Callers, Recipes, Untimed}
 use Rattle.redo_html.specs.declared.text_kind.TextKind.TheVariants.{Title}
 use Rattle.redo_html.specs.Html.{Token}
 use Rattle.redo_html.specs.Html.Token.{Tag}
@@ -146,7 +146,7 @@ failed_attributes failed = if failed then fixed (codes "class") (codes "f") ∷ 
 -- The bars of recipes that ran others are pale, except those that failed.
 abbrev pub label_fill : GroupKind → Bool → List ℕ
 label_fill Axis failed = codes "#fff"
-label_fill Parents failed = if failed then codes "#fff" else codes "currentColor"
+label_fill Callers failed = if failed then codes "#fff" else codes "currentColor"
 label_fill Recipes failed = codes "#fff"
 label_fill Untimed failed = codes "#fff"
 
@@ -177,7 +177,7 @@ shape_nodes kind (BarShape bar) =
 abbrev pub group_attributes : GroupKind → List Attribute
 group_attributes Axis =
     fixed (codes "class") (codes "axis") ∷ fixed (codes "stroke") (codes "#8886") ∷ fixed (codes "fill") (codes "currentColor") ∷ fixed (codes "stroke-width") (codes ".5") ∷ []
-group_attributes Parents = fixed (codes "class") (codes "w") ∷ fixed (codes "fill") (codes "#8886") ∷ []
+group_attributes Callers = fixed (codes "class") (codes "w") ∷ fixed (codes "fill") (codes "#8886") ∷ []
 group_attributes Recipes = fixed (codes "class") (codes "k") ∷ fixed (codes "fill") (codes "#3a6ea5") ∷ []
 group_attributes Untimed = fixed (codes "class") (codes "e") ∷ fixed (codes "fill") (codes "#8a6d3b") ∷ []
 

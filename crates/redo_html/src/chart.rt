@@ -36,7 +36,7 @@ pub enum GroupKind {
     /// Lines and ticks. `<g class="axis" stroke="#8886" fill="currentColor" stroke-width=".5">`
     Axis,
     /// Recipes that ran others. `<g class="w" fill="#8886">`
-    Parents,
+    Callers,
     /// Other recipes. `<g class="k" fill="#3a6ea5">`
     Recipes,
     /// Recipes of which the start or the end is unknown. `<g class="e" fill="#8a6d3b">`
@@ -175,7 +175,7 @@ fn group_start(kind: GroupKind) -> &'static [u8]
         GroupKind::Axis => {
             b"<g class=\"axis\" stroke=\"#8886\" fill=\"currentColor\" stroke-width=\".5\">"
         }
-        GroupKind::Parents => b"<g class=\"w\" fill=\"#8886\">",
+        GroupKind::Callers => b"<g class=\"w\" fill=\"#8886\">",
         GroupKind::Recipes => b"<g class=\"k\" fill=\"#3a6ea5\">",
         GroupKind::Untimed => b"<g class=\"e\" fill=\"#8a6d3b\">",
     }
@@ -345,7 +345,7 @@ fn fill_of_label(kind: GroupKind, failed: bool) -> &'static [u8]
     ensures { result.now ≡ label_fill kind failed }
 {
     match kind {
-        GroupKind::Parents if !failed => b"currentColor",
+        GroupKind::Callers if !failed => b"currentColor",
         _ => b"#fff",
     }
 }

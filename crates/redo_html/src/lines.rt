@@ -6,9 +6,9 @@ ghost use Rattle.redo_line.specs.Lines.{ended, rest};
 ghost use Rattle.redo_html.specs.Lines.{is_no_escape, lines_html, style_after_lines};
 ghost use Rattle.redo_html.specs.Private.Writing.{BeginsPassage};
 
-use crate::text_kind::TextKind;
 use crate::passage::write_passage;
 use crate::style::{Style, has_own_element};
+use crate::text_kind::TextKind;
 use memchr::{memchr, memrchr};
 use redo_device::{Broken, Sink};
 

@@ -12,11 +12,11 @@ ghost use Rattle.redo_html.specs.Symbols.{first_symbol, symbol_len};
 ghost use Rattle.redo_html.specs.Symbols.Symbol.{CodePoint};
 ghost use Rattle.redo_html.specs.Private.Writing.{WrotePassage, WroteSomeOrFailed, IsRepeated, IsVerbatim, optional_mark};
 
-use crate::text_kind::TextKind;
 use crate::look::{Look, at_start, with_code_point, with_style};
 use crate::notation::write_unprintable;
 use crate::style::{Hue, Style, after_sequence, has_own_element, is_same};
 use crate::symbol::{is_unprintable_code_point, symbol_at, verbatim_len};
+use crate::text_kind::TextKind;
 use redo_device::{Broken, Sink, push_all};
 
 /// Writes text of a log that begins with this style. Its colours are shown, and end with the text.
@@ -200,7 +200,12 @@ fn write_code_point<W: Sink>(code_point: u32, bytes: &[u8], out: &mut W) -> Resu
 }
 
 // Writes the marks before a code point.
-fn write_marks<W: Sink>(kind: TextKind, look: Look, unprintable: bool, out: &mut W) -> Result<(), Broken>
+fn write_marks<W: Sink>(
+    kind: TextKind,
+    look: Look,
+    unprintable: bool,
+    out: &mut W,
+) -> Result<(), Broken>
     ensures { Writes (W.written out.old) (W.written out.new) (flat_map (inline_html kind) (marks_between look unprintable)) result }
 {
     let unprintable_ends = ends_unprintable(look, unprintable);

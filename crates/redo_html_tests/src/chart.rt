@@ -149,7 +149,7 @@ fn write_full<W: Sink>(out: &mut W) -> Result<(), Broken> {
             items: &AXIS,
         },
         ChartGroup {
-            kind: GroupKind::Parents,
+            kind: GroupKind::Callers,
             items: &PARENTS,
         },
         ChartGroup {

@@ -118,7 +118,7 @@ navs_are = (refl, refl, refl)
 
 -- What is known of times: a window, and how long it took.
 abbrev facts : Option Window → ℕ → Facts
-facts window took = record { window = window; took = took; parents = []; recipes = []; marks = []; sum = 0; most = 0; warnings = 0; bytes = 0; longest = []; warned = [] }
+facts window took = record { window = window; took = took; callers = []; recipes = []; marks = []; sum = 0; most = 0; warnings = 0; bytes = 0; longest = []; warned = [] }
 
 -- A number of seconds from the year 10000 on has no date.
 began_are :

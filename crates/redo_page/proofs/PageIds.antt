@@ -180,7 +180,7 @@ module _ (have : HavePositions) (lead : BarsLead) (keep : KeepLogs) (request : R
   page_refers =
       let positions = have nodes request.times in
       then_refer (top_refers nodes facts positions request.title logs (verdict_of nodes) (title_text request.title (verdict_of nodes) (heading_of nodes)) (heading_of nodes))
-      (then_refer (then_refer (timeline_refers lead (length nodes) (articles nodes) logs nodes facts positions.parents positions.recipes positions.marks) (tree_refers logs (options_of request) nodes shown))
+      (then_refer (then_refer (timeline_refers lead (length nodes) (articles nodes) logs nodes facts positions.callers positions.recipes positions.marks) (tree_refers logs (options_of request) nodes shown))
       (bare_refers (footer_parts request.dir (command request.dir (options_of request) requested) (length nodes)) (footer_bare request.dir (command request.dir (options_of request) requested) (length nodes))))
 
   pub page_target_ids : target_ids parts ≡ numbers_from 0 (length nodes)

@@ -128,7 +128,7 @@ facts_are :
     page_facts timed made (codes "a" ∷ []) ≡ record {
       window = Some window;
       took = 2500;
-      parents = record { began = 1795829211000; position = 0; ended = 1795829213500; failed = false } ∷ [];
+      callers = record { began = 1795829211000; position = 0; ended = 1795829213500; failed = false } ∷ [];
       recipes = record { began = 1795829211200; position = 1; ended = 1795829213000; failed = false } ∷ [];
       marks = [];
       sum = 1800;

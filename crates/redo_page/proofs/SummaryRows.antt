@@ -53,7 +53,7 @@ rank value position = record { value = value; position = position }
 
 -- No time is known.
 abbrev unknown : Facts
-unknown = record { window = None; took = 0; parents = []; recipes = []; marks = []; sum = 0; most = 0; warnings = 4; bytes = 46099; longest = rank 9 0 ∷ []; warned = [] }
+unknown = record { window = None; took = 0; callers = []; recipes = []; marks = []; sum = 0; most = 0; warnings = 4; bytes = 46099; longest = rank 9 0 ∷ []; warned = [] }
 
 abbrev window : Window
 window = record { began = 1000; width = 90000 }
@@ -63,7 +63,7 @@ abbrev known : Facts
 known = record {
   window = Some window;
   took = 90000;
-  parents = span 0 ∷ [];
+  callers = span 0 ∷ [];
   recipes = span 1 ∷ span 2 ∷ [];
   marks = [];
   sum = 125000;
@@ -76,7 +76,7 @@ known = record {
 
 -- One of three times is unknown.
 abbrev few : Facts
-few = record known { parents = []; marks = span 0 ∷ [] }
+few = record known { callers = []; marks = span 0 ∷ [] }
 
 -- ---- numbers with units
 

@@ -2,7 +2,7 @@
 use Rattle.std.proofs.Common.{◌≡◌, ℕ, Bool, true, false, List, [], ◌∷◌, Option, None, Some, pos, replicate, refl}
 use Rattle.std.specs.Fmt.{digits}
 use Rattle.std.specs.Prelude.{codes, length}
-use Rattle.redo_html.specs.declared.chart.GroupKind.TheVariants.{Parents, Recipes, Untimed}
+use Rattle.redo_html.specs.declared.chart.GroupKind.TheVariants.{Callers, Recipes, Untimed}
 use Rattle.redo_html.specs.declared.markup.Markup.{Markup}
 use Rattle.redo_html.specs.declared.markup.Markup.TheVariants as markup
 use Rattle.redo_html.specs.Chart.{Drawing, Shape}
@@ -52,10 +52,10 @@ abbrev window : Window
 window = record { began = 1000; width = 10000 }
 
 abbrev facts : Option Window → List Span → List Span → List Span → Facts
-facts window parents recipes marks = record {
+facts window callers recipes marks = record {
   window = window;
   took = 10000;
-  parents = parents;
+  callers = callers;
   recipes = recipes;
   marks = marks;
   sum = 0;
@@ -124,7 +124,7 @@ abbrev chart : Drawing
 chart = facts_drawing logs nodes (record known { marks = record { began = 9000; position = 3; ended = 9000; failed = true } ∷ [] }) window
 
 chart_is :
-    (chart.height ≡ 102) × (chart.lanes ≡ 2) × (shapes_of Parents chart ≡ drawn_at 0 0 20 10000 12 false (codes "all, 10.0 s") (Some (codes "all")) ∷ [])
+    (chart.height ≡ 102) × (chart.lanes ≡ 2) × (shapes_of Callers chart ≡ drawn_at 0 0 20 10000 12 false (codes "all, 10.0 s") (Some (codes "all")) ∷ [])
     × (shapes_of Recipes chart ≡ drawn_at 1 0 40 5000 16 false (codes "b, 5.00 s") (Some (codes "b")) ∷ drawn_at 2 1000 58 9000 16 false (codes "a, 9.00 s") (Some (codes "a")) ∷ [])
     × (shapes_of Untimed chart ≡ drawn_at 3 8000 82 30 12 true (codes "c, exit 1") None ∷ [])
 unfolding duration_words tick_step_of tick_words decimal_text digits

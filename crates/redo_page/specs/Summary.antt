@@ -74,7 +74,7 @@ shown_longest facts = if is_timed facts then facts.longest else []
 
 -- The number of targets of which at least one time is known.
 abbrev pub known_count : Facts → ℕ
-known_count facts = saturated (length facts.parents + length facts.recipes + length facts.marks)
+known_count facts = saturated (length facts.callers + length facts.recipes + length facts.marks)
 
 abbrev pub unknown_parts : ℕ → ℕ → List Part
 unknown_parts unknown targets =

@@ -35,12 +35,12 @@ pale_text pale = if pale then PALE_BARS.now else []
 
 abbrev pub timeline_end : Facts → List Part
 timeline_end facts =
-    MarkupPart markup.EndDiv ∷ MarkupPart markup.QuietParagraph ∷ TextPart BARS_LEAD.now ∷ TextPart (pale_text (not (length facts.parents == 0)))
+    MarkupPart markup.EndDiv ∷ MarkupPart markup.QuietParagraph ∷ TextPart BARS_LEAD.now ∷ TextPart (pale_text (not (length facts.callers == 0)))
     ∷ MarkupPart markup.EndParagraph ∷ MarkupPart markup.EndSection ∷ []
 
 module _ (logs : List Log) (nodes : List Node) (facts : Facts) where
   abbrev pub facts_drawing : Window → Drawing
-  facts_drawing window = timeline_drawing logs nodes window facts.parents facts.recipes facts.marks
+  facts_drawing window = timeline_drawing logs nodes window facts.callers facts.recipes facts.marks
 
   abbrev pub timeline_section : Window → List Part
   timeline_section window = timeline_start facts ++ (ChartPart (facts_drawing window) ∷ timeline_end facts)

@@ -14,9 +14,9 @@ ghost use Rattle.redo_page.specs.Failed.{is_dependent_failure, positions_where};
 ghost use Rattle.redo_page.specs.Limits.{bytes_shown, highest_cap};
 ghost use Rattle.redo_page.specs.Page.{Request, page_build, page_events, page_facts, page_html, page_outline, page_parts};
 ghost use Rattle.redo_page.specs.Tree.{articles, root_failures, has_failed, is_moved, tree_parts};
-ghost use Rattle.redo_chart.specs.Bands.{max_parent_lanes, max_recipe_lanes, max_mark_lanes};
+ghost use Rattle.redo_chart.specs.Bands.{max_caller_lanes, max_recipe_lanes, max_mark_lanes};
 ghost use Rattle.redo_chart.specs.Laws.{DrawsAll, shapes_of};
-ghost use Rattle.redo_html.specs.declared.chart.GroupKind.TheVariants.{Parents, Recipes, Untimed};
+ghost use Rattle.redo_html.specs.declared.chart.GroupKind.TheVariants.{Callers, Recipes, Untimed};
 ghost use Rattle.redo_trim.specs.Laws.{head_and_tail};
 ghost use Rattle.redo_summary.specs.Laws.{AreSplit};
 ghost use Rattle.redo_timeline.specs.declared.span.Window.{Window};
@@ -28,7 +28,7 @@ use redo_html::{
     parts_show_their_text, passages_are_read_as_shown,
 };
 use redo_outline::events_are_in_contents;
-use redo_summary::{positions_are_of_nodes, spans_are_parents_or_recipes};
+use redo_summary::{positions_are_of_nodes, spans_are_callers_or_recipes};
 use redo_trim::{head_and_tail_are_kept, trimmed_events_are_in_tree, unlimited_logs_are_whole};
 use redo_view::logs_show_their_lines;
 
@@ -148,14 +148,14 @@ pub fn times_are_shown()
         has_timeline (page_facts request logs requested) ≡ false → charts (page_parts request logs requested) ≡ [] }
     ensures spans { (request : Request) (logs : List Log) (requested : List (List ℕ)) →
         AreSplit (page_outline request logs requested) request.times (page_facts request logs requested) }
-    ensures parents { (request : Request) (logs : List Log) (requested : List (List ℕ)) (window : Window) →
-        ChartDraws request logs requested window Parents max_parent_lanes (page_facts request logs requested).parents }
+    ensures callers { (request : Request) (logs : List Log) (requested : List (List ℕ)) (window : Window) →
+        ChartDraws request logs requested window Callers max_caller_lanes (page_facts request logs requested).callers }
     ensures recipes { (request : Request) (logs : List Log) (requested : List (List ℕ)) (window : Window) →
         ChartDraws request logs requested window Recipes max_recipe_lanes (page_facts request logs requested).recipes }
     ensures marks { (request : Request) (logs : List Log) (requested : List (List ℕ)) (window : Window) →
         ChartDraws request logs requested window Untimed max_mark_lanes (page_facts request logs requested).marks }
 {
-    spans_are_parents_or_recipes();
+    spans_are_callers_or_recipes();
     bars_say_when_targets_ran();
     positions_are_of_nodes();
     bars_lead_to_positions();

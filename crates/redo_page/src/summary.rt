@@ -288,10 +288,10 @@ fn shown_longest(summary: &Summary) -> &[Rank]
 pub fn known_count(summary: &Summary) -> u64
     ensures { result ≡ known_count summary.now }
 {
-    let parents = summary.parents().len() as u64;
+    let callers = summary.callers().len() as u64;
     let recipes = summary.recipes().len() as u64;
     let marks = summary.marks().len() as u64;
-    parents.saturating_add(recipes).saturating_add(marks)
+    callers.saturating_add(recipes).saturating_add(marks)
 }
 
 fn write_unknown<W: Sink>(unknown: u64, targets: u64, page: &mut PageWriter<'_, W>)

@@ -12,7 +12,7 @@ use Rattle.redo_outline.specs.declared.node.Node.{Node}
 use Rattle.redo_summary.specs.declared.rank.Rank.{Rank}
 use Rattle.redo_summary.specs.declared.target.Target.{Target}
 use Rattle.redo_summary.specs.Laws.{AreInOrderOfPosition, AreOfNodes, AreRisingFrom, AreSplit}
-use Rattle.redo_summary.specs.Parents.{ran_others, spans_of}
+use Rattle.redo_summary.specs.Callers.{ran_others, spans_of}
 use Rattle.redo_summary.specs.Ranks.{first_ranks, rank_cmp, rank_of, warnings_from}
 use Rattle.redo_summary.specs.Summary.{summary_of}
 use Rattle.redo_summary.specs.Targets.{mark_of, only_time, span_between, span_if, span_of, target_of, targets_from, targets_of}
@@ -97,7 +97,7 @@ are_of_nodes nodes times =
     let spans = all_chosen (λ (target : Target). target.position < count) (λ (span : Span). span.position < count) span_of (span_below count) targets below in
     let recipes = all_passed (λ (span : Span). span.position < count) (λ (span : Span). not (ran_others targets span)) (spans_of targets) spans in
     record {
-      parents = all_passed (λ (span : Span). span.position < count) (ran_others targets) (spans_of targets) spans;
+      callers = all_passed (λ (span : Span). span.position < count) (ran_others targets) (spans_of targets) spans;
       recipes = recipes;
       marks = all_chosen (λ (target : Target). target.position < count) (λ (span : Span). span.position < count) mark_of (mark_below count) targets below;
       longest = first_below count _ (ranks_below count _ recipes);
@@ -149,7 +149,7 @@ are_in_order_of_position nodes times =
     let targets = targets_of nodes times in
     let spans = rising_chosen span_of span_position times 0 nodes in
     record {
-      parents = rising_passed (ran_others targets) 0 (spans_of targets) spans;
+      callers = rising_passed (ran_others targets) 0 (spans_of targets) spans;
       recipes = rising_passed (λ (span : Span). not (ran_others targets span)) 0 (spans_of targets) spans;
       marks = rising_chosen mark_of mark_position times 0 nodes;
     }

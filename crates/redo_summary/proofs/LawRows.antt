@@ -53,7 +53,7 @@ abbrev no_facts : Facts
 no_facts = record {
   window = None;
   took = 0;
-  parents = [];
+  callers = [];
   recipes = [];
   marks = [];
   sum = 0;
@@ -69,11 +69,11 @@ one_node = node 0 None None 0 0 ∷ []
 
 -- A position in each list is not below the number of nodes.
 rejected_positions :
-    ¬ AreOfNodes one_node (record no_facts { parents = span 1 3 4 ∷ [] }) × ¬ AreOfNodes one_node (record no_facts { recipes = span 1 3 4 ∷ [] })
+    ¬ AreOfNodes one_node (record no_facts { callers = span 1 3 4 ∷ [] }) × ¬ AreOfNodes one_node (record no_facts { recipes = span 1 3 4 ∷ [] })
     × ¬ AreOfNodes one_node (record no_facts { marks = span 1 3 3 ∷ [] }) × ¬ AreOfNodes one_node (record no_facts { longest = rank 7 1 ∷ [] })
     × ¬ AreOfNodes one_node (record no_facts { warned = rank 7 1 ∷ [] })
 rejected_positions = (
-  λ of_nodes. let below : 1 < 1 = of_nodes.parents.0 in omega (arith, below),
+  λ of_nodes. let below : 1 < 1 = of_nodes.callers.0 in omega (arith, below),
   λ of_nodes. let below : 1 < 1 = of_nodes.recipes.0 in omega (arith, below),
   λ of_nodes. let below : 1 < 1 = of_nodes.marks.0 in omega (arith, below),
   λ of_nodes. let below : 1 < 1 = of_nodes.longest.0 in omega (arith, below),
@@ -82,20 +82,20 @@ rejected_positions = (
 
 -- The positions fall in each list; then a position occurs twice.
 rejected_orders :
-    ¬ AreInOrderOfPosition (record no_facts { parents = span 2 1 9 ∷ span 1 3 4 ∷ [] }) × ¬ AreInOrderOfPosition (record no_facts { recipes = span 2 1 9 ∷ span 1 3 4 ∷ [] })
+    ¬ AreInOrderOfPosition (record no_facts { callers = span 2 1 9 ∷ span 1 3 4 ∷ [] }) × ¬ AreInOrderOfPosition (record no_facts { recipes = span 2 1 9 ∷ span 1 3 4 ∷ [] })
     × ¬ AreInOrderOfPosition (record no_facts { marks = span 2 5 5 ∷ span 1 7 7 ∷ [] }) × ¬ AreInOrderOfPosition (record no_facts { marks = span 3 5 5 ∷ span 3 7 7 ∷ [] })
 rejected_orders = (
-  λ order. let above : 3 ≤ 1 = order.parents.1.0 in omega (arith, above),
+  λ order. let above : 3 ≤ 1 = order.callers.1.0 in omega (arith, above),
   λ order. let above : 3 ≤ 1 = order.recipes.1.0 in omega (arith, above),
   λ order. let above : 3 ≤ 1 = order.marks.1.0 in omega (arith, above),
   λ order. let above : 4 ≤ 3 = order.marks.1.0 in omega (arith, above),
 )
 
--- ---- parents and recipes
+-- ---- callers and recipes
 
 -- A span is in no list, or in both.
 rejected_split :
-    ¬ AreSplit one_node (ran 1 9 ∷ []) no_facts × ¬ AreSplit one_node (ran 1 9 ∷ []) (record no_facts { parents = span 0 1 9 ∷ []; recipes = span 0 1 9 ∷ [] })
+    ¬ AreSplit one_node (ran 1 9 ∷ []) no_facts × ¬ AreSplit one_node (ran 1 9 ∷ []) (record no_facts { callers = span 0 1 9 ∷ []; recipes = span 0 1 9 ∷ [] })
 rejected_split = (
   λ split. let same : 0 ≡ 1 = length_permutation (span 0 1 9 ∷ []) [] split in omega (arith, same),
   λ split. let same : 2 ≡ 1 = length_permutation (span 0 1 9 ∷ []) (span 0 1 9 ∷ span 0 1 9 ∷ []) split in omega (arith, same),
@@ -140,6 +140,6 @@ ran_hidden_target run = by run.1.0 run.1.1 run.1.2
     by zero below same = let around : 7 ≡ 0 = ap (λ (node : Node). unwrap_or node.parent 7) same ∙ ap (λ (position : Option ℕ). unwrap_or position 7) run.2.contains in omega (arith, around)
     by (suc k) below same = omega (arith, below)
 
--- A recipe is among the parents, and a parent among the recipes.
+-- A recipe is among the callers, and a caller among the recipes.
 rejected_lists : ¬ AllRanOthers one_node two_times (span 0 10 90 ∷ []) × ¬ NoneRanOthers two_nodes two_times (span 0 10 90 ∷ [])
 rejected_lists = (λ all. ran_hidden_target all.0, λ lists. lists.0 accepted_run)

@@ -1,4 +1,4 @@
--- Parents ran others, and recipes ran none.
+-- Callers ran others, and recipes ran none.
 use Rattle.std.proofs.Common.{◌≡◌, ℕ, zero, suc, ◌+◌, ◌<◌, ◌⊎◌, Bool, true, false, cond, not, leb, ltb, List, [], ◌∷◌, Option, None, Some, filter, get_or, length, inl, inr, refl, sym, ap, ◌∙◌, subst, arith}
 use Rattle.std.specs.Prelude.{◌&&◌}
 use Rattle.std.specs.List.{AllByRecursion, list_any}
@@ -8,7 +8,7 @@ use Rattle.redo_times.specs.declared.times.Times.{Times}
 use Rattle.redo_outline.specs.declared.node.Node.{Node}
 use Rattle.redo_summary.specs.declared.target.Target.{Target}
 use Rattle.redo_summary.specs.Laws.{AllRanOthers, AreDuring, NoneRanOthers, Ran, RanOthers}
-use Rattle.redo_summary.specs.Parents.{is_in_if_known, is_position, is_run_by, ran_others, spans_of}
+use Rattle.redo_summary.specs.Callers.{is_in_if_known, is_position, is_run_by, ran_others, spans_of}
 use Rattle.redo_summary.specs.Summary.{summary_of}
 use Rattle.redo_summary.specs.Targets.{span_if, span_of, target_of, targets_from, targets_of, times_of}
 
@@ -85,8 +85,8 @@ all_that_passed test P holds (span ∷ spans) = by (test span) refl (all_that_pa
     by true is more = (holds span is, more)
     by false is more = more
 
-pub all_parents_ran : (nodes : List Node) (times : List Times) → AllRanOthers nodes times (summary_of nodes times).parents
-all_parents_ran nodes times =
+pub all_callers_ran : (nodes : List Node) (times : List Times) → AllRanOthers nodes times (summary_of nodes times).callers
+all_callers_ran nodes times =
     let targets = targets_of nodes times in
     all_that_passed (ran_others targets) (RanOthers nodes times) (λ span is. ran_others_of times span 0 nodes is) (spans_of targets)
 

@@ -6,7 +6,7 @@ use Rattle.redo_timeline.specs.declared.span.Span.{Span}
 use Rattle.redo_times.specs.declared.times.Times.{Times}
 use Rattle.redo_outline.specs.declared.node.Node.{Node}
 use Rattle.redo_summary.specs.declared.rank.Rank.{Rank}
-use Rattle.redo_summary.specs.Parents.{spans_of}
+use Rattle.redo_summary.specs.Callers.{spans_of}
 use Rattle.redo_summary.specs.Ranks.{warnings_from}
 use Rattle.redo_summary.specs.Summary.{Facts}
 use Rattle.redo_summary.specs.Targets.{targets_of, times_of}
@@ -20,7 +20,7 @@ AreRanksBelow count ranks = AllByRecursion (λ (rank : Rank). rank.position < co
 
 -- Each position is the position of a node.
 pub record AreOfNodes (nodes : List Node) (facts : Facts) : Type 0 where
-  pub parents : AreSpansBelow (length nodes) facts.parents
+  pub callers : AreSpansBelow (length nodes) facts.callers
   pub recipes : AreSpansBelow (length nodes) facts.recipes
   pub marks : AreSpansBelow (length nodes) facts.marks
   pub longest : AreRanksBelow (length nodes) facts.longest
@@ -33,13 +33,13 @@ AreRisingFrom least (span ∷ spans) = (least ≤ span.position) × AreRisingFro
 
 -- Each list of spans is in order of position, and has no position twice.
 pub record AreInOrderOfPosition (facts : Facts) : Type 0 where
-  pub parents : AreRisingFrom 0 facts.parents
+  pub callers : AreRisingFrom 0 facts.callers
   pub recipes : AreRisingFrom 0 facts.recipes
   pub marks : AreRisingFrom 0 facts.marks
 
 -- Each span of a shown target is in exactly one of the lists.
 abbrev pub AreSplit : List Node → List Times → Facts → Type 0
-AreSplit nodes times facts = IsPermutation (spans_of (targets_of nodes times)) (facts.parents ++ facts.recipes)
+AreSplit nodes times facts = IsPermutation (spans_of (targets_of nodes times)) (facts.callers ++ facts.recipes)
 
 -- A beginning and an end are known. They are in a span, and the end is after the beginning of the span.
 abbrev pub AreDuring : Span → Option ℕ → Option ℕ → Type 0

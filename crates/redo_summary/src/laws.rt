@@ -11,20 +11,20 @@ pub fn positions_are_of_nodes()
     ensures { (nodes : List Node) (times : List Times) → AreOfNodes nodes (summary_of nodes times) }
 {}
 
-/// Parents, recipes and marks are in order of position. No position occurs twice in one of these lists.
+/// Callers, recipes and marks are in order of position. No position occurs twice in one of these lists.
 pub fn spans_are_in_order_of_position()
     ensures { (nodes : List Node) (times : List Times) → AreInOrderOfPosition (summary_of nodes times) }
 {}
 
-/// The span of each shown target whose times are known is in exactly one of the lists of parents and recipes.
-pub fn spans_are_parents_or_recipes()
+/// The span of each shown target whose times are known is in exactly one of the lists of callers and recipes.
+pub fn spans_are_callers_or_recipes()
     ensures { (nodes : List Node) (times : List Times) → AreSplit nodes times (summary_of nodes times) }
 {}
 
-/// Each parent ran others, and no recipe ran others: its log directly contains the log of another target, which began and ended while it
+/// Each caller ran others, and no recipe ran others: its log directly contains the log of another target, which began and ended while it
 /// ran.
-pub fn parents_ran_others()
-    ensures parents { (nodes : List Node) (times : List Times) → AllRanOthers nodes times (summary_of nodes times).parents }
+pub fn callers_ran_others()
+    ensures callers { (nodes : List Node) (times : List Times) → AllRanOthers nodes times (summary_of nodes times).callers }
     ensures recipes { (nodes : List Node) (times : List Times) → NoneRanOthers nodes times (summary_of nodes times).recipes }
 {}
 

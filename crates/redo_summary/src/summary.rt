@@ -20,7 +20,7 @@ use std::marker::Model;
 pub struct Summary {
     window: Option<Window>,
     took: u64,
-    parents: Vec<Span>,
+    callers: Vec<Span>,
     recipes: Vec<Span>,
     marks: Vec<Span>,
     total: u64,
@@ -41,7 +41,7 @@ impl Model for Summary {
     ghost view = { λ summary. record {
       window = summary.window;
       took = summary.took;
-      parents = summary.parents.items;
+      callers = summary.callers.items;
       recipes = summary.recipes.items;
       marks = summary.marks.items;
       sum = summary.total;
@@ -64,7 +64,7 @@ impl Summary {
         ensures { IfOk result (λ summary. summary ≡ summary_of nodes.now times.now) }
     {
         let targets = list_targets(alloc, nodes, times)?;
-        let Spans { parents, recipes } = split_spans(alloc, &targets)?;
+        let Spans { callers, recipes } = split_spans(alloc, &targets)?;
         let marks = list_marks(alloc, &targets)?;
         let most = most_at_once(alloc, &recipes)?;
         let longest = longest_of(alloc, &recipes)?;
@@ -73,7 +73,7 @@ impl Summary {
         Ok(Summary {
             window: window_over(&targets),
             took: time_over(&targets),
-            parents,
+            callers,
             recipes,
             marks,
             total,
@@ -103,10 +103,10 @@ impl Summary {
 
     /// Returns the spans of the targets that ran others, in order of position. A target ran others if its log contains the log of another
     /// one, and if its span contains the span of that one, which ended after it began.
-    pub fn parents(&self) -> &[Span]
-        ensures { result.now ≡ self.now.parents }
+    pub fn callers(&self) -> &[Span]
+        ensures { result.now ≡ self.now.callers }
     {
-        self.parents.as_slice()
+        self.callers.as_slice()
     }
 
     /// Returns the spans of all other targets whose times are known, in order of position.
@@ -173,7 +173,7 @@ impl Summary {
     pub fn is_timed(&self) -> bool
         ensures { result ≡ is_timed self.now }
     {
-        let spans = self.parents.len() as u128 + self.recipes.len() as u128;
+        let spans = self.callers.len() as u128 + self.recipes.len() as u128;
         let marks = self.marks.len() as u128;
         spans > 0 && marks * 10 <= spans + marks
     }

@@ -11,7 +11,7 @@ fn summary_of_nothing(rt: HostRuntime) -> Result<(), Fail> {
     let summary = Summary::new(rt.alloc(), &[], &[])?;
     assert_eq!(rt; summary.window(), None);
     assert_eq!(rt; summary.took(), 0);
-    assert_eq!(rt; summary.parents(), [].as_slice());
+    assert_eq!(rt; summary.callers(), [].as_slice());
     assert_eq!(rt; summary.recipes(), [].as_slice());
     assert_eq!(rt; summary.marks(), [].as_slice());
     assert_eq!(rt; summary.sum(), 0);
@@ -49,7 +49,7 @@ fn summary_of_small_build(rt: HostRuntime) -> Result<(), Fail> {
     };
     assert_eq!(rt; summary.window(), Some(window));
     assert_eq!(rt; summary.took(), 90);
-    assert_eq!(rt; summary.parents(), [span(0, 1010, 1100, true)].as_slice());
+    assert_eq!(rt; summary.callers(), [span(0, 1010, 1100, true)].as_slice());
     let recipes = [span(1, 1020, 1070, false), span(2, 1050, 1090, true)];
     assert_eq!(rt; summary.recipes(), recipes.as_slice());
     assert_eq!(rt; summary.marks(), [span(3, 1095, 1095, false)].as_slice());
@@ -83,7 +83,7 @@ fn summary_of_larger_build(rt: HostRuntime) -> Result<(), Fail> {
         width: 98_000,
     };
     assert_eq!(rt; summary.window(), Some(window));
-    assert_eq!(rt; summary.parents(), [].as_slice());
+    assert_eq!(rt; summary.callers(), [].as_slice());
     assert_eq!(rt; summary.recipes().len(), 30);
     assert_eq!(rt; summary.marks(), [].as_slice());
     assert_eq!(rt; summary.sum(), 3465);

@@ -2,7 +2,7 @@
 use Rattle.std.specs.Prelude.{◌≡◌, ℕ, ◌<◌, Bool, false, ◌||◌, List, [], ◌∷◌, Option, None, Some, length, slice_index_or}
 use Rattle.redo_timeline.specs.declared.span.Span.{Span}
 use Rattle.redo_summary.specs.declared.target.Target.{Target}
-use Rattle.redo_summary.specs.Parents.{ran_others}
+use Rattle.redo_summary.specs.Callers.{ran_others}
 use Rattle.redo_summary.specs.Targets.{span_of}
 
 -- The position of each target is its index in the list.

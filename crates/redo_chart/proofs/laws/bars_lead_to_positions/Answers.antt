@@ -2,4 +2,4 @@ use Rattle.redo_chart.proofs.LawLemmas.{links_below}
 use Rattle.redo_chart.proofs.laws.bars_lead_to_positions.Goals as goal
 
 pub returns : goal.returns
-returns c = λ logs nodes window parents recipes marks count below. links_below window count logs nodes parents recipes marks below
+returns c = λ logs nodes window callers recipes marks count below. links_below window count logs nodes callers recipes marks below

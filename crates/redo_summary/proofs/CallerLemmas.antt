@@ -6,19 +6,19 @@ use Rattle.std.proofs.lemmas.List.{take_more}
 use Rattle.std.proofs.lemmas.List.Elements.{filter-append, filter_map-append}
 use Rattle.redo_timeline.specs.declared.span.Span.{Span}
 use Rattle.redo_summary.specs.declared.target.Target.{Target}
-use Rattle.redo_summary.specs.Parents.{ran_others, spans_of}
+use Rattle.redo_summary.specs.Callers.{ran_others, spans_of}
 use Rattle.redo_summary.specs.Private.Marking.{AreMarked, ran_any}
 use Rattle.redo_summary.specs.Targets.{span_of}
 
--- ---- parents and recipes
+-- ---- callers and recipes
 
 -- These are the spans of the first targets that ran others, and all other spans of these targets.
 pub record AreSplitUpTo (targets : List Target) (count : ℕ) (ran ran_none : List Span) : Type 0 where
-  pub parents : ran ≡ filter (ran_others targets) (spans_of (take count targets))
+  pub callers : ran ≡ filter (ran_others targets) (spans_of (take count targets))
   pub recipes : ran_none ≡ filter (λ (span : Span). not (ran_others targets span)) (spans_of (take count targets))
 
-pub split_as : (targets : List Target) (count : ℕ) (parents recipes new_parents new_recipes : List Span) → new_parents ≡ parents → new_recipes ≡ recipes → AreSplitUpTo targets count parents recipes → AreSplitUpTo targets count new_parents new_recipes
-split_as targets count parents recipes new_parents new_recipes same others split = record { parents = same ∙ split.parents; recipes = others ∙ split.recipes }
+pub split_as : (targets : List Target) (count : ℕ) (callers recipes new_callers new_recipes : List Span) → new_callers ≡ callers → new_recipes ≡ recipes → AreSplitUpTo targets count callers recipes → AreSplitUpTo targets count new_callers new_recipes
+split_as targets count callers recipes new_callers new_recipes same others split = record { callers = same ∙ split.callers; recipes = others ∙ split.recipes }
 
 -- The spans that pass a test, with the span of one more target.
 passed_more : (test : Span → Bool) (targets : List Target) (i : ℕ) (d : Target) (span : Option Span) → i < length targets → span ≡ span_of (get_or targets i d)
@@ -38,10 +38,10 @@ append-nil : (spans : List Span) → spans ++ [] ≡ spans
 append-nil [] = refl
 append-nil (span ∷ spans) = ap (λ rest. span ∷ rest) (append-nil spans)
 
-module _ (targets : List Target) (i : ℕ) (d : Target) (parents recipes : List Span) (below : i < length targets) (so_far : AreSplitUpTo targets i parents recipes) where
-  pub split_nothing : None ≡ span_of (get_or targets i d) → AreSplitUpTo targets (i + 1) parents recipes
+module _ (targets : List Target) (i : ℕ) (d : Target) (callers recipes : List Span) (below : i < length targets) (so_far : AreSplitUpTo targets i callers recipes) where
+  pub split_nothing : None ≡ span_of (get_or targets i d) → AreSplitUpTo targets (i + 1) callers recipes
   split_nothing none = record {
-    parents = so_far.parents ∙ sym (passed_more (ran_others targets) targets i d None below none ∙ append-nil _);
+    callers = so_far.callers ∙ sym (passed_more (ran_others targets) targets i d None below none ∙ append-nil _);
     recipes = so_far.recipes ∙ sym (passed_more (λ (span : Span). not (ran_others targets span)) targets i d None below none ∙ append-nil _);
   }
 
@@ -49,12 +49,12 @@ module _ (targets : List Target) (i : ℕ) (d : Target) (parents recipes : List 
     mark_is : (b : Bool) → b ≡ get_or marked i false → ran_others targets span ≡ b
     mark_is b read = sym (read ∙ are_marked i d below ∙ ap (ran_any targets) (sym is))
 
-    pub split_parent : true ≡ get_or marked i false → AreSplitUpTo targets (i + 1) (parents ++ span ∷ []) recipes
-    split_parent read =
+    pub split_caller : true ≡ get_or marked i false → AreSplitUpTo targets (i + 1) (callers ++ span ∷ []) recipes
+    split_caller read =
         let ran = mark_is true read in
         record {
-          parents =
-              ap (λ spans. spans ++ span ∷ []) so_far.parents
+          callers =
+              ap (λ spans. spans ++ span ∷ []) so_far.callers
               ∙ sym (passed_more (ran_others targets) targets i d (Some span) below is ∙ ap (λ spans. filter (ran_others targets) (spans_of (take i targets)) ++ spans) (passed_one (ran_others targets) span ran));
           recipes =
               so_far.recipes
@@ -63,12 +63,12 @@ module _ (targets : List Target) (i : ℕ) (d : Target) (parents recipes : List 
               ∙ ap (λ spans. filter (λ (span : Span). not (ran_others targets span)) (spans_of (take i targets)) ++ spans) (failed_one (λ (span : Span). not (ran_others targets span)) span (ap not ran)) ∙ append-nil _);
         }
 
-    pub split_recipe : false ≡ get_or marked i false → AreSplitUpTo targets (i + 1) parents (recipes ++ span ∷ [])
+    pub split_recipe : false ≡ get_or marked i false → AreSplitUpTo targets (i + 1) callers (recipes ++ span ∷ [])
     split_recipe read =
         let ran = mark_is false read in
         record {
-          parents =
-              so_far.parents
+          callers =
+              so_far.callers
               ∙ sym (passed_more (ran_others targets) targets i d (Some span) below is ∙ ap (λ spans. filter (ran_others targets) (spans_of (take i targets)) ++ spans) (failed_one (ran_others targets) span ran) ∙ append-nil _);
           recipes =
               ap (λ spans. spans ++ span ∷ []) so_far.recipes

@@ -1,6 +1,6 @@
 use Rattle.std.proofs.Common.{◌≡◌, length, take}
 use Rattle.redo_summary.specs.Private.Marking.{AreMarked}
-use Rattle.redo_summary.proofs.parents.find_parents.Given as goal
+use Rattle.redo_summary.proofs.callers.find_callers.Given as goal
 
 abbrev pub invariant-loop-target : goal.invariant-loop-target
 invariant-loop-target l = record {

@@ -32,8 +32,8 @@ abbrev pub spans_of : List Target → List Span
 spans_of targets = filter_map span_of targets
 
 -- The spans of the targets that ran others, and all other spans.
-abbrev pub parents_of : List Target → List Span
-parents_of targets = filter (ran_others targets) (spans_of targets)
+abbrev pub callers_of : List Target → List Span
+callers_of targets = filter (ran_others targets) (spans_of targets)
 
 abbrev pub recipes_of : List Target → List Span
 recipes_of targets = filter (λ span. not (ran_others targets span)) (spans_of targets)

@@ -1,6 +1,6 @@
 //! Which targets ran others.
 ghost use Rattle.std.specs.Prelude.{◌≡◌, ◌<◌, IfOk, length};
-ghost use Rattle.redo_summary.specs.Parents.{is_in};
+ghost use Rattle.redo_summary.specs.Callers.{is_in};
 ghost use Rattle.redo_summary.specs.Private.Marking.{AreMarked, ArePositioned, IsMarked};
 
 use crate::target::Target;
@@ -8,7 +8,7 @@ use redo_timeline::Span;
 use std::alloc::{AllocError, Global};
 
 /// Returns for each target whether it ran others.
-pub fn find_parents(alloc: Global, targets: &[Target]) -> Result<Vec<bool>, AllocError>
+pub fn find_callers(alloc: Global, targets: &[Target]) -> Result<Vec<bool>, AllocError>
     requires { ArePositioned targets.now }
     ensures length { IfOk result (λ marked. length marked.items ≡ length targets.now) }
     ensures marked { IfOk result (λ marked. AreMarked targets.now targets.now marked.items) }
