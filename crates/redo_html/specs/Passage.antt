@@ -113,8 +113,9 @@ same_bool false other = not other
 abbrev pub is_same_style : Style → Style → Bool
 is_same_style one other = same_bool one.bold other.bold && hue_number one.hue == hue_number other.hue
 
--- The marks between two code points. `look.wanted` is the style of the next code point. Open are the mark of the style `look.current`, and within it, if `look.unprintable`
--- is set, the mark for unprintable code points. `unprintable` states whether the next code point is unprintable.
+-- The marks between two code points. `look.wanted` is the style of the next code point. Open are the mark of the style `look.current`,
+-- and within it, if `look.unprintable` is set, the mark for unprintable code points. `unprintable` states whether the next code point is
+-- unprintable.
 abbrev pub mark_if : Bool → Inline → List Inline
 mark_if condition mark = if condition then mark ∷ [] else []
 

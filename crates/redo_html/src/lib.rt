@@ -7,7 +7,7 @@
 //!
 //! # Terms
 //!
-//! - *Code point*: a character of a text, or one byte that is no part of a character.
+//! - *Code point*: a character of a text, or one byte that is no part of a character, which counts as U+DC00 plus the byte.
 //! - *Sequence*: `ESC [`, digits and semicolons, and `m` (SGR, which sets colours) or `K` (which erases a line).
 //! - *Unprintable code point*: a code point that a browser would hide, change or act on: a control character, an invalid byte, an
 //!   invisible or bidirectional character. Its *notation* is shown instead: `^M`, `\xff`, `[U+202E]`.
@@ -18,8 +18,8 @@
 //!
 //! # Design
 //!
-//! **Text** (`Symbols`, `Shown`). From five equal unprintable code points in a row on, one notation and a count are shown. In logs, the
-//! sequences by which compilers set colours are consumed, and all other escape characters are unprintable code points.
+//! **Text** (`Symbols`, `Shown`). From five equal unprintable code points in a row on, one notation and a count are shown. In
+//! logs, the sequences by which compilers set colours are consumed, and all other escape characters are unprintable.
 //!
 //! **Marks** (`Passage`, `Style`). Unprintable code points, bold text and six hues have elements. A `Look` has the style of the next
 //! code point and what is open. All elements that are begun in a passage end in it. The marks between two code points are written

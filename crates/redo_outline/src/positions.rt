@@ -17,7 +17,11 @@ pub fn node_positions(alloc: Global, nodes: &[Node]) -> Result<Vec<Option<usize>
 }
 
 // Sets the position of the log with this number, unless it has one.
-fn set_position(positions: &mut Vec<Option<usize>>, number: usize, position: usize) -> Result<(), AllocError>
+fn set_position(
+    positions: &mut Vec<Option<usize>>,
+    number: usize,
+    position: usize,
+) -> Result<(), AllocError>
     requires { number < 2 ^ 32 }
     ensures { OnOk result (IsPositionSet number position positions.old.items positions.new.items) }
 {

@@ -73,7 +73,12 @@ fn write_nothing<W: Sink>(node: &Node, page: &mut PageWriter<'_, W>)
 }
 
 #[tactic(auto, using(crate::proofs::WriterLemmas::wrote_then), unfolding(crate::specs::Failed::output_parts))]
-fn write_output<W: Sink>(table: &LogTable, position: usize, node: &Node, page: &mut PageWriter<'_, W>)
+fn write_output<W: Sink>(
+    table: &LogTable,
+    position: usize,
+    node: &Node,
+    page: &mut PageWriter<'_, W>,
+)
     ensures { WroteParts W.written page.old page.new (output_parts table.now position node.now) }
 {
     if node.lines == 0 {

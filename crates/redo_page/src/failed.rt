@@ -185,7 +185,13 @@ fn write_article_row<W: Sink>(
     ensures { WroteParts W.written page.old page.new (article_row table.now nodes.now position) }
 {
     let node = node_at(nodes, position);
-    write_row(table, Markup::OutputLink(position as u64), true, &node, page)
+    write_row(
+        table,
+        Markup::OutputLink(position as u64),
+        true,
+        &node,
+        page,
+    )
 }
 
 fn write_article_rows<W: Sink>(
@@ -231,7 +237,13 @@ fn write_target_row<W: Sink>(
     ensures { WroteParts W.written page.old page.new (target_row table.now nodes.now causes position) }
 {
     let node = node_at(nodes, position);
-    write_row(table, Markup::TargetLink(position as u64), causes, &node, page)
+    write_row(
+        table,
+        Markup::TargetLink(position as u64),
+        causes,
+        &node,
+        page,
+    )
 }
 
 fn write_target_rows<W: Sink>(
@@ -340,7 +352,15 @@ fn write_dependents<W: Sink>(
         (more_parts table.now nodes.now Ordered false FAILED_WITH_THESE.now positions.now) }
 {
     let heading = FAILED_WITH_THESE;
-    write_more(table, nodes, Markup::Ordered, false, heading, positions, page)
+    write_more(
+        table,
+        nodes,
+        Markup::Ordered,
+        false,
+        heading,
+        positions,
+        page,
+    )
 }
 
 fn write_unclosed<W: Sink>(
@@ -364,7 +384,8 @@ fn write_section<W: Sink>(
     unclosed: &[usize],
     page: &mut PageWriter<'_, W>,
 )
-    ensures { WroteParts W.written page.old page.new (section_parts table.now nodes.now articles.now others.now dependents.now unclosed.now) }
+    ensures { WroteParts W.written page.old page.new
+        (section_parts table.now nodes.now articles.now others.now dependents.now unclosed.now) }
 {
     page.put(&[
         Piece::Markup(Markup::FailedSection),

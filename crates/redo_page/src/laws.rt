@@ -103,7 +103,8 @@ pub fn lines_are_shown()
         IsPartOf (page_tree request logs requested) (page_parts request logs requested) }
     ensures articles { (request : Request) (logs : List Log) (requested : List (List ℕ)) → find_unknown logs requested ≡ None →
         (position : ℕ) → is_moved (page_build request logs requested) position ≡ true →
-        log_bytes (page_article request logs requested position) ≡ positioned_bytes (lines_at position (page_lines request logs requested)) }
+        log_bytes (page_article request logs requested position)
+        ≡ positioned_bytes (lines_at position (page_lines request logs requested)) }
     ensures has_articles { (request : Request) (logs : List Log) (requested : List (List ℕ)) →
         (position : ℕ) → is_moved (page_build request logs requested) position ≡ true →
         IsPartOf (page_article request logs requested position) (page_parts request logs requested) }

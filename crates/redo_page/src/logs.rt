@@ -128,7 +128,8 @@ fn write_nested_start<W: Sink>(
     page: &mut PageWriter<'_, W>,
 )
     ensures { WroteParts W.written page.old page.new
-        (nested_start (build_value build.now) expanded position (heading_parts (build_value build.now) (event_value event.entry) position)) }
+        (nested_start (build_value build.now) expanded position
+        (heading_parts (build_value build.now) (event_value event.entry) position)) }
 {
     page.put(&[
         Piece::Markup(Markup::Item),
@@ -159,7 +160,13 @@ fn write_opening<W: Sink>(
     } else if level.depth >= MAX_DEPTH {
         write_flat_start(build, position, level.depth, event, page)
     } else {
-        write_nested_start(build, build.is_expanded(level, &node), position, event, page)
+        write_nested_start(
+            build,
+            build.is_expanded(level, &node),
+            position,
+            event,
+            page,
+        )
     }
 }
 

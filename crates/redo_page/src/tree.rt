@@ -146,7 +146,13 @@ impl<'a> TreeForm<'a> {
     {
         if let Some(log) = self.logs.pop() {
             write_end(self.pending, page);
-            write_log_end(&self.build, level_in(&self.logs), log.position, log.left, page);
+            write_log_end(
+                &self.build,
+                level_in(&self.logs),
+                log.position,
+                log.left,
+                page,
+            );
             self.pending = after_log(log.left);
         }
     }

@@ -10,8 +10,8 @@
 //! - *Caller*: a span in which the span of a target lies that its target ran. All other spans are *recipes*.
 #![tactic(auto)]
 
-mod laws;
 mod callers;
+mod laws;
 mod rank;
 mod ranking;
 mod spans;
@@ -22,8 +22,8 @@ mod totals;
 mod window;
 
 pub use laws::{
-    callers_ran_others, positions_are_of_nodes, ranks_are_in_order, spans_are_in_order_of_position,
-    spans_are_callers_or_recipes, tables_have_first_ranks,
+    callers_ran_others, positions_are_of_nodes, ranks_are_in_order, spans_are_callers_or_recipes,
+    spans_are_in_order_of_position, tables_have_first_ranks,
 };
 pub use rank::Rank;
 pub use summary::Summary;
