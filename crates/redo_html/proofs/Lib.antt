@@ -8,7 +8,7 @@ mod CodePointRows
 mod LineLemmas
 mod LineRows
 mod LineWriting
-mod MarkReading
+mod HighlightReading
 mod PageRows
 mod PartReading
 mod PassageLemmas

@@ -17,7 +17,7 @@ use Rattle.redo_line.specs.Lines.{with_line_feed}
 use Rattle.redo_html.specs.declared.text_kind.TextKind.TheVariants.{Log}
 use Rattle.redo_html.specs.Lines.{line_parts, style_after, style_after_lines, style_after_symbol}
 use Rattle.redo_html.specs.Parts.{part_text}
-use Rattle.redo_html.specs.Passage.{escaped, inline_html, marks_between, after_code_point, with_wanted, start_look, inlines_from, html_from, passage_html}
+use Rattle.redo_html.specs.Passage.{escaped, inline_html, highlights_between, after_code_point, with_wanted, start_look, inlines_from, html_from, passage_html}
 use Rattle.redo_html.specs.Passage.Inline.{Text}
 use Rattle.redo_html.specs.Shown.{Run, is_unprintable, unprintable_text, run_text, shown_text, code_points_text, with_code_point, with_symbol, runs_of}
 use Rattle.redo_html.specs.Shown.Run.{CodePoints, Restyle}
@@ -195,31 +195,31 @@ runs_style style (Sequence numbers ∷ symbols) = runs_style (restyled style num
 -- ---- HTML
 
 code_points_html : (kind : TextKind) (look : Look) (code_point count : ℕ) (runs : List Run)
-    → html_of kind look (CodePoints code_point count ∷ runs) ≡ flat_map (inline_html kind) (marks_between look (is_unprintable code_point)) ++ (escaped (code_points_text code_point count) ++ html_of kind (after_code_point look (is_unprintable code_point)) runs)
-code_points_html kind look code_point count runs = flat_map-append (inline_html kind) (marks_between look (is_unprintable code_point)) (Text code_point count ∷ inlines_from (after_code_point look (is_unprintable code_point)) runs)
+    → html_of kind look (CodePoints code_point count ∷ runs) ≡ flat_map (inline_html kind) (highlights_between look (is_unprintable code_point)) ++ (escaped (code_points_text code_point count) ++ html_of kind (after_code_point look (is_unprintable code_point)) runs)
+code_points_html kind look code_point count runs = flat_map-append (inline_html kind) (highlights_between look (is_unprintable code_point)) (Text code_point count ∷ inlines_from (after_code_point look (is_unprintable code_point)) runs)
 
 -- A passage may be split after a line feed where no style is wanted.
 html_split : (kind : TextKind) (look : Look) (runs more : List Run) → fold style_after_run look.wanted runs ≡ plain_style
     → html_of kind look (runs ++ CodePoints 10 1 ∷ more) ≡ html_of kind look (runs ++ CodePoints 10 1 ∷ []) ++ html_of kind (start_look plain_style) more
 html_split kind look [] more plain =
-    let marks = flat_map (inline_html kind) (marks_between look false) in
-    let at : (rest : List Run) → html_of kind look (CodePoints 10 1 ∷ rest) ≡ (marks ++ (10 ∷ [])) ++ html_of kind (start_look plain_style) rest = λ rest.
+    let highlights = flat_map (inline_html kind) (highlights_between look false) in
+    let at : (rest : List Run) → html_of kind look (CodePoints 10 1 ∷ rest) ≡ (highlights ++ (10 ∷ [])) ++ html_of kind (start_look plain_style) rest = λ rest.
     code_points_html kind look 10 1 rest
-    ∙ ap (λ (o : Bool). flat_map (inline_html kind) (marks_between look o) ++ (escaped (if o then unprintable_text 10 1 else encode_utf8 10) ++ html_of kind (after_code_point look o) rest)) feed_visible
-    ∙ ap (λ (t : List ℕ). marks ++ (escaped t ++ html_of kind (after_code_point look false) rest)) (plain_encoded 10 feed_plain)
-    ∙ ap (λ (s : Style). marks ++ (10 ∷ html_of kind (record { wanted = s; current = s; unprintable = false }) rest)) plain
-    ∙ sym (append_assoc marks (10 ∷ []) (html_of kind (start_look plain_style) rest)) in
-    at more ∙ ap (λ (t : List ℕ). t ++ html_of kind (start_look plain_style) more) (sym (at [] ∙ append-nil (marks ++ 10 ∷ [])))
+    ∙ ap (λ (o : Bool). flat_map (inline_html kind) (highlights_between look o) ++ (escaped (if o then unprintable_text 10 1 else encode_utf8 10) ++ html_of kind (after_code_point look o) rest)) feed_visible
+    ∙ ap (λ (t : List ℕ). highlights ++ (escaped t ++ html_of kind (after_code_point look false) rest)) (plain_encoded 10 feed_plain)
+    ∙ ap (λ (s : Style). highlights ++ (10 ∷ html_of kind (record { wanted = s; current = s; unprintable = false }) rest)) plain
+    ∙ sym (append_assoc highlights (10 ∷ []) (html_of kind (start_look plain_style) rest)) in
+    at more ∙ ap (λ (t : List ℕ). t ++ html_of kind (start_look plain_style) more) (sym (at [] ∙ append-nil (highlights ++ 10 ∷ [])))
 html_split kind look (Restyle numbers ∷ runs) more plain = html_split kind (with_wanted look (restyled look.wanted numbers)) runs more plain
 html_split kind look (CodePoints code_point count ∷ runs) more plain =
     let unprintable = is_unprintable code_point in
-    let marks = flat_map (inline_html kind) (marks_between look unprintable) in
+    let highlights = flat_map (inline_html kind) (highlights_between look unprintable) in
     let text = escaped (code_points_text code_point count) in
     let first = html_of kind (after_code_point look unprintable) (runs ++ CodePoints 10 1 ∷ []) in
     let last = html_of kind (start_look plain_style) more in
     code_points_html kind look code_point count (runs ++ CodePoints 10 1 ∷ more)
-    ∙ ap (λ (t : List ℕ). marks ++ (text ++ t)) (html_split kind (after_code_point look unprintable) runs more plain)
-    ∙ ap (λ (t : List ℕ). marks ++ t) (sym (append_assoc text first last)) ∙ sym (append_assoc marks (text ++ first) last)
+    ∙ ap (λ (t : List ℕ). highlights ++ (text ++ t)) (html_split kind (after_code_point look unprintable) runs more plain)
+    ∙ ap (λ (t : List ℕ). highlights ++ t) (sym (append_assoc text first last)) ∙ sym (append_assoc highlights (text ++ first) last)
     ∙ ap (λ (t : List ℕ). t ++ last) (sym (code_points_html kind look code_point count (runs ++ CodePoints 10 1 ∷ [])))
 
 pub passage-feed : (kind : TextKind) (style : Style) (bytes more : List ℕ) → style_in kind style bytes ≡ plain_style

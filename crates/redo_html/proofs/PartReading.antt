@@ -19,7 +19,7 @@ use Rattle.redo_html.specs.Shown.{number_text}
 use Rattle.redo_html.specs.Style.{plain_style}
 use Rattle.redo_html.specs.StyleSheet.{style_sheet}
 use Rattle.redo_html.proofs.ChartReading.{drawing_contexts, meter_contexts, nodes_lead, nodes_nest}
-use Rattle.redo_html.proofs.MarkReading.{markup_reads}
+use Rattle.redo_html.proofs.HighlightReading.{markup_reads}
 use Rattle.redo_html.proofs.Reading.{passage_nests, passage_reads, passage_text, tags_characters, text_characters, title_passage_reads, title_tags}
 use Rattle.redo_html.proofs.TextReading.{each_reads, escaped_reads, is_raw, raw_reads, all_weaker, number_safe, safe_escaped, is_safe, is_clean, safe_clean}
 

@@ -12,18 +12,18 @@ use Rattle.redo_html.specs.declared.look.Look.{Look}
 use Rattle.redo_html.specs.declared.style.Hue.{Hue}
 use Rattle.redo_html.specs.declared.style.Hue.TheVariants.{Plain, Red, Green, Yellow, Blue, Magenta, Cyan}
 use Rattle.redo_html.specs.declared.style.Style.{Style}
-use Rattle.redo_html.specs.Passage.{Inline, hue_class, style_name, mark_text, has_marks, mark_html, mark_tokens, inline_html, inline_tokens, is_plain_hue, has_element, style_start, style_end, hue_number, same_bool, is_same_style, mark_if, marks_between, after_code_point, with_wanted, start_look, inlines_from, html_from, passage_html, passage_tokens}
+use Rattle.redo_html.specs.Passage.{Inline, hue_class, style_name, highlight_text, has_highlights, highlight_html, highlight_tokens, inline_html, inline_tokens, is_plain_hue, has_element, style_start, style_end, hue_number, same_bool, is_same_style, highlight_if, highlights_between, after_code_point, with_wanted, start_look, inlines_from, html_from, passage_html, passage_tokens}
 use Rattle.redo_html.specs.Passage.Inline.{UnprintableStart, UnprintableEnd, StyleStart, StyleEnd, Text}
 use Rattle.redo_html.specs.Html.{Context, Token, Normal, characters_of, text_of, tag_of, tags_of, nests_in}
 use Rattle.redo_html.specs.Html.Token.{Character, Tag}
-use Rattle.redo_html.specs.Laws.{ReadsAs, is_mark, IsReadAsShown}
+use Rattle.redo_html.specs.Laws.{ReadsAs, is_highlight, IsReadAsShown}
 use Rattle.redo_html.specs.Shown.{Run, is_unprintable, code_points_text, run_text, runs_of, shown_text}
 use Rattle.redo_html.specs.Shown.Run.{CodePoints, Restyle}
 use Rattle.redo_html.specs.Style.{restyled}
 use Rattle.redo_html.specs.Symbols.{symbols}
 use Rattle.redo_html.proofs.TextReading.{HasReferences, ReadsIn, each_reads, escaped_reads, code_points_clean}
 
--- ---- marks and code points
+-- ---- highlights and code points
 
 style_reads : (bold : Bool) (hue : Hue) → ReadsAs (60 ∷ ((style_name bold ++ hue_class hue) ++ 62 ∷ [])) (Tag (style_name bold ++ hue_class hue) ∷ [])
 style_reads true Plain behind = refl
@@ -45,16 +45,16 @@ style_end_reads : (bold : Bool) → ReadsAs (60 ∷ ((47 ∷ style_name bold) ++
 style_end_reads true behind = refl
 style_end_reads false behind = refl
 
-mark_reads : (kind : TextKind) (tag : List ℕ) → ReadsAs (60 ∷ (tag ++ 62 ∷ [])) (Tag tag ∷ []) → ReadsAs (mark_html kind tag) (mark_tokens kind tag)
-mark_reads Log tag reads = reads
-mark_reads Monochrome tag reads = reads
-mark_reads Title tag reads = λ behind. refl
+highlight_reads : (kind : TextKind) (tag : List ℕ) → ReadsAs (60 ∷ (tag ++ 62 ∷ [])) (Tag tag ∷ []) → ReadsAs (highlight_html kind tag) (highlight_tokens kind tag)
+highlight_reads Log tag reads = reads
+highlight_reads Monochrome tag reads = reads
+highlight_reads Title tag reads = λ behind. refl
 
 inline_reads : (kind : TextKind) (inline : Inline) → ReadsAs (inline_html kind inline) (inline_tokens kind inline)
-inline_reads kind UnprintableStart = mark_reads kind (codes "i") (λ behind. refl)
-inline_reads kind UnprintableEnd = mark_reads kind (codes "/i") (λ behind. refl)
-inline_reads kind (StyleStart style) = mark_reads kind (style_name style.bold ++ hue_class style.hue) (style_reads style.bold style.hue)
-inline_reads kind (StyleEnd style) = mark_reads kind (47 ∷ style_name style.bold) (style_end_reads style.bold)
+inline_reads kind UnprintableStart = highlight_reads kind (codes "i") (λ behind. refl)
+inline_reads kind UnprintableEnd = highlight_reads kind (codes "/i") (λ behind. refl)
+inline_reads kind (StyleStart style) = highlight_reads kind (style_name style.bold ++ hue_class style.hue) (style_reads style.bold style.hue)
+inline_reads kind (StyleEnd style) = highlight_reads kind (47 ∷ style_name style.bold) (style_end_reads style.bold)
 inline_reads kind (Text code_point count) = escaped_reads Normal tt (code_points_text code_point count) (code_points_clean code_point count)
 
 title_inline_reads : (context : Context) → HasReferences context → (inline : Inline) → ReadsIn context (inline_html Title inline) (inline_tokens Title inline)
@@ -68,7 +68,7 @@ pub passage_reads : (kind : TextKind) (style : Style) (bytes : List ℕ) → Rea
 unfolding html_from
 passage_reads kind style bytes = each_reads Normal (inline_html kind) (inline_tokens kind) (inline_reads kind) (inlines_from (start_look style) (runs_of (symbols kind bytes)))
 
--- Text without marks is read in each context whose text may have references.
+-- Text without highlights is read in each context whose text may have references.
 pub title_passage_reads : (context : Context) → HasReferences context → (style : Style) (bytes : List ℕ) → ReadsIn context (passage_html Title style bytes) (passage_tokens Title style bytes)
 unfolding html_from
 title_passage_reads context has style bytes = each_reads context (inline_html Title) (inline_tokens Title) (title_inline_reads context has) (inlines_from (start_look style) (runs_of (symbols Title bytes)))
@@ -96,7 +96,7 @@ text_in-append kind a b = ap text_of (flat_map-append (inline_tokens kind) a b) 
 tags_in-append : (kind : TextKind) (a b : List Inline) → tags_in kind (a ++ b) ≡ tags_in kind a ++ tags_in kind b
 tags_in-append kind a b = ap tags_of (flat_map-append (inline_tokens kind) a b) ∙ flat_map-append tag_of (flat_map (inline_tokens kind) a) (flat_map (inline_tokens kind) b)
 
-no_text : (kind : TextKind) (tag : List ℕ) → text_of (mark_tokens kind tag) ≡ []
+no_text : (kind : TextKind) (tag : List ℕ) → text_of (highlight_tokens kind tag) ≡ []
 no_text Log tag = refl
 no_text Monochrome tag = refl
 no_text Title tag = refl
@@ -107,31 +107,31 @@ IsSilent kind inlines = text_in kind inlines ≡ []
 silent_append : (kind : TextKind) (a b : List Inline) → IsSilent kind a → IsSilent kind b → IsSilent kind (a ++ b)
 silent_append kind a b first second = text_in-append kind a b ∙ ap (λ (t : List ℕ). t ++ text_in kind b) first ∙ second
 
-silent_if : (kind : TextKind) (wanted : Bool) (mark : Inline) → inline_tokens kind mark ≡ mark_tokens kind (mark_text mark) → IsSilent kind (mark_if wanted mark)
-silent_if kind false mark is = refl
-silent_if kind true mark is = ap text_of (append-nil (inline_tokens kind mark) ∙ is) ∙ no_text kind (mark_text mark)
+silent_if : (kind : TextKind) (wanted : Bool) (highlight : Inline) → inline_tokens kind highlight ≡ highlight_tokens kind (highlight_text highlight) → IsSilent kind (highlight_if wanted highlight)
+silent_if kind false highlight is = refl
+silent_if kind true highlight is = ap text_of (append-nil (inline_tokens kind highlight) ∙ is) ∙ no_text kind (highlight_text highlight)
 
 silent_styles : (kind : TextKind) (look : Look) (same : Bool) → IsSilent kind (if same then [] else style_end look.current ++ style_start look.wanted)
 silent_styles kind look true = refl
 silent_styles kind look false =
     silent_append kind (style_end look.current) (style_start look.wanted) (silent_if kind (has_element look.current) (StyleEnd look.current) refl) (silent_if kind (has_element look.wanted) (StyleStart look.wanted) refl)
 
-silent_marks : (kind : TextKind) (look : Look) (unprintable : Bool) → IsSilent kind (marks_between look unprintable)
-silent_marks kind look unprintable =
+silent_highlights : (kind : TextKind) (look : Look) (unprintable : Bool) → IsSilent kind (highlights_between look unprintable)
+silent_highlights kind look unprintable =
     let same = is_same_style look.wanted look.current in
     let styles = if same then [] else style_end look.current ++ style_start look.wanted in
-    let first = mark_if (look.unprintable && not (same && unprintable)) UnprintableEnd in
-    let last = mark_if (unprintable && not (same && look.unprintable)) UnprintableStart in
+    let first = highlight_if (look.unprintable && not (same && unprintable)) UnprintableEnd in
+    let last = highlight_if (unprintable && not (same && look.unprintable)) UnprintableStart in
     silent_append kind (first ++ styles) last (silent_append kind first styles (silent_if kind (look.unprintable && not (same && unprintable)) UnprintableEnd refl) (silent_styles kind look same)) (silent_if kind (unprintable && not (same && look.unprintable)) UnprintableStart refl)
 
 runs_text : (kind : TextKind) (look : Look) (runs : List Run) → text_in kind (inlines_from look runs) ≡ flat_map run_text runs
-runs_text kind look [] = silent_append kind (mark_if look.unprintable UnprintableEnd) (style_end look.current) (silent_if kind look.unprintable UnprintableEnd refl) (silent_if kind (has_element look.current) (StyleEnd look.current) refl)
+runs_text kind look [] = silent_append kind (highlight_if look.unprintable UnprintableEnd) (style_end look.current) (silent_if kind look.unprintable UnprintableEnd refl) (silent_if kind (has_element look.current) (StyleEnd look.current) refl)
 runs_text kind look (Restyle numbers ∷ runs) = runs_text kind (with_wanted look (restyled look.wanted numbers)) runs
 runs_text kind look (CodePoints code_point count ∷ runs) =
     let unprintable = is_unprintable code_point in
     let rest = inlines_from (after_code_point look unprintable) runs in
     let text = code_points_text code_point count in
-    text_in-append kind (marks_between look unprintable) (Text code_point count ∷ rest) ∙ ap (λ (t : List ℕ). t ++ text_in kind (Text code_point count ∷ rest)) (silent_marks kind look unprintable)
+    text_in-append kind (highlights_between look unprintable) (Text code_point count ∷ rest) ∙ ap (λ (t : List ℕ). t ++ text_in kind (Text code_point count ∷ rest)) (silent_highlights kind look unprintable)
     ∙ flat_map-append characters_of (map Character text) (flat_map (inline_tokens kind) rest) ∙ ap (λ (t : List ℕ). t ++ text_in kind rest) (text_characters text) ∙ ap (λ (t : List ℕ). text ++ t) (runs_text kind (after_code_point look unprintable) runs)
 
 pub passage_text : (kind : TextKind) (style : Style) (bytes : List ℕ) → text_of (passage_tokens kind style bytes) ≡ shown_text kind bytes
@@ -155,71 +155,71 @@ no_tags (Text code_point count ∷ inlines) = text_tags Title code_point count i
 pub title_tags : (style : Style) (bytes : List ℕ) → tags_of (passage_tokens Title style bytes) ≡ []
 title_tags style bytes = no_tags (inlines_from (start_look style) (runs_of (symbols Title bytes)))
 
-abbrev AreMarks : List (List ℕ) → Type 0
-AreMarks tags = list_all is_mark tags ≡ true
+abbrev AreHighlights : List (List ℕ) → Type 0
+AreHighlights tags = list_all is_highlight tags ≡ true
 
-marks_append : (a b : List (List ℕ)) → AreMarks a → AreMarks b → AreMarks (a ++ b)
-marks_append a b first second = list_all-append is_mark a b ∙ and_from (list_all is_mark a) (list_all is_mark b) first second
+highlights_append : (a b : List (List ℕ)) → AreHighlights a → AreHighlights b → AreHighlights (a ++ b)
+highlights_append a b first second = list_all-append is_highlight a b ∙ and_from (list_all is_highlight a) (list_all is_highlight b) first second
 
-style_is_mark : (bold : Bool) (hue : Hue) → (bold || not (is_plain_hue hue)) ≡ true → is_mark (style_name bold ++ hue_class hue) ≡ true
-style_is_mark true Plain has = refl
-style_is_mark true Red has = refl
-style_is_mark true Green has = refl
-style_is_mark true Yellow has = refl
-style_is_mark true Blue has = refl
-style_is_mark true Magenta has = refl
-style_is_mark true Cyan has = refl
-style_is_mark false Plain has = absurd (cc)
-style_is_mark false Red has = refl
-style_is_mark false Green has = refl
-style_is_mark false Yellow has = refl
-style_is_mark false Blue has = refl
-style_is_mark false Magenta has = refl
-style_is_mark false Cyan has = refl
+style_is_highlight : (bold : Bool) (hue : Hue) → (bold || not (is_plain_hue hue)) ≡ true → is_highlight (style_name bold ++ hue_class hue) ≡ true
+style_is_highlight true Plain has = refl
+style_is_highlight true Red has = refl
+style_is_highlight true Green has = refl
+style_is_highlight true Yellow has = refl
+style_is_highlight true Blue has = refl
+style_is_highlight true Magenta has = refl
+style_is_highlight true Cyan has = refl
+style_is_highlight false Plain has = absurd (cc)
+style_is_highlight false Red has = refl
+style_is_highlight false Green has = refl
+style_is_highlight false Yellow has = refl
+style_is_highlight false Blue has = refl
+style_is_highlight false Magenta has = refl
+style_is_highlight false Cyan has = refl
 
-style_end_is_mark : (bold : Bool) → is_mark (47 ∷ style_name bold) ≡ true
-style_end_is_mark true = refl
-style_end_is_mark false = refl
+style_end_is_highlight : (bold : Bool) → is_highlight (47 ∷ style_name bold) ≡ true
+style_end_is_highlight true = refl
+style_end_is_highlight false = refl
 
-mark_tags : (kind : TextKind) (tag : List ℕ) → is_mark tag ≡ true → AreMarks (tags_of (mark_tokens kind tag))
-mark_tags Log tag is = and_from (is_mark tag) true is refl
-mark_tags Monochrome tag is = and_from (is_mark tag) true is refl
-mark_tags Title tag is = refl
+highlight_tags : (kind : TextKind) (tag : List ℕ) → is_highlight tag ≡ true → AreHighlights (tags_of (highlight_tokens kind tag))
+highlight_tags Log tag is = and_from (is_highlight tag) true is refl
+highlight_tags Monochrome tag is = and_from (is_highlight tag) true is refl
+highlight_tags Title tag is = refl
 
-marks_if : (kind : TextKind) (wanted : Bool) (mark : Inline) → inline_tokens kind mark ≡ mark_tokens kind (mark_text mark) → (wanted ≡ true → is_mark (mark_text mark) ≡ true) → AreMarks (tags_in kind (mark_if wanted mark))
-marks_if kind false mark is one = refl
-marks_if kind true mark is one = subst (λ (ts : List Token). AreMarks (tags_of ts)) (sym (append-nil (inline_tokens kind mark) ∙ is)) (mark_tags kind (mark_text mark) (one refl))
+highlights_if : (kind : TextKind) (wanted : Bool) (highlight : Inline) → inline_tokens kind highlight ≡ highlight_tokens kind (highlight_text highlight) → (wanted ≡ true → is_highlight (highlight_text highlight) ≡ true) → AreHighlights (tags_in kind (highlight_if wanted highlight))
+highlights_if kind false highlight is one = refl
+highlights_if kind true highlight is one = subst (λ (ts : List Token). AreHighlights (tags_of ts)) (sym (append-nil (inline_tokens kind highlight) ∙ is)) (highlight_tags kind (highlight_text highlight) (one refl))
 
-abbrev marks_in : TextKind → List Inline → Type 0
-marks_in kind inlines = AreMarks (tags_in kind inlines)
+abbrev highlights_in : TextKind → List Inline → Type 0
+highlights_in kind inlines = AreHighlights (tags_in kind inlines)
 
-marks_in-append : (kind : TextKind) (a b : List Inline) → marks_in kind a → marks_in kind b → marks_in kind (a ++ b)
-marks_in-append kind a b first second = subst AreMarks (sym (tags_in-append kind a b)) (marks_append (tags_in kind a) (tags_in kind b) first second)
+highlights_in-append : (kind : TextKind) (a b : List Inline) → highlights_in kind a → highlights_in kind b → highlights_in kind (a ++ b)
+highlights_in-append kind a b first second = subst AreHighlights (sym (tags_in-append kind a b)) (highlights_append (tags_in kind a) (tags_in kind b) first second)
 
-style_marks : (kind : TextKind) (look : Look) (same : Bool) → marks_in kind (if same then [] else style_end look.current ++ style_start look.wanted)
-style_marks kind look true = refl
-style_marks kind look false =
-    marks_in-append kind (style_end look.current) (style_start look.wanted) (marks_if kind (has_element look.current) (StyleEnd look.current) refl (λ has. style_end_is_mark look.current.bold))
-    (marks_if kind (has_element look.wanted) (StyleStart look.wanted) refl (λ has. style_is_mark look.wanted.bold look.wanted.hue has))
+style_highlights : (kind : TextKind) (look : Look) (same : Bool) → highlights_in kind (if same then [] else style_end look.current ++ style_start look.wanted)
+style_highlights kind look true = refl
+style_highlights kind look false =
+    highlights_in-append kind (style_end look.current) (style_start look.wanted) (highlights_if kind (has_element look.current) (StyleEnd look.current) refl (λ has. style_end_is_highlight look.current.bold))
+    (highlights_if kind (has_element look.wanted) (StyleStart look.wanted) refl (λ has. style_is_highlight look.wanted.bold look.wanted.hue has))
 
-between_marks : (kind : TextKind) (look : Look) (unprintable : Bool) → marks_in kind (marks_between look unprintable)
-between_marks kind look unprintable =
+between_highlights : (kind : TextKind) (look : Look) (unprintable : Bool) → highlights_in kind (highlights_between look unprintable)
+between_highlights kind look unprintable =
     let same = is_same_style look.wanted look.current in
     let styles = if same then [] else style_end look.current ++ style_start look.wanted in
-    let first = mark_if (look.unprintable && not (same && unprintable)) UnprintableEnd in
-    let last = mark_if (unprintable && not (same && look.unprintable)) UnprintableStart in
-    marks_in-append kind (first ++ styles) last (marks_in-append kind first styles (marks_if kind (look.unprintable && not (same && unprintable)) UnprintableEnd refl (λ wanted. refl)) (style_marks kind look same))
-    (marks_if kind (unprintable && not (same && look.unprintable)) UnprintableStart refl (λ wanted. refl))
+    let first = highlight_if (look.unprintable && not (same && unprintable)) UnprintableEnd in
+    let last = highlight_if (unprintable && not (same && look.unprintable)) UnprintableStart in
+    highlights_in-append kind (first ++ styles) last (highlights_in-append kind first styles (highlights_if kind (look.unprintable && not (same && unprintable)) UnprintableEnd refl (λ wanted. refl)) (style_highlights kind look same))
+    (highlights_if kind (unprintable && not (same && look.unprintable)) UnprintableStart refl (λ wanted. refl))
 
-runs_marks : (kind : TextKind) (look : Look) (runs : List Run) → marks_in kind (inlines_from look runs)
-runs_marks kind look [] =
-    marks_in-append kind (mark_if look.unprintable UnprintableEnd) (style_end look.current) (marks_if kind look.unprintable UnprintableEnd refl (λ wanted. refl)) (marks_if kind (has_element look.current) (StyleEnd look.current) refl (λ has. style_end_is_mark look.current.bold))
-runs_marks kind look (Restyle numbers ∷ runs) = runs_marks kind (with_wanted look (restyled look.wanted numbers)) runs
-runs_marks kind look (CodePoints code_point count ∷ runs) =
+runs_highlights : (kind : TextKind) (look : Look) (runs : List Run) → highlights_in kind (inlines_from look runs)
+runs_highlights kind look [] =
+    highlights_in-append kind (highlight_if look.unprintable UnprintableEnd) (style_end look.current) (highlights_if kind look.unprintable UnprintableEnd refl (λ wanted. refl)) (highlights_if kind (has_element look.current) (StyleEnd look.current) refl (λ has. style_end_is_highlight look.current.bold))
+runs_highlights kind look (Restyle numbers ∷ runs) = runs_highlights kind (with_wanted look (restyled look.wanted numbers)) runs
+runs_highlights kind look (CodePoints code_point count ∷ runs) =
     let unprintable = is_unprintable code_point in
     let rest = inlines_from (after_code_point look unprintable) runs in
-    marks_in-append kind (marks_between look unprintable) (Text code_point count ∷ rest) (between_marks kind look unprintable)
-    (subst AreMarks (sym (text_tags kind code_point count rest)) (runs_marks kind (after_code_point look unprintable) runs))
+    highlights_in-append kind (highlights_between look unprintable) (Text code_point count ∷ rest) (between_highlights kind look unprintable)
+    (subst AreHighlights (sym (text_tags kind code_point count rest)) (runs_highlights kind (after_code_point look unprintable) runs))
 
 -- ---- nesting
 
@@ -233,9 +233,9 @@ push_if wanted name around = if wanted then name ∷ around else around
 abbrev opened : Bool → Style → List (List ℕ) → List (List ℕ)
 opened unprintable style around = push_if unprintable (codes "i") (push_if (has_element style) (style_name style.bold) around)
 
-tags_if : (kind : TextKind) → has_marks kind ≡ true → (wanted : Bool) (mark : Inline) → inline_tokens kind mark ≡ mark_tokens kind (mark_text mark) → tags_in kind (mark_if wanted mark) ≡ tag_if wanted (mark_text mark)
-tags_if kind has false mark is = refl
-tags_if kind has true mark is = ap tags_of (append-nil (inline_tokens kind mark) ∙ is ∙ cond-true (has_marks kind) (Tag (mark_text mark) ∷ []) [] has)
+tags_if : (kind : TextKind) → has_highlights kind ≡ true → (wanted : Bool) (highlight : Inline) → inline_tokens kind highlight ≡ highlight_tokens kind (highlight_text highlight) → tags_in kind (highlight_if wanted highlight) ≡ tag_if wanted (highlight_text highlight)
+tags_if kind has false highlight is = refl
+tags_if kind has true highlight is = ap tags_of (append-nil (inline_tokens kind highlight) ∙ is ∙ cond-true (has_highlights kind) (Tag (highlight_text highlight) ∷ []) [] has)
 
 unprintable_ends : (unprintable : Bool) (around tags : List (List ℕ)) → nests_in (push_if unprintable (codes "i") around) (tag_if unprintable (codes "/i") ++ tags) ≡ nests_in around tags
 unprintable_ends true around tags = refl
@@ -310,7 +310,7 @@ between_nests look unprintable false was around tags is unprintable_is = by was 
     by false true = styles (codes "i" ∷ tags)
     by false false = styles tags
 
-styles_tags : (kind : TextKind) → has_marks kind ≡ true → (look : Look) (same : Bool) → tags_in kind (if same then [] else style_end look.current ++ style_start look.wanted)
+styles_tags : (kind : TextKind) → has_highlights kind ≡ true → (look : Look) (same : Bool) → tags_in kind (if same then [] else style_end look.current ++ style_start look.wanted)
     ≡ tag_if (not same && has_element look.current) (47 ∷ style_name look.current.bold) ++ tag_if (not same && has_element look.wanted) (style_name look.wanted.bold ++ hue_class look.wanted.hue)
 styles_tags kind has look true = refl
 styles_tags kind has look false =
@@ -321,8 +321,8 @@ styles_tags kind has look false =
 four_parts : (a b c d e : List (List ℕ)) → ((a ++ (b ++ c)) ++ d) ++ e ≡ a ++ (b ++ (c ++ (d ++ e)))
 four_parts a b c d e = append_assoc (a ++ (b ++ c)) d e ∙ append_assoc a (b ++ c) (d ++ e) ∙ ap (λ (t : List (List ℕ)). a ++ t) (append_assoc b c (d ++ e))
 
-marks_nest : (kind : TextKind) → has_marks kind ≡ true → (look : Look) (unprintable : Bool) (around tags : List (List ℕ)) → nests_in (opened look.unprintable look.current around) (tags_in kind (marks_between look unprintable) ++ tags) ≡ nests_in (opened unprintable look.wanted around) tags
-marks_nest kind has look unprintable around tags =
+highlights_nest : (kind : TextKind) → has_highlights kind ≡ true → (look : Look) (unprintable : Bool) (around tags : List (List ℕ)) → nests_in (opened look.unprintable look.current around) (tags_in kind (highlights_between look unprintable) ++ tags) ≡ nests_in (opened unprintable look.wanted around) tags
+highlights_nest kind has look unprintable around tags =
     let same = is_same_style look.wanted look.current in
     let styles = if same then [] else style_end look.current ++ style_start look.wanted in
     let a = look.unprintable && not (same && unprintable) in
@@ -330,18 +330,18 @@ marks_nest kind has look unprintable around tags =
     let ends = tag_if (not same && has_element look.current) (47 ∷ style_name look.current.bold) in
     let starts = tag_if (not same && has_element look.wanted) (style_name look.wanted.bold ++ hue_class look.wanted.hue) in
     ap (λ (t : List (List ℕ)). nests_in (opened look.unprintable look.current around) (t ++ tags))
-    (tags_in-append kind (mark_if a UnprintableEnd ++ styles) (mark_if d UnprintableStart) ∙ ap (λ (t : List (List ℕ)). t ++ tags_in kind (mark_if d UnprintableStart)) (tags_in-append kind (mark_if a UnprintableEnd) styles)
-    ∙ ap (λ (t : List (List ℕ)). (t ++ tags_in kind styles) ++ tags_in kind (mark_if d UnprintableStart)) (tags_if kind has a UnprintableEnd refl)
-    ∙ ap (λ (t : List (List ℕ)). (tag_if a (codes "/i") ++ t) ++ tags_in kind (mark_if d UnprintableStart)) (styles_tags kind has look same)
+    (tags_in-append kind (highlight_if a UnprintableEnd ++ styles) (highlight_if d UnprintableStart) ∙ ap (λ (t : List (List ℕ)). t ++ tags_in kind (highlight_if d UnprintableStart)) (tags_in-append kind (highlight_if a UnprintableEnd) styles)
+    ∙ ap (λ (t : List (List ℕ)). (t ++ tags_in kind styles) ++ tags_in kind (highlight_if d UnprintableStart)) (tags_if kind has a UnprintableEnd refl)
+    ∙ ap (λ (t : List (List ℕ)). (tag_if a (codes "/i") ++ t) ++ tags_in kind (highlight_if d UnprintableStart)) (styles_tags kind has look same)
     ∙ ap (λ (t : List (List ℕ)). (tag_if a (codes "/i") ++ (ends ++ starts)) ++ t) (tags_if kind has d UnprintableStart refl))
     ∙ ap (nests_in (opened look.unprintable look.current around)) (four_parts (tag_if a (codes "/i")) ends starts (tag_if d (codes "i")) tags)
     ∙ between_nests look unprintable same look.unprintable around tags refl refl
 
-runs_nest : (kind : TextKind) → has_marks kind ≡ true → (look : Look) (runs : List Run) (around tags : List (List ℕ)) → nests_in (opened look.unprintable look.current around) (tags_in kind (inlines_from look runs) ++ tags) ≡ nests_in around tags
+runs_nest : (kind : TextKind) → has_highlights kind ≡ true → (look : Look) (runs : List Run) (around tags : List (List ℕ)) → nests_in (opened look.unprintable look.current around) (tags_in kind (inlines_from look runs) ++ tags) ≡ nests_in around tags
 runs_nest kind has look [] around tags =
     let end = style_end look.current in
     ap (λ (t : List (List ℕ)). nests_in (opened look.unprintable look.current around) (t ++ tags))
-    (tags_in-append kind (mark_if look.unprintable UnprintableEnd) end ∙ ap (λ (t : List (List ℕ)). t ++ tags_in kind end) (tags_if kind has look.unprintable UnprintableEnd refl)
+    (tags_in-append kind (highlight_if look.unprintable UnprintableEnd) end ∙ ap (λ (t : List (List ℕ)). t ++ tags_in kind end) (tags_if kind has look.unprintable UnprintableEnd refl)
     ∙ ap (λ (t : List (List ℕ)). tag_if look.unprintable (codes "/i") ++ t) (tags_if kind has (has_element look.current) (StyleEnd look.current) refl))
     ∙ ap (nests_in (opened look.unprintable look.current around)) (append_assoc (tag_if look.unprintable (codes "/i")) (tag_if (has_element look.current) (47 ∷ style_name look.current.bold)) tags)
     ∙ unprintable_ends look.unprintable (push_if (has_element look.current) (style_name look.current.bold) around) (tag_if (has_element look.current) (47 ∷ style_name look.current.bold) ++ tags)
@@ -350,9 +350,9 @@ runs_nest kind has look (Restyle numbers ∷ runs) around tags = runs_nest kind 
 runs_nest kind has look (CodePoints code_point count ∷ runs) around tags =
     let unprintable = is_unprintable code_point in
     let rest = inlines_from (after_code_point look unprintable) runs in
-    ap (λ (t : List (List ℕ)). nests_in (opened look.unprintable look.current around) (t ++ tags)) (tags_in-append kind (marks_between look unprintable) (Text code_point count ∷ rest) ∙ ap (λ (t : List (List ℕ)). tags_in kind (marks_between look unprintable) ++ t) (text_tags kind code_point count rest))
-    ∙ ap (nests_in (opened look.unprintable look.current around)) (append_assoc (tags_in kind (marks_between look unprintable)) (tags_in kind rest) tags)
-    ∙ marks_nest kind has look unprintable around (tags_in kind rest ++ tags) ∙ runs_nest kind has (after_code_point look unprintable) runs around tags
+    ap (λ (t : List (List ℕ)). nests_in (opened look.unprintable look.current around) (t ++ tags)) (tags_in-append kind (highlights_between look unprintable) (Text code_point count ∷ rest) ∙ ap (λ (t : List (List ℕ)). tags_in kind (highlights_between look unprintable) ++ t) (text_tags kind code_point count rest))
+    ∙ ap (nests_in (opened look.unprintable look.current around)) (append_assoc (tags_in kind (highlights_between look unprintable)) (tags_in kind rest) tags)
+    ∙ highlights_nest kind has look unprintable around (tags_in kind rest ++ tags) ∙ runs_nest kind has (after_code_point look unprintable) runs around tags
 
 pub passage_nests : (kind : TextKind) (style : Style) (bytes : List ℕ) (around tags : List (List ℕ)) → nests_in around (tags_of (passage_tokens kind style bytes) ++ tags) ≡ nests_in around tags
 passage_nests Log style bytes around tags = runs_nest Log refl (start_look style) (runs_of (symbols Log bytes)) around tags
@@ -363,6 +363,6 @@ pub passage_is_read : (kind : TextKind) (style : Style) (bytes : List ℕ) → I
 passage_is_read kind style bytes = record {
   reads = passage_reads kind style bytes;
   text = passage_text kind style bytes;
-  marks = runs_marks kind (start_look style) (runs_of (symbols kind bytes));
+  highlights = runs_highlights kind (start_look style) (runs_of (symbols kind bytes));
   nests = passage_nests kind style bytes;
 }

@@ -23,7 +23,7 @@ use Rattle.redo_html.specs.Html.{Normal, is_digit}
 use Rattle.redo_html.specs.Laws.{is_byte, has_bytes, node_has_bytes}
 use Rattle.redo_html.specs.Parts.{Part, part_html}
 use Rattle.redo_html.specs.Parts.Part.{MarkupPart, LogPart, TextPart, NumberPart, TitlePart, StylePart, ChartPart, MeterPart}
-use Rattle.redo_html.specs.Passage.{Inline, escaped, hue_class, style_name, has_marks, mark_html, inline_html, has_element, style_start, style_end, is_same_style, mark_if, marks_between, after_code_point, with_wanted, start_look, inlines_from, html_from, passage_html}
+use Rattle.redo_html.specs.Passage.{Inline, escaped, hue_class, style_name, has_highlights, highlight_html, inline_html, has_element, style_start, style_end, is_same_style, highlight_if, highlights_between, after_code_point, with_wanted, start_look, inlines_from, html_from, passage_html}
 use Rattle.redo_html.specs.Passage.Inline.{UnprintableStart, UnprintableEnd, StyleStart, StyleEnd, Text}
 use Rattle.redo_html.specs.Shown.{is_between, is_unprintable, lower_hex, upper_hex, notation, number_text, unprintable_text, Run, with_code_point, runs_of, code_points_text, run_text, shown_text}
 use Rattle.redo_html.specs.Shown.Run.{CodePoints, Restyle}
@@ -177,8 +177,8 @@ IsShowableInline (StyleStart style) = ⊤
 IsShowableInline (StyleEnd style) = ⊤
 IsShowableInline (Text code_point count) = IsShowable code_point
 
-mark_utf8 : (kind : TextKind) (tag : List ℕ) → list_all is_low tag ≡ true → IsUtf8 (mark_html kind tag)
-mark_utf8 kind tag low = cond_both (has_marks kind) _ _ IsUtf8 (λ has. ascii (60 ∷ (tag ++ 62 ∷ [])) (and_from true _ refl (all_append is_low tag (62 ∷ []) low refl))) (λ none. IsUtf8-nil)
+highlight_utf8 : (kind : TextKind) (tag : List ℕ) → list_all is_low tag ≡ true → IsUtf8 (highlight_html kind tag)
+highlight_utf8 kind tag low = cond_both (has_highlights kind) _ _ IsUtf8 (λ has. ascii (60 ∷ (tag ++ 62 ∷ [])) (and_from true _ refl (all_append is_low tag (62 ∷ []) low refl))) (λ none. IsUtf8-nil)
 
 style_low : (bold : Bool) (hue : Hue) → list_all is_low (style_name bold ++ hue_class hue) ≡ true
 style_low true Plain = refl
@@ -201,36 +201,36 @@ style_end_low true = refl
 style_end_low false = refl
 
 inline_utf8 : (kind : TextKind) (inline : Inline) → IsShowableInline inline → IsUtf8 (inline_html kind inline)
-inline_utf8 kind UnprintableStart showable = mark_utf8 kind (codes "i") refl
-inline_utf8 kind UnprintableEnd showable = mark_utf8 kind (codes "/i") refl
-inline_utf8 kind (StyleStart style) showable = mark_utf8 kind (style_name style.bold ++ hue_class style.hue) (style_low style.bold style.hue)
-inline_utf8 kind (StyleEnd style) showable = mark_utf8 kind (47 ∷ style_name style.bold) (style_end_low style.bold)
+inline_utf8 kind UnprintableStart showable = highlight_utf8 kind (codes "i") refl
+inline_utf8 kind UnprintableEnd showable = highlight_utf8 kind (codes "/i") refl
+inline_utf8 kind (StyleStart style) showable = highlight_utf8 kind (style_name style.bold ++ hue_class style.hue) (style_low style.bold style.hue)
+inline_utf8 kind (StyleEnd style) showable = highlight_utf8 kind (47 ∷ style_name style.bold) (style_end_low style.bold)
 inline_utf8 kind (Text code_point count) showable = escaped_utf8 code_point count showable
 
 both_showable : (a b : List Inline) → AllByRecursion IsShowableInline a → AllByRecursion IsShowableInline b → AllByRecursion IsShowableInline (a ++ b)
 both_showable [] b first second = second
 both_showable (inline ∷ a) b first second = (first.0, both_showable a b first.1 second)
 
-mark_showable : (wanted : Bool) (mark : Inline) → IsShowableInline mark → AllByRecursion IsShowableInline (mark_if wanted mark)
-mark_showable true mark showable = (showable, tt)
-mark_showable false mark showable = tt
+highlight_showable : (wanted : Bool) (highlight : Inline) → IsShowableInline highlight → AllByRecursion IsShowableInline (highlight_if wanted highlight)
+highlight_showable true highlight showable = (showable, tt)
+highlight_showable false highlight showable = tt
 
-between_showable : (look : Look) (unprintable : Bool) → AllByRecursion IsShowableInline (marks_between look unprintable)
+between_showable : (look : Look) (unprintable : Bool) → AllByRecursion IsShowableInline (highlights_between look unprintable)
 between_showable look unprintable =
     let same = is_same_style look.wanted look.current in
     let styles = if same then [] else style_end look.current ++ style_start look.wanted in
-    let first = mark_if (look.unprintable && not (same && unprintable)) UnprintableEnd in
-    let last = mark_if (unprintable && not (same && look.unprintable)) UnprintableStart in
+    let first = highlight_if (look.unprintable && not (same && unprintable)) UnprintableEnd in
+    let last = highlight_if (unprintable && not (same && look.unprintable)) UnprintableStart in
     both_showable (first ++ styles) last
-    (both_showable first styles (mark_showable (look.unprintable && not (same && unprintable)) UnprintableEnd tt)
-    (cond_both same [] (style_end look.current ++ style_start look.wanted) (AllByRecursion IsShowableInline) (λ is. tt) (λ other. both_showable (style_end look.current) (style_start look.wanted) (mark_showable (has_element look.current) (StyleEnd look.current) tt) (mark_showable (has_element look.wanted) (StyleStart look.wanted) tt))))
-    (mark_showable (unprintable && not (same && look.unprintable)) UnprintableStart tt)
+    (both_showable first styles (highlight_showable (look.unprintable && not (same && unprintable)) UnprintableEnd tt)
+    (cond_both same [] (style_end look.current ++ style_start look.wanted) (AllByRecursion IsShowableInline) (λ is. tt) (λ other. both_showable (style_end look.current) (style_start look.wanted) (highlight_showable (has_element look.current) (StyleEnd look.current) tt) (highlight_showable (has_element look.wanted) (StyleStart look.wanted) tt))))
+    (highlight_showable (unprintable && not (same && look.unprintable)) UnprintableStart tt)
 
 inlines_showable : (look : Look) (runs : List Run) → AllByRecursion IsShowableRun runs → AllByRecursion IsShowableInline (inlines_from look runs)
-inlines_showable look [] all = both_showable (mark_if look.unprintable UnprintableEnd) (style_end look.current) (mark_showable look.unprintable UnprintableEnd tt) (mark_showable (has_element look.current) (StyleEnd look.current) tt)
+inlines_showable look [] all = both_showable (highlight_if look.unprintable UnprintableEnd) (style_end look.current) (highlight_showable look.unprintable UnprintableEnd tt) (highlight_showable (has_element look.current) (StyleEnd look.current) tt)
 inlines_showable look (Restyle numbers ∷ runs) all = inlines_showable (with_wanted look (restyled look.wanted numbers)) runs all.1
 inlines_showable look (CodePoints code_point count ∷ runs) all =
-    both_showable (marks_between look (is_unprintable code_point)) (Text code_point count ∷ inlines_from (after_code_point look (is_unprintable code_point)) runs) (between_showable look (is_unprintable code_point))
+    both_showable (highlights_between look (is_unprintable code_point)) (Text code_point count ∷ inlines_from (after_code_point look (is_unprintable code_point)) runs) (between_showable look (is_unprintable code_point))
     (all.0, inlines_showable (after_code_point look (is_unprintable code_point)) runs all.1)
 
 pub passage_utf8 : (kind : TextKind) (style : Style) (bytes : List ℕ) → list_all is_byte bytes ≡ true → IsUtf8 (passage_html kind style bytes)

@@ -23,7 +23,7 @@ use Rattle.redo_html.specs.Style.{plain_style}
 use Rattle.redo_html.specs.Symbols.{Symbol, code_point_of, size_of, first_code_point, code_point_len, first_symbol, symbol_len, symbols}
 use Rattle.redo_html.specs.Symbols.Symbol.{CodePoint}
 use Rattle.redo_html.specs.Private.Writing.{IsVerbatim, is_verbatim, style_in}
-use Rattle.redo_html.proofs.PassageLemmas.{marks, html_of, html-nil, code_points_step, no_marks}
+use Rattle.redo_html.proofs.PassageLemmas.{highlights, html_of, html-nil, code_points_step, no_highlights}
 use Rattle.redo_html.proofs.SymbolLemmas.{symbols-step, no_sequence, plain_symbol, plain_visible, plain_encoded, plain_others, visible_run}
 use Rattle.redo_html.proofs.TextReading.{encoded_escaped}
 
@@ -128,13 +128,13 @@ code_points_runs (code_point ∷ code_points) more verbatim =
 
 -- A code point after others.
 next_code_point : (kind : TextKind) (look : Look) (code_point : ℕ) (runs : List Run) → is_verbatim code_point ≡ true
-    → html_of kind look (CodePoints code_point 1 ∷ runs) ≡ marks kind look false ++ (encode_utf8 code_point ++ html_of kind (after_code_point look false) runs)
+    → html_of kind look (CodePoints code_point 1 ∷ runs) ≡ highlights kind look false ++ (encode_utf8 code_point ++ html_of kind (after_code_point look false) runs)
 next_code_point kind look code_point runs verbatim =
     let others = and_parts (not (code_point == 38)) (not (code_point == 60) && not (code_point == 62)) (and_parts (not (is_unprintable code_point)) _ verbatim).1 in
     let two = and_parts (not (code_point == 60)) (not (code_point == 62)) others.1 in
     code_points_step kind look code_point 1 runs false (visible code_point verbatim)
-    ∙ ap (λ (t : List ℕ). marks kind look false ++ (escaped t ++ html_of kind (after_code_point look false) runs)) (cond-false (is_unprintable code_point) (unprintable_text code_point 1) (encode_utf8 code_point) (visible code_point verbatim))
-    ∙ ap (λ (t : List ℕ). marks kind look false ++ (t ++ html_of kind (after_code_point look false) runs)) (encoded_escaped code_point (not-true (code_point == 38) others.0) (not-true (code_point == 60) two.0) (not-true (code_point == 62) two.1))
+    ∙ ap (λ (t : List ℕ). highlights kind look false ++ (escaped t ++ html_of kind (after_code_point look false) runs)) (cond-false (is_unprintable code_point) (unprintable_text code_point 1) (encode_utf8 code_point) (visible code_point verbatim))
+    ∙ ap (λ (t : List ℕ). highlights kind look false ++ (t ++ html_of kind (after_code_point look false) runs)) (encoded_escaped code_point (not-true (code_point == 38) others.0) (not-true (code_point == 60) two.0) (not-true (code_point == 62) two.1))
 
 code_points_html : (kind : TextKind) (look : Look) (code_points : List ℕ) (runs : List Run) → list_all is_verbatim code_points ≡ true
     → flat_map encode_utf8 code_points ++ html_of kind (after_code_point look false) runs ≡ html_of kind (after_code_point look false) (map code_point_run code_points ++ runs)
@@ -143,7 +143,7 @@ code_points_html kind look (code_point ∷ code_points) runs verbatim =
     let parts = and_parts (is_verbatim code_point) (list_all is_verbatim code_points) verbatim in
     let after = after_code_point look false in
     append_assoc (encode_utf8 code_point) (flat_map encode_utf8 code_points) (html_of kind after runs) ∙ ap (λ (t : List ℕ). encode_utf8 code_point ++ t) (code_points_html kind look code_points runs parts.1)
-    ∙ ap (λ (m : List ℕ). m ++ (encode_utf8 code_point ++ html_of kind after (map code_point_run code_points ++ runs))) (sym (no_marks kind look))
+    ∙ ap (λ (m : List ℕ). m ++ (encode_utf8 code_point ++ html_of kind after (map code_point_run code_points ++ runs))) (sym (no_highlights kind look))
     ∙ sym (next_code_point kind after code_point (map code_point_run code_points ++ runs) parts.0)
 
 -- Code points after a visible code point, or at the start of a passage with the plain style.
@@ -154,21 +154,21 @@ verbatim_html kind look bytes len all =
     ap (λ (b : List ℕ). b ++ html_of kind (after_code_point look false) runs) all.bytes_are ∙ code_points_html kind look all.code_points runs all.verbatim
     ∙ ap (html_of kind (after_code_point look false)) (sym (code_points_runs all.code_points (symbols kind (drop len bytes)) all.verbatim) ∙ ap runs_of (sym (all.symbols_are kind)))
 
-pub verbatim_step : (kind : TextKind) (look : Look) (bytes : List ℕ) (len : ℕ) → 0 < len → IsVerbatim bytes len → marks kind look false ++ (take len bytes ++ html_from kind (after_code_point look false) (drop len bytes)) ≡ html_from kind look bytes
+pub verbatim_step : (kind : TextKind) (look : Look) (bytes : List ℕ) (len : ℕ) → 0 < len → IsVerbatim bytes len → highlights kind look false ++ (take len bytes ++ html_from kind (after_code_point look false) (drop len bytes)) ≡ html_from kind look bytes
 unfolding html_from
 verbatim_step kind look bytes len some all = by all.code_points refl
   where
     runs : List Run
     runs = runs_of (symbols kind (drop len bytes))
 
-    by : (code_points : List ℕ) → all.code_points ≡ code_points → marks kind look false ++ (take len bytes ++ html_of kind (after_code_point look false) runs) ≡ html_of kind look (runs_of (symbols kind bytes))
+    by : (code_points : List ℕ) → all.code_points ≡ code_points → highlights kind look false ++ (take len bytes ++ html_of kind (after_code_point look false) runs) ≡ html_of kind look (runs_of (symbols kind bytes))
     by [] none =
         let empty : length (take len bytes) ≡ 0 = ap length (all.bytes_are ∙ ap (flat_map encode_utf8) none) in
         absurd (omega (arith, some, empty, length-take-le len bytes all.within))
     by (code_point ∷ code_points) is =
         let parts = and_parts (is_verbatim code_point) (list_all is_verbatim code_points) (ap (list_all is_verbatim) (sym is) ∙ all.verbatim) in
-        ap (λ (b : List ℕ). marks kind look false ++ (b ++ html_of kind (after_code_point look false) runs)) (all.bytes_are ∙ ap (flat_map encode_utf8) is)
-        ∙ ap (λ (t : List ℕ). marks kind look false ++ t) (append_assoc (encode_utf8 code_point) (flat_map encode_utf8 code_points) (html_of kind (after_code_point look false) runs) ∙ ap (λ (t : List ℕ). encode_utf8 code_point ++ t) (code_points_html kind look code_points runs parts.1))
+        ap (λ (b : List ℕ). highlights kind look false ++ (b ++ html_of kind (after_code_point look false) runs)) (all.bytes_are ∙ ap (flat_map encode_utf8) is)
+        ∙ ap (λ (t : List ℕ). highlights kind look false ++ t) (append_assoc (encode_utf8 code_point) (flat_map encode_utf8 code_points) (html_of kind (after_code_point look false) runs) ∙ ap (λ (t : List ℕ). encode_utf8 code_point ++ t) (code_points_html kind look code_points runs parts.1))
         ∙ sym (next_code_point kind look code_point (map code_point_run code_points ++ runs) parts.0)
         ∙ ap (λ (ls : List ℕ). html_of kind look (map code_point_run ls ++ runs)) (sym is)
         ∙ ap (html_of kind look) (sym (code_points_runs all.code_points (symbols kind (drop len bytes)) all.verbatim) ∙ ap runs_of (sym (all.symbols_are kind)))

@@ -106,7 +106,7 @@ attribute_text attribute = codes " " ++ (attribute.name ++ (codes "=\"" ++ (flat
 abbrev pub tag_text : List ℕ → List Attribute → List ℕ
 tag_text element attributes = element ++ flat_map attribute_text attributes
 
--- A node, as it is written, as it is read, and as a reader sees it. Its text has no marks, because those are HTML elements.
+-- A node, as it is written, as it is read, and as a reader sees it. Its text has no highlights, because those are HTML elements.
 abbrev pub node_html : Node → List ℕ
 node_html (StartTag element attributes) = codes "<" ++ (tag_text element attributes ++ codes ">")
 node_html (EndTag element) = codes "</" ++ (element ++ codes ">")

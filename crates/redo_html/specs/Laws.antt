@@ -17,17 +17,17 @@ use Rattle.redo_html.specs.Shown.{shown_text}
 abbrev pub ReadsAs : List ℕ → List Token → Type 0
 ReadsAs bytes tokens = (behind : List ℕ) → read_from (DataState Normal) (bytes ++ behind) ≡ tokens ++ read_from (DataState Normal) behind
 
--- The marks of a passage.
-abbrev pub is_mark : List ℕ → Bool
-is_mark tag =
+-- The highlights of a passage.
+abbrev pub is_highlight : List ℕ → Bool
+is_highlight tag =
     is_one_of tag (codes "i" ∷ codes "/i" ∷ codes "b" ∷ codes "b class=\"r\"" ∷ codes "b class=\"g\"" ∷ codes "b class=\"y\"" ∷ codes "b class=\"b\"" ∷ codes "b class=\"m\"" ∷ codes "b class=\"c\"" ∷ codes "/b"
     ∷ codes "span class=\"r\"" ∷ codes "span class=\"g\"" ∷ codes "span class=\"y\"" ∷ codes "span class=\"b\"" ∷ codes "span class=\"m\"" ∷ codes "span class=\"c\"" ∷ codes "/span" ∷ [])
 
--- A passage is read as its tokens, of which the characters are the text that is shown, and the tags are marks that nest.
+-- A passage is read as its tokens, of which the characters are the text that is shown, and the tags are highlights that nest.
 pub record IsReadAsShown (kind : TextKind) (style : Style) (bytes : List ℕ) : Type 0 where
   pub reads : ReadsAs (passage_html kind style bytes) (passage_tokens kind style bytes)
   pub text : text_of (passage_tokens kind style bytes) ≡ shown_text kind bytes
-  pub marks : list_all is_mark (tags_of (passage_tokens kind style bytes)) ≡ true
+  pub highlights : list_all is_highlight (tags_of (passage_tokens kind style bytes)) ≡ true
   pub nests : (around tags : List (List ℕ)) → nests_in around (tags_of (passage_tokens kind style bytes) ++ tags) ≡ nests_in around tags
 
 -- Printable ASCII other than `&`, `<` and `>`; tabs; line feeds.

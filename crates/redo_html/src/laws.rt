@@ -15,7 +15,7 @@ ghost use Rattle.redo_html.specs.Parts.{Part, part_html, part_tokens, part_text}
 ghost use Rattle.redo_html.specs.Parts.Part.{ChartPart};
 ghost use Rattle.redo_html.specs.Shown.{shown_text};
 
-/// Whatever the bytes and the style at their start are, they are read as the text that is shown, and as no other tags than marks, which nest.
+/// Whatever the bytes and the style at their start are, they are read as the text that is shown, and as no other tags than highlights, which nest.
 pub fn passages_are_read_as_shown()
     ensures { (kind : TextKind) (style : Style) (bytes : List ℕ) → IsReadAsShown kind style bytes }
 {}

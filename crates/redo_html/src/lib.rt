@@ -11,7 +11,7 @@
 //! - *Sequence*: `ESC [`, digits and semicolons, and `m` (SGR, which sets colours) or `K` (which erases a line).
 //! - *Unprintable code point*: a code point that a browser would hide, change or act on: a control character, an invalid byte, an
 //!   invisible or bidirectional character. Its *notation* is shown instead: `^M`, `\xff`, `[U+202E]`.
-//! - *Passage*: a text that begins with a style, and of which all marks end at its end. A *mark* is an element around unprintable
+//! - *Passage*: a text that begins with a style, and of which all highlights end at its end. A *highlight* is an element around unprintable
 //!   code points or for a style.
 //! - *Markup*: a tag of a page.
 //! - *Chart*: bars over time, drawn by one `svg` element. A *meter* is a bar in a cell of a table.
@@ -21,15 +21,15 @@
 //! **Text** (`Symbols`, `Shown`). From five equal unprintable code points in a row on, one notation and a count are shown. In
 //! logs, the sequences by which compilers set colours are consumed, and all other escape characters are unprintable.
 //!
-//! **Marks** (`Passage`, `Style`). Unprintable code points, bold text and six hues have elements. A `Look` has the style of the next
-//! code point and what is open. All elements that are begun in a passage end in it. The marks between two code points are written
+//! **Highlights** (`Passage`, `Style`). Unprintable code points, bold text and six hues have elements. A `Look` has the style of the next
+//! code point and what is open. All elements that are begun in a passage end in it. The highlights between two code points are written
 //! before the second code point, so a sequence that changes nothing writes nothing. What is bold, and in which hue, is part of
 //! the definition of a passage. Background colours and concealed text are ignored, because they can hide what a log says.
 //!
 //! **Lines** (`Lines`). Each line of a log is a passage, and begins with the style after the line before it.
 //! [`write_log_lines`] takes the style at the start of some lines and sets it to the one at their end, so several calls may write
 //! the lines of a log. The crates above begin each block of lines with the plain style, and there a style of the log ends.
-//! Lines without escape characters are written as one passage, which has the same HTML: no symbol, run of code points or mark goes
+//! Lines without escape characters are written as one passage, which has the same HTML: no symbol, run of code points or highlight goes
 //! past a line feed.
 //!
 //! **Reading** (`Html`). The tokenizer of the HTML standard, in the states that a page needs. The laws compose: each part
@@ -48,7 +48,7 @@
 //!
 //! **Charts** (`Chart`). A chart is typed data: groups of lines, ticks and bars, with numbers and texts. The definition
 //! makes elements of it, whose attributes have text of the program, numbers and percentages. So elements nest by type. The
-//! texts are passages without marks, because a mark is an HTML element. Three laws about charts depend on one lemma: it
+//! texts are passages without highlights, because a highlight is an HTML element. Three laws about charts depend on one lemma: it
 //! computes, from the context before an element, the context after it (`next_context`). The laws also state that the tags of a
 //! chart stay the same with other texts, and that only the markup of a page decides whether its tags nest.
 //!

@@ -1,11 +1,11 @@
-//! Which marks are open in a passage.
+//! Which highlights are open in a passage.
 ghost use Rattle.std.specs.Prelude.{◌≡◌};
 ghost use Rattle.redo_html.specs.Passage.{start_look, after_code_point, with_wanted};
 
 use crate::style::Style;
 
-/// The style of the next code point, and what is open in the passage: the mark of a style, and within it, if `unprintable` is set,
-/// the mark for unprintable code points.
+/// The style of the next code point, and what is open in the passage: the highlight of a style, and within it, if `unprintable` is set,
+/// the highlight for unprintable code points.
 #[derive(Clone, Copy)]
 pub struct Look {
     pub wanted: Style,
@@ -13,7 +13,7 @@ pub struct Look {
     pub unprintable: bool,
 }
 
-/// Returns the look at the start of a passage that begins with this style: no mark is open.
+/// Returns the look at the start of a passage that begins with this style: no highlight is open.
 pub fn at_start(style: Style) -> Look
     ensures { result ≡ start_look style }
 {

@@ -1,16 +1,16 @@
-//! Passages of text: writes what they show, with marks for unprintable code points and for styles.
+//! Passages of text: writes what they show, with highlights for unprintable code points and for styles.
 ghost use Rattle.std.specs.Prelude.{◌≡◌, ◌≤◌, ◌<◌, ◌↔◌, ◌∷◌, ◌++◌, ◌&&◌, not, [], true, false, IsTrue, Some, length, take, encode_utf8};
 ghost use Rattle.std.specs.List.{flat_map, list_all};
 ghost use Rattle.redo_device.specs.Sink.{Writes};
 ghost use Rattle.redo_html.specs.declared.text_kind.TextKind.TheVariants as text_kind;
-ghost use Rattle.redo_html.specs.Passage.{escaped, has_element, is_same_style, mark_text, has_marks, inline_html, marks_between, passage_html, html_from};
+ghost use Rattle.redo_html.specs.Passage.{escaped, has_element, is_same_style, highlight_text, has_highlights, inline_html, highlights_between, passage_html, html_from};
 ghost use Rattle.redo_html.specs.Passage.Inline.{StyleStart, StyleEnd};
 ghost use Rattle.redo_html.specs.Laws.{is_plain};
 ghost use Rattle.redo_html.specs.Style.{plain_style};
 ghost use Rattle.redo_html.specs.Shown.{is_unprintable};
 ghost use Rattle.redo_html.specs.Symbols.{first_symbol, symbol_len};
 ghost use Rattle.redo_html.specs.Symbols.Symbol.{CodePoint};
-ghost use Rattle.redo_html.specs.Private.Writing.{WrotePassage, WroteSomeOrFailed, IsRepeated, IsVerbatim, optional_mark};
+ghost use Rattle.redo_html.specs.Private.Writing.{WrotePassage, WroteSomeOrFailed, IsRepeated, IsVerbatim, optional_highlight};
 
 use crate::look::{Look, at_start, with_code_point, with_style};
 use crate::notation::write_unprintable;
@@ -111,7 +111,7 @@ fn write_verbatim<W: Sink>(
     requires verbatim { IsVerbatim bytes.now len }
     ensures { WroteSomeOrFailed (W.written out.old) (W.written out.new) kind look bytes.now result }
 {
-    write_marks(kind, look, false, out)?;
+    write_highlights(kind, look, false, out)?;
     push_all(out, &bytes[..len])?;
     Ok((with_code_point(look, false), len))
 }
@@ -131,7 +131,7 @@ fn write_visible<W: Sink>(
     requires len { len ≡ symbol_len kind bytes.now }
     ensures { WroteSomeOrFailed (W.written out.old) (W.written out.new) kind look bytes.now result }
 {
-    write_marks(kind, look, false, out)?;
+    write_highlights(kind, look, false, out)?;
     write_code_point(code_point, &bytes[..len], out)?;
     Ok((with_code_point(look, false), len))
 }
@@ -150,7 +150,7 @@ fn write_unprintable_run<W: Sink>(
     ensures { WroteSomeOrFailed (W.written out.old) (W.written out.new) kind look bytes.now result }
 {
     let (count, len) = repeats(kind, code_point, bytes);
-    write_marks(kind, look, true, out)?;
+    write_highlights(kind, look, true, out)?;
     write_unprintable(code_point, count, out)?;
     Ok((with_code_point(look, true), len))
 }
@@ -199,14 +199,14 @@ fn write_code_point<W: Sink>(code_point: u32, bytes: &[u8], out: &mut W) -> Resu
     }
 }
 
-// Writes the marks before a code point.
-fn write_marks<W: Sink>(
+// Writes the highlights before a code point.
+fn write_highlights<W: Sink>(
     kind: TextKind,
     look: Look,
     unprintable: bool,
     out: &mut W,
 ) -> Result<(), Broken>
-    ensures { Writes (W.written out.old) (W.written out.new) (flat_map (inline_html kind) (marks_between look unprintable)) result }
+    ensures { Writes (W.written out.old) (W.written out.new) (flat_map (inline_html kind) (highlights_between look unprintable)) result }
 {
     let unprintable_ends = ends_unprintable(look, unprintable);
     let style_ends = ends_style(look);
@@ -214,13 +214,13 @@ fn write_marks<W: Sink>(
     let unprintable_starts = starts_unprintable(look, unprintable);
     let end_tag = style_end_tag(look.current);
     let start_tag = style_start_tag(look.wanted);
-    write_mark(kind, unprintable_ends, b"</i>", out)?;
-    write_mark(kind, style_ends, end_tag, out)?;
-    write_mark(kind, style_starts, start_tag, out)?;
-    write_mark(kind, unprintable_starts, b"<i>", out)
+    write_highlight(kind, unprintable_ends, b"</i>", out)?;
+    write_highlight(kind, style_ends, end_tag, out)?;
+    write_highlight(kind, style_starts, start_tag, out)?;
+    write_highlight(kind, unprintable_starts, b"<i>", out)
 }
 
-// Returns whether the mark for unprintable code points ends before a code point.
+// Returns whether the highlight for unprintable code points ends before a code point.
 fn ends_unprintable(look: Look, unprintable: bool) -> bool
     ensures { result ≡ (look.unprintable && not (is_same_style look.wanted look.current && unprintable)) }
 {
@@ -233,7 +233,7 @@ fn starts_unprintable(look: Look, unprintable: bool) -> bool
     unprintable && !(is_same(look.wanted, look.current) && look.unprintable)
 }
 
-// Returns whether the mark of the open style ends before the next code point.
+// Returns whether the highlight of the open style ends before the next code point.
 fn ends_style(look: Look) -> bool
     ensures { result ≡ (not (is_same_style look.wanted look.current) && has_element look.current) }
 {
@@ -246,28 +246,33 @@ fn starts_style(look: Look) -> bool
     !is_same(look.wanted, look.current) && has_own_element(look.wanted)
 }
 
-// Writes the marks at the end of a passage.
+// Writes the highlights at the end of a passage.
 fn write_end<W: Sink>(kind: TextKind, look: Look, out: &mut W) -> Result<(), Broken>
     ensures { Writes (W.written out.old) (W.written out.new) (html_from kind look []) result }
 {
     let style_ends = has_own_element(look.current);
     let end_tag = style_end_tag(look.current);
-    write_mark(kind, look.unprintable, b"</i>", out)?;
-    write_mark(kind, style_ends, end_tag, out)
+    write_highlight(kind, look.unprintable, b"</i>", out)?;
+    write_highlight(kind, style_ends, end_tag, out)
 }
 
-fn write_mark<W: Sink>(kind: TextKind, wanted: bool, tag: &[u8], out: &mut W) -> Result<(), Broken>
-    ensures { Writes (W.written out.old) (W.written out.new) (optional_mark kind wanted tag.now) result }
+fn write_highlight<W: Sink>(
+    kind: TextKind,
+    wanted: bool,
+    tag: &[u8],
+    out: &mut W,
+) -> Result<(), Broken>
+    ensures { Writes (W.written out.old) (W.written out.new) (optional_highlight kind wanted tag.now) result }
 {
-    if wanted && shows_marks(kind) {
+    if wanted && shows_highlights(kind) {
         push_all(out, tag)
     } else {
         Ok(())
     }
 }
 
-fn shows_marks(kind: TextKind) -> bool
-    ensures { result ≡ has_marks kind }
+fn shows_highlights(kind: TextKind) -> bool
+    ensures { result ≡ has_highlights kind }
 {
     match kind {
         TextKind::Log | TextKind::Monochrome => true,
@@ -276,7 +281,7 @@ fn shows_marks(kind: TextKind) -> bool
 }
 
 fn style_start_tag(style: Style) -> &'static [u8]
-    ensures { result.now ≡ 60 ∷ (mark_text (StyleStart style) ++ 62 ∷ []) }
+    ensures { result.now ≡ 60 ∷ (highlight_text (StyleStart style) ++ 62 ∷ []) }
 {
     if style.bold {
         match style.hue {
@@ -302,7 +307,7 @@ fn style_start_tag(style: Style) -> &'static [u8]
 }
 
 fn style_end_tag(style: Style) -> &'static [u8]
-    ensures { result.now ≡ 60 ∷ (mark_text (StyleEnd style) ++ 62 ∷ []) }
+    ensures { result.now ≡ 60 ∷ (highlight_text (StyleEnd style) ++ 62 ∷ []) }
 {
     if style.bold { b"</b>" } else { b"</span>" }
 }

@@ -80,6 +80,6 @@ no_meter_tag width = refl
 
 pub script_is_not_own : IsOwnTag script → ⊥
 script_is_not_own (inl own) = let is : bytes_eq (take 3 (markup_text own.0)) (codes "scr") ≡ true = ap (λ tag. bytes_eq (take 3 tag) (codes "scr")) (sym own.1) in let no = no_markup own.0 in absurd (cc)
-script_is_not_own (inr (inl mark)) = absurd (cc)
+script_is_not_own (inr (inl highlight)) = absurd (cc)
 script_is_not_own (inr (inr (inl own))) = let no = no_chart_tag own.0 in let is = own.1 in absurd (cc)
 script_is_not_own (inr (inr (inr own))) = let no = no_meter_tag own.0 in let is = own.1 in absurd (cc)

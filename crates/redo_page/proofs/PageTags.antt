@@ -11,7 +11,7 @@ use Rattle.redo_html.specs.declared.style.Style.{Style}
 use Rattle.redo_html.specs.Chart.{Drawing}
 use Rattle.redo_html.specs.Html.{is_one_of, tag_of, tags_of}
 use Rattle.redo_html.specs.Html.Token.{Character, Tag}
-use Rattle.redo_html.specs.Laws.{IsReadAsShown, is_mark, reworded}
+use Rattle.redo_html.specs.Laws.{IsReadAsShown, is_highlight, reworded}
 use Rattle.redo_html.specs.Passage.{passage_tokens}
 use Rattle.redo_html.specs.Parts.{Part, part_tokens}
 use Rattle.redo_html.specs.Parts.Part.{MarkupPart, LogPart, TextPart, NumberPart, TitlePart, StylePart, ChartPart, MeterPart}
@@ -28,11 +28,11 @@ both_own : (tags others : List (List ℕ)) → AreOwn tags → AreOwn others →
 both_own [] others first last = last
 both_own (tag ∷ tags) others first last = (first.0, both_own tags others first.1 last)
 
-marks_own : (tags : List (List ℕ)) → list_all is_mark tags ≡ true → AreOwn tags
-marks_own [] marks = tt
-marks_own (tag ∷ tags) marks =
-    let parts = and_parts (is_mark tag) (list_all is_mark tags) marks in
-    (inr (inl (or_left (is_mark tag) (is_one_of tag (codes "title" ∷ codes "/title" ∷ codes "style" ∷ codes "/style" ∷ [])) parts.0)), marks_own tags parts.1)
+highlights_own : (tags : List (List ℕ)) → list_all is_highlight tags ≡ true → AreOwn tags
+highlights_own [] highlights = tt
+highlights_own (tag ∷ tags) highlights =
+    let parts = and_parts (is_highlight tag) (list_all is_highlight tags) highlights in
+    (inr (inl (or_left (is_highlight tag) (is_one_of tag (codes "title" ∷ codes "/title" ∷ codes "style" ∷ codes "/style" ∷ [])) parts.0)), highlights_own tags parts.1)
 
 -- The tags of a chart don't depend on its texts.
 abbrev HaveNoText : Type 0
@@ -52,13 +52,13 @@ meter_own width = each_among (tags_of (part_tokens (MeterPart width))) (λ tag i
 
 part_own : ((kind : TextKind) (style : Style) (bytes : List ℕ) → IsReadAsShown kind style bytes) → HaveNoText → (part : Part) → AreOwn (tags_of (part_tokens part))
 part_own read charts (MarkupPart markup) = (inl (markup, refl), tt)
-part_own read charts (LogPart style text) = marks_own (tags_of (passage_tokens Log style text)) (read Log style text).marks
-part_own read charts (TextPart name) = marks_own (tags_of (passage_tokens Monochrome plain_style name)) (read Monochrome plain_style name).marks
+part_own read charts (LogPart style text) = highlights_own (tags_of (passage_tokens Log style text)) (read Log style text).highlights
+part_own read charts (TextPart name) = highlights_own (tags_of (passage_tokens Monochrome plain_style name)) (read Monochrome plain_style name).highlights
 part_own read charts (NumberPart number) = subst AreOwn (sym (characters_tags (number_text number))) tt
 part_own read charts (TitlePart title) = (
   inr (inl refl),
   subst AreOwn (sym (flat_map-append tag_of (passage_tokens Title plain_style title) (Tag (codes "/title") ∷ [])))
-      (both_own (tags_of (passage_tokens Title plain_style title)) (codes "/title" ∷ []) (marks_own (tags_of (passage_tokens Title plain_style title)) (read Title plain_style title).marks) (inr (inl refl), tt)),
+      (both_own (tags_of (passage_tokens Title plain_style title)) (codes "/title" ∷ []) (highlights_own (tags_of (passage_tokens Title plain_style title)) (read Title plain_style title).highlights) (inr (inl refl), tt)),
 )
 part_own read charts StylePart = (
   inr (inl refl),

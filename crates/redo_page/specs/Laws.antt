@@ -11,7 +11,7 @@ use Rattle.redo_html.specs.declared.markup.Markup.TheVariants.{FailedSection, Su
 use Rattle.redo_html.specs.declared.chart.GroupKind.{GroupKind}
 use Rattle.redo_html.specs.Chart.{Drawing, drawing_links}
 use Rattle.redo_html.specs.Html.{is_one_of}
-use Rattle.redo_html.specs.Laws.{IsChartTag, is_mark}
+use Rattle.redo_html.specs.Laws.{IsChartTag, is_highlight}
 use Rattle.redo_html.specs.Parts.{Part}
 use Rattle.redo_html.specs.Parts.Part.{MarkupPart, LogPart, ChartPart}
 use Rattle.redo_html.specs.Tags.{markup_text}
@@ -210,17 +210,17 @@ pub record IsPartOf (inner whole : List Part) : Type 0 where
 
 -- ---- tags
 
--- Whether a tag is a page's own: the text of a `Markup`, a mark in a text, a tag of the title or of the style sheet, or a tag of a chart.
+-- Whether a tag is a page's own: the text of a `Markup`, a highlight in a text, a tag of the title or of the style sheet, or a tag of a chart.
 abbrev pub IsOwnTag : List ℕ → Type 0
 IsOwnTag tag =
     ((markup : Markup) × (tag ≡ markup_text markup))
-    ⊎ (((is_mark tag || is_one_of tag (codes "title" ∷ codes "/title" ∷ codes "style" ∷ codes "/style" ∷ [])) ≡ true) ⊎ IsChartTag tag)
+    ⊎ (((is_highlight tag || is_one_of tag (codes "title" ∷ codes "/title" ∷ codes "style" ∷ codes "/style" ∷ [])) ≡ true) ⊎ IsChartTag tag)
 
 abbrev pub markup_of : Part → List Markup
 markup_of (MarkupPart markup) = markup ∷ []
 markup_of part = []
 
--- The tags of parts, without marks.
+-- The tags of parts, without highlights.
 abbrev pub markups : List Part → List Markup
 markups parts = flat_map markup_of parts
 

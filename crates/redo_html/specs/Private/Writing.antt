@@ -8,7 +8,7 @@ use Rattle.redo_html.specs.declared.look.Look.{Look}
 use Rattle.redo_html.specs.declared.text_kind.TextKind.TheVariants.{Log}
 use Rattle.redo_html.specs.declared.style.Style.{Style}
 use Rattle.redo_html.specs.Lines.{style_after_symbol, style_after, style_after_lines, lines_html}
-use Rattle.redo_html.specs.Passage.{has_marks, html_from, passage_html}
+use Rattle.redo_html.specs.Passage.{has_highlights, html_from, passage_html}
 use Rattle.redo_line.specs.Lines.{ended, rest}
 use Rattle.redo_html.specs.declared.style.Setting.{Setting}
 use Rattle.redo_html.specs.Shown.{is_unprintable}
@@ -82,9 +82,9 @@ pub record IsRepeated (kind : TextKind) (code_point : ℕ) (bytes : List ℕ) (c
   pub repeated : symbols kind bytes ≡ replicate count (CodePoint code_point) ++ symbols kind (drop len bytes)
   pub other : BeginsOther code_point (symbols kind (drop len bytes))
 
--- A mark, if it is wanted and this kind of text has marks.
-abbrev pub optional_mark : TextKind → Bool → List ℕ → List ℕ
-optional_mark kind wanted html = if wanted && has_marks kind then html else []
+-- A highlight, if it is wanted and this kind of text has highlights.
+abbrev pub optional_highlight : TextKind → Bool → List ℕ → List ℕ
+optional_highlight kind wanted html = if wanted && has_highlights kind then html else []
 
 -- A sequence is at the start of some bytes, and has `len` bytes.
 pub record IsSequence (bytes : List ℕ) (len : ℕ) : Type 0 where
