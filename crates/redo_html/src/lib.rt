@@ -53,7 +53,7 @@
 //! chart stay the same with other texts, and that only the markup of a page decides whether its tags nest.
 //!
 //! **Speed.** A stretch of code points that are written as they are (`verbatim_len`) is one write. Bytes of ASCII are tested in
-//! blocks, without a branch for each byte, so that the compiler can test several at once. Every other code point is a write of
+//! strides, without a branch for each byte, so that the compiler can test several at once. Every other code point is a write of
 //! its own, and so is each number and each fixed text of a chart.
 #![tactic(auto)]
 

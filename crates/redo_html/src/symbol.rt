@@ -33,7 +33,7 @@ const UNSEEN: [(u32, u32); 18] = [
 ];
 
 // The number of bytes that are tested at once.
-const BLOCK: usize = 32;
+const STRIDE: usize = 32;
 
 /// Returns the number of bytes at the start that are code points which are written as they are.
 pub fn verbatim_len(bytes: &[u8]) -> usize
@@ -76,21 +76,21 @@ fn plain_len(bytes: &[u8]) -> usize
     ensures within { result ≤ length bytes.now }
     ensures plain { list_all is_plain (take result bytes.now) ≡ true }
 {
-    let len = plain_blocks_len(bytes);
+    let len = plain_strides_len(bytes);
     len + plain_bytes_len(&bytes[len..])
 }
 
-// Returns the number of bytes in the blocks at the start that consist of plain bytes.
-fn plain_blocks_len(bytes: &[u8]) -> usize
+// Returns the number of bytes in the strides at the start that consist of plain bytes.
+fn plain_strides_len(bytes: &[u8]) -> usize
     ensures within { result ≤ length bytes.now }
     ensures plain { list_all is_plain (take result bytes.now) ≡ true }
 {
     let mut len = 0;
-    while bytes.len() - len >= BLOCK {
-        if !are_plain(&bytes[len..len + BLOCK]) {
+    while bytes.len() - len >= STRIDE {
+        if !are_plain(&bytes[len..len + STRIDE]) {
             return len;
         }
-        len += BLOCK;
+        len += STRIDE;
     }
     len
 }
