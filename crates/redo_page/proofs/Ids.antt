@@ -53,7 +53,7 @@ is_reference markup = is_section markup
 abbrev pub reference : Part → List Part
 reference (MarkupPart markup) = if is_reference markup then MarkupPart markup ∷ [] else []
 reference (LogPart style text) = LogPart style text ∷ []
-reference (TextPart name) = []
+reference (TextPart text) = []
 reference (NumberPart number) = []
 reference (TitlePart title) = []
 reference StylePart = []

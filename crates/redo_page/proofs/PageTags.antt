@@ -53,7 +53,7 @@ meter_own width = each_among (tags_of (part_tokens (MeterPart width))) (λ tag i
 part_own : ((kind : TextKind) (style : Style) (bytes : List ℕ) → IsReadAsShown kind style bytes) → HaveNoText → (part : Part) → AreOwn (tags_of (part_tokens part))
 part_own read charts (MarkupPart markup) = (inl (markup, refl), tt)
 part_own read charts (LogPart style text) = highlights_own (tags_of (passage_tokens Log style text)) (read Log style text).highlights
-part_own read charts (TextPart name) = highlights_own (tags_of (passage_tokens Monochrome plain_style name)) (read Monochrome plain_style name).highlights
+part_own read charts (TextPart text) = highlights_own (tags_of (passage_tokens Monochrome plain_style text)) (read Monochrome plain_style text).highlights
 part_own read charts (NumberPart number) = subst AreOwn (sym (characters_tags (number_text number))) tt
 part_own read charts (TitlePart title) = (
   inr (inl refl),
