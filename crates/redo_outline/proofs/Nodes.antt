@@ -1,5 +1,5 @@
 -- A node of which nothing is known: what a position past the end has, and what rows update.
-use Rattle.std.specs.Prelude.{ℕ, false, None}
+use Rattle.std.specs.Prelude.{false, None}
 use Rattle.redo_outline.specs.declared.node.Node.{Node}
 
 abbrev pub no_node : Node
