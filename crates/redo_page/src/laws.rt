@@ -72,7 +72,7 @@ pub fn links_lead_to_ids()
     trimmed_events_are_in_tree();
 }
 
-/// Each target that failed is exactly once among the root failures or among those above them. The root failures are in the order in
+/// Each target that failed is exactly once among the root failures or among the dependent ones. The root failures are in the order in
 /// which the targets ended. Targets with an unknown end follow all others. Equal ends, and unknown ones, are in the order of the tree.
 pub fn failures_are_listed()
     ensures listed { (nodes : List Node) →
