@@ -6,7 +6,6 @@ use Rattle.redo_outline.specs.declared.node.Node.{Node}
 use Rattle.redo_summary.specs.declared.target.Target.{Target}
 use Rattle.redo_summary.specs.Private.Marking.{ArePositioned}
 use Rattle.redo_summary.specs.Targets.{no_times, target_of, targets_from, targets_of}
-use Rattle.redo_outline.proofs.Nodes.{no_node}
 
 -- What a position past the end has.
 abbrev pub no_target : Target
