@@ -97,8 +97,8 @@ labels = (refl, refl, refl, refl)
 
 drawn :
     (drawn_bar logs nodes (recipes_band 1 3) (wide 400)
-    ≡ record { position = 0; x = 7; y = 76; width = 400; height = 16; failed = true; title = codes "out/b.o, 1.50 s, exit -1"; label = Some (codes "b.o") })
-    × (drawn_bar logs nodes (marks_band 1 3) (wide 30) ≡ record { position = 0; x = 7; y = 128; width = 30; height = 12; failed = true; title = codes "out/b.o, exit -1"; label = None })
+    ≡ record { target = 0; x = 7; y = 76; width = 400; height = 16; failed = true; title = codes "out/b.o, 1.50 s, exit -1"; label = Some (codes "b.o") })
+    × (drawn_bar logs nodes (marks_band 1 3) (wide 30) ≡ record { target = 0; x = 7; y = 128; width = 30; height = 12; failed = true; title = codes "out/b.o, exit -1"; label = None })
     × (bar_layer logs nodes callers_band [] ≡ record { kind = Callers; shapes = [] })
 unfolding duration_words decimal_text digits
 drawn = (refl, refl, refl)
@@ -106,7 +106,7 @@ drawn = (refl, refl, refl)
 -- A bar of the fourth target, in the sixth lane.
 drawn_lower :
     drawn_bar logs nodes (recipes_band 1 3) (record { lane = 5; x = 9; width = 400; position = 3; count = 1; began = 1000; ended = 2500; failed = false })
-    ≡ record { position = 3; x = 9; y = 130; width = 400; height = 16; failed = false; title = codes "t, 1.50 s, exit 12"; label = Some (codes "t") }
+    ≡ record { target = 3; x = 9; y = 130; width = 400; height = 16; failed = false; title = codes "t, 1.50 s, exit 12"; label = Some (codes "t") }
 unfolding duration_words decimal_text digits
 drawn_lower = refl
 
@@ -142,7 +142,7 @@ chart =
 
 abbrev drawn_at : ℕ → ℕ → ℕ → ℕ → ℕ → Bool → List ℕ → Option (List ℕ) → Shape
 drawn_at position x y width height failed title label =
-    BarShape (record { position = position; x = x; y = y; width = width; height = height; failed = failed; title = title; label = label })
+    BarShape (record { target = position; x = x; y = y; width = width; height = height; failed = failed; title = title; label = label })
 
 sizes : (chart.height ≡ 102) × (chart.lanes ≡ 2) × (map (λ (layer : Layer). layer.kind) chart.layers ≡ Axis ∷ Callers ∷ Recipes ∷ Untimed ∷ [])
 unfolding tick_step_of

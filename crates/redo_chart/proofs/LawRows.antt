@@ -38,7 +38,7 @@ lanes = (refl, refl, refl)
 -- ---- what a bar says
 
 abbrev labelled : ℕ → ℕ → ℕ → Bool → List ℕ → Option (List ℕ) → DrawnBar
-labelled position x width failed title label = record { position = position; x = x; y = 40; width = width; height = 16; failed = failed; title = title; label = label }
+labelled position x width failed title label = record { target = position; x = x; y = 40; width = width; height = 16; failed = failed; title = title; label = label }
 
 -- A bar of the span of position 2, from 1000 to 5000.
 abbrev said : ℕ → ℕ → ℕ → Bool → List ℕ → DrawnBar
@@ -108,7 +108,7 @@ rejected_axis = λ is. is
 
 -- A bar that begins at this height.
 abbrev box : ℕ → ℕ → Shape
-box y height = BarShape (record { position = 2; x = 0; y = y; width = 10; height = height; failed = false; title = []; label = None })
+box y height = BarShape (record { target = 2; x = 0; y = y; width = 10; height = height; failed = false; title = []; label = None })
 
 -- The bars of a row don't begin at one height, or don't end at one height. Then the second of two rows begins where the first one ends.
 -- Then a row begins too high, ends too low, has no height, or has a line.

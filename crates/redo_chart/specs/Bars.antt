@@ -16,7 +16,7 @@ label_of name lane_height bar = if leb 350 bar.width && ltb 12 lane_height then 
 -- A bar, as it is drawn in a band.
 abbrev pub drawn_bar : List Log → List Node → Band → Bar → DrawnBar
 drawn_bar logs nodes band bar = record {
-  position = bar.position;
+  target = bar.position;
   x = bar.x;
   y = band.top + bar.lane * band.lane_height;
   width = bar.width;

@@ -51,7 +51,7 @@ Includes window bar span = (bar.x ≤ units window span.began) × (units window 
 -- that part is empty.
 pub record SaysOf (logs : List Log) (nodes : List Node) (window : Window) (kind : GroupKind) (spans : List Span) (bar : DrawnBar)
     : Type 0 where
-  pub target : bar.position ≡ position_of spans
+  pub target : bar.target ≡ position_of spans
   pub begins : bar.x ≡ units window (began_of spans)
   pub lasts : bar.width ≡ max (width_of window spans) (if has_failed spans then 30 else 10)
   pub fails : bar.failed ≡ has_failed spans

@@ -52,7 +52,7 @@ fn drawn_bar<'a>(
     ensures { bar_of result ≡ spec.drawn_bar table.now nodes.now band bar.now }
 {
     redo_html::Bar {
-        position: bar.position as u64,
+        target: bar.position as u64,
         x: bar.x,
         y: band.top + bar.lane as u64 * band.lane_height,
         width: bar.width,

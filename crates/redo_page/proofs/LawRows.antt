@@ -24,7 +24,7 @@ use Rattle.redo_page.proofs.OtherTags.{script_is_not_own}
 
 -- A bar that leads to a target.
 abbrev bar : ℕ → Shape
-bar position = BarShape (record { position = position; x = 1; y = 2; width = 3; height = 4; failed = false; title = codes "e"; label = None })
+bar position = BarShape (record { target = position; x = 1; y = 2; width = 3; height = 4; failed = false; title = codes "e"; label = None })
 
 abbrev drawing : Drawing
 drawing = record { height = 9; lanes = 1; layers = record { kind = Recipes; shapes = bar 11 ∷ bar 10 ∷ [] } ∷ [] }

@@ -117,7 +117,7 @@ ends_are = (refl, refl)
 -- ---- the section
 
 abbrev drawn_at : ℕ → ℕ → ℕ → ℕ → ℕ → Bool → List ℕ → Option (List ℕ) → Shape
-drawn_at position x y width height failed title label = BarShape (record { position = position; x = x; y = y; width = width; height = height; failed = failed; title = title; label = label })
+drawn_at position x y width height failed title label = BarShape (record { target = position; x = x; y = y; width = width; height = height; failed = failed; title = title; label = label })
 
 -- With a mark of the last target, which failed.
 abbrev chart : Drawing
