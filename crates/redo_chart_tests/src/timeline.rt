@@ -23,7 +23,7 @@ const WINDOW: Window = Window {
     width: 10_000,
 };
 
-static PARENTS: [Span; 1] = [Span {
+static CALLERS: [Span; 1] = [Span {
     began: 1_000_000,
     position: 0,
     ended: 1_010_000,
@@ -82,7 +82,7 @@ fn chart_is_written(rt: HostRuntime) -> Result<(), Fail> {
         &table,
         &nodes,
         WINDOW,
-        &PARENTS,
+        &CALLERS,
         &RECIPES,
         &MARKS,
         &mut out,
@@ -95,7 +95,7 @@ fn chart_is_written(rt: HostRuntime) -> Result<(), Fail> {
 fn node(number: u32, status: Option<i32>) -> Node {
     Node {
         number,
-        caller: None,
+        parent: None,
         status,
         lines: 0,
         bytes: 0,
