@@ -30,7 +30,7 @@ static AXIS: [ChartItem<'static>; 5] = [
     },
 ];
 
-static PARENTS: [ChartItem<'static>; 2] = [
+static CALLERS: [ChartItem<'static>; 2] = [
     ChartItem::Bar(Bar {
         target: 0,
         x: 0,
@@ -150,7 +150,7 @@ fn write_full<W: Sink>(out: &mut W) -> Result<(), Broken> {
         },
         ChartGroup {
             kind: GroupKind::Callers,
-            items: &PARENTS,
+            items: &CALLERS,
         },
         ChartGroup {
             kind: GroupKind::Recipes,
