@@ -127,7 +127,11 @@ fn add_contents(alloc: Global, text: &mut String, node: &Node) -> Result<(), All
     text.push_str(&format!(in alloc; " {} {fails} {}\n", node.warnings_below, node.silent)?)
 }
 
-fn add_position(alloc: Global, text: &mut String, position: Option<usize>) -> Result<(), AllocError> {
+fn add_position(
+    alloc: Global,
+    text: &mut String,
+    position: Option<usize>,
+) -> Result<(), AllocError> {
     match position {
         Some(position) => text.push_str(&format!(in alloc; "{position}")?),
         None => text.push_str("-"),
