@@ -1,5 +1,5 @@
 -- What the form of a tree writes.
-use Rattle.std.proofs.Common.{◌≡◌, ℕ, ◌+◌, ◌<◌, ◌≤◌, min, ⊎_elim, Bool, true, false, List, [], ◌∷◌, ◌++◌, Option, None, Result, Ok, Err, length, take, refl, sym, ◌∙◌, ap, arith}
+use Rattle.std.proofs.Common.{◌≡◌, ℕ, ◌+◌, ◌<◌, ◌≤◌, min, ⊎_elim, Bool, true, false, List, [], ◌∷◌, ◌++◌, Option, Result, Ok, Err, length, take, refl, sym, ◌∙◌, ap, arith}
 use Rattle.std.specs.Prelude.{if◌then◌else◌}
 use Rattle.std.specs.List.{flat_map}
 use Rattle.std.proofs.lemmas.Bool.{cases_lt}
@@ -21,9 +21,8 @@ use Rattle.redo_logs.specs.Logs.{Log}
 use Rattle.redo_options.specs.declared.options.Options.{Options}
 use Rattle.redo_outline.specs.declared.node.Node.{Node}
 use Rattle.redo_outline.specs.Contents.{Contents, contents_of}
-use Rattle.redo_outline.specs.Facts.{target_status}
 use Rattle.redo_outline.specs.Laws.{events_of}
-use Rattle.redo_outline.specs.Outline.{log_count, outline_of}
+use Rattle.redo_outline.specs.Outline.{log_count}
 use Rattle.redo_trim.specs.declared.limit.Limit.{Limit}
 use Rattle.redo_trim.specs.Laws.{AreInTree, KeepsLogs, StayInTree, TreeIsTrimmed}
 use Rattle.redo_trim.specs.Trim.{trim, trimmed}
@@ -32,7 +31,7 @@ use Rattle.redo_page.specs.Blocks.{after_line, end_parts, line_parts}
 use Rattle.redo_page.specs.Tree.{Build, articles, contents_parts, is_moved_if, section_end, section_start, top_level, tree_parts}
 use Rattle.redo_page.specs.Private.Texts.{after_lines, lines_parts}
 use Rattle.redo_page.specs.Private.Walking.{Walk, after_event, after_texts, level_in, start_of, texts_parts, tree_bytes, tree_text}
-use Rattle.redo_page.proofs.WalkLemmas.{node_count, parts_contents, pending_after, proper, state_contents, walked_html, walked_parts}
+use Rattle.redo_page.proofs.WalkLemmas.{parts_contents, pending_after, proper, state_contents, walked_html, walked_parts}
 
 -- All of a text is a prefix of it.
 pub all_is_prefix : (before after : Option Output) (text : List ℕ) → WroteAll before after text → WrotePrefix before after text

@@ -16,7 +16,6 @@ use Rattle.redo_outline.specs.Contents.{Contents, contents_of}
 use Rattle.redo_outline.specs.Facts.{target_status}
 use Rattle.redo_outline.specs.Outline.{log_count, outline_of, with_times}
 use Rattle.std.specs.Prelude.{None, Option, Some}
-use Rattle.redo_html.specs.Parts.Part.{ChartPart}
 use Rattle.redo_page.specs.declared.frame.Verdict.TheVariants.{Failed, Unfinished, Made}
 use Rattle.redo_page.specs.Frame.{command, footer_parts, head_parts, is_unfinished, title_text, verdict_of}
 use Rattle.redo_page.specs.Laws.{article_ids, article_links, charts, is_among, numbers_from, page_chart, part_chart, section_id, section_ids, section_link, section_links, target_ids, target_links}

@@ -13,16 +13,13 @@ use Rattle.redo_logs.specs.Logs.{Log}
 use Rattle.redo_view.specs.declared.form.FormFault.{FormFault}
 use Rattle.redo_view.specs.declared.form.FormFault.TheVariants.{Write, OutOfMemory}
 use Rattle.redo_options.specs.declared.options.Options.{Options}
-use Rattle.redo_view.specs.Expansion.{shown_events}
 use Rattle.redo_view.specs.Form.{FormWrites}
 use Rattle.redo_outline.specs.declared.node.Node.{Node}
-use Rattle.redo_outline.specs.Contents.{contents_of}
 use Rattle.redo_page.specs.declared.page.Texts.{Texts}
 use Rattle.redo_page.specs.Frame.{command, footer_parts, title_text, verdict_of}
 use Rattle.redo_summary.specs.Summary.{Facts, summary_of}
 use Rattle.redo_page.specs.Page.{Request, body_parts, heading_of, options_of, page_facts, page_html, page_outline, page_parts, top_parts, top_parts_of}
 use Rattle.redo_page.specs.Private.PageTexts.{AreTexts}
-use Rattle.redo_page.specs.Tree.{tree_parts}
 
 -- ---- stages
 

@@ -1,8 +1,8 @@
 -- Parts that are written one after the other in a loop.
-use Rattle.std.proofs.Common.{◌≡◌, ℕ, ◌+◌, Bool, true, false, List, [], ◌∷◌, ◌++◌, Option, None, Some, refl, sym, ◌∙◌, ap, subst, arith}
+use Rattle.std.proofs.Common.{◌≡◌, ℕ, Bool, true, false, List, [], ◌∷◌, ◌++◌, Option, refl, sym, ◌∙◌, ap, subst}
 use Rattle.std.proofs.lemmas.Bool.{true≢false}
-use Rattle.std.proofs.lemmas.List.{append_assoc, append-nil}
-use Rattle.redo_device.specs.Sink.{Output, append_output}
+use Rattle.std.proofs.lemmas.List.{append_assoc}
+use Rattle.redo_device.specs.Sink.{Output}
 use Rattle.redo_device.proofs.WritesLemmas.{append_nothing}
 use Rattle.redo_html.specs.declared.style.Style.{Style}
 use Rattle.redo_html.specs.Lines.{line_parts, style_after, style_after_lines}

@@ -1,7 +1,7 @@
 -- The links of the summary.
-use Rattle.std.proofs.Common.{◌≡◌, ℕ, Bool, true, false, List, [], ◌∷◌, ◌++◌, Some, refl, sym, ◌∙◌, ap}
-use Rattle.std.specs.Prelude.{◌==◌, ◌<◌, ◌&&◌, is_some, length, nat_lt, not, if◌then◌else◌}
-use Rattle.std.specs.List.{AllByRecursion, flat_map}
+use Rattle.std.proofs.Common.{ℕ, Bool, true, false, List, [], ◌∷◌, ◌++◌, Some, refl}
+use Rattle.std.specs.Prelude.{◌==◌, ◌<◌, ◌&&◌, is_some, length, not, if◌then◌else◌}
+use Rattle.std.specs.List.{flat_map}
 use Rattle.std.proofs.lemmas.Bool.{lt-ltb}
 use Rattle.std.proofs.lemmas.List.{append-nil}
 use Rattle.std.proofs.lemmas.Grind.{flat_map-append}
@@ -16,7 +16,7 @@ use Rattle.redo_page.specs.declared.labels.TheConstants.{AT_MOST, AT_ONCE, FAILE
 use Rattle.redo_page.specs.declared.summary.Measure.{Measure}
 use Rattle.redo_page.specs.declared.summary.Measure.TheVariants.{Milliseconds, Count}
 use Rattle.redo_page.specs.Failed.{is_dependent_failure, positions_where}
-use Rattle.redo_page.specs.Summary.{at_once_parts, failed_counts, known_count, largest_of, measure_parts, rank_parts, shown_longest, summary_parts, table_parts, tables_parts, tile, tile_end, tile_start, tiles, timed_tiles, took_tile, unknown_parts, why_parts}
+use Rattle.redo_page.specs.Summary.{at_once_parts, failed_counts, known_count, largest_of, measure_parts, rank_parts, shown_longest, summary_parts, table_parts, tables_parts, tile, tile_end, tile_start, tiles, timed_tiles, took_tile, why_parts}
 use Rattle.redo_page.specs.Targets.{linked_parts}
 use Rattle.redo_page.specs.Tree.{root_failures, node_at}
 use Rattle.redo_page.specs.Words.{word_part, words_parts}
@@ -26,7 +26,7 @@ use Rattle.redo_summary.specs.Summary.{Facts, is_timed}
 use Rattle.redo_units.specs.Durations.{duration_words}
 use Rattle.redo_units.specs.Sizes.{size_words, tenths_words}
 use Rattle.redo_units.specs.Words.{WordValue}
-use Rattle.redo_page.proofs.Ids.{Bare, Refer, Refers, badge_bare, bare_each, bare_if, bare_refers, bare_then, linked_refers, refer_if, references, same_refer, then_refer, word_bare, words_bare}
+use Rattle.redo_page.proofs.Ids.{Bare, Refer, Refers, badge_bare, bare_each, bare_if, bare_refers, bare_then, linked_refers, refer_if, same_refer, then_refer, word_bare, words_bare}
 
 plain_bare : (words : List WordValue) → Bare (words_parts words)
 plain_bare words = bare_each word_part word_bare words

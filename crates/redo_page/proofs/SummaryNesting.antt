@@ -1,5 +1,5 @@
 -- The elements of the summary nest.
-use Rattle.std.proofs.Common.{ℕ, Bool, List, [], ◌∷◌, ◌++◌, Some, refl}
+use Rattle.std.proofs.Common.{ℕ, Bool, List, [], ◌∷◌, Some, refl}
 use Rattle.std.specs.Prelude.{◌==◌, ◌&&◌, true, false, codes, is_some, length, not, if◌then◌else◌}
 use Rattle.redo_logs.specs.Logs.{Log}
 use Rattle.redo_html.specs.declared.markup.Markup.TheVariants as markup
@@ -11,7 +11,7 @@ use Rattle.redo_page.specs.declared.labels.TheConstants.{AT_ONCE, FAILED, FEW_TI
 use Rattle.redo_page.specs.declared.summary.Measure.{Measure}
 use Rattle.redo_page.specs.declared.summary.Measure.TheVariants.{Milliseconds, Count}
 use Rattle.redo_page.specs.Failed.{is_dependent_failure, positions_where}
-use Rattle.redo_page.specs.Summary.{dependents_parts, at_once_parts, failed_counts, known_count, largest_of, measure_parts, rank_parts, shown_longest, summary_parts, table_parts, table_start, tables_parts, tile, tile_end, tile_start, tiles, timed_tiles, took_tile, unknown_parts, why_parts}
+use Rattle.redo_page.specs.Summary.{at_once_parts, failed_counts, known_count, largest_of, measure_parts, rank_parts, shown_longest, summary_parts, table_parts, table_start, tables_parts, tile, tile_start, tiles, why_parts}
 use Rattle.redo_page.specs.Tree.{root_failures, node_at}
 use Rattle.redo_page.specs.Words.{word_part, words_parts}
 use Rattle.redo_summary.specs.declared.rank.Rank.{Rank}
@@ -19,7 +19,7 @@ use Rattle.redo_summary.specs.Summary.{Facts, is_timed}
 use Rattle.redo_units.specs.Durations.{duration_words}
 use Rattle.redo_units.specs.Sizes.{size_words, tenths_words}
 use Rattle.redo_units.specs.Words.{WordValue}
-use Rattle.redo_page.proofs.Nesting.{Leads, Nest, joined, lead_in, nest_each, nest_if, then_lead}
+use Rattle.redo_page.proofs.Nesting.{Nest, joined, lead_in, nest_each, nest_if, then_lead}
 use Rattle.redo_page.proofs.TargetNesting.{badge_nests, linked_nests, word_nests}
 
 plain_nests : (words : List WordValue) → Nest (words_parts words)

@@ -1,7 +1,7 @@
 -- The timeline's elements nest, and its links lead to targets.
-use Rattle.std.proofs.Common.{◌≡◌, ℕ, ◌<◌, Bool, true, false, List, [], ◌∷◌, ◌++◌, Option, None, Some, refl, sym, ◌∙◌, ap}
+use Rattle.std.proofs.Common.{◌≡◌, ℕ, Bool, true, false, List, [], ◌∷◌, ◌++◌, Option, None, Some, refl, ◌∙◌, ap}
 use Rattle.std.specs.Prelude.{◌==◌, codes, length, nat_lt, not}
-use Rattle.std.specs.List.{AllByRecursion, list_all}
+use Rattle.std.specs.List.{list_all}
 use Rattle.std.proofs.lemmas.Bool.{and_from, lt-ltb}
 use Rattle.std.proofs.lemmas.Grind.{flat_map-append}
 use Rattle.std.proofs.lemmas.List.{append-nil}
@@ -18,7 +18,7 @@ use Rattle.redo_outline.specs.declared.node.Node.{Node}
 use Rattle.redo_page.specs.declared.labels.TheConstants.{TIMELINE}
 use Rattle.redo_page.specs.Summary.{known_count}
 use Rattle.redo_page.specs.Targets.{parts_if}
-use Rattle.redo_page.specs.Timeline.{facts_drawing, marks_parts, timeline_end, timeline_if, timeline_parts, timeline_section, timeline_start}
+use Rattle.redo_page.specs.Timeline.{facts_drawing, marks_parts, timeline_if, timeline_parts, timeline_section, timeline_start}
 use Rattle.redo_summary.specs.Laws.{AreSpansBelow}
 use Rattle.redo_summary.specs.Summary.{Facts, is_timed}
 use Rattle.redo_timeline.specs.declared.span.Span.{Span}

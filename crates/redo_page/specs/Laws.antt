@@ -26,7 +26,7 @@ use Rattle.redo_chart.specs.Laws.{DrawsAll, shapes_of}
 use Rattle.redo_summary.specs.Summary.{is_timed}
 use Rattle.redo_timeline.specs.declared.span.Span.{Span}
 use Rattle.redo_timeline.specs.declared.span.Window.{Window}
-use Rattle.redo_page.specs.Tree.{Build, articles, is_moved_if, is_same_position, node_at, tree_parts}
+use Rattle.redo_page.specs.Tree.{Build, is_moved_if, is_same_position, node_at, tree_parts}
 use Rattle.redo_page.specs.Limits.{tree_limits}
 use Rattle.redo_trim.specs.declared.limit.Limit.{Limit}
 use Rattle.redo_trim.specs.Trim.{limit_of}

@@ -1,4 +1,4 @@
-use Rattle.std.proofs.Common.{◌≡◌, ◌-◌, ◌/◌, ◌<◌, ◌≤◌, sym, arith, ◌∙◌}
+use Rattle.std.proofs.Common.{◌-◌, ◌/◌, ◌<◌, ◌≤◌, sym, arith, ◌∙◌}
 use Rattle.redo_page.proofs.LimitLemmas.{lower_counts}
 use Rattle.redo_page.proofs.limits.highest_cap.Goals as goal
 

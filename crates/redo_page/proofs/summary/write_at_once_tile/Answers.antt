@@ -1,5 +1,4 @@
 use Rattle.std.proofs.Common.{◌∷◌, [], ◌++◌, ◌∙◌}
-use Rattle.std.specs.Prelude.{codes}
 use Rattle.redo_html.specs.Parts.Part.{TextPart, NumberPart}
 use Rattle.redo_units.specs.Sizes.{tenths_words}
 use Rattle.redo_page.specs.declared.labels.TheConstants.{AT_MOST, AT_ONCE}

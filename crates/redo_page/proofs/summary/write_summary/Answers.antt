@@ -1,5 +1,4 @@
 use Rattle.std.proofs.Common.{ap, length, ◌∷◌, [], ◌++◌, ◌∙◌}
-use Rattle.std.specs.Prelude.{codes}
 use Rattle.redo_html.specs.declared.markup.Markup.TheVariants as markup
 use Rattle.redo_html.specs.Parts.Part.{MarkupPart, TextPart}
 use Rattle.redo_page.specs.declared.labels.TheConstants.{SUMMARY}

@@ -1,5 +1,4 @@
 use Rattle.std.proofs.Common.{ap, ◌∷◌, [], ◌++◌, ◌∙◌}
-use Rattle.std.specs.Prelude.{codes}
 use Rattle.redo_html.specs.Parts.Part.{NumberPart}
 use Rattle.redo_units.specs.Sizes.{size_words}
 use Rattle.redo_page.specs.declared.labels.TheConstants.{FAILED, LOGS, TARGETS, WARNED_LINES}

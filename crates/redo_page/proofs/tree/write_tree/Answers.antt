@@ -1,8 +1,7 @@
-use Rattle.std.proofs.Common.{◌≡◌, List, ℕ, [], Err, length, subst, sym, ap, ◌∙◌}
+use Rattle.std.proofs.Common.{◌≡◌, List, ℕ, [], Err, length, subst, ap, ◌∙◌}
 use Rattle.std.specs.List.{flat_map}
 use Rattle.std.proofs.lemmas.Result.{err_from_is_err_and}
 use Rattle.redo_html.specs.Parts.{part_html}
-use Rattle.redo_outline.specs.Contents.{Contents, contents_of}
 use Rattle.redo_trim.specs.Trim.{trimmed}
 use Rattle.redo_trim.specs.declared.limit.Limit.{Limit}
 use Rattle.redo_view.specs.declared.form.FormFault.TheVariants.{Write}
