@@ -15,7 +15,7 @@ use Rattle.memchr.specs.Find.{IsLastByte, is_byte}
 use Rattle.redo_device.specs.declared.feed.Broken.{Broken}
 use Rattle.redo_device.specs.Sink.{Output, Writes, append_output}
 use Rattle.redo_html.specs.declared.chart.ChartItem.{ChartItem}
-use Rattle.redo_html.specs.declared.chart.GroupKind.TheVariants.{Axis, Parents, Recipes, Untimed}
+use Rattle.redo_html.specs.declared.chart.GroupKind.TheVariants.{Axis, Callers, Recipes, Untimed}
 use Rattle.redo_html.specs.Chart.{Layer, Shape, drawing_nodes, nodes_html, shape_of}
 use Rattle.redo_logs.specs.Logs.{Log}
 use Rattle.redo_outline.specs.declared.node.Node.{Node}
@@ -28,7 +28,7 @@ use Rattle.redo_view.specs.declared.form.FormFault.TheVariants.{Write, OutOfMemo
 use Rattle.redo_view.specs.Form.{FormWrites}
 use Rattle.redo_chart.specs.declared.band.Band.{Band}
 use Rattle.redo_chart.specs.Axis.{axis_shapes, last_tick, tick_shapes}
-use Rattle.redo_chart.specs.Bands.{below, marks_band, parents_band, recipe_lane_height, recipes_band}
+use Rattle.redo_chart.specs.Bands.{below, marks_band, callers_band, recipe_lane_height, recipes_band}
 use Rattle.redo_chart.specs.Bars.{bar_shapes}
 use Rattle.redo_chart.specs.Private.Fitting.{AllFit, Fits, texts_in, tick_texts}
 use Rattle.redo_chart.specs.Private.Layering.{drawing_with, layer_with}
@@ -154,25 +154,25 @@ low_lanes lanes = by (leb lanes 16) (leb lanes 40)
     by false true = omega arith
     by false false = omega arith
 
-pub recipes_top : (parent_lanes lanes : ℕ) → parent_lanes ≤ 24 → (recipes_band parent_lanes lanes).top ≤ 10000
-recipes_top parent_lanes lanes few = omega (arith, few)
+pub recipes_top : (caller_lanes lanes : ℕ) → caller_lanes ≤ 24 → (recipes_band caller_lanes lanes).top ≤ 10000
+recipes_top caller_lanes lanes few = omega (arith, few)
 
-pub marks_top : (parent_lanes lanes : ℕ) → parent_lanes ≤ 24 → lanes ≤ 96 → (marks_band parent_lanes lanes).top ≤ 10000
-marks_top parent_lanes lanes few some =
+pub marks_top : (caller_lanes lanes : ℕ) → caller_lanes ≤ 24 → lanes ≤ 96 → (marks_band caller_lanes lanes).top ≤ 10000
+marks_top caller_lanes lanes few some =
     let most : recipe_lane_height lanes * lanes ≤ 18 * 96 = mul-le (recipe_lane_height lanes) lanes 18 96 (low_lanes lanes) some in
     omega (arith, few, most)
 
 -- ---- the chart
 
-pub same_drawing : (logs : List Log) (nodes : List Node) (width : ℕ) (parents recipes marks : Timeline) (height lanes bottom : ℕ) (upper middle lower : Band) (axis_items parent_items recipe_items mark_items : List Shape)
-    → upper ≡ parents_band → middle ≡ recipes_band parents.lane_count recipes.lane_count → lower ≡ marks_band parents.lane_count recipes.lane_count
+pub same_drawing : (logs : List Log) (nodes : List Node) (width : ℕ) (callers recipes marks : Timeline) (height lanes bottom : ℕ) (upper middle lower : Band) (axis_items caller_items recipe_items mark_items : List Shape)
+    → upper ≡ callers_band → middle ≡ recipes_band callers.lane_count recipes.lane_count → lower ≡ marks_band callers.lane_count recipes.lane_count
     → height ≡ below lower marks.lane_count → bottom ≡ height - 4 → lanes ≡ recipes.lane_count
-    → axis_items ≡ axis_shapes bottom width → parent_items ≡ bar_shapes logs nodes upper parents.bars → recipe_items ≡ bar_shapes logs nodes middle recipes.bars → mark_items ≡ bar_shapes logs nodes lower marks.bars
-    → drawing_with height lanes axis_items parent_items recipe_items mark_items ≡ drawing_of logs nodes width parents recipes marks
-same_drawing logs nodes width parents recipes marks height lanes bottom upper middle lower axis_items parent_items recipe_items mark_items upper_is middle_is lower_is height_is bottom_is lanes_are axis_is parents_are recipes_are marks_are =
-    let high : height ≡ height_of parents.lane_count recipes.lane_count marks.lane_count = height_is ∙ ap (λ (band : Band). below band marks.lane_count) lower_is in
+    → axis_items ≡ axis_shapes bottom width → caller_items ≡ bar_shapes logs nodes upper callers.bars → recipe_items ≡ bar_shapes logs nodes middle recipes.bars → mark_items ≡ bar_shapes logs nodes lower marks.bars
+    → drawing_with height lanes axis_items caller_items recipe_items mark_items ≡ drawing_of logs nodes width callers recipes marks
+same_drawing logs nodes width callers recipes marks height lanes bottom upper middle lower axis_items caller_items recipe_items mark_items upper_is middle_is lower_is height_is bottom_is lanes_are axis_is callers_are recipes_are marks_are =
+    let high : height ≡ height_of callers.lane_count recipes.lane_count marks.lane_count = height_is ∙ ap (λ (band : Band). below band marks.lane_count) lower_is in
     let axis = axis_is ∙ ap (λ (n : ℕ). axis_shapes n width) (bottom_is ∙ ap (λ (n : ℕ). n - 4) high) in
-    let first = parents_are ∙ ap (λ (band : Band). bar_shapes logs nodes band parents.bars) upper_is in
+    let first = callers_are ∙ ap (λ (band : Band). bar_shapes logs nodes band callers.bars) upper_is in
     let second = recipes_are ∙ ap (λ (band : Band). bar_shapes logs nodes band recipes.bars) middle_is in
     let third = marks_are ∙ ap (λ (band : Band). bar_shapes logs nodes band marks.bars) lower_is in
     λ i. drawing_with (high i) (lanes_are i) (axis i) (first i) (second i) (third i)
@@ -202,10 +202,10 @@ pub all_written : (before after : Option Output) (text other : List ℕ) (done :
 all_written before after text other done same wrote = subst (λ (t : List ℕ). Writes before after t (Ok done)) same wrote
 
 -- The chart of these layers.
-pub wrote_layers : (before after : Option Output) (height lanes : ℕ) (axis parents recipes marks : Layer) (axis_shapes parent_shapes recipe_shapes mark_shapes : List Shape) (result : Result (Unit {0}) Broken)
-    → axis ≡ layer_with Axis axis_shapes → parents ≡ layer_with Parents parent_shapes → recipes ≡ layer_with Recipes recipe_shapes → marks ≡ layer_with Untimed mark_shapes
-    → Writes before after (nodes_html (drawing_nodes (record { height = height; lanes = lanes; layers = axis ∷ parents ∷ recipes ∷ marks ∷ [] }))) result
-    → Writes before after (nodes_html (drawing_nodes (drawing_with height lanes axis_shapes parent_shapes recipe_shapes mark_shapes))) result
-wrote_layers before after height lanes axis parents recipes marks axis_shapes parent_shapes recipe_shapes mark_shapes result a p r m wrote =
-    let same : axis ∷ parents ∷ recipes ∷ marks ∷ [] ≡ layer_with Axis axis_shapes ∷ layer_with Parents parent_shapes ∷ layer_with Recipes recipe_shapes ∷ layer_with Untimed mark_shapes ∷ [] = cc in
+pub wrote_layers : (before after : Option Output) (height lanes : ℕ) (axis callers recipes marks : Layer) (axis_shapes caller_shapes recipe_shapes mark_shapes : List Shape) (result : Result (Unit {0}) Broken)
+    → axis ≡ layer_with Axis axis_shapes → callers ≡ layer_with Callers caller_shapes → recipes ≡ layer_with Recipes recipe_shapes → marks ≡ layer_with Untimed mark_shapes
+    → Writes before after (nodes_html (drawing_nodes (record { height = height; lanes = lanes; layers = axis ∷ callers ∷ recipes ∷ marks ∷ [] }))) result
+    → Writes before after (nodes_html (drawing_nodes (drawing_with height lanes axis_shapes caller_shapes recipe_shapes mark_shapes))) result
+wrote_layers before after height lanes axis callers recipes marks axis_shapes caller_shapes recipe_shapes mark_shapes result a p r m wrote =
+    let same : axis ∷ callers ∷ recipes ∷ marks ∷ [] ≡ layer_with Axis axis_shapes ∷ layer_with Callers caller_shapes ∷ layer_with Recipes recipe_shapes ∷ layer_with Untimed mark_shapes ∷ [] = cc in
     subst (λ (layers : List Layer). Writes before after (nodes_html (drawing_nodes (record { height = height; lanes = lanes; layers = layers }))) result) same wrote

@@ -3,12 +3,13 @@ use Rattle.std.proofs.Common.{◌≡◌, ℕ, Bool, true, false, List, [], ◌�
 use Rattle.std.specs.Fmt.{digits}
 use Rattle.std.specs.Prelude.{codes}
 use Rattle.redo_html.specs.declared.chart.Anchor.TheVariants.{Start, Middle, End}
-use Rattle.redo_html.specs.declared.chart.GroupKind.TheVariants.{Axis, Parents, Recipes, Untimed}
+use Rattle.redo_html.specs.declared.chart.GroupKind.TheVariants.{Axis, Callers, Recipes, Untimed}
 use Rattle.redo_html.specs.Chart.{Drawing, Layer, Shape, drawing_links}
 use Rattle.redo_html.specs.Chart.Shape.{BarShape, LineShape, TickShape}
 use Rattle.redo_logs.specs.declared.log_state.LogState.TheVariants.{Ended}
 use Rattle.redo_logs.specs.Logs.{Log}
 use Rattle.redo_outline.specs.declared.node.Node.{Node}
+use Rattle.redo_outline.proofs.Nodes.{no_node}
 use Rattle.redo_timeline.specs.declared.bar.Bar.{Bar}
 use Rattle.redo_timeline.specs.declared.span.Span.{Span}
 use Rattle.redo_timeline.specs.declared.span.Window.{Window}
@@ -16,7 +17,7 @@ use Rattle.redo_units.specs.Durations.{duration_words}
 use Rattle.redo_units.specs.Ticks.{tick_step_of, tick_words}
 use Rattle.redo_units.specs.Words.{decimal_text}
 use Rattle.redo_chart.specs.Axis.{anchor_of, axis_shapes}
-use Rattle.redo_chart.specs.Bands.{below, marks_band, max_mark_lanes, max_parent_lanes, max_recipe_lanes, parents_band, recipe_lane_height, recipes_band}
+use Rattle.redo_chart.specs.Bands.{below, marks_band, max_mark_lanes, max_caller_lanes, max_recipe_lanes, callers_band, recipe_lane_height, recipes_band}
 use Rattle.redo_chart.specs.Bars.{bar_layer, drawn_bar, label_of}
 use Rattle.redo_chart.specs.Laws.{shapes_of}
 use Rattle.redo_chart.specs.Targets.{after_last_slash, last_part, name_at, status_at}
@@ -27,22 +28,7 @@ abbrev pub log : List ℕ → Log
 log target = record { target = target; entries = []; state = Ended }
 
 abbrev pub node : ℕ → Option ℤ → Node
-node number status = record {
-  number = number;
-  parent = None;
-  status = status;
-  lines = 0;
-  bytes = 0;
-  warnings = 0;
-  below = 0;
-  children = 0;
-  others = false;
-  warnings_below = 0;
-  fails_below = false;
-  silent = 0;
-  took = None;
-  ended = None;
-}
+node number status = record no_node { number = number; status = status }
 
 abbrev pub logs : List Log
 logs = log (codes "all") ∷ log (codes "out/a.o") ∷ log (codes "out/b.o") ∷ log (codes "t") ∷ []
@@ -72,17 +58,17 @@ unfolding decimal_text digits
 statuses = refl
 
 durations :
-    duration_after (codes ", ") Parents 1234 ∷ duration_after (codes " in ") Recipes 125000 ∷ duration_after (codes ", ") Untimed 1234 ∷ duration_after (codes ", ") Axis 1234 ∷ []
+    duration_after (codes ", ") Callers 1234 ∷ duration_after (codes " in ") Recipes 125000 ∷ duration_after (codes ", ") Untimed 1234 ∷ duration_after (codes ", ") Axis 1234 ∷ []
     ≡ codes ", 1.23 s" ∷ codes " in 2 min 05 s" ∷ [] ∷ [] ∷ []
 unfolding duration_words decimal_text digits
 durations = refl
 
--- A bar of the target at this place, or of several of which it is the first.
+-- A bar of the target at this position, or of several of which it is the first.
 abbrev bar : ℕ → ℕ → ℕ → ℕ → Bar
-bar place count began ended = record { lane = 2; x = 7; width = 350; place = place; count = count; began = began; ended = ended; failed = true }
+bar position count began ended = record { lane = 2; x = 7; width = 350; position = position; count = count; began = began; ended = ended; failed = true }
 
 titles :
-    title_of logs nodes Recipes (bar 0 1 1000 2500) ∷ title_of logs nodes Parents (bar 1 1 0 60000) ∷ title_of logs nodes Recipes (bar 2 1 9 5) ∷ title_of logs nodes Untimed (bar 3 1 5 5) ∷ title_of logs nodes Recipes (bar 2 3 10 30)
+    title_of logs nodes Recipes (bar 0 1 1000 2500) ∷ title_of logs nodes Callers (bar 1 1 0 60000) ∷ title_of logs nodes Recipes (bar 2 1 9 5) ∷ title_of logs nodes Untimed (bar 3 1 5 5) ∷ title_of logs nodes Recipes (bar 2 3 10 30)
     ∷ title_of logs nodes Untimed (bar 3 12 10 30) ∷ []
     ≡ codes "out/b.o, 1.50 s, exit -1" ∷ codes "all, 1 min 00 s, not closed" ∷ codes "out/a.o, 0.00 s" ∷ codes "t, exit 12" ∷ codes "3 targets in 0.02 s, from out/a.o" ∷ codes "12 targets, from t" ∷ []
 unfolding duration_words decimal_text digits
@@ -94,16 +80,16 @@ lane_heights : recipe_lane_height 0 ∷ recipe_lane_height 16 ∷ recipe_lane_he
 lane_heights = refl
 
 bands :
-    (parents_band ≡ record { kind = Parents; top = 20; lane_height = 14 }) × (recipes_band 0 0 ≡ record { kind = Recipes; top = 26; lane_height = 18 })
+    (callers_band ≡ record { kind = Callers; top = 20; lane_height = 14 }) × (recipes_band 0 0 ≡ record { kind = Recipes; top = 26; lane_height = 18 })
     × (recipes_band 2 20 ≡ record { kind = Recipes; top = 54; lane_height = 12 }) × (marks_band 2 20 ≡ record { kind = Untimed; top = 300; lane_height = 14 })
-    × (marks_band 24 96 ≡ record { kind = Untimed; top = 1136; lane_height = 14 }) × (height_of 2 20 1 ≡ 320) × (height_of 0 0 0 ≡ 38) × (below parents_band 3 ≡ 68)
-    × (max_parent_lanes ∷ max_recipe_lanes ∷ max_mark_lanes ∷ [] ≡ 24 ∷ 96 ∷ 1 ∷ [])
+    × (marks_band 24 96 ≡ record { kind = Untimed; top = 1136; lane_height = 14 }) × (height_of 2 20 1 ≡ 320) × (height_of 0 0 0 ≡ 38) × (below callers_band 3 ≡ 68)
+    × (max_caller_lanes ∷ max_recipe_lanes ∷ max_mark_lanes ∷ [] ≡ 24 ∷ 96 ∷ 1 ∷ [])
 bands = (refl, refl, refl, refl, refl, refl, refl, refl, refl)
 
 -- ---- bars
 
 abbrev wide : ℕ → Bar
-wide width = record { lane = 2; x = 7; width = width; place = 0; count = 1; began = 1000; ended = 2500; failed = true }
+wide width = record { lane = 2; x = 7; width = width; position = 0; count = 1; began = 1000; ended = 2500; failed = true }
 
 labels :
     (label_of (codes "out/b.o") 13 (wide 350) ≡ Some (codes "b.o")) × (label_of (codes "out/b.o") 13 (wide 349) ≡ None) × (label_of (codes "out/b.o") 12 (wide 350) ≡ None) × (label_of (codes "b/") 18 (wide 5000) ≡ None)
@@ -111,16 +97,16 @@ labels = (refl, refl, refl, refl)
 
 drawn :
     (drawn_bar logs nodes (recipes_band 1 3) (wide 400)
-    ≡ record { place = 0; x = 7; y = 76; width = 400; height = 16; failed = true; title = codes "out/b.o, 1.50 s, exit -1"; label = Some (codes "b.o") })
-    × (drawn_bar logs nodes (marks_band 1 3) (wide 30) ≡ record { place = 0; x = 7; y = 128; width = 30; height = 12; failed = true; title = codes "out/b.o, exit -1"; label = None })
-    × (bar_layer logs nodes parents_band [] ≡ record { kind = Parents; shapes = [] })
+    ≡ record { target = 0; x = 7; y = 76; width = 400; height = 16; failed = true; title = codes "out/b.o, 1.50 s, exit -1"; label = Some (codes "b.o") })
+    × (drawn_bar logs nodes (marks_band 1 3) (wide 30) ≡ record { target = 0; x = 7; y = 128; width = 30; height = 12; failed = true; title = codes "out/b.o, exit -1"; label = None })
+    × (bar_layer logs nodes callers_band [] ≡ record { kind = Callers; shapes = [] })
 unfolding duration_words decimal_text digits
 drawn = (refl, refl, refl)
 
 -- A bar of the fourth target, in the sixth lane.
 drawn_lower :
-    drawn_bar logs nodes (recipes_band 1 3) (record { lane = 5; x = 9; width = 400; place = 3; count = 1; began = 1000; ended = 2500; failed = false })
-    ≡ record { place = 3; x = 9; y = 130; width = 400; height = 16; failed = false; title = codes "t, 1.50 s, exit 12"; label = Some (codes "t") }
+    drawn_bar logs nodes (recipes_band 1 3) (record { lane = 5; x = 9; width = 400; position = 3; count = 1; began = 1000; ended = 2500; failed = false })
+    ≡ record { target = 3; x = 9; y = 130; width = 400; height = 16; failed = false; title = codes "t, 1.50 s, exit 12"; label = Some (codes "t") }
 unfolding duration_words decimal_text digits
 drawn_lower = refl
 
@@ -143,7 +129,7 @@ axes = (refl, refl, refl)
 -- ---- charts
 
 abbrev pub span : ℕ → ℕ → ℕ → Bool → Span
-span place began ended failed = record { began = began; place = place; ended = ended; failed = failed }
+span position began ended failed = record { began = began; position = position; ended = ended; failed = failed }
 
 -- A window in which a unit is a millisecond.
 abbrev pub window : Window
@@ -155,10 +141,10 @@ chart =
     (span 2 1000 5000 false ∷ span 0 3000 10500 true ∷ span 4 6000 6010 false ∷ span 3 6012 6020 false ∷ []) (span 3 11000 11000 true ∷ [])
 
 abbrev drawn_at : ℕ → ℕ → ℕ → ℕ → ℕ → Bool → List ℕ → Option (List ℕ) → Shape
-drawn_at place x y width height failed title label =
-    BarShape (record { place = place; x = x; y = y; width = width; height = height; failed = failed; title = title; label = label })
+drawn_at position x y width height failed title label =
+    BarShape (record { target = position; x = x; y = y; width = width; height = height; failed = failed; title = title; label = label })
 
-sizes : (chart.height ≡ 102) × (chart.lanes ≡ 2) × (map (λ (layer : Layer). layer.kind) chart.layers ≡ Axis ∷ Parents ∷ Recipes ∷ Untimed ∷ [])
+sizes : (chart.height ≡ 102) × (chart.lanes ≡ 2) × (map (λ (layer : Layer). layer.kind) chart.layers ≡ Axis ∷ Callers ∷ Recipes ∷ Untimed ∷ [])
 unfolding tick_step_of
 sizes = (refl, refl, refl)
 
@@ -166,9 +152,9 @@ axis_drawn : shapes_of Axis chart ≡ axis_shapes 98 10000
 unfolding tick_step_of
 axis_drawn = refl
 
-parents_drawn : shapes_of Parents chart ≡ drawn_at 1 0 20 10000 12 false (codes "all, 10.0 s, not closed") (Some (codes "all")) ∷ []
+callers_drawn : shapes_of Callers chart ≡ drawn_at 1 0 20 10000 12 false (codes "all, 10.0 s, not closed") (Some (codes "all")) ∷ []
 unfolding tick_step_of duration_words decimal_text digits
-parents_drawn = refl
+callers_drawn = refl
 
 -- The last two have one bar, after the first one in its lane.
 recipes_drawn :

@@ -14,7 +14,7 @@ use Rattle.redo_outline.specs.declared.node.Node.{Node}
 use Rattle.redo_timeline.specs.declared.bar.Bar.{Bar}
 use Rattle.redo_timeline.specs.declared.span.Span.{Span}
 use Rattle.redo_timeline.specs.declared.span.Window.{Window}
-use Rattle.redo_timeline.specs.Bars.{bar_of, bars_from, bars_in, began_of, joins, place_of, units}
+use Rattle.redo_timeline.specs.Bars.{bar_of, bars_from, bars_in, began_of, joins, position_of, units}
 use Rattle.redo_timeline.specs.Lanes.{ended_of, lanes_of}
 use Rattle.redo_timeline.specs.Laws.{EachBar}
 use Rattle.redo_timeline.specs.Timeline.{bars_of, drawn_bars, timeline_of}
@@ -23,7 +23,7 @@ use Rattle.redo_timeline.proofs.CoverLemmas.{Includes as InTime}
 use Rattle.redo_timeline.proofs.LawLemmas.{all_imply, drawn_once, joined, joined_narrow, lanes-permutation}
 use Rattle.redo_chart.specs.declared.band.Band.{Band}
 use Rattle.redo_chart.specs.Axis.{last_tick, tick_shapes}
-use Rattle.redo_chart.specs.Bands.{marks_band, max_mark_lanes, max_parent_lanes, max_recipe_lanes, parents_band, recipes_band}
+use Rattle.redo_chart.specs.Bands.{marks_band, max_mark_lanes, max_caller_lanes, max_recipe_lanes, callers_band, recipes_band}
 use Rattle.redo_chart.specs.Bars.{bar_shapes, drawn_bar, label_of}
 use Rattle.redo_chart.specs.Laws.{Draws, DrawsAll, Includes, all_bars, are_below}
 use Rattle.redo_chart.specs.Targets.{last_part, name_at}
@@ -49,48 +49,48 @@ axis_links : (bottom width step : ℕ) (ticks : List ℕ) → flat_map shape_lin
 axis_links bottom width step [] = refl
 axis_links bottom width step (i ∷ ticks) = axis_links bottom width step ticks
 
-bar_links : (logs : List Log) (nodes : List Node) (band : Band) (bars : List Bar) → flat_map shape_links (bar_shapes logs nodes band bars) ≡ map (λ (bar : Bar). bar.place) bars
+bar_links : (logs : List Log) (nodes : List Node) (band : Band) (bars : List Bar) → flat_map shape_links (bar_shapes logs nodes band bars) ≡ map (λ (bar : Bar). bar.position) bars
 bar_links logs nodes band [] = refl
-bar_links logs nodes band (bar ∷ bars) = ap (λ (links : List ℕ). bar.place ∷ links) (bar_links logs nodes band bars)
+bar_links logs nodes band (bar ∷ bars) = ap (λ (links : List ℕ). bar.position ∷ links) (bar_links logs nodes band bars)
 
 module _ (window : Window) (count : ℕ) where
   abbrev is_below : ℕ → Bool
-  is_below place = nat_lt place count
+  is_below position = nat_lt position count
 
-  place_below : (bar : List Span) (span : Span) → is_below (place_of bar) ≡ true → is_below span.place ≡ true → is_below (place_of (bar ++ span ∷ [])) ≡ true
-  place_below [] span first below = below
-  place_below (other ∷ rest) span first below = first
+  position_below : (bar : List Span) (span : Span) → is_below (position_of bar) ≡ true → is_below span.position ≡ true → is_below (position_of (bar ++ span ∷ [])) ≡ true
+  position_below [] span first below = below
+  position_below (other ∷ rest) span first below = first
 
-  bars_from_below : (bar rest : List Span) → is_below (place_of bar) ≡ true → are_below count rest ≡ true → list_all (λ (bar : List Span). is_below (place_of bar)) (bars_from window bar rest) ≡ true
+  bars_from_below : (bar rest : List Span) → is_below (position_of bar) ≡ true → are_below count rest ≡ true → list_all (λ (bar : List Span). is_below (position_of bar)) (bars_from window bar rest) ≡ true
   bars_from_below bar [] first below = and_both _ true first refl
   bars_from_below bar (span ∷ rest) first below =
       by (joins window bar span)
-      (bars_from_below (bar ++ span ∷ []) rest (place_below bar span first (and_left _ _ below)) (and_right (is_below span.place) _ below))
-      (bars_from_below (span ∷ []) rest (and_left _ _ below) (and_right (is_below span.place) _ below))
+      (bars_from_below (bar ++ span ∷ []) rest (position_below bar span first (and_left _ _ below)) (and_right (is_below span.position) _ below))
+      (bars_from_below (span ∷ []) rest (and_left _ _ below) (and_right (is_below span.position) _ below))
     where
-      by : (b : Bool) → list_all (λ (bar : List Span). is_below (place_of bar)) (bars_from window (bar ++ span ∷ []) rest) ≡ true → list_all (λ (bar : List Span). is_below (place_of bar)) (bars_from window (span ∷ []) rest) ≡ true
-          → list_all (λ (bar : List Span). is_below (place_of bar)) (cond b (bars_from window (bar ++ span ∷ []) rest) (bar ∷ bars_from window (span ∷ []) rest)) ≡ true
+      by : (b : Bool) → list_all (λ (bar : List Span). is_below (position_of bar)) (bars_from window (bar ++ span ∷ []) rest) ≡ true → list_all (λ (bar : List Span). is_below (position_of bar)) (bars_from window (span ∷ []) rest) ≡ true
+          → list_all (λ (bar : List Span). is_below (position_of bar)) (cond b (bars_from window (bar ++ span ∷ []) rest) (bar ∷ bars_from window (span ∷ []) rest)) ≡ true
       by true more next = more
       by false more next = and_both _ _ first next
 
-  bars_in_below : (spans : List Span) → are_below count spans ≡ true → list_all (λ (bar : List Span). is_below (place_of bar)) (bars_in window spans) ≡ true
+  bars_in_below : (spans : List Span) → are_below count spans ≡ true → list_all (λ (bar : List Span). is_below (position_of bar)) (bars_in window spans) ≡ true
   bars_in_below [] below = refl
-  bars_in_below (span ∷ rest) below = bars_from_below (span ∷ []) rest (and_left _ _ below) (and_right (is_below span.place) _ below)
+  bars_in_below (span ∷ rest) below = bars_from_below (span ∷ []) rest (and_left _ _ below) (and_right (is_below span.position) _ below)
 
-  lane_below : (lane : ℕ) (bars : List (List Span)) (rest : List Bar) → list_all (λ (bar : List Span). is_below (place_of bar)) bars ≡ true → list_all is_below (map (λ (bar : Bar). bar.place) rest) ≡ true
-      → list_all is_below (map (λ (bar : Bar). bar.place) (map (bar_of window lane) bars ++ rest)) ≡ true
+  lane_below : (lane : ℕ) (bars : List (List Span)) (rest : List Bar) → list_all (λ (bar : List Span). is_below (position_of bar)) bars ≡ true → list_all is_below (map (λ (bar : Bar). bar.position) rest) ≡ true
+      → list_all is_below (map (λ (bar : Bar). bar.position) (map (bar_of window lane) bars ++ rest)) ≡ true
   lane_below lane [] rest below others = others
-  lane_below lane (bar ∷ bars) rest below others = and_both _ _ (and_left _ _ below) (lane_below lane bars rest (and_right (is_below (place_of bar)) _ below) others)
+  lane_below lane (bar ∷ bars) rest below others = and_both _ _ (and_left _ _ below) (lane_below lane bars rest (and_right (is_below (position_of bar)) _ below) others)
 
-  lanes_below : (lane : ℕ) (lanes : List (List Span)) → are_below count (joined lanes) ≡ true → list_all is_below (map (λ (bar : Bar). bar.place) (drawn_bars window lane (map (bars_in window) lanes))) ≡ true
+  lanes_below : (lane : ℕ) (lanes : List (List Span)) → are_below count (joined lanes) ≡ true → list_all is_below (map (λ (bar : Bar). bar.position) (drawn_bars window lane (map (bars_in window) lanes))) ≡ true
   lanes_below lane [] below = refl
   lanes_below lane (spans ∷ lanes) below =
-      let both = sym (list_all-append (λ (span : Span). nat_lt span.place count) spans (joined lanes)) ∙ below in
+      let both = sym (list_all-append (λ (span : Span). nat_lt span.position count) spans (joined lanes)) ∙ below in
       lane_below lane (bars_in window spans) (drawn_bars window (lane + 1) (map (bars_in window) lanes)) (bars_in_below spans (and_left _ _ both)) (lanes_below (lane + 1) lanes (and_right (are_below count spans) _ both))
 
   group_below : (logs : List Log) (nodes : List Node) (band : Band) (max_lanes : ℕ) (spans : List Span) → are_below count spans ≡ true → list_all is_below (flat_map shape_links (bar_shapes logs nodes band ((timeline_of window max_lanes spans).bars))) ≡ true
   group_below logs nodes band max_lanes spans below =
-      let test : Span → Bool = λ span. nat_lt span.place count in
+      let test : Span → Bool = λ span. nat_lt span.position count in
       let lanes = lanes_of max_lanes spans in
       let all = list_all-from_AllPass test (joined lanes) (All-permutation (λ (span : Span). test span ≡ true) spans (joined lanes) (lanes-permutation max_lanes spans) (AllPass-from_list_all test spans below)) in
       ap (list_all is_below) (bar_links logs nodes band ((timeline_of window max_lanes spans).bars)) ∙ lanes_below 0 lanes all
@@ -101,20 +101,20 @@ module _ (window : Window) (count : ℕ) where
       ∙ and_both _ _ a (list_all-append is_below second (third ++ []) ∙ and_both _ _ b (list_all-append is_below third [] ∙ and_both _ true c refl))
 
   -- The links of a chart: its axis has none.
-  pub links_below : (logs : List Log) (nodes : List Node) (parents recipes marks : List Span) → are_below count (parents ++ (recipes ++ marks)) ≡ true → list_all is_below (drawing_links (timeline_drawing logs nodes window parents recipes marks)) ≡ true
-  links_below logs nodes parents recipes marks below =
-      let test : Span → Bool = λ span. nat_lt span.place count in
-      let split = sym (list_all-append test parents (recipes ++ marks)) ∙ below in
-      let others = sym (list_all-append test recipes marks) ∙ and_right (are_below count parents) _ split in
-      let first = timeline_of window max_parent_lanes parents in
+  pub links_below : (logs : List Log) (nodes : List Node) (callers recipes marks : List Span) → are_below count (callers ++ (recipes ++ marks)) ≡ true → list_all is_below (drawing_links (timeline_drawing logs nodes window callers recipes marks)) ≡ true
+  links_below logs nodes callers recipes marks below =
+      let test : Span → Bool = λ span. nat_lt span.position count in
+      let split = sym (list_all-append test callers (recipes ++ marks)) ∙ below in
+      let others = sym (list_all-append test recipes marks) ∙ and_right (are_below count callers) _ split in
+      let first = timeline_of window max_caller_lanes callers in
       let second = timeline_of window max_recipe_lanes recipes in
       let third = timeline_of window max_mark_lanes marks in
-      let upper = flat_map shape_links (bar_shapes logs nodes parents_band first.bars) in
+      let upper = flat_map shape_links (bar_shapes logs nodes callers_band first.bars) in
       let middle = flat_map shape_links (bar_shapes logs nodes (recipes_band first.lane_count second.lane_count) second.bars) in
       let lower = flat_map shape_links (bar_shapes logs nodes (marks_band first.lane_count second.lane_count) third.bars) in
       ap (λ (links : List ℕ). list_all is_below (links ++ (upper ++ (middle ++ (lower ++ [])))))
       (axis_links (height_of first.lane_count second.lane_count third.lane_count - 4) window.width (tick_step_of window.width) (range_with_len 0 (last_tick window.width + 1)))
-      ∙ all_below upper middle lower (group_below logs nodes parents_band max_parent_lanes parents (and_left _ _ split))
+      ∙ all_below upper middle lower (group_below logs nodes callers_band max_caller_lanes callers (and_left _ _ split))
       (group_below logs nodes (recipes_band first.lane_count second.lane_count) max_recipe_lanes recipes (and_left _ _ others))
       (group_below logs nodes (marks_band first.lane_count second.lane_count) max_mark_lanes marks (and_right (are_below count recipes) _ others))
 
@@ -167,8 +167,8 @@ module _ (logs : List Log) (nodes : List Node) (window : Window) (band : Band) w
       lasts = refl;
       fails = refl;
       title = refl;
-      label = is_labelled (name_at logs nodes (place_of bar)) (bar_of window lane bar);
-      labelled = has_label (name_at logs nodes (place_of bar)) (bar_of window lane bar);
+      label = is_labelled (name_at logs nodes (position_of bar)) (bar_of window lane bar);
+      labelled = has_label (name_at logs nodes (position_of bar)) (bar_of window lane bar);
       times = all_imply (InTime bar) (Includes window (drawn_bar logs nodes band (bar_of window lane bar))) (included lane bar) bar times.0;
     },
     lane_drawn lane bars times.1,

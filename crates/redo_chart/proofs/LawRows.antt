@@ -26,7 +26,7 @@ tests = (refl, refl, refl, refl, refl)
 kinds : kinds_of (record { height = 0; lanes = 0; layers = record { kind = Untimed; shapes = [] } ∷ record { kind = Axis; shapes = [] } ∷ [] }) ≡ Untimed ∷ Axis ∷ []
 kinds = refl
 
--- One lane of parents, two of recipes, of which the first one has two bars, and one of marks.
+-- One lane of callers, two of recipes, of which the first one has two bars, and one of marks.
 lanes :
     (map length (chart_lanes window (span 1 1000 11000 false ∷ []) (span 2 1000 5000 false ∷ span 0 3000 10500 true ∷ span 4 6000 6010 false ∷ []) (span 3 11000 11000 true ∷ [])) ≡ 1 ∷ 2 ∷ 1 ∷ 1 ∷ [])
     × (flat_map shape_links (chart_bars chart) ≡ 1 ∷ 2 ∷ 4 ∷ 0 ∷ 3 ∷ [])
@@ -38,11 +38,11 @@ lanes = (refl, refl, refl)
 -- ---- what a bar says
 
 abbrev labelled : ℕ → ℕ → ℕ → Bool → List ℕ → Option (List ℕ) → DrawnBar
-labelled place x width failed title label = record { place = place; x = x; y = 40; width = width; height = 16; failed = failed; title = title; label = label }
+labelled position x width failed title label = record { target = position; x = x; y = 40; width = width; height = 16; failed = failed; title = title; label = label }
 
--- A bar of the span of place 2, from 1000 to 5000.
+-- A bar of the span of position 2, from 1000 to 5000.
 abbrev said : ℕ → ℕ → ℕ → Bool → List ℕ → DrawnBar
-said place x width failed title = labelled place x width failed title (Some (codes "a.o"))
+said position x width failed title = labelled position x width failed title (Some (codes "a.o"))
 
 abbrev one : List Span
 one = span 2 1000 5000 false ∷ []
@@ -108,7 +108,7 @@ rejected_axis = λ is. is
 
 -- A bar that begins at this height.
 abbrev box : ℕ → ℕ → Shape
-box y height = BarShape (record { place = 2; x = 0; y = y; width = 10; height = height; failed = false; title = []; label = None })
+box y height = BarShape (record { target = 2; x = 0; y = y; width = 10; height = height; failed = false; title = []; label = None })
 
 -- The bars of a row don't begin at one height, or don't end at one height. Then the second of two rows begins where the first one ends.
 -- Then a row begins too high, ends too low, has no height, or has a line.

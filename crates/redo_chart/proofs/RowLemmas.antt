@@ -14,7 +14,7 @@ use Rattle.redo_timeline.specs.Lanes.{lanes_of}
 use Rattle.redo_timeline.specs.Timeline.{bars_of, drawn_bars, timeline_of}
 use Rattle.redo_chart.specs.declared.band.Band.{Band}
 use Rattle.redo_chart.specs.Axis.{tick_shapes}
-use Rattle.redo_chart.specs.Bands.{marks_band, max_mark_lanes, max_parent_lanes, max_recipe_lanes, parents_band, recipe_lane_height, recipes_band}
+use Rattle.redo_chart.specs.Bands.{marks_band, max_mark_lanes, max_caller_lanes, max_recipe_lanes, callers_band, recipe_lane_height, recipes_band}
 use Rattle.redo_chart.specs.Bars.{bar_shapes, drawn_bar}
 use Rattle.redo_chart.specs.Laws.{AreRows, IsFromTo, IsNoBar, chart_bars, chart_lanes, rows_of}
 use Rattle.redo_chart.specs.Timeline.{timeline_drawing}
@@ -107,21 +107,21 @@ high_lanes lanes = by (leb lanes 16) (leb lanes 40)
 lane_count : (window : Window) (max_lanes : ℕ) (spans : List Span) → length (bars_of window max_lanes spans) ≡ (timeline_of window max_lanes spans).lane_count
 lane_count window max_lanes spans = length-map (lanes_of max_lanes spans) (bars_in window)
 
-module _ (logs : List Log) (nodes : List Node) (window : Window) (parents recipes marks : List Span) where
-  abbrev parent_lanes : ℕ
-  parent_lanes = (timeline_of window max_parent_lanes parents).lane_count
+module _ (logs : List Log) (nodes : List Node) (window : Window) (callers recipes marks : List Span) where
+  abbrev caller_lanes : ℕ
+  caller_lanes = (timeline_of window max_caller_lanes callers).lane_count
 
   abbrev recipe_lanes : ℕ
   recipe_lanes = (timeline_of window max_recipe_lanes recipes).lane_count
 
   abbrev middle_band : Band
-  middle_band = recipes_band parent_lanes recipe_lanes
+  middle_band = recipes_band caller_lanes recipe_lanes
 
   abbrev lower_band : Band
-  lower_band = marks_band parent_lanes recipe_lanes
+  lower_band = marks_band caller_lanes recipe_lanes
 
   abbrev first : List (List (List Span))
-  first = bars_of window max_parent_lanes parents
+  first = bars_of window max_caller_lanes callers
 
   abbrev second : List (List (List Span))
   second = bars_of window max_recipe_lanes recipes
@@ -130,32 +130,32 @@ module _ (logs : List Log) (nodes : List Node) (window : Window) (parents recipe
   third = bars_of window max_mark_lanes marks
 
   abbrev drawn_rows : List (List Shape)
-  drawn_rows = rows_from logs nodes window parents_band 0 first ++ (rows_from logs nodes window middle_band 0 second ++ (rows_from logs nodes window lower_band 0 third ++ []))
+  drawn_rows = rows_from logs nodes window callers_band 0 first ++ (rows_from logs nodes window middle_band 0 second ++ (rows_from logs nodes window lower_band 0 third ++ []))
 
-  rows_are : rows_of (chart_lanes window parents recipes marks) (chart_bars (timeline_drawing logs nodes window parents recipes marks)) ≡ drawn_rows
+  rows_are : rows_of (chart_lanes window callers recipes marks) (chart_bars (timeline_drawing logs nodes window callers recipes marks)) ≡ drawn_rows
   rows_are =
-      let upper = shapes_from logs nodes window parents_band 0 first in
+      let upper = shapes_from logs nodes window callers_band 0 first in
       let middle = shapes_from logs nodes window middle_band 0 second in
       let low = shapes_from logs nodes window lower_band 0 third in
       (λ i. rows_of (first ++ (second ++ sym (append-nil third) i)) (append-nil upper i ++ (append-nil middle i ++ (low ++ []))))
-      ∙ split logs nodes window parents_band 0 first (second ++ (third ++ [])) (middle ++ (low ++ []))
-      ∙ ap (λ rows. rows_from logs nodes window parents_band 0 first ++ rows)
+      ∙ split logs nodes window callers_band 0 first (second ++ (third ++ [])) (middle ++ (low ++ []))
+      ∙ ap (λ rows. rows_from logs nodes window callers_band 0 first ++ rows)
       (split logs nodes window middle_band 0 second (third ++ []) (low ++ []) ∙ ap (λ rows. rows_from logs nodes window middle_band 0 second ++ rows) (split logs nodes window lower_band 0 third [] []))
 
-  pub are_in_rows : AreRows 15 (timeline_drawing logs nodes window parents recipes marks).height (rows_of (chart_lanes window parents recipes marks) (chart_bars (timeline_drawing logs nodes window parents recipes marks)))
+  pub are_in_rows : AreRows 15 (timeline_drawing logs nodes window callers recipes marks).height (rows_of (chart_lanes window callers recipes marks) (chart_bars (timeline_drawing logs nodes window callers recipes marks)))
   are_in_rows =
-      let height = (timeline_drawing logs nodes window parents recipes marks).height in
-      let a = lane_count window max_parent_lanes parents in
+      let height = (timeline_drawing logs nodes window callers recipes marks).height in
+      let a = lane_count window max_caller_lanes callers in
       let b = lane_count window max_recipe_lanes recipes in
       let c = lane_count window max_mark_lanes marks in
-      let upper_end = top_of logs nodes window parents_band (0 + length first) in
+      let upper_end = top_of logs nodes window callers_band (0 + length first) in
       let middle_end = top_of logs nodes window middle_band (0 + length second) in
       let lower_end = top_of logs nodes window lower_band (0 + length third) in
       let count : 0 + length second ≡ recipe_lanes = omega (arith, b) in
       let turned : (0 + length second) * recipe_lane_height recipe_lanes ≡ recipe_lane_height recipe_lanes * recipe_lanes = mul_comm (0 + length second) (recipe_lane_height recipe_lanes) ∙ ap (λ (n : ℕ). recipe_lane_height recipe_lanes * n) count in
       subst (λ (rows : List (List Shape)). AreRows 15 height rows) (sym rows_are)
-      (rows_append 15 upper_end height (rows_from logs nodes window parents_band 0 first) _
-      (group_rows logs nodes window parents_band 0 15 upper_end first (omega arith) (omega arith) (omega arith))
+      (rows_append 15 upper_end height (rows_from logs nodes window callers_band 0 first) _
+      (group_rows logs nodes window callers_band 0 15 upper_end first (omega arith) (omega arith) (omega arith))
       (rows_append upper_end middle_end height (rows_from logs nodes window middle_band 0 second) _
       (group_rows logs nodes window middle_band 0 upper_end middle_end second (high_lanes recipe_lanes) (omega (arith, a)) (omega arith))
       (rows_append middle_end lower_end height (rows_from logs nodes window lower_band 0 third) []

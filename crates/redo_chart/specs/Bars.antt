@@ -16,14 +16,14 @@ label_of name lane_height bar = if leb 350 bar.width && ltb 12 lane_height then 
 -- A bar, as it is drawn in a band.
 abbrev pub drawn_bar : List Log → List Node → Band → Bar → DrawnBar
 drawn_bar logs nodes band bar = record {
-  place = bar.place;
+  target = bar.position;
   x = bar.x;
   y = band.top + bar.lane * band.lane_height;
   width = bar.width;
   height = band.lane_height - 2;
   failed = bar.failed;
   title = title_of logs nodes band.kind bar;
-  label = label_of (name_at logs nodes bar.place) band.lane_height bar;
+  label = label_of (name_at logs nodes bar.position) band.lane_height bar;
 }
 
 abbrev pub bar_shapes : List Log → List Node → Band → List Bar → List Shape

@@ -3,28 +3,28 @@ use Rattle.std.specs.Prelude.{◌≡◌, ℕ, ◌+◌, ◌==◌, ◌<◌, ◌≤
 use Rattle.std.specs.List.{AllByRecursion, AllZip, flat_map, list_all}
 use Rattle.std.specs.List.Sorted.{IsPermutation}
 use Rattle.redo_html.specs.declared.chart.GroupKind.{GroupKind}
-use Rattle.redo_html.specs.declared.chart.GroupKind.TheVariants.{Axis, Parents, Recipes, Untimed}
+use Rattle.redo_html.specs.declared.chart.GroupKind.TheVariants.{Axis, Callers, Recipes, Untimed}
 use Rattle.redo_html.specs.Chart.{DrawnBar, Drawing, Layer, Shape}
 use Rattle.redo_html.specs.Chart.Shape.{BarShape, LineShape, TickShape}
 use Rattle.redo_logs.specs.Logs.{Log}
 use Rattle.redo_outline.specs.declared.node.Node.{Node}
 use Rattle.redo_timeline.specs.declared.span.Span.{Span}
 use Rattle.redo_timeline.specs.declared.span.Window.{Window}
-use Rattle.redo_timeline.specs.Bars.{bar_of, began_of, has_failed, place_of, units, width_of}
+use Rattle.redo_timeline.specs.Bars.{bar_of, began_of, has_failed, position_of, units, width_of}
 use Rattle.redo_timeline.specs.Laws.{EachBar, IsSlimIfJoined, spans_of}
 use Rattle.redo_timeline.specs.Timeline.{bars_of}
-use Rattle.redo_chart.specs.Bands.{max_mark_lanes, max_parent_lanes, max_recipe_lanes}
+use Rattle.redo_chart.specs.Bands.{max_mark_lanes, max_caller_lanes, max_recipe_lanes}
 use Rattle.redo_chart.specs.Targets.{last_part, name_at}
 use Rattle.redo_chart.specs.Titles.{title_of}
 
--- Whether the places of all spans are below this number.
+-- Whether the positions of all spans are below this number.
 abbrev pub are_below : ℕ → List Span → Bool
-are_below count spans = list_all (λ (span : Span). nat_lt span.place count) spans
+are_below count spans = list_all (λ (span : Span). nat_lt span.position count) spans
 
 -- A number for each kind of layer, and the shapes in the layers of one kind.
 abbrev pub code : GroupKind → ℕ
 code Axis = 0
-code Parents = 1
+code Callers = 1
 code Recipes = 2
 code Untimed = 3
 
@@ -51,13 +51,13 @@ Includes window bar span = (bar.x ≤ units window span.began) × (units window 
 -- that part is empty.
 pub record SaysOf (logs : List Log) (nodes : List Node) (window : Window) (kind : GroupKind) (spans : List Span) (bar : DrawnBar)
     : Type 0 where
-  pub target : bar.place ≡ place_of spans
+  pub target : bar.target ≡ position_of spans
   pub begins : bar.x ≡ units window (began_of spans)
   pub lasts : bar.width ≡ max (width_of window spans) (if has_failed spans then 30 else 10)
   pub fails : bar.failed ≡ has_failed spans
   pub title : bar.title ≡ title_of logs nodes kind (bar_of window 0 spans)
-  pub label : IfSome bar.label (λ label. last_part (name_at logs nodes (place_of spans)) ≡ Some label)
-  pub labelled : 350 ≤ bar.width → 10 < bar.height → bar.label ≡ last_part (name_at logs nodes (place_of spans))
+  pub label : IfSome bar.label (λ label. last_part (name_at logs nodes (position_of spans)) ≡ Some label)
+  pub labelled : 350 ≤ bar.width → 10 < bar.height → bar.label ≡ last_part (name_at logs nodes (position_of spans))
   pub times : AllByRecursion (Includes window bar) spans
 
 -- A shape is a bar, and says this of some spans.
@@ -80,11 +80,11 @@ pub record DrawsAll (logs : List Log) (nodes : List Node) (window : Window) (kin
 
 -- The lanes of a chart, and the shapes of its groups of bars, from the top.
 abbrev pub chart_lanes : Window → List Span → List Span → List Span → List (List (List Span))
-chart_lanes window parents recipes marks =
-    bars_of window max_parent_lanes parents ++ (bars_of window max_recipe_lanes recipes ++ bars_of window max_mark_lanes marks)
+chart_lanes window callers recipes marks =
+    bars_of window max_caller_lanes callers ++ (bars_of window max_recipe_lanes recipes ++ bars_of window max_mark_lanes marks)
 
 abbrev pub chart_bars : Drawing → List Shape
-chart_bars drawing = shapes_of Parents drawing ++ (shapes_of Recipes drawing ++ shapes_of Untimed drawing)
+chart_bars drawing = shapes_of Callers drawing ++ (shapes_of Recipes drawing ++ shapes_of Untimed drawing)
 
 -- The shapes of each lane, as many as it has bars.
 abbrev pub rows_of : List (List (List Span)) → List Shape → List (List Shape)

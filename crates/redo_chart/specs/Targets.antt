@@ -1,4 +1,4 @@
--- What is known of the shown target at a place. If there is none at a place, its name is empty and its status is unknown.
+-- What is known of the shown target at a position. If there is none at a position, its name is empty and its status is unknown.
 use Rattle.std.specs.Prelude.{ℕ, ◌==◌, List, [], ◌∷◌, Option, None, Some, ℤ, option_and_then, option_map, slice_get}
 use Rattle.std.specs.List.{after_last}
 use Rattle.redo_logs.specs.Logs.{Log}
@@ -6,10 +6,10 @@ use Rattle.redo_outline.specs.declared.node.Node.{Node}
 use Rattle.redo_outline.specs.Facts.{name_or_empty, target_at}
 
 abbrev pub name_at : List Log → List Node → ℕ → List ℕ
-name_at logs nodes place = name_or_empty (option_map (λ (node : Node). target_at logs node.number) (slice_get nodes place))
+name_at logs nodes position = name_or_empty (option_map (λ (node : Node). target_at logs node.number) (slice_get nodes position))
 
 abbrev pub status_at : List Node → ℕ → Option ℤ
-status_at nodes place = option_and_then (λ (node : Node). node.status) (slice_get nodes place)
+status_at nodes position = option_and_then (λ (node : Node). node.status) (slice_get nodes position)
 
 -- What follows the last slash of a name. If it has none, this is the name.
 abbrev pub after_last_slash : List ℕ → List ℕ

@@ -1,7 +1,7 @@
 -- The tooltips of bars.
 use Rattle.std.specs.Prelude.{ℕ, zero, suc, ◌-◌, ◌==◌, List, [], ◌++◌, Option, None, Some, ℤ, pos, negsuc, codes, if◌then◌else◌}
 use Rattle.redo_html.specs.declared.chart.GroupKind.{GroupKind}
-use Rattle.redo_html.specs.declared.chart.GroupKind.TheVariants.{Axis, Parents, Recipes, Untimed}
+use Rattle.redo_html.specs.declared.chart.GroupKind.TheVariants.{Axis, Callers, Recipes, Untimed}
 use Rattle.redo_logs.specs.Logs.{Log}
 use Rattle.redo_outline.specs.declared.node.Node.{Node}
 use Rattle.redo_timeline.specs.declared.bar.Bar.{Bar}
@@ -27,19 +27,19 @@ status_text (Some status) = before_magnitude status ++ decimal_text (magnitude s
 -- How long the targets of a bar ran, after this word. The text is empty for targets of which only one time is known.
 abbrev pub duration_after : List ℕ → GroupKind → ℕ → List ℕ
 duration_after word Axis ms = []
-duration_after word Parents ms = word ++ duration_text ms
+duration_after word Callers ms = word ++ duration_text ms
 duration_after word Recipes ms = word ++ duration_text ms
 duration_after word Untimed ms = []
 
 -- The tooltip of the bar of one target, and of several.
 abbrev pub title_of_one : List Log → List Node → GroupKind → Bar → List ℕ
 title_of_one logs nodes kind bar =
-    name_at logs nodes bar.place ++ (duration_after (codes ", ") kind (bar.ended - bar.began) ++ status_text (status_at nodes bar.place))
+    name_at logs nodes bar.position ++ (duration_after (codes ", ") kind (bar.ended - bar.began) ++ status_text (status_at nodes bar.position))
 
 abbrev pub title_of_many : List Log → List Node → GroupKind → Bar → List ℕ
 title_of_many logs nodes kind bar =
     decimal_text bar.count ++ (codes " targets" ++ (duration_after (codes " in ") kind (bar.ended - bar.began)
-    ++ (codes ", from " ++ name_at logs nodes bar.place)))
+    ++ (codes ", from " ++ name_at logs nodes bar.position)))
 
 abbrev pub title_of : List Log → List Node → GroupKind → Bar → List ℕ
 title_of logs nodes kind bar = if bar.count == 1 then title_of_one logs nodes kind bar else title_of_many logs nodes kind bar

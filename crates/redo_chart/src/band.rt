@@ -4,7 +4,7 @@ ghost use Rattle.redo_chart.specs.Bands as spec;
 
 use redo_html::GroupKind;
 
-// The height of a lane of parents or of marks.
+// The height of a lane of callers or of marks.
 const LANE_HEIGHT: u64 = 14;
 
 // Between two groups.
@@ -21,37 +21,37 @@ pub struct Band {
 
 impl Band {
     /// Returns the band of the recipes that ran others.
-    pub fn parents() -> Band
-        ensures { result ≡ spec.parents_band }
+    pub fn callers() -> Band
+        ensures { result ≡ spec.callers_band }
     {
         Band {
-            kind: GroupKind::Parents,
+            kind: GroupKind::Callers,
             top: 20,
             lane_height: LANE_HEIGHT,
         }
     }
 
-    /// Returns the band of the recipes, which follows the parents' band.
-    pub fn recipes(parent_lanes: usize, lanes: usize) -> Band
-        requires { parent_lanes ≤ spec.max_parent_lanes }
-        ensures { result ≡ spec.recipes_band parent_lanes lanes }
+    /// Returns the band of the recipes, which follows the callers' band.
+    pub fn recipes(caller_lanes: usize, lanes: usize) -> Band
+        requires { caller_lanes ≤ spec.max_caller_lanes }
+        ensures { result ≡ spec.recipes_band caller_lanes lanes }
     {
         Band {
             kind: GroupKind::Recipes,
-            top: Band::parents().below(parent_lanes),
+            top: Band::callers().below(caller_lanes),
             lane_height: recipe_lane_height(lanes),
         }
     }
 
     /// Returns the band of the marks, which follows the recipes' band.
-    pub fn marks(parent_lanes: usize, recipe_lanes: usize) -> Band
-        requires parents { parent_lanes ≤ spec.max_parent_lanes }
+    pub fn marks(caller_lanes: usize, recipe_lanes: usize) -> Band
+        requires callers { caller_lanes ≤ spec.max_caller_lanes }
         requires recipes { recipe_lanes ≤ spec.max_recipe_lanes }
-        ensures { result ≡ spec.marks_band parent_lanes recipe_lanes }
+        ensures { result ≡ spec.marks_band caller_lanes recipe_lanes }
     {
         Band {
             kind: GroupKind::Untimed,
-            top: Band::recipes(parent_lanes, recipe_lanes).below(recipe_lanes),
+            top: Band::recipes(caller_lanes, recipe_lanes).below(recipe_lanes),
             lane_height: LANE_HEIGHT,
         }
     }

@@ -52,14 +52,14 @@ fn drawn_bar<'a>(
     ensures { bar_of result ≡ spec.drawn_bar table.now nodes.now band bar.now }
 {
     redo_html::Bar {
-        place: bar.place as u64,
+        target: bar.position as u64,
         x: bar.x,
         y: band.top + bar.lane as u64 * band.lane_height,
         width: bar.width,
         height: band.lane_height.saturating_sub(2),
         failed: bar.failed,
         title,
-        label: label(name_at(table, nodes, bar.place), band.lane_height, bar),
+        label: label(name_at(table, nodes, bar.position), band.lane_height, bar),
     }
 }
 

@@ -1,21 +1,21 @@
 //! Laws, which are theorems about the definitions alone: each contract is a theorem, and the bodies are empty.
 ghost use Rattle.std.specs.Prelude.{◌≡◌, ◌++◌, ◌∷◌, ℕ, true, nat_lt, List, []};
 ghost use Rattle.std.specs.List.{AllByRecursion, list_all};
-ghost use Rattle.redo_html.specs.declared.chart.GroupKind.TheVariants.{Axis, Parents, Recipes, Untimed};
+ghost use Rattle.redo_html.specs.declared.chart.GroupKind.TheVariants.{Axis, Callers, Recipes, Untimed};
 ghost use Rattle.redo_html.specs.Chart.{drawing_links};
 ghost use Rattle.redo_logs.specs.Logs.{Log};
 ghost use Rattle.redo_outline.specs.declared.node.Node.{Node};
 ghost use Rattle.redo_timeline.specs.declared.span.Span.{Span};
 ghost use Rattle.redo_timeline.specs.declared.span.Window.{Window};
-ghost use Rattle.redo_chart.specs.Bands.{max_mark_lanes, max_parent_lanes, max_recipe_lanes};
+ghost use Rattle.redo_chart.specs.Bands.{max_mark_lanes, max_caller_lanes, max_recipe_lanes};
 ghost use Rattle.redo_chart.specs.Laws.{AreRows, DrawsAll, IsNoBar, are_below, chart_bars, chart_lanes, kinds_of, rows_of, shapes_of};
 ghost use Rattle.redo_chart.specs.Timeline.{timeline_drawing};
 
-/// The bars lead to shown targets only: if the places of all spans are below a number, those to which the bars lead are, too.
-pub fn bars_lead_to_places()
-    ensures { (logs : List Log) (nodes : List Node) (window : Window) (parents recipes marks : List Span) (count : ℕ) →
-        are_below count (parents ++ (recipes ++ marks)) ≡ true
-        → list_all (λ link. nat_lt link count) (drawing_links (timeline_drawing logs nodes window parents recipes marks)) ≡ true }
+/// The bars lead to shown targets only: if the positions of all spans are below a number, those to which the bars lead are, too.
+pub fn bars_lead_to_positions()
+    ensures { (logs : List Log) (nodes : List Node) (window : Window) (callers recipes marks : List Span) (count : ℕ) →
+        are_below count (callers ++ (recipes ++ marks)) ≡ true
+        → list_all (λ link. nat_lt link count) (drawing_links (timeline_drawing logs nodes window callers recipes marks)) ≡ true }
 {}
 
 /// Each span is in exactly one bar, and the bar says where it is: it leads to the target of its first span, begins when this one began,
@@ -23,30 +23,30 @@ pub fn bars_lead_to_places()
 /// its label is the last part of the name of this target. Several spans have one bar only if none of them failed, and if they take less
 /// than 0.5 % of the chart together.
 pub fn bars_say_when_targets_ran()
-    ensures parents { (logs : List Log) (nodes : List Node) (window : Window) (parents recipes marks : List Span) →
-        DrawsAll logs nodes window Parents max_parent_lanes parents
-        (shapes_of Parents (timeline_drawing logs nodes window parents recipes marks)) }
-    ensures recipes { (logs : List Log) (nodes : List Node) (window : Window) (parents recipes marks : List Span) →
+    ensures callers { (logs : List Log) (nodes : List Node) (window : Window) (callers recipes marks : List Span) →
+        DrawsAll logs nodes window Callers max_caller_lanes callers
+        (shapes_of Callers (timeline_drawing logs nodes window callers recipes marks)) }
+    ensures recipes { (logs : List Log) (nodes : List Node) (window : Window) (callers recipes marks : List Span) →
         DrawsAll logs nodes window Recipes max_recipe_lanes recipes
-        (shapes_of Recipes (timeline_drawing logs nodes window parents recipes marks)) }
-    ensures marks { (logs : List Log) (nodes : List Node) (window : Window) (parents recipes marks : List Span) →
+        (shapes_of Recipes (timeline_drawing logs nodes window callers recipes marks)) }
+    ensures marks { (logs : List Log) (nodes : List Node) (window : Window) (callers recipes marks : List Span) →
         DrawsAll logs nodes window Untimed max_mark_lanes marks
-        (shapes_of Untimed (timeline_drawing logs nodes window parents recipes marks)) }
+        (shapes_of Untimed (timeline_drawing logs nodes window callers recipes marks)) }
 {}
 
-/// A chart has four layers: its axis, the parents, the recipes, and the marks. The axis has no bars.
+/// A chart has four layers: its axis, the callers, the recipes, and the marks. The axis has no bars.
 pub fn axis_has_no_bars()
-    ensures layers { (logs : List Log) (nodes : List Node) (window : Window) (parents recipes marks : List Span) →
-        kinds_of (timeline_drawing logs nodes window parents recipes marks) ≡ Axis ∷ Parents ∷ Recipes ∷ Untimed ∷ [] }
-    ensures axis { (logs : List Log) (nodes : List Node) (window : Window) (parents recipes marks : List Span) →
-        AllByRecursion IsNoBar (shapes_of Axis (timeline_drawing logs nodes window parents recipes marks)) }
+    ensures layers { (logs : List Log) (nodes : List Node) (window : Window) (callers recipes marks : List Span) →
+        kinds_of (timeline_drawing logs nodes window callers recipes marks) ≡ Axis ∷ Callers ∷ Recipes ∷ Untimed ∷ [] }
+    ensures axis { (logs : List Log) (nodes : List Node) (window : Window) (callers recipes marks : List Span) →
+        AllByRecursion IsNoBar (shapes_of Axis (timeline_drawing logs nodes window callers recipes marks)) }
 {}
 
 /// Each lane has a row of the chart for itself. All its bars begin at the top of the row and end at its bottom, so no bar is over one of
-/// another lane. From the top, these are the rows of the parents, of the recipes, and of the marks, below each other. All are between the
+/// another lane. From the top, these are the rows of the callers, of the recipes, and of the marks, below each other. All are between the
 /// ticks of the axis and the end of the chart.
 pub fn bars_are_in_rows()
-    ensures { (logs : List Log) (nodes : List Node) (window : Window) (parents recipes marks : List Span) →
-        let drawing = timeline_drawing logs nodes window parents recipes marks in
-        AreRows 15 drawing.height (rows_of (chart_lanes window parents recipes marks) (chart_bars drawing)) }
+    ensures { (logs : List Log) (nodes : List Node) (window : Window) (callers recipes marks : List Span) →
+        let drawing = timeline_drawing logs nodes window callers recipes marks in
+        AreRows 15 drawing.height (rows_of (chart_lanes window callers recipes marks) (chart_bars drawing)) }
 {}

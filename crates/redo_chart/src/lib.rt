@@ -5,7 +5,7 @@
 //!
 //! # Terms
 //!
-//! - *Parents*: recipes that ran others, in the upper part of the chart. *Recipes*: the others, in the middle. *Marks*: recipes of which
+//! - *Callers*: recipes that ran others, in the upper part of the chart. *Recipes*: the others, in the middle. *Marks*: recipes of which
 //!   only one time is known, in the last row.
 //! - *Band*: where the lanes of one of these groups are.
 #![tactic(auto)]
@@ -19,6 +19,6 @@ mod timeline;
 mod titles;
 
 pub use laws::{
-    axis_has_no_bars, bars_are_in_rows, bars_lead_to_places, bars_say_when_targets_ran,
+    axis_has_no_bars, bars_are_in_rows, bars_lead_to_positions, bars_say_when_targets_ran,
 };
 pub use timeline::write_timeline;

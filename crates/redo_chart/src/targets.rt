@@ -1,4 +1,4 @@
-//! What is known of the shown target at a place.
+//! What is known of the shown target at a position.
 ghost use Rattle.std.specs.Prelude.{◌≡◌, option_map};
 ghost use Rattle.redo_chart.specs.Targets as spec;
 
@@ -6,21 +6,21 @@ use memchr::memrchr;
 use redo_logs::LogTable;
 use redo_outline::{Node, target_at};
 
-/// Returns the name of the target at this place, or the empty name if there is no such target.
-pub fn name_at<'a>(table: &'a LogTable, nodes: &[Node], place: usize) -> &'a [u8]
-    ensures { result.now ≡ spec.name_at table.now nodes.now place }
+/// Returns the name of the target at this position, or the empty name if there is no such target.
+pub fn name_at<'a>(table: &'a LogTable, nodes: &[Node], position: usize) -> &'a [u8]
+    ensures { result.now ≡ spec.name_at table.now nodes.now position }
 {
-    match nodes.get(place) {
+    match nodes.get(position) {
         Some(node) => target_at(table, node.number),
         None => b"",
     }
 }
 
-/// Returns the status of the target at this place, if it is known.
-pub fn status_at(nodes: &[Node], place: usize) -> Option<i32>
-    ensures { result ≡ spec.status_at nodes.now place }
+/// Returns the status of the target at this position, if it is known.
+pub fn status_at(nodes: &[Node], position: usize) -> Option<i32>
+    ensures { result ≡ spec.status_at nodes.now position }
 {
-    match nodes.get(place) {
+    match nodes.get(position) {
         Some(node) => node.status,
         None => None,
     }

@@ -6,7 +6,7 @@ ghost use Rattle.redo_html.specs.Parts.Part.{ChartPart};
 ghost use Rattle.redo_timeline.specs.Bars.{IsValidWindow};
 ghost use Rattle.redo_timeline.specs.Laws.{IsInLanes};
 ghost use Rattle.redo_view.specs.Form.{FormWrites};
-ghost use Rattle.redo_chart.specs.Bands.{max_mark_lanes, max_parent_lanes, max_recipe_lanes};
+ghost use Rattle.redo_chart.specs.Bands.{max_mark_lanes, max_caller_lanes, max_recipe_lanes};
 ghost use Rattle.redo_chart.specs.Private.Layering.{drawing_with, layer_with};
 ghost use Rattle.redo_chart.specs.Timeline.{drawing_of, timeline_drawing};
 
@@ -29,11 +29,11 @@ const MAX_RECIPE_LANES: usize = 96;
 
 const MAX_MARK_LANES: usize = 1;
 
-/// Writes the chart of a timeline as one `svg` element: an axis, the recipes that ran others (`parents`), the other recipes, and the
+/// Writes the chart of a timeline as one `svg` element: an axis, the recipes that ran others (`callers`), the other recipes, and the
 /// targets of which only one time is known (`marks`). A mark begins and ends at this time. Each bar leads to its target in the tree of the
 /// page, has a tooltip, and a label if it is large enough.
 ///
-/// `nodes` are the shown targets, and a span has the place of its node. A bar whose place is past the last node has an empty name and
+/// `nodes` are the shown targets, and a span has the position of its node. A bar whose position is past the last node has an empty name and
 /// an unknown status. The width of the window must be from 1 to 2^44 - 1 milliseconds.
 ///
 /// If an allocation or a write fails, a prefix was written, possibly nothing, and no write followed one that failed. All is laid out before
@@ -45,16 +45,16 @@ pub fn write_timeline<W: Sink>(
     table: &LogTable,
     nodes: &[Node],
     window: Window,
-    parents: &[Span],
+    callers: &[Span],
     recipes: &[Span],
     marks: &[Span],
     out: &mut W,
 ) -> Result<(), FormFault>
     requires { IsValidWindow window }
     ensures { FormWrites (W.written out.old) (W.written out.new)
-        (part_html (ChartPart (timeline_drawing table.now nodes.now window parents.now recipes.now marks.now))) result }
+        (part_html (ChartPart (timeline_drawing table.now nodes.now window callers.now recipes.now marks.now))) result }
 {
-    let parents = layout(alloc, window, MAX_PARENT_LANES, parents)?;
+    let callers = layout(alloc, window, MAX_PARENT_LANES, callers)?;
     let recipes = layout(alloc, window, MAX_RECIPE_LANES, recipes)?;
     let marks = layout(alloc, window, MAX_MARK_LANES, marks)?;
     write_laid_out(
@@ -62,7 +62,7 @@ pub fn write_timeline<W: Sink>(
         table,
         nodes,
         window.width,
-        &parents,
+        &callers,
         &recipes,
         &marks,
         out,
@@ -75,34 +75,34 @@ fn write_laid_out<W: Sink>(
     table: &LogTable,
     nodes: &[Node],
     width: u64,
-    parents: &Timeline,
+    callers: &Timeline,
     recipes: &Timeline,
     marks: &Timeline,
     out: &mut W,
 ) -> Result<(), FormFault>
     requires width { (0 < width) × (width < 2 ^ 44) }
-    requires parents { IsInLanes max_parent_lanes parents.now }
+    requires callers { IsInLanes max_caller_lanes callers.now }
     requires recipes { IsInLanes max_recipe_lanes recipes.now }
     requires marks { IsInLanes max_mark_lanes marks.now }
     ensures { FormWrites (W.written out.old) (W.written out.new)
-        (part_html (ChartPart (drawing_of table.now nodes.now width parents.now recipes.now marks.now))) result }
+        (part_html (ChartPart (drawing_of table.now nodes.now width callers.now recipes.now marks.now))) result }
 {
-    let parents_band = Band::parents();
-    let recipes_band = Band::recipes(parents.lane_count(), recipes.lane_count());
-    let marks_band = Band::marks(parents.lane_count(), recipes.lane_count());
+    let callers_band = Band::callers();
+    let recipes_band = Band::recipes(callers.lane_count(), recipes.lane_count());
+    let marks_band = Band::marks(callers.lane_count(), recipes.lane_count());
     let height = marks_band.below(marks.lane_count());
     let ticks = tick_texts(alloc, width)?;
-    let parent_titles = titles(alloc, table, nodes, GroupKind::Parents, parents.bars())?;
+    let caller_titles = titles(alloc, table, nodes, GroupKind::Callers, callers.bars())?;
     let recipe_titles = titles(alloc, table, nodes, GroupKind::Recipes, recipes.bars())?;
     let mark_titles = titles(alloc, table, nodes, GroupKind::Untimed, marks.bars())?;
     let axis = axis_items(alloc, height.saturating_sub(4), width, &ticks)?;
-    let parent_items = bar_items(
+    let caller_items = bar_items(
         alloc,
         table,
         nodes,
-        parents_band,
-        parents.bars(),
-        &parent_titles,
+        callers_band,
+        callers.bars(),
+        &caller_titles,
     )?;
     let recipe_items = bar_items(
         alloc,
@@ -117,7 +117,7 @@ fn write_laid_out<W: Sink>(
         height,
         recipes.lane_count(),
         &axis,
-        &parent_items,
+        &caller_items,
         &recipe_items,
         &mark_items,
         out,
@@ -129,17 +129,17 @@ fn write_groups<'a, W: Sink>(
     height: u64,
     lanes: usize,
     axis: &'a [ChartItem<'a>],
-    parents: &'a [ChartItem<'a>],
+    callers: &'a [ChartItem<'a>],
     recipes: &'a [ChartItem<'a>],
     marks: &'a [ChartItem<'a>],
     out: &mut W,
 ) -> Result<(), FormFault>
     ensures { FormWrites (W.written out.old) (W.written out.new) (part_html (ChartPart (drawing_with height lanes
-        (map shape_of axis.now) (map shape_of parents.now) (map shape_of recipes.now) (map shape_of marks.now)))) result }
+        (map shape_of axis.now) (map shape_of callers.now) (map shape_of recipes.now) (map shape_of marks.now)))) result }
 {
     let groups = [
         group(GroupKind::Axis, axis),
-        group(GroupKind::Parents, parents),
+        group(GroupKind::Callers, callers),
         group(GroupKind::Recipes, recipes),
         group(GroupKind::Untimed, marks),
     ];

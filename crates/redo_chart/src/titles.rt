@@ -55,9 +55,9 @@ fn push_title_of_one(
 ) -> Result<(), AllocError>
     ensures { OnOk result (text.new.items ≡ text.old.items ++ spec.title_of_one table.now nodes.now kind bar.now) }
 {
-    text.extend_from_slice(name_at(table, nodes, bar.place))?;
+    text.extend_from_slice(name_at(table, nodes, bar.position))?;
     push_duration(b", ", kind, bar.ended.saturating_sub(bar.began), text)?;
-    push_status(status_at(nodes, bar.place), text)
+    push_status(status_at(nodes, bar.position), text)
 }
 
 fn push_title_of_many(
@@ -75,7 +75,7 @@ fn push_title_of_many(
     )?;
     push_duration(b" in ", kind, bar.ended.saturating_sub(bar.began), text)?;
     text.extend_from_slice(b", from ")?;
-    text.extend_from_slice(name_at(table, nodes, bar.place))
+    text.extend_from_slice(name_at(table, nodes, bar.position))
 }
 
 // Appends how long the targets of a bar ran, after this word.
@@ -89,7 +89,7 @@ fn push_duration(
 {
     match kind {
         GroupKind::Axis | GroupKind::Untimed => Ok(()),
-        GroupKind::Parents | GroupKind::Recipes => {
+        GroupKind::Callers | GroupKind::Recipes => {
             text.extend_from_slice(word)?;
             push_words(&duration(ms), text)
         }

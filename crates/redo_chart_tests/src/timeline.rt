@@ -7,7 +7,7 @@ use redo_outline::Node;
 use redo_timeline::{Span, Window};
 use std::test::Fail;
 
-// The targets by place, and their statuses.
+// The targets by position, and their statuses.
 static TARGETS: [(&[u8], Option<i32>); 6] = [
     (b"all", None),
     (b"out/a.o", Some(0)),
@@ -23,9 +23,9 @@ const WINDOW: Window = Window {
     width: 10_000,
 };
 
-static PARENTS: [Span; 1] = [Span {
+static CALLERS: [Span; 1] = [Span {
     began: 1_000_000,
-    place: 0,
+    position: 0,
     ended: 1_010_000,
     failed: false,
 }];
@@ -34,25 +34,25 @@ static PARENTS: [Span; 1] = [Span {
 static RECIPES: [Span; 4] = [
     Span {
         began: 1_000_000,
-        place: 1,
+        position: 1,
         ended: 1_004_000,
         failed: false,
     },
     Span {
         began: 1_002_000,
-        place: 2,
+        position: 2,
         ended: 1_009_500,
         failed: true,
     },
     Span {
         began: 1_005_000,
-        place: 3,
+        position: 3,
         ended: 1_005_010,
         failed: false,
     },
     Span {
         began: 1_005_012,
-        place: 4,
+        position: 4,
         ended: 1_005_020,
         failed: false,
     },
@@ -60,7 +60,7 @@ static RECIPES: [Span; 4] = [
 
 static MARKS: [Span; 1] = [Span {
     began: 1_010_000,
-    place: 5,
+    position: 5,
     ended: 1_010_000,
     failed: true,
 }];
@@ -82,7 +82,7 @@ fn chart_is_written(rt: HostRuntime) -> Result<(), Fail> {
         &table,
         &nodes,
         WINDOW,
-        &PARENTS,
+        &CALLERS,
         &RECIPES,
         &MARKS,
         &mut out,

@@ -1,7 +1,7 @@
 -- A text that is written in parts.
-use Rattle.std.proofs.Common.{◌≡◌, ◌+◌, ◌<◌, List, ℕ, ◌++◌, Option, None, Some, Result, Ok, Err, length, take, refl, sym, ◌∙◌, ap, add_assoc, arith}
+use Rattle.std.proofs.Common.{◌≡◌, ◌+◌, ◌<◌, List, [], ℕ, ◌++◌, Option, None, Some, Result, Ok, Err, length, take, refl, sym, ◌∙◌, ap, add_assoc, subst, arith}
 use Rattle.std.specs.Result.{IsErr}
-use Rattle.std.proofs.lemmas.List.{append_assoc, length-append, take-append-le}
+use Rattle.std.proofs.lemmas.List.{append_assoc, append-nil, length-append, take-append-le}
 use Rattle.std.proofs.Math.Seq.{take-append-add}
 use Rattle.redo_device.specs.declared.feed.Broken.{Broken}
 use Rattle.redo_device.specs.Sink.{Output, append_output, Writes}
@@ -27,3 +27,27 @@ stops before after front behind broken (Err other) failed wrote =
     let within = wrote.1 in
     let in_front : wrote.0 < length (front ++ behind) = omega (arith, length-append front behind) in
     (wrote.0, in_front, wrote.2 ∙ ap (λ b. append_output before b 1) (sym (take-append-le wrote.0 front behind (omega arith))))
+
+module _ (before : Option Output) (text : List ℕ) where
+  -- The first part of a text failed.
+  pub at_first : (after : Option Output) (part suffix : List ℕ) (broken : Broken) (done : Result (Unit {0}) Broken) → IsErr done → Writes before after part (Err broken) → part ++ suffix ≡ text → Writes before after text done
+  at_first after part suffix broken done failed wrote is = subst (λ t. Writes before after t done) is (stops before after part suffix broken done failed wrote)
+
+  -- A part failed after others were written.
+  pub in_middle : (middle after : Option Output) (prefix part suffix : List ℕ) (broken : Broken) (done : Result (Unit {0}) Broken) → IsErr done → middle ≡ append_output before prefix 0 → Writes middle after part (Err broken) → (prefix ++ part) ++ suffix ≡ text → Writes before after text done
+  in_middle middle after prefix part suffix broken done failed written wrote is =
+      at_first after (prefix ++ part) suffix broken done failed (then before middle after prefix part (Err broken) written wrote) is
+
+  -- The last part.
+  pub at_last : (middle after : Option Output) (prefix part : List ℕ) (done : Result (Unit {0}) Broken) → middle ≡ append_output before prefix 0 → Writes middle after part done → prefix ++ part ≡ text → Writes before after text done
+  at_last middle after prefix part done written wrote is = subst (λ t. Writes before after t done) is (then before middle after prefix part done written wrote)
+
+-- One more part was written.
+pub one_more : (before middle after : Option Output) (prefix part : List ℕ) → middle ≡ append_output before prefix 0 → after ≡ append_output middle part 0 → after ≡ append_output before (prefix ++ part) 0
+one_more before middle after prefix part written wrote = then before middle after prefix part (Ok tt) written wrote
+
+-- Nothing was written.
+pub append_nothing : (taken : Option Output) → taken ≡ append_output taken [] 0
+append_nothing None = refl
+append_nothing (Some taken) =
+    ap (λ (b : List ℕ). Some (record { bytes = b; failures = taken.failures })) (sym (append-nil taken.bytes)) ∙ ap (λ (n : ℕ). Some (record { bytes = taken.bytes ++ []; failures = n })) (omega arith)

@@ -1,4 +1,4 @@
--- How charts are read: the place after each node, and which elements are open there.
+-- How charts are read: the context after each node, and which elements are open there.
 use Rattle.std.proofs.Common.{◌≡◌, ℕ, Bool, true, false, List, [], ◌∷◌, ◌++◌, Option, None, Some, refl, sym, ◌∙◌, ap, subst}
 use Rattle.std.specs.Prelude.{◌==◌, ◌&&◌, not, bytes_eq, codes, option_and_then, if◌then◌else◌}
 use Rattle.std.specs.List.{flat_map, list_all}
@@ -9,21 +9,21 @@ use Rattle.std.proofs.lemmas.List.Concat.{flat_map-append}
 use Rattle.std.proofs.lemmas.Slice.Eq.{bytes_eq-Decides}
 use Rattle.redo_html.specs.declared.chart.Anchor.TheVariants as anchor
 use Rattle.redo_html.specs.declared.chart.GroupKind.{GroupKind}
-use Rattle.redo_html.specs.declared.chart.GroupKind.TheVariants.{Axis, Parents, Recipes, Untimed}
+use Rattle.redo_html.specs.declared.chart.GroupKind.TheVariants.{Axis, Callers, Recipes, Untimed}
 use Rattle.redo_html.specs.Chart.{Attribute, Drawing, Layer, Node, Shape, chart_attributes, drawing_nodes, group_attributes, lanes_word, layer_nodes, meter_nodes, node_html, node_tokens, nodes_html, nodes_tokens, shape_nodes, tag_text}
 use Rattle.redo_html.specs.Chart.Node.{StartTag, EndTag, Words}
 use Rattle.redo_html.specs.Chart.Shape.{LineShape, TickShape, BarShape}
-use Rattle.redo_html.specs.Html.{Place, Step, Token, DataState, Normal, Rcdata, Rawtext, Svg, emit_tag, is_one_of, is_void, lost, nests_in, place_in, read_from, start_name, svg_elements, svg_end_tag, svg_start_tag, tag_of, tags_of}
+use Rattle.redo_html.specs.Html.{Context, Step, Token, DataState, Normal, Rcdata, Rawtext, Svg, emit_tag, is_one_of, is_void, lost, nests_in, context_in, read_from, start_name, svg_elements, svg_end_tag, svg_start_tag, tag_of, tags_of}
 use Rattle.redo_html.specs.Html.Token.{Tag}
 use Rattle.redo_html.specs.Style.{plain_style}
 use Rattle.redo_html.proofs.Reading.{title_passage_reads, title_tags}
 use Rattle.redo_html.proofs.TagReading.{emitted, end_tag_read, is_attribute, is_element, is_first_byte, is_element_byte, is_value_byte, not_end, tag_name, tag_read}
 
--- ---- the place after nodes
+-- ---- the context after nodes
 
--- Bytes that are in text in one place are read as these tokens, whatever follows them. What follows is read as text in another place.
-abbrev pub Leads : Place → List ℕ → List Token → Place → Type 0
-Leads place bytes tokens next = (behind : List ℕ) → read_from (DataState place) (bytes ++ behind) ≡ tokens ++ read_from (DataState next) behind
+-- Bytes that are in text in one context are read as these tokens, whatever follows them. What follows is read as text in another context.
+abbrev pub Leads : Context → List ℕ → List Token → Context → Type 0
+Leads context bytes tokens next = (behind : List ℕ) → read_from (DataState context) (bytes ++ behind) ≡ tokens ++ read_from (DataState next) behind
 
 -- Whether an element may begin in an `svg`, in this element.
 abbrev pub may_begin : List ℕ → List ℕ → Bool
@@ -32,95 +32,95 @@ may_begin inner element = not (bytes_eq inner (codes "title")) && is_one_of elem
 abbrev pub is_start : List ℕ → List Attribute → Bool
 is_start element attributes = is_element element && (not (is_void element) && list_all is_attribute attributes)
 
--- The place after a node, if it is well formed.
-abbrev pub next_place : Place → Node → Option Place
-next_place Normal (StartTag element attributes) = if bytes_eq element (codes "svg") && is_start element attributes then Some (Svg (codes "svg") []) else None
-next_place (Svg inner outer) (StartTag element attributes) = if may_begin inner element && is_start element attributes then Some (Svg element (inner ∷ outer)) else None
-next_place (Svg inner outer) (EndTag element) = if bytes_eq element inner && is_element element then Some (place_in outer) else None
-next_place (Svg inner outer) (Words text) = Some (Svg inner outer)
-next_place place node = None
+-- The context after a node, if it is well formed.
+abbrev pub next_context : Context → Node → Option Context
+next_context Normal (StartTag element attributes) = if bytes_eq element (codes "svg") && is_start element attributes then Some (Svg (codes "svg") []) else None
+next_context (Svg inner outer) (StartTag element attributes) = if may_begin inner element && is_start element attributes then Some (Svg element (inner ∷ outer)) else None
+next_context (Svg inner outer) (EndTag element) = if bytes_eq element inner && is_element element then Some (context_in outer) else None
+next_context (Svg inner outer) (Words text) = Some (Svg inner outer)
+next_context context node = None
 
-abbrev pub next_places : Place → List Node → Option Place
-next_places place [] = Some place
-next_places place (node ∷ nodes) = option_and_then (λ next. next_places next nodes) (next_place place node)
+abbrev pub next_contexts : Context → List Node → Option Context
+next_contexts context [] = Some context
+next_contexts context (node ∷ nodes) = option_and_then (λ next. next_contexts next nodes) (next_context context node)
 
 same_bytes : (one other : List ℕ) → bytes_eq one other ≡ true → one ≡ other
 same_bytes one other is = (bytes_eq-Decides one other).0 is
 
-some_if : (condition : Bool) (place next : Place) → (if condition then Some place else None) ≡ Some next → (condition ≡ true) × (place ≡ next)
-some_if true place next is = (refl, cc)
-some_if false place next is = absurd (cc)
+some_if : (condition : Bool) (context next : Context) → (if condition then Some context else None) ≡ Some next → (condition ≡ true) × (context ≡ next)
+some_if true context next is = (refl, cc)
+some_if false context next is = absurd (cc)
 
-then_places : (place middle next : Place) (first second : List Node) → next_places place first ≡ Some middle → next_places middle second ≡ Some next → next_places place (first ++ second) ≡ Some next
-then_places place middle next [] second one two = let same : place ≡ middle = cc in subst (λ p. next_places p second ≡ Some next) (sym same) two
-then_places place middle next (node ∷ nodes) second one two =
-    option_and_then_some (λ p. next_places p nodes) (next_place place node) middle one
-    (λ p at more. ap (option_and_then (λ q. next_places q (nodes ++ second))) at ∙ then_places p middle next nodes second more two)
+then_contexts : (context middle next : Context) (first second : List Node) → next_contexts context first ≡ Some middle → next_contexts middle second ≡ Some next → next_contexts context (first ++ second) ≡ Some next
+then_contexts context middle next [] second one two = let same : context ≡ middle = cc in subst (λ p. next_contexts p second ≡ Some next) (sym same) two
+then_contexts context middle next (node ∷ nodes) second one two =
+    option_and_then_some (λ p. next_contexts p nodes) (next_context context node) middle one
+    (λ p at more. ap (option_and_then (λ q. next_contexts q (nodes ++ second))) at ∙ then_contexts p middle next nodes second more two)
 
-each_place : {X : Type 0} (place : Place) (nodes : X → List Node) → ((x : X) → next_places place (nodes x) ≡ Some place) → (xs : List X) → next_places place (flat_map nodes xs) ≡ Some place
-each_place place nodes each [] = refl
-each_place place nodes each (x ∷ xs) = then_places place place place (nodes x) (flat_map nodes xs) (each x) (each_place place nodes each xs)
+each_context : {X : Type 0} (context : Context) (nodes : X → List Node) → ((x : X) → next_contexts context (nodes x) ≡ Some context) → (xs : List X) → next_contexts context (flat_map nodes xs) ≡ Some context
+each_context context nodes each [] = refl
+each_context context nodes each (x ∷ xs) = then_contexts context context context (nodes x) (flat_map nodes xs) (each x) (each_context context nodes each xs)
 
--- ---- the places in a chart
+-- ---- the contexts in a chart
 
-abbrev in_chart : Place
+abbrev in_chart : Context
 in_chart = Svg (codes "svg") []
 
-abbrev in_group : Place
+abbrev in_group : Context
 in_group = Svg (codes "g") (codes "svg" ∷ [])
 
-bar_places : (kind : GroupKind) (place x y width height : ℕ) (failed : Bool) (title : List ℕ) (label : Option (List ℕ))
-    → next_places in_group (shape_nodes kind (BarShape (record { place = place; x = x; y = y; width = width; height = height; failed = failed; title = title; label = label }))) ≡ Some in_group
-bar_places kind place x y width height true title None = refl
-bar_places kind place x y width height false title None = refl
-bar_places Axis place x y width height true title (Some label) = refl
-bar_places Axis place x y width height false title (Some label) = refl
-bar_places Parents place x y width height true title (Some label) = refl
-bar_places Parents place x y width height false title (Some label) = refl
-bar_places Recipes place x y width height true title (Some label) = refl
-bar_places Recipes place x y width height false title (Some label) = refl
-bar_places Untimed place x y width height true title (Some label) = refl
-bar_places Untimed place x y width height false title (Some label) = refl
+bar_contexts : (kind : GroupKind) (target x y width height : ℕ) (failed : Bool) (title : List ℕ) (label : Option (List ℕ))
+    → next_contexts in_group (shape_nodes kind (BarShape (record { target = target; x = x; y = y; width = width; height = height; failed = failed; title = title; label = label }))) ≡ Some in_group
+bar_contexts kind target x y width height true title None = refl
+bar_contexts kind target x y width height false title None = refl
+bar_contexts Axis target x y width height true title (Some label) = refl
+bar_contexts Axis target x y width height false title (Some label) = refl
+bar_contexts Callers target x y width height true title (Some label) = refl
+bar_contexts Callers target x y width height false title (Some label) = refl
+bar_contexts Recipes target x y width height true title (Some label) = refl
+bar_contexts Recipes target x y width height false title (Some label) = refl
+bar_contexts Untimed target x y width height true title (Some label) = refl
+bar_contexts Untimed target x y width height false title (Some label) = refl
 
-shape_places : (kind : GroupKind) (shape : Shape) → next_places in_group (shape_nodes kind shape) ≡ Some in_group
-shape_places kind (LineShape x bottom) = refl
-shape_places kind (TickShape x anchor.Start text) = refl
-shape_places kind (TickShape x anchor.Middle text) = refl
-shape_places kind (TickShape x anchor.End text) = refl
-shape_places kind (BarShape bar) = bar_places kind bar.place bar.x bar.y bar.width bar.height bar.failed bar.title bar.label
+shape_contexts : (kind : GroupKind) (shape : Shape) → next_contexts in_group (shape_nodes kind shape) ≡ Some in_group
+shape_contexts kind (LineShape x bottom) = refl
+shape_contexts kind (TickShape x anchor.Start text) = refl
+shape_contexts kind (TickShape x anchor.Middle text) = refl
+shape_contexts kind (TickShape x anchor.End text) = refl
+shape_contexts kind (BarShape bar) = bar_contexts kind bar.target bar.x bar.y bar.width bar.height bar.failed bar.title bar.label
 
-group_begins : (kind : GroupKind) → next_place in_chart (StartTag (codes "g") (group_attributes kind)) ≡ Some in_group
+group_begins : (kind : GroupKind) → next_context in_chart (StartTag (codes "g") (group_attributes kind)) ≡ Some in_group
 group_begins Axis = refl
-group_begins Parents = refl
+group_begins Callers = refl
 group_begins Recipes = refl
 group_begins Untimed = refl
 
-layer_places : (layer : Layer) → next_places in_chart (layer_nodes layer) ≡ Some in_chart
-layer_places layer =
+layer_contexts : (layer : Layer) → next_contexts in_chart (layer_nodes layer) ≡ Some in_chart
+layer_contexts layer =
     let shapes = flat_map (shape_nodes layer.kind) layer.shapes in
-    ap (option_and_then (λ next. next_places next (shapes ++ EndTag (codes "g") ∷ []))) (group_begins layer.kind)
-    ∙ then_places in_group in_group in_chart shapes (EndTag (codes "g") ∷ []) (each_place in_group (shape_nodes layer.kind) (shape_places layer.kind) layer.shapes) refl
+    ap (option_and_then (λ next. next_contexts next (shapes ++ EndTag (codes "g") ∷ []))) (group_begins layer.kind)
+    ∙ then_contexts in_group in_group in_chart shapes (EndTag (codes "g") ∷ []) (each_context in_group (shape_nodes layer.kind) (shape_contexts layer.kind) layer.shapes) refl
 
 lanes_word_is : (lanes : ℕ) → list_all is_value_byte (lanes_word lanes) ≡ true
 lanes_word_is lanes = cond_both (lanes == 1) (codes " lane") (codes " lanes") (λ word. list_all is_value_byte word ≡ true) (λ one. refl) (λ more. refl)
 
-chart_begins : (height lanes : ℕ) → next_place Normal (StartTag (codes "svg") (chart_attributes height lanes)) ≡ Some in_chart
+chart_begins : (height lanes : ℕ) → next_context Normal (StartTag (codes "svg") (chart_attributes height lanes)) ≡ Some in_chart
 chart_begins height lanes = rw (lanes_word_is lanes) refl
 
-pub drawing_places : (drawing : Drawing) → next_places Normal (drawing_nodes drawing) ≡ Some Normal
-drawing_places drawing =
+pub drawing_contexts : (drawing : Drawing) → next_contexts Normal (drawing_nodes drawing) ≡ Some Normal
+drawing_contexts drawing =
     let layers = flat_map layer_nodes drawing.layers in
-    ap (option_and_then (λ next. next_places next (layers ++ EndTag (codes "svg") ∷ []))) (chart_begins drawing.height drawing.lanes)
-    ∙ then_places in_chart in_chart Normal layers (EndTag (codes "svg") ∷ []) (each_place in_chart layer_nodes layer_places drawing.layers) refl
+    ap (option_and_then (λ next. next_contexts next (layers ++ EndTag (codes "svg") ∷ []))) (chart_begins drawing.height drawing.lanes)
+    ∙ then_contexts in_chart in_chart Normal layers (EndTag (codes "svg") ∷ []) (each_context in_chart layer_nodes layer_contexts drawing.layers) refl
 
-pub meter_places : (width : ℕ) → next_places Normal (meter_nodes width) ≡ Some Normal
-meter_places width = refl
+pub meter_contexts : (width : ℕ) → next_contexts Normal (meter_nodes width) ≡ Some Normal
+meter_contexts width = refl
 
 -- ---- reading
 
--- What is read of a tag that leads to a place.
-emits : (place next : Place) (tag behind : List ℕ) → emit_tag place tag ≡ (DataState next, Tag tag ∷ []) → emitted place tag behind ≡ Tag tag ∷ read_from (DataState next) behind
-emits place next tag behind is = ap (λ (step : Step). step.1 ++ read_from step.0 behind) is
+-- What is read of a tag that leads to a context.
+emits : (context next : Context) (tag behind : List ℕ) → emit_tag context tag ≡ (DataState next, Tag tag ∷ []) → emitted context tag behind ≡ Tag tag ∷ read_from (DataState next) behind
+emits context next tag behind is = ap (λ (step : Step). step.1 ++ read_from step.0 behind) is
 
 svg_start : (inner : List ℕ) (outer : List (List ℕ)) (tag name : List ℕ) → start_name tag ≡ name → may_begin inner name ≡ true → svg_start_tag inner outer tag ≡ (DataState (Svg name (inner ∷ outer)), Tag tag ∷ [])
 svg_start inner outer tag name is may =
@@ -138,10 +138,10 @@ start_of_svg : (attributes : List Attribute) → emit_tag Normal (tag_text (code
 start_of_svg [] = refl
 start_of_svg (attribute ∷ attributes) = refl
 
-end_in_svg : (inner : List ℕ) (outer : List (List ℕ)) (element : List ℕ) → bytes_eq element inner ≡ true → svg_end_tag inner outer element ≡ (DataState (place_in outer), Tag (47 ∷ element) ∷ [])
+end_in_svg : (inner : List ℕ) (outer : List (List ℕ)) (element : List ℕ) → bytes_eq element inner ≡ true → svg_end_tag inner outer element ≡ (DataState (context_in outer), Tag (47 ∷ element) ∷ [])
 end_in_svg inner outer element same = cond-true (bytes_eq element inner) _ _ same
 
-node_leads : (place next : Place) (node : Node) → next_place place node ≡ Some next → Leads place (node_html node) (node_tokens node) next
+node_leads : (context next : Context) (node : Node) → next_context context node ≡ Some next → Leads context (node_html node) (node_tokens node) next
 node_leads Normal next (StartTag element attributes) is behind =
     let well = some_if (bytes_eq element (codes "svg") && is_start element attributes) in_chart next is in
     let parts = and_parts (bytes_eq element (codes "svg")) (is_start element attributes) well.0 in
@@ -157,10 +157,10 @@ node_leads (Svg inner outer) next (StartTag element attributes) is behind =
     subst (λ p. read_from (DataState (Svg inner outer)) (node_html (StartTag element attributes) ++ behind) ≡ Tag (tag_text element attributes) ∷ read_from (DataState p) behind) well.1
     (tag_read (Svg inner outer) element attributes start.0 attributes_are behind ∙ emits (Svg inner outer) (Svg element (inner ∷ outer)) (tag_text element attributes) behind (start_in_svg inner outer element attributes start.0 parts.0))
 node_leads (Svg inner outer) next (EndTag element) is behind =
-    let well = some_if (bytes_eq element inner && is_element element) (place_in outer) next is in
+    let well = some_if (bytes_eq element inner && is_element element) (context_in outer) next is in
     let parts = and_parts (bytes_eq element inner) (is_element element) well.0 in
     subst (λ p. read_from (DataState (Svg inner outer)) (node_html (EndTag element) ++ behind) ≡ Tag (47 ∷ element) ∷ read_from (DataState p) behind) well.1
-    (end_tag_read (Svg inner outer) element parts.1 behind ∙ emits (Svg inner outer) (place_in outer) (47 ∷ element) behind (end_in_svg inner outer element parts.0))
+    (end_tag_read (Svg inner outer) element parts.1 behind ∙ emits (Svg inner outer) (context_in outer) (47 ∷ element) behind (end_in_svg inner outer element parts.0))
 node_leads (Svg inner outer) next (Words text) is behind =
     let same : Svg inner outer ≡ next = cc in
     subst (λ p. read_from (DataState (Svg inner outer)) (node_html (Words text) ++ behind) ≡ node_tokens (Words text) ++ read_from (DataState p) behind) same (title_passage_reads (Svg inner outer) tt plain_style text behind)
@@ -168,36 +168,36 @@ node_leads Normal next (EndTag element) is behind = absurd (cc)
 node_leads Normal next (Words text) is behind = absurd (cc)
 node_leads Rcdata next node is behind = absurd (none node is)
   where
-    none : (n : Node) → next_place Rcdata n ≡ Some next → ⊥
+    none : (n : Node) → next_context Rcdata n ≡ Some next → ⊥
     none (StartTag element attributes) at = cc
     none (EndTag element) at = cc
     none (Words text) at = cc
 node_leads Rawtext next node is behind = absurd (none node is)
   where
-    none : (n : Node) → next_place Rawtext n ≡ Some next → ⊥
+    none : (n : Node) → next_context Rawtext n ≡ Some next → ⊥
     none (StartTag element attributes) at = cc
     none (EndTag element) at = cc
     none (Words text) at = cc
 
-pub nodes_lead : (place next : Place) (nodes : List Node) → next_places place nodes ≡ Some next → Leads place (nodes_html nodes) (nodes_tokens nodes) next
-nodes_lead place next [] is behind = let same : place ≡ next = cc in ap (λ p. read_from (DataState p) behind) same
-nodes_lead place next (node ∷ nodes) is behind =
-    option_and_then_some (λ p. next_places p nodes) (next_place place node) next is
+pub nodes_lead : (context next : Context) (nodes : List Node) → next_contexts context nodes ≡ Some next → Leads context (nodes_html nodes) (nodes_tokens nodes) next
+nodes_lead context next [] is behind = let same : context ≡ next = cc in ap (λ p. read_from (DataState p) behind) same
+nodes_lead context next (node ∷ nodes) is behind =
+    option_and_then_some (λ p. next_contexts p nodes) (next_context context node) next is
     (λ p at more.
-    ap (read_from (DataState place)) (append_assoc (node_html node) (nodes_html nodes) behind) ∙ node_leads place p node at (nodes_html nodes ++ behind)
+    ap (read_from (DataState context)) (append_assoc (node_html node) (nodes_html nodes) behind) ∙ node_leads context p node at (nodes_html nodes ++ behind)
     ∙ ap (λ (t : List Token). node_tokens node ++ t) (nodes_lead p next nodes more behind)
     ∙ sym (append_assoc (node_tokens node) (nodes_tokens nodes) (read_from (DataState next) behind)))
 
 -- ---- nesting
 
--- The elements that are open in a place, the innermost first.
-abbrev pub open_in : Place → List (List ℕ)
+-- The elements that are open in a context, the innermost first.
+abbrev pub open_in : Context → List (List ℕ)
 open_in Normal = []
 open_in Rcdata = []
 open_in Rawtext = []
 open_in (Svg inner outer) = inner ∷ outer
 
-open_after : (outer : List (List ℕ)) → open_in (place_in outer) ≡ outer
+open_after : (outer : List (List ℕ)) → open_in (context_in outer) ≡ outer
 open_after [] = refl
 open_after (inner ∷ outer) = refl
 
@@ -209,7 +209,7 @@ start_nests (byte ∷ bytes) attributes is around tags =
     let void = not-true (is_void (byte ∷ bytes)) (and_parts (not (is_void (byte ∷ bytes))) (list_all is_attribute attributes) start.1).0 in
     rw slash (ap (λ (name : List ℕ). if is_void name then nests_in around tags else nests_in (name ∷ around) tags) (tag_name (byte ∷ bytes) attributes start.0) ∙ ap (λ (v : Bool). if v then nests_in around tags else nests_in ((byte ∷ bytes) ∷ around) tags) void)
 
-node_nests : (place next : Place) (node : Node) → next_place place node ≡ Some next → (around tags : List (List ℕ)) → nests_in (open_in place ++ around) (tags_of (node_tokens node) ++ tags) ≡ nests_in (open_in next ++ around) tags
+node_nests : (context next : Context) (node : Node) → next_context context node ≡ Some next → (around tags : List (List ℕ)) → nests_in (open_in context ++ around) (tags_of (node_tokens node) ++ tags) ≡ nests_in (open_in next ++ around) tags
 node_nests Normal next (StartTag element attributes) is around tags =
     let well = some_if (bytes_eq element (codes "svg") && is_start element attributes) in_chart next is in
     let parts = and_parts (bytes_eq element (codes "svg")) (is_start element attributes) well.0 in
@@ -219,7 +219,7 @@ node_nests (Svg inner outer) next (StartTag element attributes) is around tags =
     let parts = and_parts (may_begin inner element) (is_start element attributes) well.0 in
     start_nests element attributes parts.1 (inner ∷ (outer ++ around)) tags ∙ ap (λ p. nests_in (open_in p ++ around) tags) well.1
 node_nests (Svg inner outer) next (EndTag element) is around tags =
-    let well = some_if (bytes_eq element inner && is_element element) (place_in outer) next is in
+    let well = some_if (bytes_eq element inner && is_element element) (context_in outer) next is in
     let same = (and_parts (bytes_eq element inner) (is_element element) well.0).0 in
     ap (λ (b : Bool). b && nests_in (outer ++ around) tags) same ∙ ap (λ (names : List (List ℕ)). nests_in (names ++ around) tags) (sym (open_after outer)) ∙ ap (λ p. nests_in (open_in p ++ around) tags) well.1
 node_nests (Svg inner outer) next (Words text) is around tags =
@@ -234,14 +234,14 @@ node_nests Rawtext next (StartTag element attributes) is around tags = absurd (c
 node_nests Rawtext next (EndTag element) is around tags = absurd (cc)
 node_nests Rawtext next (Words text) is around tags = absurd (cc)
 
-pub nodes_nest : (place next : Place) (nodes : List Node) → next_places place nodes ≡ Some next → (around tags : List (List ℕ)) → nests_in (open_in place ++ around) (tags_of (nodes_tokens nodes) ++ tags) ≡ nests_in (open_in next ++ around) tags
-nodes_nest place next [] is around tags = let same : place ≡ next = cc in ap (λ p. nests_in (open_in p ++ around) tags) same
-nodes_nest place next (node ∷ nodes) is around tags =
-    option_and_then_some (λ p. next_places p nodes) (next_place place node) next is
+pub nodes_nest : (context next : Context) (nodes : List Node) → next_contexts context nodes ≡ Some next → (around tags : List (List ℕ)) → nests_in (open_in context ++ around) (tags_of (nodes_tokens nodes) ++ tags) ≡ nests_in (open_in next ++ around) tags
+nodes_nest context next [] is around tags = let same : context ≡ next = cc in ap (λ p. nests_in (open_in p ++ around) tags) same
+nodes_nest context next (node ∷ nodes) is around tags =
+    option_and_then_some (λ p. next_contexts p nodes) (next_context context node) next is
     (λ p at more.
-    ap (λ (ts : List (List ℕ)). nests_in (open_in place ++ around) (ts ++ tags)) (flat_map-append tag_of (node_tokens node) (nodes_tokens nodes))
-    ∙ ap (nests_in (open_in place ++ around)) (append_assoc (tags_of (node_tokens node)) (tags_of (nodes_tokens nodes)) tags)
-    ∙ node_nests place p node at around (tags_of (nodes_tokens nodes) ++ tags)
+    ap (λ (ts : List (List ℕ)). nests_in (open_in context ++ around) (ts ++ tags)) (flat_map-append tag_of (node_tokens node) (nodes_tokens nodes))
+    ∙ ap (nests_in (open_in context ++ around)) (append_assoc (tags_of (node_tokens node)) (tags_of (nodes_tokens nodes)) tags)
+    ∙ node_nests context p node at around (tags_of (nodes_tokens nodes) ++ tags)
     ∙ nodes_nest p next nodes more around tags)
 
 -- ---- well-formed nodes
@@ -256,21 +256,21 @@ start_well_formed element attributes is =
     let start = and_parts (is_element element) (not (is_void element) && list_all is_attribute attributes) is in
     and_from (is_element element) (list_all is_attribute attributes) start.0 (and_parts (not (is_void element)) (list_all is_attribute attributes) start.1).1
 
-node_well_formed : (place next : Place) (node : Node) → next_place place node ≡ Some next → is_well_formed node ≡ true
+node_well_formed : (context next : Context) (node : Node) → next_context context node ≡ Some next → is_well_formed node ≡ true
 node_well_formed Normal next (StartTag element attributes) is =
     start_well_formed element attributes (and_parts (bytes_eq element (codes "svg")) (is_start element attributes) (some_if (bytes_eq element (codes "svg") && is_start element attributes) in_chart next is).0).1
 node_well_formed (Svg inner outer) next (StartTag element attributes) is =
     start_well_formed element attributes (and_parts (may_begin inner element) (is_start element attributes) (some_if (may_begin inner element && is_start element attributes) (Svg element (inner ∷ outer)) next is).0).1
-node_well_formed (Svg inner outer) next (EndTag element) is = (and_parts (bytes_eq element inner) (is_element element) (some_if (bytes_eq element inner && is_element element) (place_in outer) next is).0).1
-node_well_formed place next (Words text) is = refl
+node_well_formed (Svg inner outer) next (EndTag element) is = (and_parts (bytes_eq element inner) (is_element element) (some_if (bytes_eq element inner && is_element element) (context_in outer) next is).0).1
+node_well_formed context next (Words text) is = refl
 node_well_formed Normal next (EndTag element) is = absurd (cc)
 node_well_formed Rcdata next (StartTag element attributes) is = absurd (cc)
 node_well_formed Rcdata next (EndTag element) is = absurd (cc)
 node_well_formed Rawtext next (StartTag element attributes) is = absurd (cc)
 node_well_formed Rawtext next (EndTag element) is = absurd (cc)
 
-pub nodes_well_formed : (place next : Place) (nodes : List Node) → next_places place nodes ≡ Some next → list_all is_well_formed nodes ≡ true
-nodes_well_formed place next [] is = refl
-nodes_well_formed place next (node ∷ nodes) is =
-    option_and_then_some (λ p. next_places p nodes) (next_place place node) next is
-    (λ p at more. and_from (is_well_formed node) (list_all is_well_formed nodes) (node_well_formed place p node at) (nodes_well_formed p next nodes more))
+pub nodes_well_formed : (context next : Context) (nodes : List Node) → next_contexts context nodes ≡ Some next → list_all is_well_formed nodes ≡ true
+nodes_well_formed context next [] is = refl
+nodes_well_formed context next (node ∷ nodes) is =
+    option_and_then_some (λ p. next_contexts p nodes) (next_context context node) next is
+    (λ p at more. and_from (is_well_formed node) (list_all is_well_formed nodes) (node_well_formed context p node at) (nodes_well_formed p next nodes more))

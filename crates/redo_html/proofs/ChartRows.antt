@@ -10,7 +10,7 @@ use Rattle.redo_html.specs.declared.chart.ChartGroup.{ChartGroup}
 use Rattle.redo_html.specs.declared.chart.ChartItem.{ChartItem}
 use Rattle.redo_html.specs.declared.chart.ChartItem.TheVariants as item
 use Rattle.redo_html.specs.declared.chart.GroupKind.{GroupKind}
-use Rattle.redo_html.specs.declared.chart.GroupKind.TheVariants.{Axis, Parents, Recipes, Untimed}
+use Rattle.redo_html.specs.declared.chart.GroupKind.TheVariants.{Axis, Callers, Recipes, Untimed}
 use Rattle.redo_html.specs.declared.markup.Markup.TheVariants.{EndCell}
 use Rattle.redo_html.specs.declared.piece.Piece.TheVariants as piece
 use Rattle.redo_html.specs.Chart.{Drawing, drawing_links, drawing_of, layer_nodes, layer_of, nodes_html, percent_text, shape_nodes, shape_of}
@@ -19,8 +19,8 @@ use Rattle.redo_html.specs.Laws.{has_bytes, markup_tag, reworded}
 use Rattle.redo_html.specs.Parts.{Part, part_html, part_of, part_text, part_tokens}
 use Rattle.redo_html.specs.Parts.Part.{MarkupPart, ChartPart, MeterPart}
 use Rattle.redo_html.specs.Passage.{html_from}
-use Rattle.redo_html.specs.Shown.{is_odd, number_text, odd_text, picture}
-use Rattle.redo_html.specs.Symbols.{first_letter, first_symbol, is_sequence, letter_len, sequence_len, sequence_numbers, symbol_len, symbols_after}
+use Rattle.redo_html.specs.Shown.{is_unprintable, number_text, unprintable_text, notation}
+use Rattle.redo_html.specs.Symbols.{first_code_point, first_symbol, is_sequence, code_point_len, sequence_len, sequence_numbers, symbol_len, symbols_after}
 
 -- ---- charts
 
@@ -28,8 +28,8 @@ abbrev at : {X : Type 0} → X → Bor X
 at x = record { ref_ptr = (0, 0); now = x }
 
 abbrev bar : ℕ → ℕ → ℕ → ℕ → ℕ → Bool → List ℕ → Option (Bor (List ℕ)) → ChartItem
-bar place x y width height failed title label =
-    item.Bar (record { place = place; x = x; y = y; width = width; height = height; failed = failed; title = at title; label = label })
+bar target x y width height failed title label =
+    item.Bar (record { target = target; x = x; y = y; width = width; height = height; failed = failed; title = at title; label = label })
 
 abbrev group : GroupKind → List ChartItem → ChartGroup
 group kind items = record { kind = kind; items = at items }
@@ -47,7 +47,7 @@ full =
     ∷ item.Line 2500 86
     ∷ item.Tick 2500 anchor.Middle (at (codes "1 s"))
     ∷ item.Tick 9876 anchor.End (at (codes "<" ++ (1 ∷ []) ++ codes ">")) ∷ [])
-    ∷ group Parents (
+    ∷ group Callers (
     bar 0 0 20 10000 12 false (codes "all, 4 s") (Some (at (codes "all")))
     ∷ bar 1 5 34 9995 12 true (codes "lib, exit 2") (Some (at (codes "lib"))) ∷ [])
     ∷ group Recipes (
@@ -74,8 +74,8 @@ shape_rows =
     ∷ shape Axis (item.Line 2500 86) (codes "<line x1=\"25.00%\" x2=\"25.00%\" y1=\"15\" y2=\"86\"></line>")
     ∷ shape Axis (item.Tick 2500 anchor.Middle (at (codes "1 s"))) (codes "<text x=\"25.00%\" y=\"11\" text-anchor=\"middle\">1 s</text>")
     ∷ shape Axis (item.Tick 9876 anchor.End (at (codes "<" ++ (1 ∷ []) ++ codes ">"))) (codes "<text x=\"98.76%\" y=\"11\" text-anchor=\"end\">&lt;^A&gt;</text>")
-    ∷ shape Parents (bar 0 0 20 10000 12 false (codes "all, 4 s") (Some (at (codes "all")))) (codes "<a href=\"#t0\" tabindex=\"-1\"><svg x=\"0.00%\" y=\"20\" width=\"100.00%\" height=\"12\"><title>all, 4 s</title><rect width=\"100%\" height=\"12\"></rect><text x=\"4\" y=\"9\" fill=\"currentColor\">all</text></svg></a>")
-    ∷ shape Parents (bar 1 5 34 9995 12 true (codes "lib, exit 2") (Some (at (codes "lib")))) (codes "<a href=\"#t1\" tabindex=\"-1\"><svg x=\"0.05%\" y=\"34\" width=\"99.95%\" height=\"12\"><title>lib, exit 2</title><rect width=\"100%\" height=\"12\" class=\"f\" fill=\"#c62828\"></rect><text x=\"4\" y=\"9\" fill=\"#fff\">lib</text></svg></a>")
+    ∷ shape Callers (bar 0 0 20 10000 12 false (codes "all, 4 s") (Some (at (codes "all")))) (codes "<a href=\"#t0\" tabindex=\"-1\"><svg x=\"0.00%\" y=\"20\" width=\"100.00%\" height=\"12\"><title>all, 4 s</title><rect width=\"100%\" height=\"12\"></rect><text x=\"4\" y=\"9\" fill=\"currentColor\">all</text></svg></a>")
+    ∷ shape Callers (bar 1 5 34 9995 12 true (codes "lib, exit 2") (Some (at (codes "lib")))) (codes "<a href=\"#t1\" tabindex=\"-1\"><svg x=\"0.05%\" y=\"34\" width=\"99.95%\" height=\"12\"><title>lib, exit 2</title><rect width=\"100%\" height=\"12\" class=\"f\" fill=\"#c62828\"></rect><text x=\"4\" y=\"9\" fill=\"#fff\">lib</text></svg></a>")
     ∷ shape Recipes (bar 7 1234 54 30 16 false (codes "out/<a>&\"b'.o, 0.01 s") None) (codes "<a href=\"#t7\" tabindex=\"-1\"><rect x=\"12.34%\" y=\"54\" width=\"0.30%\" height=\"16\"><title>out/&lt;a&gt;&amp;\"b'.o, 0.01 s</title></rect></a>")
     ∷ shape Recipes (bar 8 1264 54 700 16 true (codes "</title>" ++ (255 ∷ [])) None) (codes "<a href=\"#t8\" tabindex=\"-1\"><rect x=\"12.64%\" y=\"54\" width=\"7.00%\" height=\"16\" class=\"f\" fill=\"#c62828\"><title>&lt;/title&gt;\\xff</title></rect></a>")
     ∷ shape Recipes (bar 9 2000 72 350 16 true (codes "c, exit 1") (Some (at (codes "a<b>&")))) (codes "<a href=\"#t9\" tabindex=\"-1\"><svg x=\"20.00%\" y=\"72\" width=\"3.50%\" height=\"16\"><title>c, exit 1</title><rect width=\"100%\" height=\"16\" class=\"f\" fill=\"#c62828\"></rect><text x=\"4\" y=\"12\" fill=\"#fff\">a&lt;b&gt;&amp;</text></svg></a>")
@@ -85,7 +85,7 @@ shape_rows =
     ∷ []
 
 shapes_are : AllByRecursion (λ r. nodes_html (shape_nodes r.kind (shape_of r.item)) ≡ r.html) shape_rows
-unfolding symbols_after first_symbol symbol_len is_sequence sequence_len sequence_numbers first_letter letter_len is_odd picture odd_text number_text encode_utf8 digits html_from
+unfolding symbols_after first_symbol symbol_len is_sequence sequence_len sequence_numbers first_code_point code_point_len is_unprintable notation unprintable_text number_text encode_utf8 digits html_from
 shapes_are = (refl, (refl, (refl, (refl, (refl, (refl, (refl, (refl, (refl, (refl, (refl, (refl, (refl, tt)))))))))))))
 
 record GroupRow : Type 0 where
@@ -98,7 +98,7 @@ group_row group html = record { group = group; html = html }
 abbrev group_rows : List GroupRow
 group_rows =
     group_row (group Axis (item.Line 7 8 ∷ [])) (codes "<g class=\"axis\" stroke=\"#8886\" fill=\"currentColor\" stroke-width=\".5\"><line x1=\"0.07%\" x2=\"0.07%\" y1=\"15\" y2=\"8\"></line></g>")
-    ∷ group_row (group Parents (item.Line 7 8 ∷ [])) (codes "<g class=\"w\" fill=\"#8886\"><line x1=\"0.07%\" x2=\"0.07%\" y1=\"15\" y2=\"8\"></line></g>")
+    ∷ group_row (group Callers (item.Line 7 8 ∷ [])) (codes "<g class=\"w\" fill=\"#8886\"><line x1=\"0.07%\" x2=\"0.07%\" y1=\"15\" y2=\"8\"></line></g>")
     ∷ group_row (group Recipes (item.Line 7 8 ∷ [])) (codes "<g class=\"k\" fill=\"#3a6ea5\"><line x1=\"0.07%\" x2=\"0.07%\" y1=\"15\" y2=\"8\"></line></g>")
     ∷ group_row (group Untimed ([])) (codes "<g class=\"e\" fill=\"#8a6d3b\"></g>")
     ∷ []
@@ -118,7 +118,7 @@ abbrev rows : List Row
 rows =
     row (part_of (piece.Chart (chart 5 1 []))) (codes "<svg role=\"img\" aria-label=\"A bar for each target, from its start to its end, in 1 lane\" width=\"100%\" height=\"5\" font-size=\"11\"></svg>")
     ∷ row (part_of (piece.Chart (chart 6 0 []))) (codes "<svg role=\"img\" aria-label=\"A bar for each target, from its start to its end, in 0 lanes\" width=\"100%\" height=\"6\" font-size=\"11\"></svg>")
-    ∷ row (part_of (piece.Chart (chart 7 8 (group Parents [] ∷ group Untimed [] ∷ [])))) (codes "<svg role=\"img\" aria-label=\"A bar for each target, from its start to its end, in 8 lanes\" width=\"100%\" height=\"7\" font-size=\"11\"><g class=\"w\" fill=\"#8886\"></g><g class=\"e\" fill=\"#8a6d3b\"></g></svg>")
+    ∷ row (part_of (piece.Chart (chart 7 8 (group Callers [] ∷ group Untimed [] ∷ [])))) (codes "<svg role=\"img\" aria-label=\"A bar for each target, from its start to its end, in 8 lanes\" width=\"100%\" height=\"7\" font-size=\"11\"><g class=\"w\" fill=\"#8886\"></g><g class=\"e\" fill=\"#8a6d3b\"></g></svg>")
     ∷ row (part_of (piece.Meter 6320)) (codes "<svg width=\"100%\" height=\"10\" aria-hidden=\"true\"><rect width=\"63.20%\" height=\"10\" fill=\"#3a6ea5\"></rect></svg>")
     ∷ row (part_of (piece.Meter 5)) (codes "<svg width=\"100%\" height=\"10\" aria-hidden=\"true\"><rect width=\"0.05%\" height=\"10\" fill=\"#3a6ea5\"></rect></svg>")
     ∷ row (part_of (piece.Meter 10000)) (codes "<svg width=\"100%\" height=\"10\" aria-hidden=\"true\"><rect width=\"100.00%\" height=\"10\" fill=\"#3a6ea5\"></rect></svg>")
@@ -143,12 +143,12 @@ rows =
     ∷ []
 
 written_are : AllByRecursion (λ r. part_html r.part ≡ r.html) rows
-unfolding symbols_after first_symbol symbol_len is_sequence sequence_len sequence_numbers first_letter letter_len is_odd picture odd_text number_text encode_utf8 digits html_from
+unfolding symbols_after first_symbol symbol_len is_sequence sequence_len sequence_numbers first_code_point code_point_len is_unprintable notation unprintable_text number_text encode_utf8 digits html_from
 written_are = (refl, (refl, (refl, (refl, (refl, (refl, (refl, tt)))))))
 
 -- A reader sees the ticks, the tooltips and the labels.
 texts_are : (part_text (part_of (piece.Chart full)) ≡ codes "01 s<^A>all, 4 salllib, exit 2libout/<a>&\"b'.o, 0.01 s</title>\\xffc, exit 1a<b>&^[[1mdd^[[meff") × (part_text (part_of (piece.Chart (chart 5 1 []))) ≡ []) × (part_text (part_of (piece.Meter 7)) ≡ [])
-unfolding symbols_after first_symbol symbol_len is_sequence sequence_len sequence_numbers first_letter letter_len is_odd picture odd_text number_text encode_utf8 digits
+unfolding symbols_after first_symbol symbol_len is_sequence sequence_len sequence_numbers first_code_point code_point_len is_unprintable notation unprintable_text number_text encode_utf8 digits
 texts_are = (refl, refl, refl)
 
 links_are : (drawing_links (drawing_of full) ≡ 0 ∷ 1 ∷ 7 ∷ 8 ∷ 9 ∷ 12 ∷ 18446744073709551615 ∷ 13 ∷ []) × (drawing_links (drawing_of (chart 5 1 [])) ≡ [])
@@ -172,7 +172,7 @@ tags_are : tags_of (part_tokens (ChartPart (two (codes "<a>") (codes "</title>")
     ∷ codes "g class=\"axis\" stroke=\"#8886\" fill=\"currentColor\" stroke-width=\".5\"" ∷ codes "text x=\"0.50%\" y=\"11\" text-anchor=\"end\"" ∷ codes "/text" ∷ codes "/g"
     ∷ codes "g class=\"k\" fill=\"#3a6ea5\"" ∷ codes "a href=\"#t4\" tabindex=\"-1\"" ∷ codes "svg x=\"1.00%\" y=\"20\" width=\"2.50%\" height=\"16\"" ∷ codes "title" ∷ codes "/title"
     ∷ codes "rect width=\"100%\" height=\"16\" class=\"f\" fill=\"#c62828\"" ∷ codes "/rect" ∷ codes "text x=\"4\" y=\"12\" fill=\"#fff\"" ∷ codes "/text" ∷ codes "/svg" ∷ codes "/a" ∷ codes "/g" ∷ codes "/svg" ∷ []
-unfolding symbols_after first_symbol symbol_len is_sequence sequence_len sequence_numbers first_letter letter_len is_odd picture odd_text number_text encode_utf8 digits
+unfolding symbols_after first_symbol symbol_len is_sequence sequence_len sequence_numbers first_code_point code_point_len is_unprintable notation unprintable_text number_text encode_utf8 digits
 tags_are = refl
 
 meter_tags_are : tags_of (part_tokens (MeterPart 5))

@@ -32,17 +32,17 @@ none_in_nodes first others none more =
 abbrev emptied : Shape → Shape
 emptied shape = reworded_shape (λ text. []) shape
 
-none_in_bar : (kind : GroupKind) (place x y width height : ℕ) (failed : Bool) (label : Option (List ℕ))
-    → HasNone (shape_nodes kind (emptied (BarShape (record { place = place; x = x; y = y; width = width; height = height; failed = failed; title = []; label = label }))))
+none_in_bar : (kind : GroupKind) (target x y width height : ℕ) (failed : Bool) (label : Option (List ℕ))
+    → HasNone (shape_nodes kind (emptied (BarShape (record { target = target; x = x; y = y; width = width; height = height; failed = failed; title = []; label = label }))))
 unfolding symbols_after
-none_in_bar kind place x y width height failed None = refl
-none_in_bar kind place x y width height failed (Some label) = refl
+none_in_bar kind target x y width height failed None = refl
+none_in_bar kind target x y width height failed (Some label) = refl
 
 none_in_shape : (kind : GroupKind) (shape : Shape) → HasNone (shape_nodes kind (emptied shape))
 unfolding symbols_after
 none_in_shape kind (LineShape x bottom) = refl
 none_in_shape kind (TickShape x anchor text) = refl
-none_in_shape kind (BarShape bar) = none_in_bar kind bar.place bar.x bar.y bar.width bar.height bar.failed bar.label
+none_in_shape kind (BarShape bar) = none_in_bar kind bar.target bar.x bar.y bar.width bar.height bar.failed bar.label
 
 none_in_shapes : (kind : GroupKind) (shapes : List Shape) → HasNone (flat_map (shape_nodes kind) (map emptied shapes))
 none_in_shapes kind [] = refl

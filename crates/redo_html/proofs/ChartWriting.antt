@@ -39,10 +39,10 @@ wrote_as before after text other is wrote = wrote ∙ ap (λ (t : List ℕ). app
 
 -- The start tag of a bar, which is a link.
 abbrev pub bar_start : ℕ → Node
-bar_start place = StartTag (codes "a") (record { name = codes "href"; values = Fixed (codes "#t") ∷ Number place ∷ [] } ∷ fixed (codes "tabindex") (codes "-1") ∷ [])
+bar_start target = StartTag (codes "a") (record { name = codes "href"; values = Fixed (codes "#t") ∷ Number target ∷ [] } ∷ fixed (codes "tabindex") (codes "-1") ∷ [])
 
-pub link_html : (place : ℕ) → codes "<a href=\"#t" ++ (number_text place ++ (codes "\" tabindex=\"-1\">" ++ [])) ≡ node_html (bar_start place)
-link_html place = simp append_assoc
+pub link_html : (target : ℕ) → codes "<a href=\"#t" ++ (number_text target ++ (codes "\" tabindex=\"-1\">" ++ [])) ≡ node_html (bar_start target)
+link_html target = simp append_assoc
 
 abbrev pub shapes_html : Layer → List ℕ
 shapes_html layer = flat_map (shape_html layer.kind) layer.shapes

@@ -1,35 +1,35 @@
--- Rows of what the laws cite: marks, bytes, tokens, and how bytes are read. The values are worked out by hand.
+-- Rows of what the laws cite: highlights, bytes, tokens, and how bytes are read. The values are worked out by hand.
 use Rattle.std.proofs.Common.{◌≡◌, true, false, [], ◌∷◌, ◌++◌, inl, inr, map, refl, sym, ◌∙◌}
 use Rattle.std.proofs.lemmas.Bool.{false≢true}
 use Rattle.std.specs.Char.{encode_utf8}
 use Rattle.std.specs.Prelude.{codes}
 use Rattle.std.specs.Fmt.{digits}
 use Rattle.std.specs.List.{list_all, list_any}
-use Rattle.redo_html.specs.declared.form.Form.TheVariants.{Log, Name, Title}
+use Rattle.redo_html.specs.declared.text_kind.TextKind.TheVariants.{Log, Monochrome, Title}
 use Rattle.redo_html.specs.Html.{tags_of, text_of}
 use Rattle.redo_html.specs.Html.Token.{Character, Tag, Lost}
-use Rattle.redo_html.specs.Laws.{IsChartTag, ReadsAs, is_byte, is_mark, is_plain}
+use Rattle.redo_html.specs.Laws.{IsChartTag, ReadsAs, is_byte, is_highlight, is_plain}
 use Rattle.redo_html.specs.Lines.{is_no_escape}
 use Rattle.redo_html.specs.Passage.{passage_tokens}
-use Rattle.redo_html.specs.Shown.{is_odd, number_text, odd_text, picture}
+use Rattle.redo_html.specs.Shown.{is_unprintable, number_text, unprintable_text, notation}
 use Rattle.redo_html.specs.Style.{plain_style}
-use Rattle.redo_html.specs.Symbols.{first_letter, first_symbol, is_sequence, letter_len, sequence_len, sequence_numbers, symbol_len, symbols_after}
+use Rattle.redo_html.specs.Symbols.{first_code_point, first_symbol, is_sequence, code_point_len, sequence_len, sequence_numbers, symbol_len, symbols_after}
 use Rattle.redo_html.proofs.ChartRows.{two}
 use Rattle.redo_html.proofs.ChartTags.{no_script_in_chart}
 
--- ---- marks
+-- ---- highlights
 
--- An element for odd letters; one for bold text, with or without a hue; one for a hue.
-marks :
-    list_all is_mark (codes "i" ∷ codes "/i" ∷ codes "b" ∷ codes "b class=\"r\"" ∷ codes "b class=\"g\"" ∷ codes "b class=\"y\"" ∷ codes "b class=\"b\"" ∷ codes "b class=\"m\"" ∷ codes "b class=\"c\"" ∷ codes "/b"
+-- An element for unprintable code points; one for bold text, with or without a hue; one for a hue.
+highlights :
+    list_all is_highlight (codes "i" ∷ codes "/i" ∷ codes "b" ∷ codes "b class=\"r\"" ∷ codes "b class=\"g\"" ∷ codes "b class=\"y\"" ∷ codes "b class=\"b\"" ∷ codes "b class=\"m\"" ∷ codes "b class=\"c\"" ∷ codes "/b"
     ∷ codes "span class=\"r\"" ∷ codes "span class=\"g\"" ∷ codes "span class=\"y\"" ∷ codes "span class=\"b\"" ∷ codes "span class=\"m\"" ∷ codes "span class=\"c\"" ∷ codes "/span" ∷ []) ≡ true
-marks = refl
+highlights = refl
 
 -- Other elements, other attributes, other classes.
-no_marks :
-    list_any is_mark ([] ∷ codes "script" ∷ codes "/script" ∷ codes "style" ∷ codes "a href=\"x\"" ∷ codes "/a" ∷ codes "img src=\"x\"" ∷ codes "p" ∷ codes "/p" ∷ codes "bdi" ∷ codes "/bdi" ∷ codes "/pre" ∷ codes "svg" ∷ codes "I"
+no_highlights :
+    list_any is_highlight ([] ∷ codes "script" ∷ codes "/script" ∷ codes "style" ∷ codes "a href=\"x\"" ∷ codes "/a" ∷ codes "img src=\"x\"" ∷ codes "p" ∷ codes "/p" ∷ codes "bdi" ∷ codes "/bdi" ∷ codes "/pre" ∷ codes "svg" ∷ codes "I"
     ∷ codes "i class=\"r\"" ∷ codes "b onclick=\"x\"" ∷ codes "b class=\"r\" onclick=\"x\"" ∷ codes "b class=\"x\"" ∷ codes "b class=\"w\"" ∷ codes "span" ∷ codes "span class=\"x\"" ∷ codes "span class=\"w\"" ∷ codes "span style=\"x\"" ∷ []) ≡ false
-no_marks = refl
+no_highlights = refl
 
 -- ---- bytes
 
@@ -49,12 +49,12 @@ no_escapes = refl
 of_tokens : (text_of (Character 97 ∷ Tag (codes "i") ∷ Lost ∷ Character 98 ∷ Tag (codes "/i") ∷ []) ≡ codes "ab") × (tags_of (Character 97 ∷ Tag (codes "i") ∷ Lost ∷ Character 98 ∷ Tag (codes "/i") ∷ []) ≡ codes "i" ∷ codes "/i" ∷ [])
 of_tokens = (refl, refl)
 
--- Marks are tags, but a title has none. Everything else is characters.
+-- Highlights are tags, but a title has none. Everything else is characters.
 tokens :
     (passage_tokens Log plain_style (codes "a" ++ (27 ∷ []) ++ codes "[1;31m<" ++ 1 ∷ []) ≡ Character 97 ∷ Tag (codes "b class=\"r\"") ∷ Character 60 ∷ Tag (codes "i") ∷ Character 94 ∷ Character 65 ∷ Tag (codes "/i") ∷ Tag (codes "/b") ∷ [])
-    × (passage_tokens Name plain_style (1 ∷ []) ≡ Tag (codes "i") ∷ Character 94 ∷ Character 65 ∷ Tag (codes "/i") ∷ [])
+    × (passage_tokens Monochrome plain_style (1 ∷ []) ≡ Tag (codes "i") ∷ Character 94 ∷ Character 65 ∷ Tag (codes "/i") ∷ [])
     × (passage_tokens Title plain_style (38 ∷ 1 ∷ []) ≡ Character 38 ∷ Character 94 ∷ Character 65 ∷ [])
-unfolding symbols_after first_symbol symbol_len is_sequence sequence_len sequence_numbers first_letter letter_len is_odd picture odd_text number_text encode_utf8 digits
+unfolding symbols_after first_symbol symbol_len is_sequence sequence_len sequence_numbers first_code_point code_point_len is_unprintable notation unprintable_text number_text encode_utf8 digits
 tokens = (refl, refl, refl)
 
 -- ---- reading

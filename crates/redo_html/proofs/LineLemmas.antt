@@ -9,21 +9,21 @@ use Rattle.std.proofs.lemmas.List.Concat.{flat_map-append}
 use Rattle.std.proofs.lemmas.List.Sums.{prefix_len-le-length}
 use Rattle.bstr.specs.Utf8.{Decoded, decoded, pieces}
 use Rattle.bstr.proofs.lemmas.PieceLemmas.{pieces-step, pieces-append}
-use Rattle.redo_html.specs.declared.form.Form.{Form}
+use Rattle.redo_html.specs.declared.text_kind.TextKind.{TextKind}
 use Rattle.redo_html.specs.declared.look.Look.{Look}
 use Rattle.redo_html.specs.declared.style.Style.{Style}
 use Rattle.redo_html.specs.Laws.{is_plain}
 use Rattle.redo_line.specs.Lines.{with_line_feed}
-use Rattle.redo_html.specs.declared.form.Form.TheVariants.{Log}
+use Rattle.redo_html.specs.declared.text_kind.TextKind.TheVariants.{Log}
 use Rattle.redo_html.specs.Lines.{line_parts, style_after, style_after_lines, style_after_symbol}
 use Rattle.redo_html.specs.Parts.{part_text}
-use Rattle.redo_html.specs.Passage.{escaped, inline_html, marks_between, after_letter, with_wanted, start_look, inlines_from, html_from, passage_html}
+use Rattle.redo_html.specs.Passage.{escaped, inline_html, highlights_between, after_code_point, with_wanted, start_look, inlines_from, html_from, passage_html}
 use Rattle.redo_html.specs.Passage.Inline.{Text}
-use Rattle.redo_html.specs.Shown.{Run, is_odd, odd_text, run_text, shown_text, letters_text, with_letter, with_symbol, runs_of}
-use Rattle.redo_html.specs.Shown.Run.{Letters, Restyle}
+use Rattle.redo_html.specs.Shown.{Run, is_unprintable, unprintable_text, run_text, shown_text, code_points_text, with_code_point, with_symbol, runs_of}
+use Rattle.redo_html.specs.Shown.Run.{CodePoints, Restyle}
 use Rattle.redo_html.specs.Style.{plain_style, restyled}
-use Rattle.redo_html.specs.Symbols.{Symbol, letter_of, size_of, first_letter, letter_len, is_parameter, final_byte, begins_sequence, sequence_len, numbers_from, sequence_numbers, has_colours, is_sequence, first_symbol, symbol_len, symbols_after, symbols}
-use Rattle.redo_html.specs.Symbols.Symbol.{Letter, Sequence}
+use Rattle.redo_html.specs.Symbols.{Symbol, code_point_of, size_of, first_code_point, code_point_len, is_parameter, final_byte, begins_sequence, sequence_len, numbers_from, sequence_numbers, has_colours, is_sequence, first_symbol, symbol_len, symbols_after, symbols}
+use Rattle.redo_html.specs.Symbols.Symbol.{CodePoint, Sequence}
 use Rattle.redo_html.specs.Private.Writing.{style_in}
 use Rattle.redo_html.proofs.PassageLemmas.{html_of}
 use Rattle.redo_html.proofs.SymbolLemmas.{symbols-nil, symbols-step, symbol_bounds, plain_symbol, plain_visible, plain_encoded, visible_run}
@@ -71,9 +71,9 @@ sequence_same x (y ∷ bytes) more =
     ap (λ (b : Bool). if b then 3 + prefix_len is_parameter (bytes ++ 10 ∷ more) else 0) (begins_same x y bytes more)
     ∙ ap (λ (n : ℕ). if begins_sequence (x ∷ y ∷ bytes) then 3 + n else 0) (parameters_before bytes more)
 
-is_sequence_same : (form : Form) (x : ℕ) (bytes more : List ℕ) → is_sequence form ((x ∷ bytes) ++ 10 ∷ more) ≡ is_sequence form (x ∷ bytes)
+is_sequence_same : (kind : TextKind) (x : ℕ) (bytes more : List ℕ) → is_sequence kind ((x ∷ bytes) ++ 10 ∷ more) ≡ is_sequence kind (x ∷ bytes)
 unfolding is_sequence
-is_sequence_same form x bytes more = rw (sequence_same x bytes more) refl
+is_sequence_same kind x bytes more = rw (sequence_same x bytes more) refl
 
 numbers_same : (x y : ℕ) (bytes more : List ℕ) → sequence_numbers ((x ∷ y ∷ bytes) ++ 10 ∷ more) ≡ sequence_numbers (x ∷ y ∷ bytes)
 unfolding sequence_numbers
@@ -94,30 +94,30 @@ decoded_same x bytes more =
     heads : {a b : Decoded} {s t : List Decoded} → a ∷ s ≡ b ∷ t → a ≡ b
     heads same = cc
 
-one_byte_symbol : (form : Form) (x : ℕ) → is_sequence form (x ∷ []) ≡ false
+one_byte_symbol : (kind : TextKind) (x : ℕ) → is_sequence kind (x ∷ []) ≡ false
 unfolding is_sequence sequence_len
-one_byte_symbol form x = and_right (has_colours form) (nat_lt 0 (sequence_len (x ∷ []))) (ap (nat_lt 0) (cond-false _ _ _ (one_byte x (x == 27) refl)))
+one_byte_symbol kind x = and_right (has_colours kind) (nat_lt 0 (sequence_len (x ∷ []))) (ap (nat_lt 0) (cond-false _ _ _ (one_byte x (x == 27) refl)))
 
-first_same : (form : Form) (x : ℕ) (bytes more : List ℕ) → first_symbol form ((x ∷ bytes) ++ 10 ∷ more) ≡ first_symbol form (x ∷ bytes)
-unfolding first_symbol first_letter
-first_same form x bytes more = ap (λ (b : Bool). if b then Sequence (sequence_numbers all) else Letter (letter_of (decoded all).char x)) (is_sequence_same form x bytes more) ∙ ap (λ (d : Decoded). if is_sequence form (x ∷ bytes) then Sequence (sequence_numbers all) else Letter (letter_of d.char x)) (decoded_same x bytes more) ∙ by bytes (is_sequence form (x ∷ bytes)) refl
+first_same : (kind : TextKind) (x : ℕ) (bytes more : List ℕ) → first_symbol kind ((x ∷ bytes) ++ 10 ∷ more) ≡ first_symbol kind (x ∷ bytes)
+unfolding first_symbol first_code_point
+first_same kind x bytes more = ap (λ (b : Bool). if b then Sequence (sequence_numbers all) else CodePoint (code_point_of (decoded all).char x)) (is_sequence_same kind x bytes more) ∙ ap (λ (d : Decoded). if is_sequence kind (x ∷ bytes) then Sequence (sequence_numbers all) else CodePoint (code_point_of d.char x)) (decoded_same x bytes more) ∙ by bytes (is_sequence kind (x ∷ bytes)) refl
   where
     all : List ℕ
     all = (x ∷ bytes) ++ 10 ∷ more
 
-    by : (bytes : List ℕ) (is : Bool) → is_sequence form (x ∷ bytes) ≡ is → (if is_sequence form (x ∷ bytes) then Sequence (sequence_numbers ((x ∷ bytes) ++ 10 ∷ more)) else Letter (letter_of (decoded (x ∷ bytes)).char x))
-        ≡ (if is_sequence form (x ∷ bytes) then Sequence (sequence_numbers (x ∷ bytes)) else Letter (letter_of (decoded (x ∷ bytes)).char x))
+    by : (bytes : List ℕ) (is : Bool) → is_sequence kind (x ∷ bytes) ≡ is → (if is_sequence kind (x ∷ bytes) then Sequence (sequence_numbers ((x ∷ bytes) ++ 10 ∷ more)) else CodePoint (code_point_of (decoded (x ∷ bytes)).char x))
+        ≡ (if is_sequence kind (x ∷ bytes) then Sequence (sequence_numbers (x ∷ bytes)) else CodePoint (code_point_of (decoded (x ∷ bytes)).char x))
     by bytes false is = rw is refl
-    by [] true is = absurd (let e : true ≡ false = sym is ∙ one_byte_symbol form x in cc)
-    by (y ∷ bytes) true is = ap (λ (ns : List ℕ). if is_sequence form (x ∷ y ∷ bytes) then Sequence ns else Letter (letter_of (decoded (x ∷ y ∷ bytes)).char x)) (numbers_same x y bytes more)
+    by [] true is = absurd (let e : true ≡ false = sym is ∙ one_byte_symbol kind x in cc)
+    by (y ∷ bytes) true is = ap (λ (ns : List ℕ). if is_sequence kind (x ∷ y ∷ bytes) then Sequence ns else CodePoint (code_point_of (decoded (x ∷ y ∷ bytes)).char x)) (numbers_same x y bytes more)
 
-len_same : (form : Form) (x : ℕ) (bytes more : List ℕ) → symbol_len form ((x ∷ bytes) ++ 10 ∷ more) ≡ symbol_len form (x ∷ bytes)
-unfolding symbol_len letter_len
-len_same form x bytes more =
+len_same : (kind : TextKind) (x : ℕ) (bytes more : List ℕ) → symbol_len kind ((x ∷ bytes) ++ 10 ∷ more) ≡ symbol_len kind (x ∷ bytes)
+unfolding symbol_len code_point_len
+len_same kind x bytes more =
     let all = (x ∷ bytes) ++ 10 ∷ more in
-    ap (λ (b : Bool). if b then sequence_len all else size_of (decoded all).char (decoded all).size) (is_sequence_same form x bytes more)
-    ∙ ap (λ (n : ℕ). if is_sequence form (x ∷ bytes) then n else size_of (decoded all).char (decoded all).size) (sequence_same x bytes more)
-    ∙ ap (λ (d : Decoded). if is_sequence form (x ∷ bytes) then sequence_len (x ∷ bytes) else size_of d.char d.size) (decoded_same x bytes more)
+    ap (λ (b : Bool). if b then sequence_len all else size_of (decoded all).char (decoded all).size) (is_sequence_same kind x bytes more)
+    ∙ ap (λ (n : ℕ). if is_sequence kind (x ∷ bytes) then n else size_of (decoded all).char (decoded all).size) (sequence_same x bytes more)
+    ∙ ap (λ (d : Decoded). if is_sequence kind (x ∷ bytes) then sequence_len (x ∷ bytes) else size_of d.char d.size) (decoded_same x bytes more)
 
 -- ---- symbols
 
@@ -125,118 +125,118 @@ feed_plain : is_plain 10 ≡ true
 feed_plain = refl
 
 -- The symbols before a line feed, the line feed, and the symbols after it.
-symbols_split : (form : Form) (skipped : ℕ) (bytes more : List ℕ) → skipped ≤ length bytes → symbols_after form skipped (bytes ++ 10 ∷ more) ≡ symbols_after form skipped bytes ++ Letter 10 ∷ symbols form more
+symbols_split : (kind : TextKind) (skipped : ℕ) (bytes more : List ℕ) → skipped ≤ length bytes → symbols_after kind skipped (bytes ++ 10 ∷ more) ≡ symbols_after kind skipped bytes ++ CodePoint 10 ∷ symbols kind more
 unfolding symbols_after
-symbols_split form zero [] more within =
-    let symbol = plain_symbol form 10 more feed_plain in
-    symbols-step form (10 ∷ more) (omega arith) ∙ ap (λ (s : Symbol). s ∷ symbols form (drop (symbol_len form (10 ∷ more)) (10 ∷ more))) symbol.0 ∙ ap (λ (n : ℕ). Letter 10 ∷ symbols form (drop n (10 ∷ more))) symbol.1
-symbols_split form (suc skipped) [] more within = absurd (omega arith)
-symbols_split form zero (byte ∷ bytes) more within =
-    let bounds = symbol_bounds form (byte ∷ bytes) (omega arith) in
-    ap (λ (s : Symbol). s ∷ symbols_after form (symbol_len form ((byte ∷ bytes) ++ 10 ∷ more) - 1) (bytes ++ 10 ∷ more)) (first_same form byte bytes more)
-    ∙ ap (λ (n : ℕ). first_symbol form (byte ∷ bytes) ∷ symbols_after form (n - 1) (bytes ++ 10 ∷ more)) (len_same form byte bytes more)
-    ∙ ap (λ (ss : List Symbol). first_symbol form (byte ∷ bytes) ∷ ss) (symbols_split form (symbol_len form (byte ∷ bytes) - 1) bytes more (omega (arith, bounds.0, bounds.1)))
-symbols_split form (suc skipped) (byte ∷ bytes) more within = symbols_split form skipped bytes more (omega (arith, within))
+symbols_split kind zero [] more within =
+    let symbol = plain_symbol kind 10 more feed_plain in
+    symbols-step kind (10 ∷ more) (omega arith) ∙ ap (λ (s : Symbol). s ∷ symbols kind (drop (symbol_len kind (10 ∷ more)) (10 ∷ more))) symbol.0 ∙ ap (λ (n : ℕ). CodePoint 10 ∷ symbols kind (drop n (10 ∷ more))) symbol.1
+symbols_split kind (suc skipped) [] more within = absurd (omega arith)
+symbols_split kind zero (byte ∷ bytes) more within =
+    let bounds = symbol_bounds kind (byte ∷ bytes) (omega arith) in
+    ap (λ (s : Symbol). s ∷ symbols_after kind (symbol_len kind ((byte ∷ bytes) ++ 10 ∷ more) - 1) (bytes ++ 10 ∷ more)) (first_same kind byte bytes more)
+    ∙ ap (λ (n : ℕ). first_symbol kind (byte ∷ bytes) ∷ symbols_after kind (n - 1) (bytes ++ 10 ∷ more)) (len_same kind byte bytes more)
+    ∙ ap (λ (ss : List Symbol). first_symbol kind (byte ∷ bytes) ∷ ss) (symbols_split kind (symbol_len kind (byte ∷ bytes) - 1) bytes more (omega (arith, bounds.0, bounds.1)))
+symbols_split kind (suc skipped) (byte ∷ bytes) more within = symbols_split kind skipped bytes more (omega (arith, within))
 
-pub symbols-feed : (form : Form) (bytes more : List ℕ) → symbols form (bytes ++ 10 ∷ more) ≡ symbols form bytes ++ Letter 10 ∷ symbols form more
-symbols-feed form bytes more = symbols_split form 0 bytes more (omega arith)
+pub symbols-feed : (kind : TextKind) (bytes more : List ℕ) → symbols kind (bytes ++ 10 ∷ more) ≡ symbols kind bytes ++ CodePoint 10 ∷ symbols kind more
+symbols-feed kind bytes more = symbols_split kind 0 bytes more (omega arith)
 
-pub style-feed : (form : Form) (style : Style) (bytes more : List ℕ) → style_in form style (bytes ++ 10 ∷ more) ≡ style_in form (style_in form style bytes) more
-style-feed form style bytes more = ap (fold style_after_symbol style) (symbols-feed form bytes more) ∙ fold-append style_after_symbol style (symbols form bytes) (Letter 10 ∷ symbols form more)
+pub style-feed : (kind : TextKind) (style : Style) (bytes more : List ℕ) → style_in kind style (bytes ++ 10 ∷ more) ≡ style_in kind (style_in kind style bytes) more
+style-feed kind style bytes more = ap (fold style_after_symbol style) (symbols-feed kind bytes more) ∙ fold-append style_after_symbol style (symbols kind bytes) (CodePoint 10 ∷ symbols kind more)
 
 -- ---- runs
 
-feed_visible : is_odd 10 ≡ false
+feed_visible : is_unprintable 10 ≡ false
 feed_visible = plain_visible 10 refl
 
-letter_runs : (letter : ℕ) (runs more : List Run) → with_letter letter (runs ++ Letters 10 1 ∷ more) ≡ with_letter letter runs ++ Letters 10 1 ∷ more
-letter_runs letter [] more = by (letter == 10) refl
+code_point_runs : (code_point : ℕ) (runs more : List Run) → with_code_point code_point (runs ++ CodePoints 10 1 ∷ more) ≡ with_code_point code_point runs ++ CodePoints 10 1 ∷ more
+code_point_runs code_point [] more = by (code_point == 10) refl
   where
-    by : (is : Bool) → (letter == 10) ≡ is → with_letter letter (Letters 10 1 ∷ more) ≡ Letters letter 1 ∷ Letters 10 1 ∷ more
-    by true is = rw (ap is_odd (eqb-true letter 10 is) ∙ feed_visible) refl
-    by false is = rw (and_right (is_odd letter) (letter == 10) is) refl
-letter_runs letter (Restyle numbers ∷ runs) more = refl
-letter_runs letter (Letters next count ∷ runs) more = by (is_odd letter && letter == next) refl
+    by : (is : Bool) → (code_point == 10) ≡ is → with_code_point code_point (CodePoints 10 1 ∷ more) ≡ CodePoints code_point 1 ∷ CodePoints 10 1 ∷ more
+    by true is = rw (ap is_unprintable (eqb-true code_point 10 is) ∙ feed_visible) refl
+    by false is = rw (and_right (is_unprintable code_point) (code_point == 10) is) refl
+code_point_runs code_point (Restyle numbers ∷ runs) more = refl
+code_point_runs code_point (CodePoints next count ∷ runs) more = by (is_unprintable code_point && code_point == next) refl
   where
-    by : (same : Bool) → (is_odd letter && letter == next) ≡ same → with_letter letter (Letters next count ∷ (runs ++ Letters 10 1 ∷ more)) ≡ with_letter letter (Letters next count ∷ runs) ++ Letters 10 1 ∷ more
+    by : (same : Bool) → (is_unprintable code_point && code_point == next) ≡ same → with_code_point code_point (CodePoints next count ∷ (runs ++ CodePoints 10 1 ∷ more)) ≡ with_code_point code_point (CodePoints next count ∷ runs) ++ CodePoints 10 1 ∷ more
     by true is = rw is refl
     by false is = rw is refl
 
-symbol_runs : (symbol : Symbol) (runs more : List Run) → with_symbol symbol (runs ++ Letters 10 1 ∷ more) ≡ with_symbol symbol runs ++ Letters 10 1 ∷ more
-symbol_runs (Letter letter) runs more = letter_runs letter runs more
+symbol_runs : (symbol : Symbol) (runs more : List Run) → with_symbol symbol (runs ++ CodePoints 10 1 ∷ more) ≡ with_symbol symbol runs ++ CodePoints 10 1 ∷ more
+symbol_runs (CodePoint code_point) runs more = code_point_runs code_point runs more
 symbol_runs (Sequence numbers) runs more = refl
 
-runs_split : (symbols more : List Symbol) → runs_of (symbols ++ Letter 10 ∷ more) ≡ runs_of symbols ++ Letters 10 1 ∷ runs_of more
+runs_split : (symbols more : List Symbol) → runs_of (symbols ++ CodePoint 10 ∷ more) ≡ runs_of symbols ++ CodePoints 10 1 ∷ runs_of more
 runs_split [] more = visible_run 10 (runs_of more) feed_visible
 runs_split (symbol ∷ symbols) more = ap (with_symbol symbol) (runs_split symbols more) ∙ symbol_runs symbol (runs_of symbols) (runs_of more)
 
-pub runs-feed : (form : Form) (bytes more : List ℕ) → runs_of (symbols form (bytes ++ 10 ∷ more)) ≡ runs_of (symbols form bytes) ++ Letters 10 1 ∷ runs_of (symbols form more)
-runs-feed form bytes more = ap runs_of (symbols-feed form bytes more) ∙ runs_split (symbols form bytes) (symbols form more)
+pub runs-feed : (kind : TextKind) (bytes more : List ℕ) → runs_of (symbols kind (bytes ++ 10 ∷ more)) ≡ runs_of (symbols kind bytes) ++ CodePoints 10 1 ∷ runs_of (symbols kind more)
+runs-feed kind bytes more = ap runs_of (symbols-feed kind bytes more) ∙ runs_split (symbols kind bytes) (symbols kind more)
 
 -- The style after runs.
 abbrev style_after_run : Style → Run → Style
-style_after_run style (Letters letter count) = style
+style_after_run style (CodePoints code_point count) = style
 style_after_run style (Restyle numbers) = restyled style numbers
 
-letter_run_style : (style : Style) (letter : ℕ) (runs : List Run) → fold style_after_run style (with_letter letter runs) ≡ fold style_after_run style runs
-letter_run_style style letter [] = refl
-letter_run_style style letter (Restyle numbers ∷ runs) = refl
-letter_run_style style letter (Letters next count ∷ runs) = by (is_odd letter && letter == next) refl
+code_point_run_style : (style : Style) (code_point : ℕ) (runs : List Run) → fold style_after_run style (with_code_point code_point runs) ≡ fold style_after_run style runs
+code_point_run_style style code_point [] = refl
+code_point_run_style style code_point (Restyle numbers ∷ runs) = refl
+code_point_run_style style code_point (CodePoints next count ∷ runs) = by (is_unprintable code_point && code_point == next) refl
   where
-    by : (same : Bool) → (is_odd letter && letter == next) ≡ same → fold style_after_run style (with_letter letter (Letters next count ∷ runs)) ≡ fold style_after_run style runs
+    by : (same : Bool) → (is_unprintable code_point && code_point == next) ≡ same → fold style_after_run style (with_code_point code_point (CodePoints next count ∷ runs)) ≡ fold style_after_run style runs
     by true is = rw is refl
     by false is = rw is refl
 
 runs_style : (style : Style) (symbols : List Symbol) → fold style_after_run style (runs_of symbols) ≡ fold style_after_symbol style symbols
 runs_style style [] = refl
-runs_style style (Letter letter ∷ symbols) = letter_run_style style letter (runs_of symbols) ∙ runs_style style symbols
+runs_style style (CodePoint code_point ∷ symbols) = code_point_run_style style code_point (runs_of symbols) ∙ runs_style style symbols
 runs_style style (Sequence numbers ∷ symbols) = runs_style (restyled style numbers) symbols
 
 -- ---- HTML
 
-letters_html : (form : Form) (look : Look) (letter count : ℕ) (runs : List Run)
-    → html_of form look (Letters letter count ∷ runs) ≡ flat_map (inline_html form) (marks_between look (is_odd letter)) ++ (escaped (letters_text letter count) ++ html_of form (after_letter look (is_odd letter)) runs)
-letters_html form look letter count runs = flat_map-append (inline_html form) (marks_between look (is_odd letter)) (Text letter count ∷ inlines_from (after_letter look (is_odd letter)) runs)
+code_points_html : (kind : TextKind) (look : Look) (code_point count : ℕ) (runs : List Run)
+    → html_of kind look (CodePoints code_point count ∷ runs) ≡ flat_map (inline_html kind) (highlights_between look (is_unprintable code_point)) ++ (escaped (code_points_text code_point count) ++ html_of kind (after_code_point look (is_unprintable code_point)) runs)
+code_points_html kind look code_point count runs = flat_map-append (inline_html kind) (highlights_between look (is_unprintable code_point)) (Text code_point count ∷ inlines_from (after_code_point look (is_unprintable code_point)) runs)
 
 -- A passage may be split after a line feed where no style is wanted.
-html_split : (form : Form) (look : Look) (runs more : List Run) → fold style_after_run look.wanted runs ≡ plain_style
-    → html_of form look (runs ++ Letters 10 1 ∷ more) ≡ html_of form look (runs ++ Letters 10 1 ∷ []) ++ html_of form (start_look plain_style) more
-html_split form look [] more plain =
-    let marks = flat_map (inline_html form) (marks_between look false) in
-    let at : (rest : List Run) → html_of form look (Letters 10 1 ∷ rest) ≡ (marks ++ (10 ∷ [])) ++ html_of form (start_look plain_style) rest = λ rest.
-    letters_html form look 10 1 rest
-    ∙ ap (λ (o : Bool). flat_map (inline_html form) (marks_between look o) ++ (escaped (if o then odd_text 10 1 else encode_utf8 10) ++ html_of form (after_letter look o) rest)) feed_visible
-    ∙ ap (λ (t : List ℕ). marks ++ (escaped t ++ html_of form (after_letter look false) rest)) (plain_encoded 10 feed_plain)
-    ∙ ap (λ (s : Style). marks ++ (10 ∷ html_of form (record { wanted = s; current = s; odd = false }) rest)) plain
-    ∙ sym (append_assoc marks (10 ∷ []) (html_of form (start_look plain_style) rest)) in
-    at more ∙ ap (λ (t : List ℕ). t ++ html_of form (start_look plain_style) more) (sym (at [] ∙ append-nil (marks ++ 10 ∷ [])))
-html_split form look (Restyle numbers ∷ runs) more plain = html_split form (with_wanted look (restyled look.wanted numbers)) runs more plain
-html_split form look (Letters letter count ∷ runs) more plain =
-    let odd = is_odd letter in
-    let marks = flat_map (inline_html form) (marks_between look odd) in
-    let text = escaped (letters_text letter count) in
-    let first = html_of form (after_letter look odd) (runs ++ Letters 10 1 ∷ []) in
-    let last = html_of form (start_look plain_style) more in
-    letters_html form look letter count (runs ++ Letters 10 1 ∷ more)
-    ∙ ap (λ (t : List ℕ). marks ++ (text ++ t)) (html_split form (after_letter look odd) runs more plain)
-    ∙ ap (λ (t : List ℕ). marks ++ t) (sym (append_assoc text first last)) ∙ sym (append_assoc marks (text ++ first) last)
-    ∙ ap (λ (t : List ℕ). t ++ last) (sym (letters_html form look letter count (runs ++ Letters 10 1 ∷ [])))
+html_split : (kind : TextKind) (look : Look) (runs more : List Run) → fold style_after_run look.wanted runs ≡ plain_style
+    → html_of kind look (runs ++ CodePoints 10 1 ∷ more) ≡ html_of kind look (runs ++ CodePoints 10 1 ∷ []) ++ html_of kind (start_look plain_style) more
+html_split kind look [] more plain =
+    let highlights = flat_map (inline_html kind) (highlights_between look false) in
+    let at : (rest : List Run) → html_of kind look (CodePoints 10 1 ∷ rest) ≡ (highlights ++ (10 ∷ [])) ++ html_of kind (start_look plain_style) rest = λ rest.
+    code_points_html kind look 10 1 rest
+    ∙ ap (λ (o : Bool). flat_map (inline_html kind) (highlights_between look o) ++ (escaped (if o then unprintable_text 10 1 else encode_utf8 10) ++ html_of kind (after_code_point look o) rest)) feed_visible
+    ∙ ap (λ (t : List ℕ). highlights ++ (escaped t ++ html_of kind (after_code_point look false) rest)) (plain_encoded 10 feed_plain)
+    ∙ ap (λ (s : Style). highlights ++ (10 ∷ html_of kind (record { wanted = s; current = s; unprintable = false }) rest)) plain
+    ∙ sym (append_assoc highlights (10 ∷ []) (html_of kind (start_look plain_style) rest)) in
+    at more ∙ ap (λ (t : List ℕ). t ++ html_of kind (start_look plain_style) more) (sym (at [] ∙ append-nil (highlights ++ 10 ∷ [])))
+html_split kind look (Restyle numbers ∷ runs) more plain = html_split kind (with_wanted look (restyled look.wanted numbers)) runs more plain
+html_split kind look (CodePoints code_point count ∷ runs) more plain =
+    let unprintable = is_unprintable code_point in
+    let highlights = flat_map (inline_html kind) (highlights_between look unprintable) in
+    let text = escaped (code_points_text code_point count) in
+    let first = html_of kind (after_code_point look unprintable) (runs ++ CodePoints 10 1 ∷ []) in
+    let last = html_of kind (start_look plain_style) more in
+    code_points_html kind look code_point count (runs ++ CodePoints 10 1 ∷ more)
+    ∙ ap (λ (t : List ℕ). highlights ++ (text ++ t)) (html_split kind (after_code_point look unprintable) runs more plain)
+    ∙ ap (λ (t : List ℕ). highlights ++ t) (sym (append_assoc text first last)) ∙ sym (append_assoc highlights (text ++ first) last)
+    ∙ ap (λ (t : List ℕ). t ++ last) (sym (code_points_html kind look code_point count (runs ++ CodePoints 10 1 ∷ [])))
 
-pub passage-feed : (form : Form) (style : Style) (bytes more : List ℕ) → style_in form style bytes ≡ plain_style
-    → passage_html form style (bytes ++ 10 ∷ more) ≡ passage_html form style (bytes ++ 10 ∷ []) ++ passage_html form plain_style more
+pub passage-feed : (kind : TextKind) (style : Style) (bytes more : List ℕ) → style_in kind style bytes ≡ plain_style
+    → passage_html kind style (bytes ++ 10 ∷ more) ≡ passage_html kind style (bytes ++ 10 ∷ []) ++ passage_html kind plain_style more
 unfolding html_from
-passage-feed form style bytes more plain =
-    let runs = runs_of (symbols form bytes) in
-    ap (html_of form (start_look style)) (runs-feed form bytes more)
-    ∙ html_split form (start_look style) runs (runs_of (symbols form more)) (runs_style style (symbols form bytes) ∙ plain)
-    ∙ ap (λ (rs : List Run). html_of form (start_look style) rs ++ html_of form (start_look plain_style) (runs_of (symbols form more))) (sym (runs-feed form bytes [] ∙ ap (λ (ss : List Symbol). runs ++ Letters 10 1 ∷ runs_of ss) (symbols-nil form)))
+passage-feed kind style bytes more plain =
+    let runs = runs_of (symbols kind bytes) in
+    ap (html_of kind (start_look style)) (runs-feed kind bytes more)
+    ∙ html_split kind (start_look style) runs (runs_of (symbols kind more)) (runs_style style (symbols kind bytes) ∙ plain)
+    ∙ ap (λ (rs : List Run). html_of kind (start_look style) rs ++ html_of kind (start_look plain_style) (runs_of (symbols kind more))) (sym (runs-feed kind bytes [] ∙ ap (λ (ss : List Symbol). runs ++ CodePoints 10 1 ∷ runs_of ss) (symbols-nil kind)))
 
 -- ---- what is shown
 
-pub shown-feed : (form : Form) (bytes more : List ℕ) → shown_text form (bytes ++ 10 ∷ more) ≡ shown_text form bytes ++ 10 ∷ shown_text form more
-shown-feed form bytes more =
-    ap (flat_map run_text) (runs-feed form bytes more) ∙ flat_map-append run_text (runs_of (symbols form bytes)) (Letters 10 1 ∷ runs_of (symbols form more))
-    ∙ ap (λ (t : List ℕ). shown_text form bytes ++ (t ++ shown_text form more)) (cond-false (is_odd 10) (odd_text 10 1) (encode_utf8 10) feed_visible ∙ plain_encoded 10 feed_plain)
+pub shown-feed : (kind : TextKind) (bytes more : List ℕ) → shown_text kind (bytes ++ 10 ∷ more) ≡ shown_text kind bytes ++ 10 ∷ shown_text kind more
+shown-feed kind bytes more =
+    ap (flat_map run_text) (runs-feed kind bytes more) ∙ flat_map-append run_text (runs_of (symbols kind bytes)) (CodePoints 10 1 ∷ runs_of (symbols kind more))
+    ∙ ap (λ (t : List ℕ). shown_text kind bytes ++ (t ++ shown_text kind more)) (cond-false (is_unprintable 10) (unprintable_text 10 1) (encode_utf8 10) feed_visible ∙ plain_encoded 10 feed_plain)
 
 pub lines_text : (style : Style) (lines : List (List ℕ)) → flat_map part_text (line_parts style lines) ≡ shown_text Log (flat_map with_line_feed lines)
 lines_text style [] = sym (ap (λ (ss : List Symbol). flat_map run_text (runs_of ss)) (symbols-nil Log))

@@ -10,9 +10,9 @@ use Rattle.redo_html.specs.declared.style.Hue.TheVariants.{Red, Green, Cyan}
 use Rattle.redo_html.specs.declared.style.Style.{Style}
 use Rattle.redo_html.specs.Lines.{style_after_lines, lines_html}
 use Rattle.redo_html.specs.Passage.{html_from}
-use Rattle.redo_html.specs.Shown.{is_odd, picture, number_text, odd_text}
+use Rattle.redo_html.specs.Shown.{is_unprintable, notation, number_text, unprintable_text}
 use Rattle.redo_html.specs.Style.{plain_style}
-use Rattle.redo_html.specs.Symbols.{first_letter, letter_len, sequence_len, sequence_numbers, is_sequence, first_symbol, symbol_len, symbols_after}
+use Rattle.redo_html.specs.Symbols.{first_code_point, code_point_len, sequence_len, sequence_numbers, is_sequence, first_symbol, symbol_len, symbols_after}
 
 record Row : Type 0 where
   style : Style
@@ -40,9 +40,9 @@ rows =
     []
 
 written_are : AllByRecursion (λ r. lines_html r.style r.lines ≡ r.html) rows
-unfolding symbols_after first_symbol symbol_len is_sequence sequence_len sequence_numbers first_letter letter_len is_odd picture odd_text number_text encode_utf8 digits html_from
+unfolding symbols_after first_symbol symbol_len is_sequence sequence_len sequence_numbers first_code_point code_point_len is_unprintable notation unprintable_text number_text encode_utf8 digits html_from
 written_are = (refl, (refl, (refl, (refl, (refl, (refl, (refl, (refl, (refl, tt)))))))))
 
 styles_are : AllByRecursion (λ r. style_after_lines r.style r.lines ≡ r.last) rows
-unfolding symbols_after first_symbol symbol_len is_sequence sequence_len sequence_numbers first_letter letter_len
+unfolding symbols_after first_symbol symbol_len is_sequence sequence_len sequence_numbers first_code_point code_point_len
 styles_are = (refl, (refl, (refl, (refl, (refl, (refl, (refl, (refl, (refl, tt)))))))))

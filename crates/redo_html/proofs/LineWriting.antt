@@ -12,14 +12,14 @@ use Rattle.redo_device.specs.Sink.{Output, append_output, Writes}
 use Rattle.redo_line.specs.Lines.{HasNoLineFeed, ended, rest, with_line_feed}
 use Rattle.redo_line.proofs.CutLemmas.{free_before, holds_none, upto_feed}
 use Rattle.redo_line.proofs.LineLemmas.{ended-append, rest-append, ended-line, rest-line, rest-free, are_lines}
-use Rattle.redo_html.specs.declared.form.Form.{Form}
-use Rattle.redo_html.specs.declared.form.Form.TheVariants.{Log}
+use Rattle.redo_html.specs.declared.text_kind.TextKind.{TextKind}
+use Rattle.redo_html.specs.declared.text_kind.TextKind.TheVariants.{Log}
 use Rattle.redo_html.specs.declared.style.Style.{Style}
 use Rattle.redo_html.specs.Lines.{is_no_escape, style_after_symbol, style_after, style_after_lines, lines_html}
 use Rattle.redo_html.specs.Passage.{passage_html}
 use Rattle.redo_html.specs.Style.{plain_style}
-use Rattle.redo_html.specs.Symbols.{Symbol, first_letter, first_symbol, symbol_len, symbols_after}
-use Rattle.redo_html.specs.Symbols.Symbol.{Letter}
+use Rattle.redo_html.specs.Symbols.{Symbol, first_code_point, first_symbol, symbol_len, symbols_after}
+use Rattle.redo_html.specs.Symbols.Symbol.{CodePoint}
 use Rattle.redo_html.specs.Private.Writing.{WroteUpTo, BeginsPassage}
 use Rattle.redo_html.proofs.LineLemmas.{passage-feed}
 use Rattle.redo_html.proofs.VerbatimLemmas.{plain_written}
@@ -28,21 +28,21 @@ use Rattle.redo_html.proofs.WritingLemmas.{wrote_more, failed_part}
 
 -- ---- texts without escape characters
 
-letter_first : (form : Form) (byte : ℕ) (bytes : List ℕ) → (byte == 27) ≡ false → first_symbol form (byte ∷ bytes) ≡ Letter (first_letter (byte ∷ bytes))
+code_point_first : (kind : TextKind) (byte : ℕ) (bytes : List ℕ) → (byte == 27) ≡ false → first_symbol kind (byte ∷ bytes) ≡ CodePoint (first_code_point (byte ∷ bytes))
 unfolding first_symbol
-letter_first form byte bytes other = rw (no_sequence form byte bytes other) refl
+code_point_first kind byte bytes other = rw (no_sequence kind byte bytes other) refl
 
-letters_style : (form : Form) (style : Style) (skipped : ℕ) (bytes : List ℕ) → list_all is_no_escape bytes ≡ true → fold style_after_symbol style (symbols_after form skipped bytes) ≡ style
+code_points_style : (kind : TextKind) (style : Style) (skipped : ℕ) (bytes : List ℕ) → list_all is_no_escape bytes ≡ true → fold style_after_symbol style (symbols_after kind skipped bytes) ≡ style
 unfolding symbols_after
-letters_style form style skipped [] none = refl
-letters_style form style zero (byte ∷ bytes) none =
+code_points_style kind style skipped [] none = refl
+code_points_style kind style zero (byte ∷ bytes) none =
     let parts = and_parts (is_no_escape byte) (list_all is_no_escape bytes) none in
-    ap (λ (s : Symbol). fold style_after_symbol (style_after_symbol style s) (symbols_after form (symbol_len form (byte ∷ bytes) - 1) bytes)) (letter_first form byte bytes (not-true (byte == 27) parts.0))
-    ∙ letters_style form style (symbol_len form (byte ∷ bytes) - 1) bytes parts.1
-letters_style form style (suc skipped) (byte ∷ bytes) none = letters_style form style skipped bytes (and_parts (is_no_escape byte) (list_all is_no_escape bytes) none).1
+    ap (λ (s : Symbol). fold style_after_symbol (style_after_symbol style s) (symbols_after kind (symbol_len kind (byte ∷ bytes) - 1) bytes)) (code_point_first kind byte bytes (not-true (byte == 27) parts.0))
+    ∙ code_points_style kind style (symbol_len kind (byte ∷ bytes) - 1) bytes parts.1
+code_points_style kind style (suc skipped) (byte ∷ bytes) none = code_points_style kind style skipped bytes (and_parts (is_no_escape byte) (list_all is_no_escape bytes) none).1
 
 pub no_escape_style : (style : Style) (bytes : List ℕ) → list_all is_no_escape bytes ≡ true → style_after style bytes ≡ style
-no_escape_style style bytes none = letters_style Log style 0 bytes none
+no_escape_style style bytes none = code_points_style Log style 0 bytes none
 
 -- The parts of a line and of what follows it.
 module _ (line : List ℕ) (more : List ℕ) (none : list_all is_no_escape (with_line_feed line ++ more) ≡ true) where

@@ -9,11 +9,11 @@ use Rattle.redo_html.specs.declared.style.Hue.TheVariants.{Blue}
 use Rattle.redo_html.specs.Passage.{html_from}
 use Rattle.redo_html.specs.Parts.{Part, part_html, part_of}
 use Rattle.redo_html.specs.declared.piece.Piece.TheVariants as piece
-use Rattle.redo_html.specs.Parts.Part.{MarkupPart, LogPart, NamePart, NumberPart, TitlePart, StylePart}
-use Rattle.redo_html.specs.Shown.{is_odd, picture, number_text, odd_text}
+use Rattle.redo_html.specs.Parts.Part.{MarkupPart, LogPart, TextPart, NumberPart, TitlePart, StylePart}
+use Rattle.redo_html.specs.Shown.{is_unprintable, notation, number_text, unprintable_text}
 use Rattle.redo_html.specs.Style.{plain_style}
 use Rattle.redo_html.specs.StyleSheet.{style_sheet}
-use Rattle.redo_html.specs.Symbols.{first_letter, letter_len, sequence_len, sequence_numbers, is_sequence, first_symbol, symbol_len, symbols_after}
+use Rattle.redo_html.specs.Symbols.{first_code_point, code_point_len, sequence_len, sequence_numbers, is_sequence, first_symbol, symbol_len, symbols_after}
 
 record Row : Type 0 where
   parts : List Part
@@ -24,17 +24,17 @@ row parts html = record { parts = parts; html = html }
 
 abbrev rows : List Row
 rows =
-    row (MarkupPart (TargetLink 12) ∷ NamePart ((27 ∷ []) ++ codes "[1ma") ∷ MarkupPart EndLink ∷ []) (codes "<a href=\"#t12\"><i>^[</i>[1ma</a>")
+    row (MarkupPart (TargetLink 12) ∷ TextPart ((27 ∷ []) ++ codes "[1ma") ∷ MarkupPart EndLink ∷ []) (codes "<a href=\"#t12\"><i>^[</i>[1ma</a>")
     ∷ row (MarkupPart (Article 0) ∷ MarkupPart (OpenDetails 105) ∷ []) (codes "<article id=\"f0\"><details open id=\"t105\">")
     ∷ row (MarkupPart Pre ∷ LogPart plain_style ((27 ∷ []) ++ codes "[1m<a") ∷ MarkupPart EndPre ∷ []) (codes "<pre>\n<b>&lt;a</b></pre>")
     ∷ row (LogPart (record { bold = true; hue = Blue }) (codes "a" ++ (27 ∷ []) ++ codes "[mb") ∷ LogPart plain_style (codes "c") ∷ []) (codes "<b class=\"b\">a</b>bc")
-    ∷ row (NumberPart 0 ∷ NamePart (codes " of ") ∷ NumberPart 0xFFFFFFFFFFFFFFFF ∷ []) (codes "0 of 18446744073709551615")
+    ∷ row (NumberPart 0 ∷ TextPart (codes " of ") ∷ NumberPart 0xFFFFFFFFFFFFFFFF ∷ []) (codes "0 of 18446744073709551615")
     ∷ row (TitlePart (codes "</title>" ++ 1 ∷ []) ∷ []) (codes "<title>&lt;/title&gt;^A</title>")
     ∷ row (MarkupPart Policy ∷ []) (codes "<meta http-equiv=\"Content-Security-Policy\" content=\"default-src 'none'; style-src 'unsafe-inline'\">")
     ∷ []
 
 written_are : AllByRecursion (λ r. flat_map part_html r.parts ≡ r.html) rows
-unfolding symbols_after first_symbol symbol_len is_sequence sequence_len sequence_numbers first_letter letter_len is_odd picture odd_text number_text encode_utf8 digits html_from
+unfolding symbols_after first_symbol symbol_len is_sequence sequence_len sequence_numbers first_code_point code_point_len is_unprintable notation unprintable_text number_text encode_utf8 digits html_from
 written_are = (refl, (refl, (refl, (refl, (refl, (refl, (refl, tt)))))))
 
 style_is_an_element : take 7 (part_html StylePart) ≡ codes "<style>"

@@ -5,7 +5,7 @@ use Rattle.std.specs.List.{flat_map, list_all}
 use Rattle.std.proofs.lemmas.List.{append_assoc, append-nil}
 use Rattle.std.proofs.lemmas.List.Concat.{flat_map-append}
 use Rattle.redo_html.specs.declared.chart.GroupKind.{GroupKind}
-use Rattle.redo_html.specs.declared.form.Form.TheVariants.{Log, Name, Title}
+use Rattle.redo_html.specs.declared.text_kind.TextKind.TheVariants.{Log, Monochrome, Title}
 use Rattle.redo_html.specs.Chart.{Drawing, Layer, Node, Shape, chart_attributes, drawing_nodes, group_attributes, layer_nodes, meter_nodes, node_text, node_tokens, nodes_text, nodes_tokens, shape_nodes}
 use Rattle.redo_html.specs.Chart.Node.{StartTag, EndTag, Words}
 use Rattle.redo_html.specs.Chart.Shape.{LineShape, TickShape, BarShape}
@@ -13,13 +13,13 @@ use Rattle.redo_html.specs.Html.{Token, DataState, Normal, Rcdata, after_end_tag
 use Rattle.redo_html.specs.Html.Token.{Character, Tag}
 use Rattle.redo_html.specs.Laws.{ReadsAs, markup_tag, reworded, reworded_shape}
 use Rattle.redo_html.specs.Parts.{Part, part_html, part_tokens, part_text}
-use Rattle.redo_html.specs.Parts.Part.{MarkupPart, LogPart, NamePart, NumberPart, TitlePart, StylePart, ChartPart, MeterPart}
+use Rattle.redo_html.specs.Parts.Part.{MarkupPart, LogPart, TextPart, NumberPart, TitlePart, StylePart, ChartPart, MeterPart}
 use Rattle.redo_html.specs.Passage.{passage_html, passage_tokens}
 use Rattle.redo_html.specs.Shown.{number_text}
 use Rattle.redo_html.specs.Style.{plain_style}
 use Rattle.redo_html.specs.StyleSheet.{style_sheet}
-use Rattle.redo_html.proofs.ChartReading.{drawing_places, meter_places, nodes_lead, nodes_nest}
-use Rattle.redo_html.proofs.MarkReading.{markup_reads}
+use Rattle.redo_html.proofs.ChartReading.{drawing_contexts, meter_contexts, nodes_lead, nodes_nest}
+use Rattle.redo_html.proofs.HighlightReading.{markup_reads}
 use Rattle.redo_html.proofs.Reading.{passage_nests, passage_reads, passage_text, tags_characters, text_characters, title_passage_reads, title_tags}
 use Rattle.redo_html.proofs.TextReading.{each_reads, escaped_reads, is_raw, raw_reads, all_weaker, number_safe, safe_escaped, is_safe, is_clean, safe_clean}
 
@@ -51,12 +51,12 @@ number_reads number =
 part_reads : (part : Part) → ReadsAs (part_html part) (part_tokens part)
 part_reads (MarkupPart markup) = markup_reads markup
 part_reads (LogPart style text) = passage_reads Log style text
-part_reads (NamePart name) = passage_reads Name plain_style name
+part_reads (TextPart text) = passage_reads Monochrome plain_style text
 part_reads (NumberPart number) = number_reads number
 part_reads (TitlePart title) = title_reads title
 part_reads StylePart = style_sheet_reads
-part_reads (ChartPart drawing) = nodes_lead Normal Normal (drawing_nodes drawing) (drawing_places drawing)
-part_reads (MeterPart width) = nodes_lead Normal Normal (meter_nodes width) (meter_places width)
+part_reads (ChartPart drawing) = nodes_lead Normal Normal (drawing_nodes drawing) (drawing_contexts drawing)
+part_reads (MeterPart width) = nodes_lead Normal Normal (meter_nodes width) (meter_contexts width)
 
 pub parts_read : (parts : List Part) → ReadsAs (flat_map part_html parts) (flat_map part_tokens parts)
 parts_read parts = each_reads Normal part_html part_tokens part_reads parts
@@ -74,7 +74,7 @@ nodes_show (node ∷ nodes) =
 part_shows : (part : Part) → text_of (part_tokens part) ≡ part_text part
 part_shows (MarkupPart markup) = refl
 part_shows (LogPart style text) = passage_text Log style text
-part_shows (NamePart name) = passage_text Name plain_style name
+part_shows (TextPart text) = passage_text Monochrome plain_style text
 part_shows (NumberPart number) = text_characters (number_text number)
 part_shows (TitlePart title) = flat_map-append characters_of (passage_tokens Title plain_style title) (Tag (codes "/title") ∷ []) ∙ append-nil (text_of (passage_tokens Title plain_style title)) ∙ passage_text Title plain_style title
 part_shows StylePart = flat_map-append characters_of (map Character style_sheet) (Tag (codes "/style") ∷ []) ∙ append-nil (text_of (map Character style_sheet)) ∙ text_characters style_sheet
@@ -91,7 +91,7 @@ parts_show (part ∷ parts) =
 part_nests : (part : Part) (around tags : List (List ℕ)) → nests_in around (tags_of (part_tokens part) ++ tags) ≡ nests_in around (markup_tag part ++ tags)
 part_nests (MarkupPart markup) around tags = refl
 part_nests (LogPart style text) around tags = passage_nests Log style text around tags
-part_nests (NamePart name) around tags = passage_nests Name plain_style name around tags
+part_nests (TextPart text) around tags = passage_nests Monochrome plain_style text around tags
 part_nests (NumberPart number) around tags = ap (λ (t : List (List ℕ)). nests_in around (t ++ tags)) (tags_characters (number_text number))
 part_nests (TitlePart title) around tags =
     let end : List (List ℕ) = codes "/title" ∷ [] in
@@ -100,8 +100,8 @@ part_nests (TitlePart title) around tags =
 part_nests StylePart around tags =
     ap (λ (t : List (List ℕ)). nests_in around (codes "style" ∷ (t ++ tags))) (flat_map-append tag_of (map Character style_sheet) (Tag (codes "/style") ∷ []))
     ∙ ap (λ (t : List (List ℕ)). nests_in around (codes "style" ∷ ((t ++ codes "/style" ∷ []) ++ tags))) (tags_characters style_sheet)
-part_nests (ChartPart drawing) around tags = nodes_nest Normal Normal (drawing_nodes drawing) (drawing_places drawing) around tags
-part_nests (MeterPart width) around tags = nodes_nest Normal Normal (meter_nodes width) (meter_places width) around tags
+part_nests (ChartPart drawing) around tags = nodes_nest Normal Normal (drawing_nodes drawing) (drawing_contexts drawing) around tags
+part_nests (MeterPart width) around tags = nodes_nest Normal Normal (meter_nodes width) (meter_contexts width) around tags
 
 -- A tag before tags that nest alike.
 end_same : (name : List ℕ) (around one other : List (List ℕ)) → ((outer : List (List ℕ)) → nests_in outer one ≡ nests_in outer other)
@@ -165,16 +165,16 @@ element_same start end one other same =
     ap (λ (t : List (List ℕ)). node_tag start ++ t) (flat_map-append node_tag one (end ∷ []) ∙ ap (λ (t : List (List ℕ)). t ++ flat_map node_tag (end ∷ [])) same ∙ sym (flat_map-append node_tag other (end ∷ [])))
 
 module _ (replace : List ℕ → List ℕ) where
-  bar_same : (kind : GroupKind) (place x y width height : ℕ) (failed : Bool) (title : List ℕ) (label : Option (List ℕ))
-      → flat_map node_tag (shape_nodes kind (BarShape (record { place = place; x = x; y = y; width = width; height = height; failed = failed; title = replace title; label = option_map replace label })))
-      ≡ flat_map node_tag (shape_nodes kind (BarShape (record { place = place; x = x; y = y; width = width; height = height; failed = failed; title = title; label = label })))
-  bar_same kind place x y width height failed title None = refl
-  bar_same kind place x y width height failed title (Some label) = refl
+  bar_same : (kind : GroupKind) (target x y width height : ℕ) (failed : Bool) (title : List ℕ) (label : Option (List ℕ))
+      → flat_map node_tag (shape_nodes kind (BarShape (record { target = target; x = x; y = y; width = width; height = height; failed = failed; title = replace title; label = option_map replace label })))
+      ≡ flat_map node_tag (shape_nodes kind (BarShape (record { target = target; x = x; y = y; width = width; height = height; failed = failed; title = title; label = label })))
+  bar_same kind target x y width height failed title None = refl
+  bar_same kind target x y width height failed title (Some label) = refl
 
   shape_same : (kind : GroupKind) (shape : Shape) → flat_map node_tag (shape_nodes kind (reworded_shape replace shape)) ≡ flat_map node_tag (shape_nodes kind shape)
   shape_same kind (LineShape x bottom) = refl
   shape_same kind (TickShape x anchor text) = refl
-  shape_same kind (BarShape bar) = bar_same kind bar.place bar.x bar.y bar.width bar.height bar.failed bar.title bar.label
+  shape_same kind (BarShape bar) = bar_same kind bar.target bar.x bar.y bar.width bar.height bar.failed bar.title bar.label
 
   layer_same : (layer : Layer) → flat_map node_tag (layer_nodes (record layer { shapes = map (reworded_shape replace) layer.shapes })) ≡ flat_map node_tag (layer_nodes layer)
   layer_same layer =

@@ -5,59 +5,59 @@ use Rattle.std.specs.List.{flat_map, list_all}
 use Rattle.std.proofs.lemmas.Bool.{and_parts, cond-true, cond-false, eq-eqb}
 use Rattle.std.proofs.lemmas.List.{append_assoc, append-nil}
 use Rattle.std.proofs.lemmas.List.Concat.{flat_map-append}
-use Rattle.redo_html.specs.declared.form.Form.{Form}
+use Rattle.redo_html.specs.declared.text_kind.TextKind.{TextKind}
 use Rattle.redo_html.specs.declared.look.Look.{Look}
 use Rattle.redo_html.specs.declared.style.Style.{Style}
-use Rattle.redo_html.specs.Passage.{Inline, escaped, mark_text, mark_html, inline_html, has_element, style_start, style_end, hue_number, same_bool, is_same_style, mark_if, marks_between, after_letter, with_wanted, inlines_from, html_from}
-use Rattle.redo_html.specs.Passage.Inline.{OddStart, OddEnd, StyleStart, StyleEnd, Text}
+use Rattle.redo_html.specs.Passage.{Inline, escaped, highlight_text, highlight_html, inline_html, has_element, style_start, style_end, hue_number, same_bool, is_same_style, highlight_if, highlights_between, after_code_point, with_wanted, inlines_from, html_from}
+use Rattle.redo_html.specs.Passage.Inline.{UnprintableStart, UnprintableEnd, StyleStart, StyleEnd, Text}
 use Rattle.redo_html.specs.Laws.{is_plain}
-use Rattle.redo_html.specs.Shown.{Run, is_odd, odd_text, letters_text, run_text, runs_of, shown_text}
-use Rattle.redo_html.specs.Shown.Run.{Letters}
+use Rattle.redo_html.specs.Shown.{Run, is_unprintable, unprintable_text, code_points_text, run_text, runs_of, shown_text}
+use Rattle.redo_html.specs.Shown.Run.{CodePoints}
 use Rattle.redo_html.specs.Style.{restyled}
 use Rattle.redo_html.specs.Symbols.{Symbol, first_symbol, symbol_len, symbols}
-use Rattle.redo_html.specs.Symbols.Symbol.{Letter, Sequence}
-use Rattle.redo_html.specs.Private.Writing.{IsRepeated, optional_mark}
-use Rattle.redo_html.proofs.TextReading.{safe_escaped, odd_safe}
-use Rattle.redo_html.proofs.SymbolLemmas.{symbols-nil, symbols-step, plain_symbol, plain_visible, plain_encoded, visible_run, odd_run}
+use Rattle.redo_html.specs.Symbols.Symbol.{CodePoint, Sequence}
+use Rattle.redo_html.specs.Private.Writing.{IsRepeated, optional_highlight}
+use Rattle.redo_html.proofs.TextReading.{safe_escaped, unprintable_safe}
+use Rattle.redo_html.proofs.SymbolLemmas.{symbols-nil, symbols-step, plain_symbol, plain_visible, plain_encoded, visible_run, unprintable_run}
 
--- ---- marks
+-- ---- highlights
 
 -- A tag, with its brackets.
 abbrev pub bracketed : List ℕ → List ℕ
 bracketed tag = 60 ∷ (tag ++ 62 ∷ [])
 
-one_mark : (form : Form) (wanted : Bool) (mark : Inline) → inline_html form mark ≡ mark_html form (mark_text mark) → flat_map (inline_html form) (mark_if wanted mark) ≡ optional_mark form wanted (bracketed (mark_text mark))
-one_mark form false mark is = refl
-one_mark form true mark is = append-nil (inline_html form mark) ∙ is
+one_highlight : (kind : TextKind) (wanted : Bool) (highlight : Inline) → inline_html kind highlight ≡ highlight_html kind (highlight_text highlight) → flat_map (inline_html kind) (highlight_if wanted highlight) ≡ optional_highlight kind wanted (bracketed (highlight_text highlight))
+one_highlight kind false highlight is = refl
+one_highlight kind true highlight is = append-nil (inline_html kind highlight) ∙ is
 
-style_marks : (form : Form) (look : Look) (same : Bool) → flat_map (inline_html form) (if same then [] else style_end look.current ++ style_start look.wanted)
-    ≡ optional_mark form (not same && has_element look.current) (bracketed (mark_text (StyleEnd look.current))) ++ optional_mark form (not same && has_element look.wanted) (bracketed (mark_text (StyleStart look.wanted)))
-style_marks form look true = refl
-style_marks form look false =
-    flat_map-append (inline_html form) (style_end look.current) (style_start look.wanted)
-    ∙ ap (λ (e : List ℕ). e ++ flat_map (inline_html form) (style_start look.wanted)) (one_mark form (has_element look.current) (StyleEnd look.current) refl)
-    ∙ ap (λ (s : List ℕ). optional_mark form (has_element look.current) (bracketed (mark_text (StyleEnd look.current))) ++ s) (one_mark form (has_element look.wanted) (StyleStart look.wanted) refl)
+style_highlights : (kind : TextKind) (look : Look) (same : Bool) → flat_map (inline_html kind) (if same then [] else style_end look.current ++ style_start look.wanted)
+    ≡ optional_highlight kind (not same && has_element look.current) (bracketed (highlight_text (StyleEnd look.current))) ++ optional_highlight kind (not same && has_element look.wanted) (bracketed (highlight_text (StyleStart look.wanted)))
+style_highlights kind look true = refl
+style_highlights kind look false =
+    flat_map-append (inline_html kind) (style_end look.current) (style_start look.wanted)
+    ∙ ap (λ (e : List ℕ). e ++ flat_map (inline_html kind) (style_start look.wanted)) (one_highlight kind (has_element look.current) (StyleEnd look.current) refl)
+    ∙ ap (λ (s : List ℕ). optional_highlight kind (has_element look.current) (bracketed (highlight_text (StyleEnd look.current))) ++ s) (one_highlight kind (has_element look.wanted) (StyleStart look.wanted) refl)
 
--- The marks before a letter, in the four parts in which they are written.
-pub marks_parts : (form : Form) (look : Look) (odd : Bool) →
+-- The highlights before a code point, in the four parts in which they are written.
+pub highlights_parts : (kind : TextKind) (look : Look) (unprintable : Bool) →
     let same = is_same_style look.wanted look.current in
-    optional_mark form (look.odd && not (same && odd)) (bracketed (mark_text OddEnd)) ++ (optional_mark form (not same && has_element look.current) (bracketed (mark_text (StyleEnd look.current)))
-    ++ (optional_mark form (not same && has_element look.wanted) (bracketed (mark_text (StyleStart look.wanted))) ++ optional_mark form (odd && not (same && look.odd)) (bracketed (mark_text OddStart))))
-    ≡ flat_map (inline_html form) (marks_between look odd)
-marks_parts form look odd =
+    optional_highlight kind (look.unprintable && not (same && unprintable)) (bracketed (highlight_text UnprintableEnd)) ++ (optional_highlight kind (not same && has_element look.current) (bracketed (highlight_text (StyleEnd look.current)))
+    ++ (optional_highlight kind (not same && has_element look.wanted) (bracketed (highlight_text (StyleStart look.wanted))) ++ optional_highlight kind (unprintable && not (same && look.unprintable)) (bracketed (highlight_text UnprintableStart))))
+    ≡ flat_map (inline_html kind) (highlights_between look unprintable)
+highlights_parts kind look unprintable =
     let same = is_same_style look.wanted look.current in
-    let a = look.odd && not (same && odd) in
-    let d = odd && not (same && look.odd) in
+    let a = look.unprintable && not (same && unprintable) in
+    let d = unprintable && not (same && look.unprintable) in
     let styles = if same then [] else style_end look.current ++ style_start look.wanted in
-    let b = optional_mark form (not same && has_element look.current) (bracketed (mark_text (StyleEnd look.current))) in
-    let c = optional_mark form (not same && has_element look.wanted) (bracketed (mark_text (StyleStart look.wanted))) in
-    let end = optional_mark form a (bracketed (mark_text OddEnd)) in
-    let start = optional_mark form d (bracketed (mark_text OddStart)) in
+    let b = optional_highlight kind (not same && has_element look.current) (bracketed (highlight_text (StyleEnd look.current))) in
+    let c = optional_highlight kind (not same && has_element look.wanted) (bracketed (highlight_text (StyleStart look.wanted))) in
+    let end = optional_highlight kind a (bracketed (highlight_text UnprintableEnd)) in
+    let start = optional_highlight kind d (bracketed (highlight_text UnprintableStart)) in
     ap (λ (t : List ℕ). end ++ t) (sym (append_assoc b c start)) ∙ sym (append_assoc end (b ++ c) start)
-    ∙ ap (λ (t : List ℕ). (end ++ t) ++ start) (sym (style_marks form look same)) ∙ ap (λ (t : List ℕ). (t ++ flat_map (inline_html form) styles) ++ start) (sym (one_mark form a OddEnd refl))
-    ∙ ap (λ (t : List ℕ). t ++ start) (sym (flat_map-append (inline_html form) (mark_if a OddEnd) styles))
-    ∙ ap (λ (t : List ℕ). flat_map (inline_html form) (mark_if a OddEnd ++ styles) ++ t) (sym (one_mark form d OddStart refl))
-    ∙ sym (flat_map-append (inline_html form) (mark_if a OddEnd ++ styles) (mark_if d OddStart))
+    ∙ ap (λ (t : List ℕ). (end ++ t) ++ start) (sym (style_highlights kind look same)) ∙ ap (λ (t : List ℕ). (t ++ flat_map (inline_html kind) styles) ++ start) (sym (one_highlight kind a UnprintableEnd refl))
+    ∙ ap (λ (t : List ℕ). t ++ start) (sym (flat_map-append (inline_html kind) (highlight_if a UnprintableEnd) styles))
+    ∙ ap (λ (t : List ℕ). flat_map (inline_html kind) (highlight_if a UnprintableEnd ++ styles) ++ t) (sym (one_highlight kind d UnprintableStart refl))
+    ∙ sym (flat_map-append (inline_html kind) (highlight_if a UnprintableEnd ++ styles) (highlight_if d UnprintableStart))
 
 same_bool_itself : (bold : Bool) → same_bool bold bold ≡ true
 same_bool_itself true = refl
@@ -66,99 +66,99 @@ same_bool_itself false = refl
 same_as_itself : (style : Style) → is_same_style style style ≡ true
 same_as_itself style = rw (same_bool_itself style.bold, eq-eqb (hue_number style.hue) (hue_number style.hue) refl) refl
 
--- Between two visible letters without a sequence there are no marks.
-pub no_marks : (form : Form) (look : Look) → flat_map (inline_html form) (marks_between (after_letter look false) false) ≡ []
-no_marks form look = rw (same_as_itself look.wanted) refl
+-- Between two visible code points without a sequence there are no highlights.
+pub no_highlights : (kind : TextKind) (look : Look) → flat_map (inline_html kind) (highlights_between (after_code_point look false) false) ≡ []
+no_highlights kind look = rw (same_as_itself look.wanted) refl
 
 -- ---- the end
 
-pub html-nil : (form : Form) (look : Look) → optional_mark form look.odd (bracketed (mark_text OddEnd)) ++ optional_mark form (has_element look.current) (bracketed (mark_text (StyleEnd look.current))) ≡ html_from form look []
+pub html-nil : (kind : TextKind) (look : Look) → optional_highlight kind look.unprintable (bracketed (highlight_text UnprintableEnd)) ++ optional_highlight kind (has_element look.current) (bracketed (highlight_text (StyleEnd look.current))) ≡ html_from kind look []
 unfolding html_from
-html-nil form look =
-    ap (λ (t : List ℕ). t ++ optional_mark form (has_element look.current) (bracketed (mark_text (StyleEnd look.current)))) (sym (one_mark form look.odd OddEnd refl))
-    ∙ ap (λ (t : List ℕ). flat_map (inline_html form) (mark_if look.odd OddEnd) ++ t) (sym (one_mark form (has_element look.current) (StyleEnd look.current) refl))
-    ∙ sym (flat_map-append (inline_html form) (mark_if look.odd OddEnd) (style_end look.current))
-    ∙ ap (λ (ss : List Symbol). flat_map (inline_html form) (inlines_from look (runs_of ss))) (sym (symbols-nil form))
+html-nil kind look =
+    ap (λ (t : List ℕ). t ++ optional_highlight kind (has_element look.current) (bracketed (highlight_text (StyleEnd look.current)))) (sym (one_highlight kind look.unprintable UnprintableEnd refl))
+    ∙ ap (λ (t : List ℕ). flat_map (inline_html kind) (highlight_if look.unprintable UnprintableEnd) ++ t) (sym (one_highlight kind (has_element look.current) (StyleEnd look.current) refl))
+    ∙ sym (flat_map-append (inline_html kind) (highlight_if look.unprintable UnprintableEnd) (style_end look.current))
+    ∙ ap (λ (ss : List Symbol). flat_map (inline_html kind) (inlines_from look (runs_of ss))) (sym (symbols-nil kind))
 
 -- ---- steps
 
-abbrev pub marks : Form → Look → Bool → List ℕ
-marks form look odd = flat_map (inline_html form) (marks_between look odd)
+abbrev pub highlights : TextKind → Look → Bool → List ℕ
+highlights kind look unprintable = flat_map (inline_html kind) (highlights_between look unprintable)
 
-abbrev pub html_of : Form → Look → List Run → List ℕ
-html_of form look runs = flat_map (inline_html form) (inlines_from look runs)
+abbrev pub html_of : TextKind → Look → List Run → List ℕ
+html_of kind look runs = flat_map (inline_html kind) (inlines_from look runs)
 
-pub letters_step : (form : Form) (look : Look) (letter count : ℕ) (runs : List Run) (odd : Bool) → is_odd letter ≡ odd
-    → html_of form look (Letters letter count ∷ runs) ≡ marks form look odd ++ (escaped (letters_text letter count) ++ html_of form (after_letter look odd) runs)
-letters_step form look letter count runs odd is =
-    flat_map-append (inline_html form) (marks_between look (is_odd letter)) (Text letter count ∷ inlines_from (after_letter look (is_odd letter)) runs)
-    ∙ ap (λ (o : Bool). marks form look o ++ (escaped (letters_text letter count) ++ flat_map (inline_html form) (inlines_from (after_letter look o) runs))) is
+pub code_points_step : (kind : TextKind) (look : Look) (code_point count : ℕ) (runs : List Run) (unprintable : Bool) → is_unprintable code_point ≡ unprintable
+    → html_of kind look (CodePoints code_point count ∷ runs) ≡ highlights kind look unprintable ++ (escaped (code_points_text code_point count) ++ html_of kind (after_code_point look unprintable) runs)
+code_points_step kind look code_point count runs unprintable is =
+    flat_map-append (inline_html kind) (highlights_between look (is_unprintable code_point)) (Text code_point count ∷ inlines_from (after_code_point look (is_unprintable code_point)) runs)
+    ∙ ap (λ (o : Bool). highlights kind look o ++ (escaped (code_points_text code_point count) ++ flat_map (inline_html kind) (inlines_from (after_code_point look o) runs))) is
 
-pub visible_step : (form : Form) (look : Look) (bytes : List ℕ) (letter : ℕ) → 0 < length bytes → first_symbol form bytes ≡ Letter letter → is_odd letter ≡ false
-    → marks form look false ++ (escaped (encode_utf8 letter) ++ html_from form (after_letter look false) (drop (symbol_len form bytes) bytes)) ≡ html_from form look bytes
+pub visible_step : (kind : TextKind) (look : Look) (bytes : List ℕ) (code_point : ℕ) → 0 < length bytes → first_symbol kind bytes ≡ CodePoint code_point → is_unprintable code_point ≡ false
+    → highlights kind look false ++ (escaped (encode_utf8 code_point) ++ html_from kind (after_code_point look false) (drop (symbol_len kind bytes) bytes)) ≡ html_from kind look bytes
 unfolding html_from
-visible_step form look bytes letter some first visible =
-    let rest = symbols form (drop (symbol_len form bytes) bytes) in
-    let runs = flat_map (inline_html form) (inlines_from (after_letter look false) (runs_of rest)) in
-    ap (λ (t : List ℕ). marks form look false ++ (escaped t ++ runs)) (sym (cond-false (is_odd letter) (odd_text letter 1) (encode_utf8 letter) visible))
-    ∙ sym (letters_step form look letter 1 (runs_of rest) false visible)
-    ∙ ap (λ (rs : List Run). flat_map (inline_html form) (inlines_from look rs)) (sym (visible_run letter (runs_of rest) visible))
-    ∙ ap (λ (ss : List Symbol). flat_map (inline_html form) (inlines_from look (runs_of ss))) (sym (symbols-step form bytes some ∙ ap (λ (s : Symbol). s ∷ rest) first))
+visible_step kind look bytes code_point some first visible =
+    let rest = symbols kind (drop (symbol_len kind bytes) bytes) in
+    let runs = flat_map (inline_html kind) (inlines_from (after_code_point look false) (runs_of rest)) in
+    ap (λ (t : List ℕ). highlights kind look false ++ (escaped t ++ runs)) (sym (cond-false (is_unprintable code_point) (unprintable_text code_point 1) (encode_utf8 code_point) visible))
+    ∙ sym (code_points_step kind look code_point 1 (runs_of rest) false visible)
+    ∙ ap (λ (rs : List Run). flat_map (inline_html kind) (inlines_from look rs)) (sym (visible_run code_point (runs_of rest) visible))
+    ∙ ap (λ (ss : List Symbol). flat_map (inline_html kind) (inlines_from look (runs_of ss))) (sym (symbols-step kind bytes some ∙ ap (λ (s : Symbol). s ∷ rest) first))
 
-pub odd_step : (form : Form) (look : Look) (bytes : List ℕ) (letter count len : ℕ) → is_odd letter ≡ true → IsRepeated form letter bytes count len
-    → marks form look true ++ (escaped (odd_text letter count) ++ html_from form (after_letter look true) (drop len bytes)) ≡ html_from form look bytes
+pub unprintable_step : (kind : TextKind) (look : Look) (bytes : List ℕ) (code_point count len : ℕ) → is_unprintable code_point ≡ true → IsRepeated kind code_point bytes count len
+    → highlights kind look true ++ (escaped (unprintable_text code_point count) ++ html_from kind (after_code_point look true) (drop len bytes)) ≡ html_from kind look bytes
 unfolding html_from
-odd_step form look bytes letter zero len odd repeated = let some = repeated.some in absurd (omega arith)
-odd_step form look bytes letter (suc count) len odd repeated =
-    let rest = symbols form (drop len bytes) in
-    let runs = flat_map (inline_html form) (inlines_from (after_letter look true) (runs_of rest)) in
-    ap (λ (t : List ℕ). marks form look true ++ (escaped t ++ runs)) (sym (cond-true (is_odd letter) (odd_text letter (suc count)) (encode_utf8 letter) odd))
-    ∙ sym (letters_step form look letter (suc count) (runs_of rest) true odd)
-    ∙ ap (λ (rs : List Run). flat_map (inline_html form) (inlines_from look rs)) (sym (odd_run letter count rest odd repeated.other))
-    ∙ ap (λ (ss : List Symbol). flat_map (inline_html form) (inlines_from look (runs_of ss))) (sym repeated.repeated)
+unprintable_step kind look bytes code_point zero len unprintable repeated = let some = repeated.some in absurd (omega arith)
+unprintable_step kind look bytes code_point (suc count) len unprintable repeated =
+    let rest = symbols kind (drop len bytes) in
+    let runs = flat_map (inline_html kind) (inlines_from (after_code_point look true) (runs_of rest)) in
+    ap (λ (t : List ℕ). highlights kind look true ++ (escaped t ++ runs)) (sym (cond-true (is_unprintable code_point) (unprintable_text code_point (suc count)) (encode_utf8 code_point) unprintable))
+    ∙ sym (code_points_step kind look code_point (suc count) (runs_of rest) true unprintable)
+    ∙ ap (λ (rs : List Run). flat_map (inline_html kind) (inlines_from look rs)) (sym (unprintable_run code_point count rest unprintable repeated.other))
+    ∙ ap (λ (ss : List Symbol). flat_map (inline_html kind) (inlines_from look (runs_of ss))) (sym repeated.repeated)
 
-pub sequence_step : (form : Form) (look : Look) (bytes numbers : List ℕ) → 0 < length bytes → first_symbol form bytes ≡ Sequence numbers
-    → html_from form (with_wanted look (restyled look.wanted numbers)) (drop (symbol_len form bytes) bytes) ≡ html_from form look bytes
+pub sequence_step : (kind : TextKind) (look : Look) (bytes numbers : List ℕ) → 0 < length bytes → first_symbol kind bytes ≡ Sequence numbers
+    → html_from kind (with_wanted look (restyled look.wanted numbers)) (drop (symbol_len kind bytes) bytes) ≡ html_from kind look bytes
 unfolding html_from
-sequence_step form look bytes numbers some first =
-    ap (λ (ss : List Symbol). flat_map (inline_html form) (inlines_from look (runs_of ss))) (sym (symbols-step form bytes some ∙ ap (λ (s : Symbol). s ∷ symbols form (drop (symbol_len form bytes) bytes)) first))
+sequence_step kind look bytes numbers some first =
+    ap (λ (ss : List Symbol). flat_map (inline_html kind) (inlines_from look (runs_of ss))) (sym (symbols-step kind bytes some ∙ ap (λ (s : Symbol). s ∷ symbols kind (drop (symbol_len kind bytes) bytes)) first))
 
 -- ---- plain text
 
-pub plain_shown : (form : Form) (bytes : List ℕ) → list_all is_plain bytes ≡ true → shown_text form bytes ≡ bytes
-plain_shown form [] plain = ap (λ (ss : List Symbol). flat_map run_text (runs_of ss)) (symbols-nil form)
-plain_shown form (byte ∷ bytes) plain =
+pub plain_shown : (kind : TextKind) (bytes : List ℕ) → list_all is_plain bytes ≡ true → shown_text kind bytes ≡ bytes
+plain_shown kind [] plain = ap (λ (ss : List Symbol). flat_map run_text (runs_of ss)) (symbols-nil kind)
+plain_shown kind (byte ∷ bytes) plain =
     let parts = and_parts (is_plain byte) (list_all is_plain bytes) plain in
-    let symbol = plain_symbol form byte bytes parts.0 in
+    let symbol = plain_symbol kind byte bytes parts.0 in
     let visible = plain_visible byte parts.0 in
-    let step : symbols form (byte ∷ bytes) ≡ Letter byte ∷ symbols form bytes = symbols-step form (byte ∷ bytes) (omega arith) ∙ ap (λ (s : Symbol). s ∷ symbols form (drop (symbol_len form (byte ∷ bytes)) (byte ∷ bytes))) symbol.0 ∙ ap (λ (n : ℕ). Letter byte ∷ symbols form (drop n (byte ∷ bytes))) symbol.1 in
-    ap (λ (ss : List Symbol). flat_map run_text (runs_of ss)) step ∙ ap (flat_map run_text) (visible_run byte (runs_of (symbols form bytes)) visible)
-    ∙ ap (λ (t : List ℕ). t ++ shown_text form bytes) (cond-false (is_odd byte) (odd_text byte 1) (encode_utf8 byte) visible ∙ plain_encoded byte parts.0) ∙ ap (λ (t : List ℕ). byte ∷ t) (plain_shown form bytes parts.1)
+    let step : symbols kind (byte ∷ bytes) ≡ CodePoint byte ∷ symbols kind bytes = symbols-step kind (byte ∷ bytes) (omega arith) ∙ ap (λ (s : Symbol). s ∷ symbols kind (drop (symbol_len kind (byte ∷ bytes)) (byte ∷ bytes))) symbol.0 ∙ ap (λ (n : ℕ). CodePoint byte ∷ symbols kind (drop n (byte ∷ bytes))) symbol.1 in
+    ap (λ (ss : List Symbol). flat_map run_text (runs_of ss)) step ∙ ap (flat_map run_text) (visible_run byte (runs_of (symbols kind bytes)) visible)
+    ∙ ap (λ (t : List ℕ). t ++ shown_text kind bytes) (cond-false (is_unprintable byte) (unprintable_text byte 1) (encode_utf8 byte) visible ∙ plain_encoded byte parts.0) ∙ ap (λ (t : List ℕ). byte ∷ t) (plain_shown kind bytes parts.1)
 
--- The pictures of odd letters need no escaping.
-pub odd_written : (form : Form) (look : Look) (bytes : List ℕ) (letter count len : ℕ) → is_odd letter ≡ true → IsRepeated form letter bytes count len
-    → marks form look true ++ (odd_text letter count ++ html_from form (after_letter look true) (drop len bytes)) ≡ html_from form look bytes
-odd_written form look bytes letter count len odd repeated =
-    ap (λ (t : List ℕ). marks form look true ++ (t ++ html_from form (after_letter look true) (drop len bytes))) (sym (safe_escaped (odd_text letter count) (odd_safe letter count))) ∙ odd_step form look bytes letter count len odd repeated
+-- The notations of unprintable code points need no escaping.
+pub unprintable_written : (kind : TextKind) (look : Look) (bytes : List ℕ) (code_point count len : ℕ) → is_unprintable code_point ≡ true → IsRepeated kind code_point bytes count len
+    → highlights kind look true ++ (unprintable_text code_point count ++ html_from kind (after_code_point look true) (drop len bytes)) ≡ html_from kind look bytes
+unprintable_written kind look bytes code_point count len unprintable repeated =
+    ap (λ (t : List ℕ). highlights kind look true ++ (t ++ html_from kind (after_code_point look true) (drop len bytes))) (sym (safe_escaped (unprintable_text code_point count) (unprintable_safe code_point count))) ∙ unprintable_step kind look bytes code_point count len unprintable repeated
 
--- ---- what the functions that write marks find
+-- ---- what the functions that write highlights find
 
-module _ (form : Form) (look : Look) (odd ends_odd ends_style starts_style starts_odd : Bool) (style_end_tag style_start_tag : List ℕ)
-    (is_ends_odd : ends_odd ≡ (look.odd && not (is_same_style look.wanted look.current && odd))) (is_ends_style : ends_style ≡ (not (is_same_style look.wanted look.current) && has_element look.current))
-    (is_starts_style : starts_style ≡ (not (is_same_style look.wanted look.current) && has_element look.wanted)) (is_starts_odd : starts_odd ≡ (odd && not (is_same_style look.wanted look.current && look.odd)))
-    (end_tag : style_end_tag ≡ bracketed (mark_text (StyleEnd look.current))) (start_tag : style_start_tag ≡ bracketed (mark_text (StyleStart look.wanted))) where
-  pub marks_written : optional_mark form ends_odd (codes "</i>") ++ (optional_mark form ends_style style_end_tag ++ (optional_mark form starts_style style_start_tag ++ optional_mark form starts_odd (codes "<i>"))) ≡ flat_map (inline_html form) (marks_between look odd)
-  marks_written =
+module _ (kind : TextKind) (look : Look) (unprintable ends_unprintable ends_style starts_style starts_unprintable : Bool) (style_end_tag style_start_tag : List ℕ)
+    (is_ends_unprintable : ends_unprintable ≡ (look.unprintable && not (is_same_style look.wanted look.current && unprintable))) (is_ends_style : ends_style ≡ (not (is_same_style look.wanted look.current) && has_element look.current))
+    (is_starts_style : starts_style ≡ (not (is_same_style look.wanted look.current) && has_element look.wanted)) (is_starts_unprintable : starts_unprintable ≡ (unprintable && not (is_same_style look.wanted look.current && look.unprintable)))
+    (end_tag : style_end_tag ≡ bracketed (highlight_text (StyleEnd look.current))) (start_tag : style_start_tag ≡ bracketed (highlight_text (StyleStart look.wanted))) where
+  pub highlights_written : optional_highlight kind ends_unprintable (codes "</i>") ++ (optional_highlight kind ends_style style_end_tag ++ (optional_highlight kind starts_style style_start_tag ++ optional_highlight kind starts_unprintable (codes "<i>"))) ≡ flat_map (inline_html kind) (highlights_between look unprintable)
+  highlights_written =
       let ends = not (is_same_style look.wanted look.current) && has_element look.current in
       let starts = not (is_same_style look.wanted look.current) && has_element look.wanted in
-      let first = optional_mark form (look.odd && not (is_same_style look.wanted look.current && odd)) (codes "</i>") in
-      ap (λ (w : Bool). optional_mark form w (codes "</i>") ++ (optional_mark form ends_style style_end_tag ++ (optional_mark form starts_style style_start_tag ++ optional_mark form starts_odd (codes "<i>")))) is_ends_odd
-      ∙ ap (λ (t : List ℕ). first ++ (t ++ (optional_mark form starts_style style_start_tag ++ optional_mark form starts_odd (codes "<i>")))) (ap (λ (w : Bool). optional_mark form w style_end_tag) is_ends_style ∙ ap (optional_mark form ends) end_tag)
-      ∙ ap (λ (t : List ℕ). first ++ (optional_mark form ends (bracketed (mark_text (StyleEnd look.current))) ++ (t ++ optional_mark form starts_odd (codes "<i>")))) (ap (λ (w : Bool). optional_mark form w style_start_tag) is_starts_style ∙ ap (optional_mark form starts) start_tag)
-      ∙ ap (λ (w : Bool). first ++ (optional_mark form ends (bracketed (mark_text (StyleEnd look.current))) ++ (optional_mark form starts (bracketed (mark_text (StyleStart look.wanted))) ++ optional_mark form w (codes "<i>")))) is_starts_odd
-      ∙ marks_parts form look odd
+      let first = optional_highlight kind (look.unprintable && not (is_same_style look.wanted look.current && unprintable)) (codes "</i>") in
+      ap (λ (w : Bool). optional_highlight kind w (codes "</i>") ++ (optional_highlight kind ends_style style_end_tag ++ (optional_highlight kind starts_style style_start_tag ++ optional_highlight kind starts_unprintable (codes "<i>")))) is_ends_unprintable
+      ∙ ap (λ (t : List ℕ). first ++ (t ++ (optional_highlight kind starts_style style_start_tag ++ optional_highlight kind starts_unprintable (codes "<i>")))) (ap (λ (w : Bool). optional_highlight kind w style_end_tag) is_ends_style ∙ ap (optional_highlight kind ends) end_tag)
+      ∙ ap (λ (t : List ℕ). first ++ (optional_highlight kind ends (bracketed (highlight_text (StyleEnd look.current))) ++ (t ++ optional_highlight kind starts_unprintable (codes "<i>")))) (ap (λ (w : Bool). optional_highlight kind w style_start_tag) is_starts_style ∙ ap (optional_highlight kind starts) start_tag)
+      ∙ ap (λ (w : Bool). first ++ (optional_highlight kind ends (bracketed (highlight_text (StyleEnd look.current))) ++ (optional_highlight kind starts (bracketed (highlight_text (StyleStart look.wanted))) ++ optional_highlight kind w (codes "<i>")))) is_starts_unprintable
+      ∙ highlights_parts kind look unprintable
 
-pub end_written : (form : Form) (look : Look) (has : Bool) (tag : List ℕ) → has ≡ has_element look.current → tag ≡ bracketed (mark_text (StyleEnd look.current))
-    → optional_mark form look.odd (codes "</i>") ++ optional_mark form has tag ≡ html_from form look []
-end_written form look has tag is tag_is =
-    ap (λ (t : List ℕ). optional_mark form look.odd (codes "</i>") ++ t) (ap (λ (w : Bool). optional_mark form w tag) is ∙ ap (optional_mark form (has_element look.current)) tag_is) ∙ html-nil form look
+pub end_written : (kind : TextKind) (look : Look) (has : Bool) (tag : List ℕ) → has ≡ has_element look.current → tag ≡ bracketed (highlight_text (StyleEnd look.current))
+    → optional_highlight kind look.unprintable (codes "</i>") ++ optional_highlight kind has tag ≡ html_from kind look []
+end_written kind look has tag is tag_is =
+    ap (λ (t : List ℕ). optional_highlight kind look.unprintable (codes "</i>") ++ t) (ap (λ (w : Bool). optional_highlight kind w tag) is ∙ ap (optional_highlight kind (has_element look.current)) tag_is) ∙ html-nil kind look

@@ -3,7 +3,7 @@ use Rattle.std.proofs.Common.{◌≡◌, ℕ, zero, suc, ◌<◌, ◌≤◌, Boo
 use Rattle.std.specs.Prelude.{fold, not}
 use Rattle.std.proofs.lemmas.Bool.{or_parts}
 use Rattle.std.proofs.lemmas.List.{drop_all}
-use Rattle.redo_html.specs.declared.form.Form.{Form}
+use Rattle.redo_html.specs.declared.text_kind.TextKind.{TextKind}
 use Rattle.redo_html.specs.declared.style.Hue.{Hue}
 use Rattle.redo_html.specs.declared.style.Hue.TheVariants.{Plain, Red, Green, Yellow, Blue, Magenta, Cyan}
 use Rattle.redo_html.specs.declared.style.Style.{Style}
@@ -11,31 +11,31 @@ use Rattle.redo_html.specs.Lines.{style_after_symbol}
 use Rattle.redo_html.specs.Passage.{is_plain_hue, has_element}
 use Rattle.redo_html.specs.Style.{plain_style, restyled}
 use Rattle.redo_html.specs.Symbols.{Symbol, first_symbol, symbol_len, symbols}
-use Rattle.redo_html.specs.Symbols.Symbol.{Letter, Sequence}
+use Rattle.redo_html.specs.Symbols.Symbol.{CodePoint, Sequence}
 use Rattle.redo_html.specs.Private.Writing.{IsRepeated, style_in}
 use Rattle.redo_html.proofs.SymbolLemmas.{symbols-nil, symbols-step}
 
-module _ (form : Form) (style : Style) (bytes : List ℕ) (some : 0 < length bytes) where
-  step : fold style_after_symbol (style_after_symbol style (first_symbol form bytes)) (symbols form (drop (symbol_len form bytes) bytes)) ≡ style_in form style bytes
-  step = sym (ap (fold style_after_symbol style) (symbols-step form bytes some))
+module _ (kind : TextKind) (style : Style) (bytes : List ℕ) (some : 0 < length bytes) where
+  step : fold style_after_symbol (style_after_symbol style (first_symbol kind bytes)) (symbols kind (drop (symbol_len kind bytes) bytes)) ≡ style_in kind style bytes
+  step = sym (ap (fold style_after_symbol style) (symbols-step kind bytes some))
 
-  pub letter_style : (letter : ℕ) → first_symbol form bytes ≡ Letter letter → style_in form style (drop (symbol_len form bytes) bytes) ≡ style_in form style bytes
-  letter_style letter first = ap (λ (s : Symbol). fold style_after_symbol (style_after_symbol style s) (symbols form (drop (symbol_len form bytes) bytes))) (sym first) ∙ step
+  pub code_point_style : (code_point : ℕ) → first_symbol kind bytes ≡ CodePoint code_point → style_in kind style (drop (symbol_len kind bytes) bytes) ≡ style_in kind style bytes
+  code_point_style code_point first = ap (λ (s : Symbol). fold style_after_symbol (style_after_symbol style s) (symbols kind (drop (symbol_len kind bytes) bytes))) (sym first) ∙ step
 
-  pub sequence_style : (numbers : List ℕ) → first_symbol form bytes ≡ Sequence numbers → style_in form (restyled style numbers) (drop (symbol_len form bytes) bytes) ≡ style_in form style bytes
-  sequence_style numbers first = ap (λ (s : Symbol). fold style_after_symbol (style_after_symbol style s) (symbols form (drop (symbol_len form bytes) bytes))) (sym first) ∙ step
+  pub sequence_style : (numbers : List ℕ) → first_symbol kind bytes ≡ Sequence numbers → style_in kind (restyled style numbers) (drop (symbol_len kind bytes) bytes) ≡ style_in kind style bytes
+  sequence_style numbers first = ap (λ (s : Symbol). fold style_after_symbol (style_after_symbol style s) (symbols kind (drop (symbol_len kind bytes) bytes))) (sym first) ∙ step
 
 -- At the end of a text.
-pub ended_style : (form : Form) (style last : Style) (bytes : List ℕ) (done : ℕ) → length bytes ≤ done → style_in form last (drop done bytes) ≡ style_in form style bytes → last ≡ style_in form style bytes
-ended_style form style last bytes done past left = sym (ap (λ (b : List ℕ). style_in form last b) (drop_all done bytes past) ∙ ap (fold style_after_symbol last) (symbols-nil form)) ∙ left
+pub ended_style : (kind : TextKind) (style last : Style) (bytes : List ℕ) (done : ℕ) → length bytes ≤ done → style_in kind last (drop done bytes) ≡ style_in kind style bytes → last ≡ style_in kind style bytes
+ended_style kind style last bytes done past left = sym (ap (λ (b : List ℕ). style_in kind last b) (drop_all done bytes past) ∙ ap (fold style_after_symbol last) (symbols-nil kind)) ∙ left
 
-letters_style : (style : Style) (letter count : ℕ) (symbols : List Symbol) → fold style_after_symbol style (replicate count (Letter letter) ++ symbols) ≡ fold style_after_symbol style symbols
-letters_style style letter zero symbols = refl
-letters_style style letter (suc count) symbols = letters_style style letter count symbols
+code_points_style : (style : Style) (code_point count : ℕ) (symbols : List Symbol) → fold style_after_symbol style (replicate count (CodePoint code_point) ++ symbols) ≡ fold style_after_symbol style symbols
+code_points_style style code_point zero symbols = refl
+code_points_style style code_point (suc count) symbols = code_points_style style code_point count symbols
 
-pub repeated_style : (form : Form) (style : Style) (bytes : List ℕ) (letter count len : ℕ) → IsRepeated form letter bytes count len → style_in form style (drop len bytes) ≡ style_in form style bytes
-repeated_style form style bytes letter count len repeated =
-    sym (ap (fold style_after_symbol style) repeated.repeated ∙ letters_style style letter count (symbols form (drop len bytes)))
+pub repeated_style : (kind : TextKind) (style : Style) (bytes : List ℕ) (code_point count len : ℕ) → IsRepeated kind code_point bytes count len → style_in kind style (drop len bytes) ≡ style_in kind style bytes
+repeated_style kind style bytes code_point count len repeated =
+    sym (ap (fold style_after_symbol style) repeated.repeated ∙ code_points_style style code_point count (symbols kind (drop len bytes)))
 
 -- A style without an element is the page's own.
 pub plain_without_element : (style : Style) → has_element style ≡ false → style ≡ plain_style

@@ -10,40 +10,40 @@ use Rattle.std.proofs.lemmas.List.Folds.{list_any-append, list_any_more}
 use Rattle.bstr.specs.Utf8.{decoded, good}
 use Rattle.bstr.proofs.lemmas.PieceLemmas.{value-1, piece-bounds}
 use Rattle.bstr.proofs.lemmas.SoundLemmas.{SpellsChar-decoded}
-use Rattle.redo_html.specs.declared.form.Form.{Form}
+use Rattle.redo_html.specs.declared.text_kind.TextKind.{TextKind}
 use Rattle.redo_html.specs.Passage.{escaped_byte}
 use Rattle.redo_html.specs.Laws.{is_plain}
-use Rattle.redo_html.specs.Shown.{is_odd, is_control, is_between, unseen_ranges, Run, with_letter, runs_of}
-use Rattle.redo_html.specs.Shown.Run.{Letters, Restyle}
-use Rattle.redo_html.specs.Symbols.{Symbol, letter_of, size_of, first_letter, letter_len, begins_sequence, final_byte, parameter_count, sequence_len, numbers_from, sequence_numbers, has_colours, is_sequence, first_symbol, symbol_len, symbols_after, symbols}
-use Rattle.redo_html.specs.Symbols.Symbol.{Letter, Sequence}
-use Rattle.redo_html.specs.Private.Writing.{IsSequence, BeginsOther, symbol_letter}
+use Rattle.redo_html.specs.Shown.{is_unprintable, is_control, is_between, unseen_ranges, Run, with_code_point, runs_of}
+use Rattle.redo_html.specs.Shown.Run.{CodePoints, Restyle}
+use Rattle.redo_html.specs.Symbols.{Symbol, code_point_of, size_of, first_code_point, code_point_len, begins_sequence, final_byte, parameter_count, sequence_len, numbers_from, sequence_numbers, has_colours, is_sequence, first_symbol, symbol_len, symbols_after, symbols}
+use Rattle.redo_html.specs.Symbols.Symbol.{CodePoint, Sequence}
+use Rattle.redo_html.specs.Private.Writing.{IsSequence, BeginsOther, symbol_code_point}
 
 -- ---- symbols, one after the other
 
-pub symbols-nil : (form : Form) → symbols form [] ≡ []
+pub symbols-nil : (kind : TextKind) → symbols kind [] ≡ []
 unfolding symbols_after
-symbols-nil form = refl
+symbols-nil kind = refl
 
-skipped_symbols : (form : Form) (skipped : ℕ) (bytes : List ℕ) → symbols_after form skipped bytes ≡ symbols form (drop skipped bytes)
+skipped_symbols : (kind : TextKind) (skipped : ℕ) (bytes : List ℕ) → symbols_after kind skipped bytes ≡ symbols kind (drop skipped bytes)
 unfolding symbols_after
-skipped_symbols form zero bytes = refl
-skipped_symbols form (suc skipped) [] = refl
-skipped_symbols form (suc skipped) (byte ∷ bytes) = skipped_symbols form skipped bytes
+skipped_symbols kind zero bytes = refl
+skipped_symbols kind (suc skipped) [] = refl
+skipped_symbols kind (suc skipped) (byte ∷ bytes) = skipped_symbols kind skipped bytes
 
-letter_some : (char : Option ℕ) (size : ℕ) → 0 < size → 0 < size_of char size
-letter_some None size some = omega arith
-letter_some (Some c) size some = some
+code_point_some : (char : Option ℕ) (size : ℕ) → 0 < size → 0 < size_of char size
+code_point_some None size some = omega arith
+code_point_some (Some c) size some = some
 
-letter_within : (char : Option ℕ) (size n : ℕ) → 0 < n → size ≤ n → size_of char size ≤ n
-letter_within None size n some within = omega arith
-letter_within (Some c) size n some within = within
+code_point_within : (char : Option ℕ) (size n : ℕ) → 0 < n → size ≤ n → size_of char size ≤ n
+code_point_within None size n some within = omega arith
+code_point_within (Some c) size n some within = within
 
-pub letter_bounds : (bytes : List ℕ) → 0 < length bytes → (0 < letter_len bytes) × (letter_len bytes ≤ length bytes)
-unfolding letter_len
-letter_bounds bytes some =
+pub code_point_bounds : (bytes : List ℕ) → 0 < length bytes → (0 < code_point_len bytes) × (code_point_len bytes ≤ length bytes)
+unfolding code_point_len
+code_point_bounds bytes some =
     let bounds = piece-bounds bytes some in
-    (letter_some (decoded bytes).char (decoded bytes).size (omega (arith, bounds.0)), letter_within (decoded bytes).char (decoded bytes).size (length bytes) some bounds.2)
+    (code_point_some (decoded bytes).char (decoded bytes).size (omega (arith, bounds.0)), code_point_within (decoded bytes).char (decoded bytes).size (length bytes) some bounds.2)
 
 index_within : (bytes : List ℕ) (i byte : ℕ) → slice_index bytes i ≡ byte → 0 < byte → i < length bytes
 index_within bytes i byte is some = ⊎_elim (λ inside. inside) (λ past. let none = get_or_past bytes i 0 past in absurd (omega (arith, none, is))) (cases_lt i (length bytes))
@@ -63,14 +63,14 @@ sequence_parts bytes some = by (begins_sequence bytes) refl
         let len : sequence_len bytes ≡ 3 + parameter_count bytes = cond-true (begins_sequence bytes) (3 + parameter_count bytes) 0 is in
         record { size = len; within = omega (arith, inside, len) }
 
-pub symbol_bounds : (form : Form) (bytes : List ℕ) → 0 < length bytes → (0 < symbol_len form bytes) × (symbol_len form bytes ≤ length bytes)
+pub symbol_bounds : (kind : TextKind) (bytes : List ℕ) → 0 < length bytes → (0 < symbol_len kind bytes) × (symbol_len kind bytes ≤ length bytes)
 unfolding symbol_len is_sequence
-symbol_bounds form bytes some = by (is_sequence form bytes) refl
+symbol_bounds kind bytes some = by (is_sequence kind bytes) refl
   where
-    by : (sequence : Bool) → is_sequence form bytes ≡ sequence → (0 < symbol_len form bytes) × (symbol_len form bytes ≤ length bytes)
-    by false is = rw is (letter_bounds bytes some)
+    by : (sequence : Bool) → is_sequence kind bytes ≡ sequence → (0 < symbol_len kind bytes) × (symbol_len kind bytes ≤ length bytes)
+    by false is = rw is (code_point_bounds bytes some)
     by true is =
-        let positive = ltb-true 0 (sequence_len bytes) (and_parts (has_colours form) (nat_lt 0 (sequence_len bytes)) is).1 in
+        let positive = ltb-true 0 (sequence_len bytes) (and_parts (has_colours kind) (nat_lt 0 (sequence_len bytes)) is).1 in
         let parts = sequence_parts bytes positive in
         rw is (positive, parts.within)
 
@@ -78,38 +78,38 @@ drop_cons : (byte : ℕ) (bytes : List ℕ) (n : ℕ) → 0 < n → drop (n - 1)
 drop_cons byte bytes zero some = absurd (omega arith)
 drop_cons byte bytes (suc n) some = ap (λ (k : ℕ). drop k bytes) (omega arith)
 
-pub symbols-step : (form : Form) (bytes : List ℕ) → 0 < length bytes → symbols form bytes ≡ first_symbol form bytes ∷ symbols form (drop (symbol_len form bytes) bytes)
+pub symbols-step : (kind : TextKind) (bytes : List ℕ) → 0 < length bytes → symbols kind bytes ≡ first_symbol kind bytes ∷ symbols kind (drop (symbol_len kind bytes) bytes)
 unfolding symbols_after
-symbols-step form [] some = absurd (omega arith)
-symbols-step form (byte ∷ bytes) some =
-    ap (λ (rest : List Symbol). first_symbol form (byte ∷ bytes) ∷ rest)
-    (skipped_symbols form (symbol_len form (byte ∷ bytes) - 1) bytes ∙ ap (symbols form) (drop_cons byte bytes (symbol_len form (byte ∷ bytes)) (symbol_bounds form (byte ∷ bytes) some).0))
+symbols-step kind [] some = absurd (omega arith)
+symbols-step kind (byte ∷ bytes) some =
+    ap (λ (rest : List Symbol). first_symbol kind (byte ∷ bytes) ∷ rest)
+    (skipped_symbols kind (symbol_len kind (byte ∷ bytes) - 1) bytes ∙ ap (symbols kind) (drop_cons byte bytes (symbol_len kind (byte ∷ bytes)) (symbol_bounds kind (byte ∷ bytes) some).0))
 
 -- ---- plain bytes
 
 plain_below : (byte : ℕ) → is_plain byte ≡ true → byte < 127
 plain_below byte plain = grind (arith, nat_tests)
 
-plain_facts : (byte : ℕ) → is_plain byte ≡ true → (not (byte == 27) && not (is_odd byte)) ≡ true
-unfolding is_odd
+plain_facts : (byte : ℕ) → is_plain byte ≡ true → (not (byte == 27) && not (is_unprintable byte)) ≡ true
+unfolding is_unprintable
 plain_facts byte plain = ⊎_elim (λ not_plain. absurd (let e : true ≡ false = sym plain ∙ not-true (is_plain byte) not_plain in cc)) (λ facts. facts)
-    (or_cases (not (is_plain byte)) (not (byte == 27) && not (is_odd byte)) (agree_below_at (λ b. not (is_plain b) || (not (b == 27) && not (is_odd b))) (λ b. true) 128 byte refl (let below = plain_below byte plain in omega arith)))
+    (or_cases (not (is_plain byte)) (not (byte == 27) && not (is_unprintable byte)) (agree_below_at (λ b. not (is_plain b) || (not (b == 27) && not (is_unprintable b))) (λ b. true) 128 byte refl (let below = plain_below byte plain in omega arith)))
 
 pub plain_others : (byte : ℕ) → is_plain byte ≡ true → (not (byte == 38) && (not (byte == 60) && not (byte == 62))) ≡ true
 plain_others byte plain = ⊎_elim (λ not_plain. absurd (let e : true ≡ false = sym plain ∙ not-true (is_plain byte) not_plain in cc)) (λ facts. facts)
     (or_cases (not (is_plain byte)) (not (byte == 38) && (not (byte == 60) && not (byte == 62))) (agree_below_at (λ b. not (is_plain b) || (not (b == 38) && (not (b == 60) && not (b == 62)))) (λ b. true) 128 byte refl (let below = plain_below byte plain in omega arith)))
 
-pub plain_visible : (byte : ℕ) → is_plain byte ≡ true → is_odd byte ≡ false
-plain_visible byte plain = not-true (is_odd byte) (and_parts (not (byte == 27)) (not (is_odd byte)) (plain_facts byte plain)).1
+pub plain_visible : (byte : ℕ) → is_plain byte ≡ true → is_unprintable byte ≡ false
+plain_visible byte plain = not-true (is_unprintable byte) (and_parts (not (byte == 27)) (not (is_unprintable byte)) (plain_facts byte plain)).1
 
-pub no_sequence : (form : Form) (byte : ℕ) (bytes : List ℕ) → (byte == 27) ≡ false → is_sequence form (byte ∷ bytes) ≡ false
+pub no_sequence : (kind : TextKind) (byte : ℕ) (bytes : List ℕ) → (byte == 27) ≡ false → is_sequence kind (byte ∷ bytes) ≡ false
 unfolding is_sequence sequence_len
-no_sequence form byte bytes other = and_right (has_colours form) (nat_lt 0 (sequence_len (byte ∷ bytes))) (rw other refl)
+no_sequence kind byte bytes other = and_right (has_colours kind) (nat_lt 0 (sequence_len (byte ∷ bytes))) (rw other refl)
 
-pub plain_symbol : (form : Form) (byte : ℕ) (bytes : List ℕ) → is_plain byte ≡ true → (first_symbol form (byte ∷ bytes) ≡ Letter byte) × (symbol_len form (byte ∷ bytes) ≡ 1)
-unfolding first_symbol symbol_len first_letter letter_len
-plain_symbol form byte bytes plain =
-    let none = no_sequence form byte bytes (not-true (byte == 27) (and_parts (not (byte == 27)) (not (is_odd byte)) (plain_facts byte plain)).0) in
+pub plain_symbol : (kind : TextKind) (byte : ℕ) (bytes : List ℕ) → is_plain byte ≡ true → (first_symbol kind (byte ∷ bytes) ≡ CodePoint byte) × (symbol_len kind (byte ∷ bytes) ≡ 1)
+unfolding first_symbol symbol_len first_code_point code_point_len
+plain_symbol kind byte bytes plain =
+    let none = no_sequence kind byte bytes (not-true (byte == 27) (and_parts (not (byte == 27)) (not (is_unprintable byte)) (plain_facts byte plain)).0) in
     let all = byte ∷ bytes in
     let decodes : decoded all ≡ good byte 1 = value-1 (length all) byte (slice_index all 1) (slice_index all 2) (slice_index all 3) (omega arith, (let below = plain_below byte plain in omega arith)) in
     (rw (none, decodes) refl, rw (none, decodes) refl)
@@ -127,57 +127,57 @@ plain_escaped byte plain =
     let gt = not-true (byte == 62) two.1 in
     rw (amp, lt, gt) refl
 
--- ---- visible letters
+-- ---- visible code points
 
-pub odd_byte : (byte : ℕ) → byte < 256 → is_odd (0xDC00 + byte) ≡ true
-unfolding is_odd
-odd_byte byte below = agree_below_at (λ b. is_odd (0xDC00 + b)) (λ b. true) 256 byte refl below
+pub unprintable_byte : (byte : ℕ) → byte < 256 → is_unprintable (0xDC00 + byte) ≡ true
+unfolding is_unprintable
+unprintable_byte byte below = agree_below_at (λ b. is_unprintable (0xDC00 + b)) (λ b. true) 256 byte refl below
 
--- The bytes of a visible letter are its UTF-8.
-pub visible_bytes : (form : Form) (bytes : List ℕ) (letter : ℕ) → 0 < length bytes → slice_index bytes 0 < 256 → first_symbol form bytes ≡ Letter letter → is_odd letter ≡ false → take (symbol_len form bytes) bytes ≡ encode_utf8 letter
-unfolding first_symbol symbol_len first_letter letter_len
-visible_bytes form bytes letter some byte first visible = by (is_sequence form bytes) refl
+-- The bytes of a visible code point are its UTF-8.
+pub visible_bytes : (kind : TextKind) (bytes : List ℕ) (code_point : ℕ) → 0 < length bytes → slice_index bytes 0 < 256 → first_symbol kind bytes ≡ CodePoint code_point → is_unprintable code_point ≡ false → take (symbol_len kind bytes) bytes ≡ encode_utf8 code_point
+unfolding first_symbol symbol_len first_code_point code_point_len
+visible_bytes kind bytes code_point some byte first visible = by (is_sequence kind bytes) refl
   where
-    spelled : (char : Option ℕ) → (decoded bytes).char ≡ char → letter_of char (slice_index bytes 0) ≡ letter → take (size_of char (decoded bytes).size) bytes ≡ encode_utf8 letter
-    spelled None is same = absurd (let e : false ≡ true = sym visible ∙ ap is_odd (sym same) ∙ odd_byte (slice_index bytes 0) byte in cc)
+    spelled : (char : Option ℕ) → (decoded bytes).char ≡ char → code_point_of char (slice_index bytes 0) ≡ code_point → take (size_of char (decoded bytes).size) bytes ≡ encode_utf8 code_point
+    spelled None is same = absurd (let e : false ≡ true = sym visible ∙ ap is_unprintable (sym same) ∙ unprintable_byte (slice_index bytes 0) byte in cc)
     spelled (Some c) is same =
         let spells = SpellsChar-decoded bytes c is in
         ap (λ (b : List ℕ). take (decoded bytes).size b) spells.bytes ∙ take_at (encode_utf8 c) (drop (decoded bytes).size bytes) (decoded bytes).size spells.width ∙ ap encode_utf8 same
 
-    by : (sequence : Bool) → is_sequence form bytes ≡ sequence → take (symbol_len form bytes) bytes ≡ encode_utf8 letter
-    by true is = absurd (let e : Sequence (sequence_numbers bytes) ≡ Letter letter = sym (cond-true (is_sequence form bytes) (Sequence (sequence_numbers bytes)) (Letter (first_letter bytes)) is) ∙ first in cc)
+    by : (sequence : Bool) → is_sequence kind bytes ≡ sequence → take (symbol_len kind bytes) bytes ≡ encode_utf8 code_point
+    by true is = absurd (let e : Sequence (sequence_numbers bytes) ≡ CodePoint code_point = sym (cond-true (is_sequence kind bytes) (Sequence (sequence_numbers bytes)) (CodePoint (first_code_point bytes)) is) ∙ first in cc)
     by false is =
-        let same : Letter (first_letter bytes) ≡ Letter letter = sym (cond-false (is_sequence form bytes) (Sequence (sequence_numbers bytes)) (Letter (first_letter bytes)) is) ∙ first in
+        let same : CodePoint (first_code_point bytes) ≡ CodePoint code_point = sym (cond-false (is_sequence kind bytes) (Sequence (sequence_numbers bytes)) (CodePoint (first_code_point bytes)) is) ∙ first in
         rw is (spelled (decoded bytes).char refl cc)
 
 -- ---- runs
 
-pub visible_run : (letter : ℕ) (runs : List Run) → is_odd letter ≡ false → with_letter letter runs ≡ Letters letter 1 ∷ runs
-visible_run letter [] visible = refl
-visible_run letter (Restyle numbers ∷ runs) visible = refl
-visible_run letter (Letters next count ∷ runs) visible = rw visible refl
+pub visible_run : (code_point : ℕ) (runs : List Run) → is_unprintable code_point ≡ false → with_code_point code_point runs ≡ CodePoints code_point 1 ∷ runs
+visible_run code_point [] visible = refl
+visible_run code_point (Restyle numbers ∷ runs) visible = refl
+visible_run code_point (CodePoints next count ∷ runs) visible = rw visible refl
 
-other_run : (letter other : ℕ) (runs : List Run) → (letter == other) ≡ false → with_letter letter (with_letter other runs) ≡ Letters letter 1 ∷ with_letter other runs
-other_run letter other [] differs = rw (and_right (is_odd letter) (letter == other) differs) refl
-other_run letter other (Restyle numbers ∷ runs) differs = rw (and_right (is_odd letter) (letter == other) differs) refl
-other_run letter other (Letters next count ∷ runs) differs = by (is_odd other && other == next) refl
+other_run : (code_point other : ℕ) (runs : List Run) → (code_point == other) ≡ false → with_code_point code_point (with_code_point other runs) ≡ CodePoints code_point 1 ∷ with_code_point other runs
+other_run code_point other [] differs = rw (and_right (is_unprintable code_point) (code_point == other) differs) refl
+other_run code_point other (Restyle numbers ∷ runs) differs = rw (and_right (is_unprintable code_point) (code_point == other) differs) refl
+other_run code_point other (CodePoints next count ∷ runs) differs = by (is_unprintable other && other == next) refl
   where
-    by : (same : Bool) → (is_odd other && other == next) ≡ same → with_letter letter (with_letter other (Letters next count ∷ runs)) ≡ Letters letter 1 ∷ with_letter other (Letters next count ∷ runs)
+    by : (same : Bool) → (is_unprintable other && other == next) ≡ same → with_code_point code_point (with_code_point other (CodePoints next count ∷ runs)) ≡ CodePoints code_point 1 ∷ with_code_point other (CodePoints next count ∷ runs)
     by true is =
-        let equal = eqb-true other next (and_parts (is_odd other) (other == next) is).1 in
-        let apart : (letter == next) ≡ false = subst (λ (n : ℕ). (letter == n) ≡ false) equal differs in
-        rw (is, and_right (is_odd letter) (letter == next) apart) refl
-    by false is = rw (is, and_right (is_odd letter) (letter == other) differs) refl
+        let equal = eqb-true other next (and_parts (is_unprintable other) (other == next) is).1 in
+        let apart : (code_point == next) ≡ false = subst (λ (n : ℕ). (code_point == n) ≡ false) equal differs in
+        rw (is, and_right (is_unprintable code_point) (code_point == next) apart) refl
+    by false is = rw (is, and_right (is_unprintable code_point) (code_point == other) differs) refl
 
-first_run : (letter : ℕ) (symbols : List Symbol) → BeginsOther letter symbols → with_letter letter (runs_of symbols) ≡ Letters letter 1 ∷ runs_of symbols
-first_run letter [] other = refl
-first_run letter (Sequence numbers ∷ symbols) other = refl
-first_run letter (Letter next ∷ symbols) other = other_run letter next (runs_of symbols) other
+first_run : (code_point : ℕ) (symbols : List Symbol) → BeginsOther code_point symbols → with_code_point code_point (runs_of symbols) ≡ CodePoints code_point 1 ∷ runs_of symbols
+first_run code_point [] other = refl
+first_run code_point (Sequence numbers ∷ symbols) other = refl
+first_run code_point (CodePoint next ∷ symbols) other = other_run code_point next (runs_of symbols) other
 
--- The run of an odd letter that occurs in a row.
-pub odd_run : (letter count : ℕ) (symbols : List Symbol) → is_odd letter ≡ true → BeginsOther letter symbols → runs_of (replicate (suc count) (Letter letter) ++ symbols) ≡ Letters letter (suc count) ∷ runs_of symbols
-odd_run letter zero symbols odd other = first_run letter symbols other
-odd_run letter (suc count) symbols odd other = ap (with_letter letter) (odd_run letter count symbols odd other) ∙ rw (odd, eq-eqb letter letter refl) refl
+-- The run of an unprintable code point that occurs in a row.
+pub unprintable_run : (code_point count : ℕ) (symbols : List Symbol) → is_unprintable code_point ≡ true → BeginsOther code_point symbols → runs_of (replicate (suc count) (CodePoint code_point) ++ symbols) ≡ CodePoints code_point (suc count) ∷ runs_of symbols
+unprintable_run code_point zero symbols unprintable other = first_run code_point symbols other
+unprintable_run code_point (suc count) symbols unprintable other = ap (with_code_point code_point) (unprintable_run code_point count symbols unprintable other) ∙ rw (unprintable, eq-eqb code_point code_point refl) refl
 
 -- ---- the numbers of a sequence
 
@@ -221,85 +221,85 @@ module _ (bytes : List ℕ) where
   pub bracket_within : slice_index bytes 1 ≡ 91 → 2 ≤ length bytes
   bracket_within is = let inside = index_within bytes 1 91 is (omega arith) in omega arith
 
--- ---- the first letter
+-- ---- the first code point
 
 module _ (bytes : List ℕ) (char : Option ℕ) (decodes : char ≡ (decoded bytes).char) where
-  pub some_letter : (c : ℕ) → char ≡ Some c → (c ≡ first_letter bytes) × ((decoded bytes).size ≡ letter_len bytes)
-  unfolding first_letter letter_len
-  some_letter c is =
+  pub some_code_point : (c : ℕ) → char ≡ Some c → (c ≡ first_code_point bytes) × ((decoded bytes).size ≡ code_point_len bytes)
+  unfolding first_code_point code_point_len
+  some_code_point c is =
       let there = sym is ∙ decodes in
-      (ap (λ (o : Option ℕ). letter_of o (slice_index bytes 0)) there, ap (λ (o : Option ℕ). size_of o (decoded bytes).size) there)
+      (ap (λ (o : Option ℕ). code_point_of o (slice_index bytes 0)) there, ap (λ (o : Option ℕ). size_of o (decoded bytes).size) there)
 
-  pub no_letter : char ≡ None → (0xDC00 + slice_index bytes 0 ≡ first_letter bytes) × (1 ≡ letter_len bytes)
-  unfolding first_letter letter_len
-  no_letter is =
+  pub no_code_point : char ≡ None → (0xDC00 + slice_index bytes 0 ≡ first_code_point bytes) × (1 ≡ code_point_len bytes)
+  unfolding first_code_point code_point_len
+  no_code_point is =
       let none = sym is ∙ decodes in
-      (ap (λ (o : Option ℕ). letter_of o (slice_index bytes 0)) none, ap (λ (o : Option ℕ). size_of o (decoded bytes).size) none)
+      (ap (λ (o : Option ℕ). code_point_of o (slice_index bytes 0)) none, ap (λ (o : Option ℕ). size_of o (decoded bytes).size) none)
 
 -- ---- the first symbol
 
-module _ (form : Form) (bytes : List ℕ) where
-  pub sequence_symbol : has_colours form ≡ true → 0 < sequence_len bytes → (None ≡ symbol_letter (first_symbol form bytes)) × (sequence_len bytes ≡ symbol_len form bytes)
+module _ (kind : TextKind) (bytes : List ℕ) where
+  pub sequence_symbol : has_colours kind ≡ true → 0 < sequence_len bytes → (None ≡ symbol_code_point (first_symbol kind bytes)) × (sequence_len bytes ≡ symbol_len kind bytes)
   unfolding is_sequence first_symbol symbol_len
   sequence_symbol has some =
-      let is : is_sequence form bytes ≡ true = and_from (has_colours form) (nat_lt 0 (sequence_len bytes)) has (lt-ltb 0 (sequence_len bytes) some) in
+      let is : is_sequence kind bytes ≡ true = and_from (has_colours kind) (nat_lt 0 (sequence_len bytes)) has (lt-ltb 0 (sequence_len bytes) some) in
       (rw is refl, rw is refl)
 
-  pub letter_symbol : (has_colours form ≡ false) ⊎ (sequence_len bytes ≡ 0) → (Some (first_letter bytes) ≡ symbol_letter (first_symbol form bytes)) × (letter_len bytes ≡ symbol_len form bytes)
+  pub code_point_symbol : (has_colours kind ≡ false) ⊎ (sequence_len bytes ≡ 0) → (Some (first_code_point bytes) ≡ symbol_code_point (first_symbol kind bytes)) × (code_point_len bytes ≡ symbol_len kind bytes)
   unfolding is_sequence first_symbol symbol_len
-  letter_symbol none =
-      let is : is_sequence form bytes ≡ false =
-      ⊎_elim (λ no. and_left (has_colours form) (nat_lt 0 (sequence_len bytes)) no) (λ zero. and_right (has_colours form) (nat_lt 0 (sequence_len bytes)) (le-ltb 0 (sequence_len bytes) (omega (arith, zero)))) none in
+  code_point_symbol none =
+      let is : is_sequence kind bytes ≡ false =
+      ⊎_elim (λ no. and_left (has_colours kind) (nat_lt 0 (sequence_len bytes)) no) (λ zero. and_right (has_colours kind) (nat_lt 0 (sequence_len bytes)) (le-ltb 0 (sequence_len bytes) (omega (arith, zero)))) none in
       (rw is refl, rw is refl)
 
--- ---- odd letters
+-- ---- unprintable code points
 
-pub control_odd : (letter : ℕ) → is_control letter ≡ true → is_odd letter ≡ true
-unfolding is_odd
-control_odd letter is = or_left (is_control letter) (list_any (is_between letter) unseen_ranges) is
+pub control_unprintable : (code_point : ℕ) → is_control code_point ≡ true → is_unprintable code_point ≡ true
+unfolding is_unprintable
+control_unprintable code_point is = or_left (is_control code_point) (list_any (is_between code_point) unseen_ranges) is
 
-pub unseen_odd : (letter : ℕ) → is_control letter ≡ false → is_odd letter ≡ list_any (is_between letter) unseen_ranges
-unfolding is_odd
-unseen_odd letter is = ap (λ (control : Bool). control || list_any (is_between letter) unseen_ranges) is
+pub unseen_unprintable : (code_point : ℕ) → is_control code_point ≡ false → is_unprintable code_point ≡ list_any (is_between code_point) unseen_ranges
+unfolding is_unprintable
+unseen_unprintable code_point is = ap (λ (control : Bool). control || list_any (is_between code_point) unseen_ranges) is
 
 -- The ranges are in order: each begins after the end of those before it.
 in_order : (i : ℕ) → i < length unseen_ranges → list_all (λ range. nat_lt (get_or unseen_ranges i (0, 0)).1 range.0) (drop (i + 1) unseen_ranges) ≡ true
 in_order i below = agree_below_at (λ k. list_all (λ range. nat_lt (get_or unseen_ranges k (0, 0)).1 range.0) (drop (k + 1) unseen_ranges)) (λ k. true) 18 i refl below
 
-none_after : (letter last : ℕ) (ranges : List (ℕ × ℕ)) → letter ≤ last → list_all (λ range. nat_lt last range.0) ranges ≡ true → list_any (is_between letter) ranges ≡ false
-none_after letter last [] within later = refl
-none_after letter last (range ∷ ranges) within later =
+none_after : (code_point last : ℕ) (ranges : List (ℕ × ℕ)) → code_point ≤ last → list_all (λ range. nat_lt last range.0) ranges ≡ true → list_any (is_between code_point) ranges ≡ false
+none_after code_point last [] within later = refl
+none_after code_point last (range ∷ ranges) within later =
     let parts = and_parts (nat_lt last range.0) (list_all (λ r. nat_lt last r.0) ranges) later in
     let first = ltb-true last range.0 parts.0 in
-    or_from (is_between letter range) (list_any (is_between letter) ranges) (and_left (nat_le range.0 letter) (nat_le letter range.1) (lt-leb range.0 letter (omega (arith, first, within)))) (none_after letter last ranges within parts.1)
+    or_from (is_between code_point range) (list_any (is_between code_point) ranges) (and_left (nat_le range.0 code_point) (nat_le code_point range.1) (lt-leb range.0 code_point (omega (arith, first, within)))) (none_after code_point last ranges within parts.1)
 
--- The first range that doesn't end before a letter decides.
-pub range_decides : (letter i : ℕ) → i < length unseen_ranges → letter ≤ (get_or unseen_ranges i (0, 0)).1 → list_any (is_between letter) (take i unseen_ranges) ≡ false
-    → nat_le (get_or unseen_ranges i (0, 0)).0 letter ≡ list_any (is_between letter) unseen_ranges
-range_decides letter i below within none =
+-- The first range that doesn't end before a code point decides.
+pub range_decides : (code_point i : ℕ) → i < length unseen_ranges → code_point ≤ (get_or unseen_ranges i (0, 0)).1 → list_any (is_between code_point) (take i unseen_ranges) ≡ false
+    → nat_le (get_or unseen_ranges i (0, 0)).0 code_point ≡ list_any (is_between code_point) unseen_ranges
+range_decides code_point i below within none =
     let range = get_or unseen_ranges i (0, 0) in
-    let test = is_between letter in
+    let test = is_between code_point in
     let later = drop (i + 1) unseen_ranges in
     sym (ap (list_any test) (sym (take-append-drop i unseen_ranges) ∙ ap (λ (rs : List (ℕ × ℕ)). take i unseen_ranges ++ rs) (drop_more unseen_ranges i (0, 0) below)) ∙ list_any-append test (take i unseen_ranges) (range ∷ later)
-    ∙ ap (λ (b : Bool). b || (test range || list_any test later)) none ∙ ap (λ (b : Bool). test range || b) (none_after letter range.1 later within (in_order i below))
-    ∙ ap (λ (b : Bool). (nat_le range.0 letter && b) || false) (le-leb letter range.1 within) ∙ same (nat_le range.0 letter))
+    ∙ ap (λ (b : Bool). b || (test range || list_any test later)) none ∙ ap (λ (b : Bool). test range || b) (none_after code_point range.1 later within (in_order i below))
+    ∙ ap (λ (b : Bool). (nat_le range.0 code_point && b) || false) (le-leb code_point range.1 within) ∙ same (nat_le range.0 code_point))
   where
     same : (b : Bool) → ((b && true) || false) ≡ b
     same true = refl
     same false = refl
 
-pub range_before : (letter i : ℕ) → i < length unseen_ranges → (get_or unseen_ranges i (0, 0)).1 < letter → list_any (is_between letter) (take i unseen_ranges) ≡ false → list_any (is_between letter) (take (i + 1) unseen_ranges) ≡ false
-range_before letter i below past none =
+pub range_before : (code_point i : ℕ) → i < length unseen_ranges → (get_or unseen_ranges i (0, 0)).1 < code_point → list_any (is_between code_point) (take i unseen_ranges) ≡ false → list_any (is_between code_point) (take (i + 1) unseen_ranges) ≡ false
+range_before code_point i below past none =
     let range = get_or unseen_ranges i (0, 0) in
-    list_any_more (is_between letter) unseen_ranges i (0, 0) below ∙ or_from _ _ none (and_right (nat_le range.0 letter) (nat_le letter range.1) (lt-leb letter range.1 past))
+    list_any_more (is_between code_point) unseen_ranges i (0, 0) below ∙ or_from _ _ none (and_right (nat_le range.0 code_point) (nat_le code_point range.1) (lt-leb code_point range.1 past))
 
--- A first symbol that is no letter is a sequence.
-pub sequence_found : (form : Form) (bytes : List ℕ) → None ≡ symbol_letter (first_symbol form bytes) → (first_symbol form bytes ≡ Sequence (sequence_numbers bytes)) × IsSequence bytes (symbol_len form bytes)
+-- A first symbol that is no code point is a sequence.
+pub sequence_found : (kind : TextKind) (bytes : List ℕ) → None ≡ symbol_code_point (first_symbol kind bytes) → (first_symbol kind bytes ≡ Sequence (sequence_numbers bytes)) × IsSequence bytes (symbol_len kind bytes)
 unfolding first_symbol symbol_len is_sequence
-sequence_found form bytes none = by (is_sequence form bytes) refl
+sequence_found kind bytes none = by (is_sequence kind bytes) refl
   where
-    by : (sequence : Bool) → is_sequence form bytes ≡ sequence → (first_symbol form bytes ≡ Sequence (sequence_numbers bytes)) × IsSequence bytes (symbol_len form bytes)
+    by : (sequence : Bool) → is_sequence kind bytes ≡ sequence → (first_symbol kind bytes ≡ Sequence (sequence_numbers bytes)) × IsSequence bytes (symbol_len kind bytes)
     by true is =
-        let positive = ltb-true 0 (sequence_len bytes) (and_parts (has_colours form) (nat_lt 0 (sequence_len bytes)) is).1 in
-        (cond-true (is_sequence form bytes) (Sequence (sequence_numbers bytes)) (Letter (first_letter bytes)) is, rw is (sequence_parts bytes positive))
-    by false is = absurd (let letter : None ≡ Some (first_letter bytes) = none ∙ ap symbol_letter (cond-false (is_sequence form bytes) (Sequence (sequence_numbers bytes)) (Letter (first_letter bytes)) is) in cc)
+        let positive = ltb-true 0 (sequence_len bytes) (and_parts (has_colours kind) (nat_lt 0 (sequence_len bytes)) is).1 in
+        (cond-true (is_sequence kind bytes) (Sequence (sequence_numbers bytes)) (CodePoint (first_code_point bytes)) is, rw is (sequence_parts bytes positive))
+    by false is = absurd (let code_point : None ≡ Some (first_code_point bytes) = none ∙ ap symbol_code_point (cond-false (is_sequence kind bytes) (Sequence (sequence_numbers bytes)) (CodePoint (first_code_point bytes)) is) in cc)

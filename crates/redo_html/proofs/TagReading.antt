@@ -6,7 +6,7 @@ use Rattle.std.proofs.lemmas.Bool.{agree_below_at, and_parts, and_from, leb-true
 use Rattle.std.proofs.lemmas.List.{append_assoc, append-nil}
 use Rattle.redo_html.specs.Chart.{Attribute, Value, attribute_text, last_digit, percent_text, tag_text, value_text}
 use Rattle.redo_html.specs.Chart.Value.{Fixed, Number, Percent}
-use Rattle.redo_html.specs.Html.{Place, State, Token, AfterAttributeValue, AttributeName, AttributeValue, BeforeAttributeName, EndTagOpen, TagName, TagOpen, emit_tag, is_digit, is_lower_letter, read_from, start_name}
+use Rattle.redo_html.specs.Html.{Context, State, Token, AfterAttributeValue, AttributeName, AttributeValue, BeforeAttributeName, EndTagOpen, TagName, TagOpen, emit_tag, is_digit, is_lower_letter, read_from, start_name}
 use Rattle.redo_html.specs.Shown.{number_text}
 use Rattle.redo_html.proofs.TextReading.{all_append, all_weaker, number_digits}
 
@@ -36,8 +36,8 @@ abbrev pub is_element : List ℕ → Bool
 is_element [] = false
 is_element (byte ∷ bytes) = is_first_byte byte && list_all is_element_byte (byte ∷ bytes)
 
-value_byte_read : (place : Place) (byte : ℕ) (tag behind : List ℕ) → is_value_byte byte ≡ true → read_from (AttributeValue place tag) (byte ∷ behind) ≡ read_from (AttributeValue place (tag ++ byte ∷ [])) behind
-value_byte_read place byte tag behind is =
+value_byte_read : (context : Context) (byte : ℕ) (tag behind : List ℕ) → is_value_byte byte ≡ true → read_from (AttributeValue context tag) (byte ∷ behind) ≡ read_from (AttributeValue context (tag ++ byte ∷ [])) behind
+value_byte_read context byte tag behind is =
     let four = or_parts (byte == 34 || byte == 38 || byte == 0) (byte == 13) (not-true _ (and_parts (is_low byte) (not (byte == 34 || byte == 38 || byte == 0 || byte == 13)) is).1) in
     let three = or_parts (byte == 34 || byte == 38) (byte == 0) four.0 in
     let two = or_parts (byte == 34) (byte == 38) three.0 in
@@ -47,14 +47,14 @@ value_byte_read place byte tag behind is =
     let amp = two.1 in
     rw (quote, amp, nul, cr) refl
 
-pub value_read : (place : Place) (value tag behind : List ℕ) → list_all is_value_byte value ≡ true → read_from (AttributeValue place tag) (value ++ behind) ≡ read_from (AttributeValue place (tag ++ value)) behind
-value_read place [] tag behind are = ap (λ t. read_from (AttributeValue place t) behind) (sym (append-nil tag))
-value_read place (byte ∷ value) tag behind are =
+pub value_read : (context : Context) (value tag behind : List ℕ) → list_all is_value_byte value ≡ true → read_from (AttributeValue context tag) (value ++ behind) ≡ read_from (AttributeValue context (tag ++ value)) behind
+value_read context [] tag behind are = ap (λ t. read_from (AttributeValue context t) behind) (sym (append-nil tag))
+value_read context (byte ∷ value) tag behind are =
     let parts = and_parts (is_value_byte byte) (list_all is_value_byte value) are in
-    value_byte_read place byte tag (value ++ behind) parts.0 ∙ value_read place value (tag ++ byte ∷ []) behind parts.1 ∙ ap (λ t. read_from (AttributeValue place t) behind) (append_assoc tag (byte ∷ []) value)
+    value_byte_read context byte tag (value ++ behind) parts.0 ∙ value_read context value (tag ++ byte ∷ []) behind parts.1 ∙ ap (λ t. read_from (AttributeValue context t) behind) (append_assoc tag (byte ∷ []) value)
 
-name_byte_read : (place : Place) (byte : ℕ) (tag behind : List ℕ) → is_name_byte byte ≡ true → read_from (AttributeName place tag) (byte ∷ behind) ≡ read_from (AttributeName place (tag ++ byte ∷ [])) behind
-name_byte_read place byte tag behind is =
+name_byte_read : (context : Context) (byte : ℕ) (tag behind : List ℕ) → is_name_byte byte ≡ true → read_from (AttributeName context tag) (byte ∷ behind) ≡ read_from (AttributeName context (tag ++ byte ∷ [])) behind
+name_byte_read context byte tag behind is =
     let parts = and_parts (not (byte == 62 || byte == 32 || byte == 61)) (is_lower_letter byte || is_digit byte || byte == 45) (and_parts (is_low byte) _ is).1 in
     let three = or_parts (byte == 62 || byte == 32) (byte == 61) (not-true _ parts.0) in
     let two = or_parts (byte == 62) (byte == 32) three.0 in
@@ -64,14 +64,14 @@ name_byte_read place byte tag behind is =
     let name = parts.1 in
     rw (gt, space, equals, name) refl
 
-name_read : (place : Place) (name tag behind : List ℕ) → list_all is_name_byte name ≡ true → read_from (AttributeName place tag) (name ++ behind) ≡ read_from (AttributeName place (tag ++ name)) behind
-name_read place [] tag behind are = ap (λ t. read_from (AttributeName place t) behind) (sym (append-nil tag))
-name_read place (byte ∷ name) tag behind are =
+name_read : (context : Context) (name tag behind : List ℕ) → list_all is_name_byte name ≡ true → read_from (AttributeName context tag) (name ++ behind) ≡ read_from (AttributeName context (tag ++ name)) behind
+name_read context [] tag behind are = ap (λ t. read_from (AttributeName context t) behind) (sym (append-nil tag))
+name_read context (byte ∷ name) tag behind are =
     let parts = and_parts (is_name_byte byte) (list_all is_name_byte name) are in
-    name_byte_read place byte tag (name ++ behind) parts.0 ∙ name_read place name (tag ++ byte ∷ []) behind parts.1 ∙ ap (λ t. read_from (AttributeName place t) behind) (append_assoc tag (byte ∷ []) name)
+    name_byte_read context byte tag (name ++ behind) parts.0 ∙ name_read context name (tag ++ byte ∷ []) behind parts.1 ∙ ap (λ t. read_from (AttributeName context t) behind) (append_assoc tag (byte ∷ []) name)
 
-element_byte_read : (place : Place) (byte : ℕ) (tag behind : List ℕ) → is_element_byte byte ≡ true → read_from (TagName place tag) (byte ∷ behind) ≡ read_from (TagName place (tag ++ byte ∷ [])) behind
-element_byte_read place byte tag behind is =
+element_byte_read : (context : Context) (byte : ℕ) (tag behind : List ℕ) → is_element_byte byte ≡ true → read_from (TagName context tag) (byte ∷ behind) ≡ read_from (TagName context (tag ++ byte ∷ [])) behind
+element_byte_read context byte tag behind is =
     let parts = and_parts (not (byte == 62 || byte == 32)) (is_lower_letter byte || is_digit byte) (and_parts (is_low byte) _ is).1 in
     let two = or_parts (byte == 62) (byte == 32) (not-true _ parts.0) in
     let gt = two.0 in
@@ -79,11 +79,11 @@ element_byte_read place byte tag behind is =
     let name = parts.1 in
     rw (gt, space, name) refl
 
-pub element_read : (place : Place) (name tag behind : List ℕ) → list_all is_element_byte name ≡ true → read_from (TagName place tag) (name ++ behind) ≡ read_from (TagName place (tag ++ name)) behind
-element_read place [] tag behind are = ap (λ t. read_from (TagName place t) behind) (sym (append-nil tag))
-element_read place (byte ∷ name) tag behind are =
+pub element_read : (context : Context) (name tag behind : List ℕ) → list_all is_element_byte name ≡ true → read_from (TagName context tag) (name ++ behind) ≡ read_from (TagName context (tag ++ name)) behind
+element_read context [] tag behind are = ap (λ t. read_from (TagName context t) behind) (sym (append-nil tag))
+element_read context (byte ∷ name) tag behind are =
     let parts = and_parts (is_element_byte byte) (list_all is_element_byte name) are in
-    element_byte_read place byte tag (name ++ behind) parts.0 ∙ element_read place name (tag ++ byte ∷ []) behind parts.1 ∙ ap (λ t. read_from (TagName place t) behind) (append_assoc tag (byte ∷ []) name)
+    element_byte_read context byte tag (name ++ behind) parts.0 ∙ element_read context name (tag ++ byte ∷ []) behind parts.1 ∙ ap (λ t. read_from (TagName context t) behind) (append_assoc tag (byte ∷ []) name)
 
 -- ---- values
 
@@ -132,9 +132,9 @@ is_attribute attribute = is_attribute_name attribute.name && list_all is_value a
 -- ---- attributes
 
 -- `tag` was read in this state, up to the end of its name or of an attribute.
-record ReadUpTo (place : Place) (tag : List ℕ) (state : State) : Type 0 where
-  space : (rest : List ℕ) → read_from state (32 ∷ rest) ≡ read_from (BeforeAttributeName place (tag ++ 32 ∷ [])) rest
-  ends : (rest : List ℕ) → read_from state (62 ∷ rest) ≡ (emit_tag place tag).1 ++ read_from (emit_tag place tag).0 rest
+record ReadUpTo (context : Context) (tag : List ℕ) (state : State) : Type 0 where
+  space : (rest : List ℕ) → read_from state (32 ∷ rest) ≡ read_from (BeforeAttributeName context (tag ++ 32 ∷ [])) rest
+  ends : (rest : List ℕ) → read_from state (62 ∷ rest) ≡ (emit_tag context tag).1 ++ read_from (emit_tag context tag).0 rest
 
 attribute_bytes : (name value rest : List ℕ) → (codes " " ++ (name ++ (codes "=\"" ++ (value ++ codes "\"")))) ++ rest ≡ 32 ∷ (name ++ 61 ∷ 34 ∷ (value ++ 34 ∷ rest))
 attribute_bytes name value rest = simp append_assoc
@@ -142,76 +142,76 @@ attribute_bytes name value rest = simp append_assoc
 attribute_tag : (tag name value : List ℕ) → ((((tag ++ 32 ∷ []) ++ name) ++ 61 ∷ []) ++ 34 ∷ []) ++ value ++ 34 ∷ [] ≡ tag ++ (codes " " ++ (name ++ (codes "=\"" ++ (value ++ codes "\""))))
 attribute_tag tag name value = simp append_assoc
 
-first_read : (place : Place) (byte : ℕ) (tag rest : List ℕ) → is_lower_letter byte ≡ true → read_from (BeforeAttributeName place tag) (byte ∷ rest) ≡ read_from (AttributeName place (tag ++ byte ∷ [])) rest
-first_read place byte tag rest is = rw is refl
+first_read : (context : Context) (byte : ℕ) (tag rest : List ℕ) → is_lower_letter byte ≡ true → read_from (BeforeAttributeName context tag) (byte ∷ rest) ≡ read_from (AttributeName context (tag ++ byte ∷ [])) rest
+first_read context byte tag rest is = rw is refl
 
 -- A name is read up to its end.
-whole_name_read : (place : Place) (name tag rest : List ℕ) → is_attribute_name name ≡ true → read_from (BeforeAttributeName place tag) (name ++ rest) ≡ read_from (AttributeName place (tag ++ name)) rest
-whole_name_read place [] tag rest is = absurd (cc)
-whole_name_read place (byte ∷ name) tag rest is =
+whole_name_read : (context : Context) (name tag rest : List ℕ) → is_attribute_name name ≡ true → read_from (BeforeAttributeName context tag) (name ++ rest) ≡ read_from (AttributeName context (tag ++ name)) rest
+whole_name_read context [] tag rest is = absurd (cc)
+whole_name_read context (byte ∷ name) tag rest is =
     let parts = and_parts (is_lower_letter byte) (list_all is_name_byte (byte ∷ name)) is in
-    first_read place byte tag (name ++ rest) parts.0 ∙ name_read place name (tag ++ byte ∷ []) rest (and_parts (is_name_byte byte) (list_all is_name_byte name) parts.1).1 ∙ ap (λ t. read_from (AttributeName place t) rest) (append_assoc tag (byte ∷ []) name)
+    first_read context byte tag (name ++ rest) parts.0 ∙ name_read context name (tag ++ byte ∷ []) rest (and_parts (is_name_byte byte) (list_all is_name_byte name) parts.1).1 ∙ ap (λ t. read_from (AttributeName context t) rest) (append_assoc tag (byte ∷ []) name)
 
-attribute_read : (place : Place) (tag : List ℕ) (state : State) → ReadUpTo place tag state → (attribute : Attribute) → is_attribute attribute ≡ true → (rest : List ℕ)
-    → read_from state (attribute_text attribute ++ rest) ≡ read_from (AfterAttributeValue place (tag ++ attribute_text attribute)) rest
-attribute_read place tag state so_far attribute is rest =
+attribute_read : (context : Context) (tag : List ℕ) (state : State) → ReadUpTo context tag state → (attribute : Attribute) → is_attribute attribute ≡ true → (rest : List ℕ)
+    → read_from state (attribute_text attribute ++ rest) ≡ read_from (AfterAttributeValue context (tag ++ attribute_text attribute)) rest
+attribute_read context tag state so_far attribute is rest =
     let parts = and_parts (is_attribute_name attribute.name) (list_all is_value attribute.values) is in
     let name = attribute.name in
     let value = flat_map value_text attribute.values in
     let opened = tag ++ 32 ∷ [] in
     ap (read_from state) (attribute_bytes name value rest) ∙ so_far.space (name ++ 61 ∷ 34 ∷ (value ++ 34 ∷ rest))
-    ∙ whole_name_read place name opened (61 ∷ 34 ∷ (value ++ 34 ∷ rest)) parts.0
-    ∙ value_read place value (((opened ++ name) ++ 61 ∷ []) ++ 34 ∷ []) (34 ∷ rest) (values_bytes attribute.values parts.1)
-    ∙ ap (λ t. read_from (AfterAttributeValue place t) rest) (attribute_tag tag name value)
+    ∙ whole_name_read context name opened (61 ∷ 34 ∷ (value ++ 34 ∷ rest)) parts.0
+    ∙ value_read context value (((opened ++ name) ++ 61 ∷ []) ++ 34 ∷ []) (34 ∷ rest) (values_bytes attribute.values parts.1)
+    ∙ ap (λ t. read_from (AfterAttributeValue context t) rest) (attribute_tag tag name value)
 
 -- What is read when a tag ends.
-abbrev pub emitted : Place → List ℕ → List ℕ → List Token
-emitted place tag behind = (emit_tag place tag).1 ++ read_from (emit_tag place tag).0 behind
+abbrev pub emitted : Context → List ℕ → List ℕ → List Token
+emitted context tag behind = (emit_tag context tag).1 ++ read_from (emit_tag context tag).0 behind
 
-attributes_read : (place : Place) (tag : List ℕ) (state : State) → ReadUpTo place tag state → (attributes : List Attribute) → list_all is_attribute attributes ≡ true → (behind : List ℕ)
-    → read_from state (flat_map attribute_text attributes ++ 62 ∷ behind) ≡ emitted place (tag ++ flat_map attribute_text attributes) behind
-attributes_read place tag state so_far [] are behind = so_far.ends behind ∙ ap (λ t. emitted place t behind) (sym (append-nil tag))
-attributes_read place tag state so_far (attribute ∷ attributes) are behind =
+attributes_read : (context : Context) (tag : List ℕ) (state : State) → ReadUpTo context tag state → (attributes : List Attribute) → list_all is_attribute attributes ≡ true → (behind : List ℕ)
+    → read_from state (flat_map attribute_text attributes ++ 62 ∷ behind) ≡ emitted context (tag ++ flat_map attribute_text attributes) behind
+attributes_read context tag state so_far [] are behind = so_far.ends behind ∙ ap (λ t. emitted context t behind) (sym (append-nil tag))
+attributes_read context tag state so_far (attribute ∷ attributes) are behind =
     let parts = and_parts (is_attribute attribute) (list_all is_attribute attributes) are in
     let one = attribute_text attribute in
     let more = flat_map attribute_text attributes in
-    ap (read_from state) (append_assoc one more (62 ∷ behind)) ∙ attribute_read place tag state so_far attribute parts.0 (more ++ 62 ∷ behind)
-    ∙ attributes_read place (tag ++ one) (AfterAttributeValue place (tag ++ one)) (record { space = λ rest. refl; ends = λ rest. refl }) attributes parts.1 behind
-    ∙ ap (λ t. emitted place t behind) (append_assoc tag one more)
+    ap (read_from state) (append_assoc one more (62 ∷ behind)) ∙ attribute_read context tag state so_far attribute parts.0 (more ++ 62 ∷ behind)
+    ∙ attributes_read context (tag ++ one) (AfterAttributeValue context (tag ++ one)) (record { space = λ rest. refl; ends = λ rest. refl }) attributes parts.1 behind
+    ∙ ap (λ t. emitted context t behind) (append_assoc tag one more)
 
 -- ---- tags
 
 tag_bytes : (name more behind : List ℕ) → ((name ++ more) ++ codes ">") ++ behind ≡ name ++ (more ++ 62 ∷ behind)
 tag_bytes name more behind = simp append_assoc
 
-open_read : (place : Place) (byte : ℕ) (rest : List ℕ) → is_first_byte byte ≡ true → read_from (TagOpen place) (byte ∷ rest) ≡ read_from (TagName place (byte ∷ [])) rest
-open_read place byte rest is =
+open_read : (context : Context) (byte : ℕ) (rest : List ℕ) → is_first_byte byte ≡ true → read_from (TagOpen context) (byte ∷ rest) ≡ read_from (TagName context (byte ∷ [])) rest
+open_read context byte rest is =
     let parts = and_parts (not (byte == 47 || byte == 33)) (is_lower_letter byte) is in
     let two = or_parts (byte == 47) (byte == 33) (not-true _ parts.0) in
     let slash = two.0 in
     let bang = two.1 in
-    let letter = parts.1 in
-    rw (slash, bang, letter) refl
+    let code_point = parts.1 in
+    rw (slash, bang, code_point) refl
 
-pub tag_read : (place : Place) (element : List ℕ) (attributes : List Attribute) → is_element element ≡ true → list_all is_attribute attributes ≡ true → (behind : List ℕ)
-    → read_from (TagOpen place) ((tag_text element attributes ++ codes ">") ++ behind) ≡ emitted place (tag_text element attributes) behind
-tag_read place [] attributes is are behind = absurd (cc)
-tag_read place (byte ∷ element) attributes is are behind =
+pub tag_read : (context : Context) (element : List ℕ) (attributes : List Attribute) → is_element element ≡ true → list_all is_attribute attributes ≡ true → (behind : List ℕ)
+    → read_from (TagOpen context) ((tag_text element attributes ++ codes ">") ++ behind) ≡ emitted context (tag_text element attributes) behind
+tag_read context [] attributes is are behind = absurd (cc)
+tag_read context (byte ∷ element) attributes is are behind =
     let parts = and_parts (is_first_byte byte) (list_all is_element_byte (byte ∷ element)) is in
     let more = flat_map attribute_text attributes in
-    ap (read_from (TagOpen place)) (tag_bytes (byte ∷ element) more behind) ∙ open_read place byte (element ++ (more ++ 62 ∷ behind)) parts.0
-    ∙ element_read place element (byte ∷ []) (more ++ 62 ∷ behind) (and_parts (is_element_byte byte) (list_all is_element_byte element) parts.1).1
-    ∙ attributes_read place (byte ∷ element) (TagName place (byte ∷ element)) (record { space = λ rest. refl; ends = λ rest. refl }) attributes are behind
+    ap (read_from (TagOpen context)) (tag_bytes (byte ∷ element) more behind) ∙ open_read context byte (element ++ (more ++ 62 ∷ behind)) parts.0
+    ∙ element_read context element (byte ∷ []) (more ++ 62 ∷ behind) (and_parts (is_element_byte byte) (list_all is_element_byte element) parts.1).1
+    ∙ attributes_read context (byte ∷ element) (TagName context (byte ∷ element)) (record { space = λ rest. refl; ends = λ rest. refl }) attributes are behind
 
 -- An end tag.
-pub end_tag_read : (place : Place) (element : List ℕ) → is_element element ≡ true → (behind : List ℕ) → read_from (EndTagOpen place) ((element ++ codes ">") ++ behind) ≡ emitted place (47 ∷ element) behind
-end_tag_read place [] is behind = absurd (cc)
-end_tag_read place (byte ∷ element) is behind =
+pub end_tag_read : (context : Context) (element : List ℕ) → is_element element ≡ true → (behind : List ℕ) → read_from (EndTagOpen context) ((element ++ codes ">") ++ behind) ≡ emitted context (47 ∷ element) behind
+end_tag_read context [] is behind = absurd (cc)
+end_tag_read context (byte ∷ element) is behind =
     let parts = and_parts (is_first_byte byte) (list_all is_element_byte (byte ∷ element)) is in
-    let letter = (and_parts (not (byte == 47 || byte == 33)) (is_lower_letter byte) parts.0).1 in
-    let begun : (rest : List ℕ) → read_from (EndTagOpen place) (byte ∷ rest) ≡ read_from (TagName place (47 ∷ byte ∷ [])) rest = λ rest. rw letter refl in
-    ap (read_from (EndTagOpen place)) (append_assoc (byte ∷ element) (codes ">") behind) ∙ begun (element ++ 62 ∷ behind)
-    ∙ element_read place element (47 ∷ byte ∷ []) (62 ∷ behind) (and_parts (is_element_byte byte) (list_all is_element_byte element) parts.1).1
+    let code_point = (and_parts (not (byte == 47 || byte == 33)) (is_lower_letter byte) parts.0).1 in
+    let begun : (rest : List ℕ) → read_from (EndTagOpen context) (byte ∷ rest) ≡ read_from (TagName context (47 ∷ byte ∷ [])) rest = λ rest. rw code_point refl in
+    ap (read_from (EndTagOpen context)) (append_assoc (byte ∷ element) (codes ">") behind) ∙ begun (element ++ 62 ∷ behind)
+    ∙ element_read context element (47 ∷ byte ∷ []) (62 ∷ behind) (and_parts (is_element_byte byte) (list_all is_element_byte element) parts.1).1
 
 -- The name of the element that a tag begins.
 name_before_attributes : (bytes : List ℕ) → list_all is_element_byte bytes ≡ true → (attributes : List Attribute) → start_name (bytes ++ flat_map attribute_text attributes) ≡ bytes

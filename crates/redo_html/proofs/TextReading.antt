@@ -1,4 +1,4 @@
--- How text is read: letters, pictures and numbers have no byte that ends or begins something else, except the three that are escaped.
+-- How text is read: code points, notations and numbers have no byte that ends or begins something else, except the three that are escaped.
 use Rattle.std.proofs.Common.{◌≡◌, ℕ, zero, suc, ◌+◌, ◌-◌, ◌/◌, ◌%◌, ◌^◌, ◌<◌, ◌≤◌, Bool, true, false, List, [], ◌∷◌, ◌++◌, map, refl, sym, ◌∙◌, ap, subst, arith, ⊎_elim, inl, inr, ◌⊎◌}
 use Rattle.std.specs.Char.{encode_utf8}
 use Rattle.std.specs.Prelude.{⊤, ◌==◌, ◌||◌, ◌&&◌, not, nat_lt, nat_le, codes, decimal}
@@ -9,23 +9,23 @@ use Rattle.std.proofs.lemmas.Fmt.{decimal_by_steps}
 use Rattle.std.proofs.lemmas.List.{append_assoc}
 use Rattle.std.proofs.lemmas.List.Folds.{list_all-append}
 use Rattle.redo_html.specs.Passage.{escaped, escaped_byte}
-use Rattle.redo_html.specs.Html.{Place, Token, DataState, Normal, Rcdata, Rawtext, Svg, is_rejected, is_digit, read_from}
+use Rattle.redo_html.specs.Html.{Context, Token, DataState, Normal, Rcdata, Rawtext, Svg, is_rejected, is_digit, read_from}
 use Rattle.redo_html.specs.Html.Token.{Character}
-use Rattle.redo_html.specs.Shown.{is_between, is_odd, lower_hex, upper_hex, picture, number_text, odd_text, letters_text}
+use Rattle.redo_html.specs.Shown.{is_between, is_unprintable, lower_hex, upper_hex, notation, number_text, unprintable_text, code_points_text}
 
--- Bytes that are in text in this place are read as these tokens, whatever follows them.
-abbrev pub ReadsIn : Place → List ℕ → List Token → Type 0
-ReadsIn place bytes tokens = (behind : List ℕ) → read_from (DataState place) (bytes ++ behind) ≡ tokens ++ read_from (DataState place) behind
+-- Bytes that are in text in this context are read as these tokens, whatever follows them.
+abbrev pub ReadsIn : Context → List ℕ → List Token → Type 0
+ReadsIn context bytes tokens = (behind : List ℕ) → read_from (DataState context) (bytes ++ behind) ≡ tokens ++ read_from (DataState context) behind
 
 -- Bytes after others.
-pub append_reads : (place : Place) (a b : List ℕ) (s t : List Token) → ReadsIn place a s → ReadsIn place b t → ReadsIn place (a ++ b) (s ++ t)
-append_reads place a b s t first second behind =
-    ap (read_from (DataState place)) (append_assoc a b behind) ∙ first (b ++ behind) ∙ ap (λ r. s ++ r) (second behind) ∙ sym (append_assoc s t (read_from (DataState place) behind))
+pub append_reads : (context : Context) (a b : List ℕ) (s t : List Token) → ReadsIn context a s → ReadsIn context b t → ReadsIn context (a ++ b) (s ++ t)
+append_reads context a b s t first second behind =
+    ap (read_from (DataState context)) (append_assoc a b behind) ∙ first (b ++ behind) ∙ ap (λ r. s ++ r) (second behind) ∙ sym (append_assoc s t (read_from (DataState context) behind))
 
 -- The bytes of each of some things.
-pub each_reads : {X : Type 0} (place : Place) (bytes : X → List ℕ) (tokens : X → List Token) → ((x : X) → ReadsIn place (bytes x) (tokens x)) → (xs : List X) → ReadsIn place (flat_map bytes xs) (flat_map tokens xs)
-each_reads place bytes tokens reads [] = λ behind. refl
-each_reads place bytes tokens reads (x ∷ xs) = append_reads place (bytes x) (flat_map bytes xs) (tokens x) (flat_map tokens xs) (reads x) (each_reads place bytes tokens reads xs)
+pub each_reads : {X : Type 0} (context : Context) (bytes : X → List ℕ) (tokens : X → List Token) → ((x : X) → ReadsIn context (bytes x) (tokens x)) → (xs : List X) → ReadsIn context (flat_map bytes xs) (flat_map tokens xs)
+each_reads context bytes tokens reads [] = λ behind. refl
+each_reads context bytes tokens reads (x ∷ xs) = append_reads context (bytes x) (flat_map bytes xs) (tokens x) (flat_map tokens xs) (reads x) (each_reads context bytes tokens reads xs)
 
 -- ---- classes of bytes
 
@@ -67,62 +67,62 @@ safe_escaped (byte ∷ bytes) safe =
     ap (λ (b : List ℕ). b ++ escaped bytes) one ∙ ap (λ (b : List ℕ). byte ∷ b) (safe_escaped bytes parts.1)
 
 -- Text that may have references: normal text, text in an `svg`, and the text of a `title`.
-abbrev pub HasReferences : Place → Type 0
+abbrev pub HasReferences : Context → Type 0
 HasReferences Normal = ⊤
 HasReferences Rcdata = ⊤
 HasReferences Rawtext = ⊥
 HasReferences (Svg inner outer) = ⊤
 
-byte_reads : (place : Place) → HasReferences place → (byte : ℕ) → (byte == 60) ≡ false → (byte == 38) ≡ false → is_rejected byte ≡ false → ReadsIn place (byte ∷ []) (Character byte ∷ [])
+byte_reads : (context : Context) → HasReferences context → (byte : ℕ) → (byte == 60) ≡ false → (byte == 38) ≡ false → is_rejected byte ≡ false → ReadsIn context (byte ∷ []) (Character byte ∷ [])
 byte_reads Normal has byte lt amp clean behind = rw (lt, amp, clean) refl
 byte_reads Rcdata has byte lt amp clean behind = rw (lt, amp, clean) refl
 byte_reads Rawtext has byte lt amp clean behind = absurd has
 byte_reads (Svg inner outer) has byte lt amp clean behind = rw (lt, amp, clean) refl
 
-reference_reads : (place : Place) → HasReferences place → (byte : ℕ) → ((byte ≡ 38) ⊎ (byte ≡ 60)) ⊎ (byte ≡ 62) → ReadsIn place (escaped_byte byte) (Character byte ∷ [])
-reference_reads place has byte which = ⊎_elim (λ two. ⊎_elim (λ is. at 38 is (amp place has)) (λ is. at 60 is (lt place has)) two) (λ is. at 62 is (gt place has)) which
+reference_reads : (context : Context) → HasReferences context → (byte : ℕ) → ((byte ≡ 38) ⊎ (byte ≡ 60)) ⊎ (byte ≡ 62) → ReadsIn context (escaped_byte byte) (Character byte ∷ [])
+reference_reads context has byte which = ⊎_elim (λ two. ⊎_elim (λ is. at 38 is (amp context has)) (λ is. at 60 is (lt context has)) two) (λ is. at 62 is (gt context has)) which
   where
-    at : (it : ℕ) → byte ≡ it → ReadsIn place (escaped_byte it) (Character it ∷ []) → ReadsIn place (escaped_byte byte) (Character byte ∷ [])
-    at it is reads = subst (λ n. ReadsIn place (escaped_byte n) (Character n ∷ [])) (sym is) reads
+    at : (it : ℕ) → byte ≡ it → ReadsIn context (escaped_byte it) (Character it ∷ []) → ReadsIn context (escaped_byte byte) (Character byte ∷ [])
+    at it is reads = subst (λ n. ReadsIn context (escaped_byte n) (Character n ∷ [])) (sym is) reads
 
-    amp : (p : Place) → HasReferences p → ReadsIn p (escaped_byte 38) (Character 38 ∷ [])
+    amp : (p : Context) → HasReferences p → ReadsIn p (escaped_byte 38) (Character 38 ∷ [])
     amp Normal has behind = refl
     amp Rcdata has behind = refl
     amp Rawtext has behind = absurd has
     amp (Svg inner outer) has behind = refl
 
-    lt : (p : Place) → HasReferences p → ReadsIn p (escaped_byte 60) (Character 60 ∷ [])
+    lt : (p : Context) → HasReferences p → ReadsIn p (escaped_byte 60) (Character 60 ∷ [])
     lt Normal has behind = refl
     lt Rcdata has behind = refl
     lt Rawtext has behind = absurd has
     lt (Svg inner outer) has behind = refl
 
-    gt : (p : Place) → HasReferences p → ReadsIn p (escaped_byte 62) (Character 62 ∷ [])
+    gt : (p : Context) → HasReferences p → ReadsIn p (escaped_byte 62) (Character 62 ∷ [])
     gt Normal has behind = refl
     gt Rcdata has behind = refl
     gt Rawtext has behind = absurd has
     gt (Svg inner outer) has behind = refl
 
-escaped_byte_reads : (place : Place) → HasReferences place → (byte : ℕ) → is_clean byte ≡ true → ReadsIn place (escaped_byte byte) (Character byte ∷ [])
-escaped_byte_reads place has byte clean = amp (byte == 38) refl
+escaped_byte_reads : (context : Context) → HasReferences context → (byte : ℕ) → is_clean byte ≡ true → ReadsIn context (escaped_byte byte) (Character byte ∷ [])
+escaped_byte_reads context has byte clean = amp (byte == 38) refl
   where
-    gt : (byte == 38) ≡ false → (byte == 60) ≡ false → (is : Bool) → (byte == 62) ≡ is → ReadsIn place (escaped_byte byte) (Character byte ∷ [])
-    gt a l true is = reference_reads place has byte (inr (eqb-true byte 62 is))
-    gt a l false is = rw (a, l, is) (byte_reads place has byte l a (not-true (is_rejected byte) clean))
+    gt : (byte == 38) ≡ false → (byte == 60) ≡ false → (is : Bool) → (byte == 62) ≡ is → ReadsIn context (escaped_byte byte) (Character byte ∷ [])
+    gt a l true is = reference_reads context has byte (inr (eqb-true byte 62 is))
+    gt a l false is = rw (a, l, is) (byte_reads context has byte l a (not-true (is_rejected byte) clean))
 
-    lt : (byte == 38) ≡ false → (is : Bool) → (byte == 60) ≡ is → ReadsIn place (escaped_byte byte) (Character byte ∷ [])
-    lt a true is = reference_reads place has byte (inl (inr (eqb-true byte 60 is)))
+    lt : (byte == 38) ≡ false → (is : Bool) → (byte == 60) ≡ is → ReadsIn context (escaped_byte byte) (Character byte ∷ [])
+    lt a true is = reference_reads context has byte (inl (inr (eqb-true byte 60 is)))
     lt a false is = gt a is (byte == 62) refl
 
-    amp : (is : Bool) → (byte == 38) ≡ is → ReadsIn place (escaped_byte byte) (Character byte ∷ [])
-    amp true is = reference_reads place has byte (inl (inl (eqb-true byte 38 is)))
+    amp : (is : Bool) → (byte == 38) ≡ is → ReadsIn context (escaped_byte byte) (Character byte ∷ [])
+    amp true is = reference_reads context has byte (inl (inl (eqb-true byte 38 is)))
     amp false is = lt is (byte == 60) refl
 
-pub escaped_reads : (place : Place) → HasReferences place → (text : List ℕ) → list_all is_clean text ≡ true → ReadsIn place (escaped text) (map Character text)
-escaped_reads place has [] clean = λ behind. refl
-escaped_reads place has (byte ∷ text) clean =
+pub escaped_reads : (context : Context) → HasReferences context → (text : List ℕ) → list_all is_clean text ≡ true → ReadsIn context (escaped text) (map Character text)
+escaped_reads context has [] clean = λ behind. refl
+escaped_reads context has (byte ∷ text) clean =
     let parts = and_parts (is_clean byte) (list_all is_clean text) clean in
-    append_reads place (escaped_byte byte) (escaped text) (Character byte ∷ []) (map Character text) (escaped_byte_reads place has byte parts.0) (escaped_reads place has text parts.1)
+    append_reads context (escaped_byte byte) (escaped text) (Character byte ∷ []) (map Character text) (escaped_byte_reads context has byte parts.0) (escaped_reads context has text parts.1)
 
 -- The text of a style sheet.
 abbrev pub is_raw : ℕ → Bool
@@ -160,7 +160,7 @@ digit_safe byte is =
 pub number_safe : (n : ℕ) → list_all is_safe (number_text n) ≡ true
 number_safe n = all_weaker is_digit is_safe digit_safe (number_text n) (number_digits n)
 
--- ---- pictures
+-- ---- notations
 
 lower_safe : (n : ℕ) → is_safe (lower_hex n) ≡ true
 lower_safe n = agree_below_at (λ d. is_safe (digit_glyph false d)) (λ d. true) 16 (n % 16) refl (omega arith)
@@ -168,59 +168,59 @@ lower_safe n = agree_below_at (λ d. is_safe (digit_glyph false d)) (λ d. true)
 upper_safe : (n : ℕ) → is_safe (upper_hex n) ≡ true
 upper_safe n = agree_below_at (λ d. is_safe (digit_glyph true d)) (λ d. true) 16 (n % 16) refl (omega arith)
 
-pub picture_safe : (letter : ℕ) → list_all is_safe (picture letter) ≡ true
-unfolding picture
-picture_safe letter =
+pub notation_safe : (code_point : ℕ) → list_all is_safe (notation code_point) ≡ true
+unfolding notation
+notation_safe code_point =
     let Safe : List ℕ → Type 0 = λ bytes. list_all is_safe bytes ≡ true in
-    cond_both (nat_lt letter 32) _ _ Safe (λ is. and_from (is_safe (letter + 64)) true (high_safe (letter + 64) (omega arith)) refl)
-    (λ not_low. cond_both (letter == 127) _ _ Safe (λ is. refl)
-    (λ not_delete. cond_both (is_between letter (0xDC00, 0xDCFF)) _ _ Safe
-    (λ is. and_from _ _ (lower_safe ((letter - 0xDC00) / 16)) (and_from _ _ (lower_safe (letter - 0xDC00)) refl))
-    (λ not_byte. cond_both (nat_lt letter 0x10000) _ _ Safe
-    (λ is. and_from _ _ (upper_safe (letter / 4096)) (and_from _ _ (upper_safe (letter / 256)) (and_from _ _ (upper_safe (letter / 16)) (and_from _ _ (upper_safe letter) refl))))
-    (λ large. and_from _ _ (upper_safe (letter / 65536)) (and_from _ _ (upper_safe (letter / 4096)) (and_from _ _ (upper_safe (letter / 256)) (and_from _ _ (upper_safe (letter / 16)) (and_from _ _ (upper_safe letter) refl))))))))
+    cond_both (nat_lt code_point 32) _ _ Safe (λ is. and_from (is_safe (code_point + 64)) true (high_safe (code_point + 64) (omega arith)) refl)
+    (λ not_low. cond_both (code_point == 127) _ _ Safe (λ is. refl)
+    (λ not_delete. cond_both (is_between code_point (0xDC00, 0xDCFF)) _ _ Safe
+    (λ is. and_from _ _ (lower_safe ((code_point - 0xDC00) / 16)) (and_from _ _ (lower_safe (code_point - 0xDC00)) refl))
+    (λ not_byte. cond_both (nat_lt code_point 0x10000) _ _ Safe
+    (λ is. and_from _ _ (upper_safe (code_point / 4096)) (and_from _ _ (upper_safe (code_point / 256)) (and_from _ _ (upper_safe (code_point / 16)) (and_from _ _ (upper_safe code_point) refl))))
+    (λ large. and_from _ _ (upper_safe (code_point / 65536)) (and_from _ _ (upper_safe (code_point / 4096)) (and_from _ _ (upper_safe (code_point / 256)) (and_from _ _ (upper_safe (code_point / 16)) (and_from _ _ (upper_safe code_point) refl))))))))
 
 repeat_safe : (count : ℕ) (bytes : List ℕ) → list_all is_safe bytes ≡ true → list_all is_safe (repeat count bytes) ≡ true
 repeat_safe zero bytes safe = refl
 repeat_safe (suc count) bytes safe = all_append is_safe bytes (repeat count bytes) safe (repeat_safe count bytes safe)
 
-pub odd_safe : (letter count : ℕ) → list_all is_safe (odd_text letter count) ≡ true
-unfolding odd_text
-odd_safe letter count =
-    cond_both (nat_lt count 5) _ _ (λ bytes. list_all is_safe bytes ≡ true) (λ few. repeat_safe count (picture letter) (picture_safe letter))
-    (λ many. all_append is_safe ((picture letter ++ (0xC3 ∷ 0x97 ∷ [])) ++ number_text count) (codes " ") (all_append is_safe (picture letter ++ (0xC3 ∷ 0x97 ∷ [])) (number_text count) (all_append is_safe (picture letter) (0xC3 ∷ 0x97 ∷ []) (picture_safe letter) refl) (number_safe count)) refl)
+pub unprintable_safe : (code_point count : ℕ) → list_all is_safe (unprintable_text code_point count) ≡ true
+unfolding unprintable_text
+unprintable_safe code_point count =
+    cond_both (nat_lt count 5) _ _ (λ bytes. list_all is_safe bytes ≡ true) (λ few. repeat_safe count (notation code_point) (notation_safe code_point))
+    (λ many. all_append is_safe ((notation code_point ++ (0xC3 ∷ 0x97 ∷ [])) ++ number_text count) (codes " ") (all_append is_safe (notation code_point ++ (0xC3 ∷ 0x97 ∷ [])) (number_text count) (all_append is_safe (notation code_point) (0xC3 ∷ 0x97 ∷ []) (notation_safe code_point) refl) (number_safe count)) refl)
 
--- ---- letters
+-- ---- code points
 
--- From U+0080 on, the UTF-8 of a letter has no ASCII byte.
-encoded_safe : (letter : ℕ) → 128 ≤ letter → list_all is_safe (encode_utf8 letter) ≡ true
+-- From U+0080 on, the UTF-8 of a code point has no ASCII byte.
+encoded_safe : (code_point : ℕ) → 128 ≤ code_point → list_all is_safe (encode_utf8 code_point) ≡ true
 unfolding encode_utf8
-encoded_safe letter high =
+encoded_safe code_point high =
     let Safe : List ℕ → Type 0 = λ bytes. list_all is_safe bytes ≡ true in
-    rw (le-ltb letter 128 high) (cond_both (nat_lt letter 2048) _ _ Safe
-    (λ two. and_from _ _ (high_safe (192 + letter / 64) (omega arith)) (and_from _ _ (high_safe (128 + letter % 64) (omega arith)) refl))
-    (λ more. cond_both (nat_lt letter 65536) _ _ Safe
-    (λ three. and_from _ _ (high_safe (224 + letter / 4096) (omega arith)) (and_from _ _ (high_safe (128 + (letter / 64) % 64) (omega arith)) (and_from _ _ (high_safe (128 + letter % 64) (omega arith)) refl)))
-    (λ four. and_from _ _ (high_safe (240 + letter / 262144) (omega arith)) (and_from _ _ (high_safe (128 + (letter / 4096) % 64) (omega arith)) (and_from _ _ (high_safe (128 + (letter / 64) % 64) (omega arith)) (and_from _ _ (high_safe (128 + letter % 64) (omega arith)) refl))))))
+    rw (le-ltb code_point 128 high) (cond_both (nat_lt code_point 2048) _ _ Safe
+    (λ two. and_from _ _ (high_safe (192 + code_point / 64) (omega arith)) (and_from _ _ (high_safe (128 + code_point % 64) (omega arith)) refl))
+    (λ more. cond_both (nat_lt code_point 65536) _ _ Safe
+    (λ three. and_from _ _ (high_safe (224 + code_point / 4096) (omega arith)) (and_from _ _ (high_safe (128 + (code_point / 64) % 64) (omega arith)) (and_from _ _ (high_safe (128 + code_point % 64) (omega arith)) refl)))
+    (λ four. and_from _ _ (high_safe (240 + code_point / 262144) (omega arith)) (and_from _ _ (high_safe (128 + (code_point / 4096) % 64) (omega arith)) (and_from _ _ (high_safe (128 + (code_point / 64) % 64) (omega arith)) (and_from _ _ (high_safe (128 + code_point % 64) (omega arith)) refl))))))
 
-low_clean : (letter : ℕ) → letter < 128 → is_odd letter ≡ false → is_clean letter ≡ true
-unfolding is_odd
-low_clean letter low visible =
-    ⊎_elim (λ odd. absurd (let e : true ≡ false = sym odd ∙ visible in cc)) (λ clean. clean) (or_cases (is_odd letter) (is_clean letter) (agree_below_at (λ b. is_odd b || is_clean b) (λ b. true) 128 letter refl low))
+low_clean : (code_point : ℕ) → code_point < 128 → is_unprintable code_point ≡ false → is_clean code_point ≡ true
+unfolding is_unprintable
+low_clean code_point low visible =
+    ⊎_elim (λ unprintable. absurd (let e : true ≡ false = sym unprintable ∙ visible in cc)) (λ clean. clean) (or_cases (is_unprintable code_point) (is_clean code_point) (agree_below_at (λ b. is_unprintable b || is_clean b) (λ b. true) 128 code_point refl low))
 
-encoded_clean : (letter : ℕ) → is_odd letter ≡ false → list_all is_clean (encode_utf8 letter) ≡ true
+encoded_clean : (code_point : ℕ) → is_unprintable code_point ≡ false → list_all is_clean (encode_utf8 code_point) ≡ true
 unfolding encode_utf8
-encoded_clean letter visible =
-    ⊎_elim (λ low. subst (λ bytes. list_all is_clean bytes ≡ true) (sym (cond-true _ _ _ (lt-ltb letter 128 low))) (and_from (is_clean letter) true (low_clean letter low visible) refl))
-    (λ high. all_weaker is_safe is_clean safe_clean (encode_utf8 letter) (encoded_safe letter high)) (cases_lt letter 128)
+encoded_clean code_point visible =
+    ⊎_elim (λ low. subst (λ bytes. list_all is_clean bytes ≡ true) (sym (cond-true _ _ _ (lt-ltb code_point 128 low))) (and_from (is_clean code_point) true (low_clean code_point low visible) refl))
+    (λ high. all_weaker is_safe is_clean safe_clean (encode_utf8 code_point) (encoded_safe code_point high)) (cases_lt code_point 128)
 
--- The text of a visible letter other than the three that are escaped is written as it is.
-pub encoded_escaped : (letter : ℕ) → (letter == 38) ≡ false → (letter == 60) ≡ false → (letter == 62) ≡ false → escaped (encode_utf8 letter) ≡ encode_utf8 letter
+-- The text of a visible code point other than the three that are escaped is written as it is.
+pub encoded_escaped : (code_point : ℕ) → (code_point == 38) ≡ false → (code_point == 60) ≡ false → (code_point == 62) ≡ false → escaped (encode_utf8 code_point) ≡ encode_utf8 code_point
 unfolding encode_utf8
-encoded_escaped letter amp lt gt =
-    ⊎_elim (λ low. subst (λ bytes. escaped bytes ≡ bytes) (sym (cond-true _ _ _ (lt-ltb letter 128 low))) (let one : escaped_byte letter ≡ letter ∷ [] = rw (amp, lt, gt) refl in ap (λ (b : List ℕ). b ++ []) one))
-    (λ high. safe_escaped (encode_utf8 letter) (encoded_safe letter high)) (cases_lt letter 128)
+encoded_escaped code_point amp lt gt =
+    ⊎_elim (λ low. subst (λ bytes. escaped bytes ≡ bytes) (sym (cond-true _ _ _ (lt-ltb code_point 128 low))) (let one : escaped_byte code_point ≡ code_point ∷ [] = rw (amp, lt, gt) refl in ap (λ (b : List ℕ). b ++ []) one))
+    (λ high. safe_escaped (encode_utf8 code_point) (encoded_safe code_point high)) (cases_lt code_point 128)
 
-pub letters_clean : (letter count : ℕ) → list_all is_clean (letters_text letter count) ≡ true
-letters_clean letter count =
-    cond_both (is_odd letter) (odd_text letter count) (encode_utf8 letter) (λ bytes. list_all is_clean bytes ≡ true) (λ odd. all_weaker is_safe is_clean safe_clean (odd_text letter count) (odd_safe letter count)) (λ visible. encoded_clean letter visible)
+pub code_points_clean : (code_point count : ℕ) → list_all is_clean (code_points_text code_point count) ≡ true
+code_points_clean code_point count =
+    cond_both (is_unprintable code_point) (unprintable_text code_point count) (encode_utf8 code_point) (λ bytes. list_all is_clean bytes ≡ true) (λ unprintable. all_weaker is_safe is_clean safe_clean (unprintable_text code_point count) (unprintable_safe code_point count)) (λ visible. encoded_clean code_point visible)

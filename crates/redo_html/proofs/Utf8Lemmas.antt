@@ -9,8 +9,8 @@ use Rattle.std.proofs.lemmas.Bool.Decides.{nat_tests}
 use Rattle.std.proofs.lemmas.Str.{IsUtf8-nil, IsUtf8-from_ascii, IsUtf8-append, IsUtf8-encode}
 use Rattle.bstr.specs.Utf8.{decoded}
 use Rattle.bstr.proofs.lemmas.SoundLemmas.{SpellsChar-decoded}
-use Rattle.redo_html.specs.declared.form.Form.{Form}
-use Rattle.redo_html.specs.declared.form.Form.TheVariants.{Log, Name, Title}
+use Rattle.redo_html.specs.declared.text_kind.TextKind.{TextKind}
+use Rattle.redo_html.specs.declared.text_kind.TextKind.TheVariants.{Log, Monochrome, Title}
 use Rattle.redo_html.specs.declared.look.Look.{Look}
 use Rattle.redo_html.specs.declared.markup.Markup.{Markup}
 use Rattle.redo_html.specs.declared.markup.Markup.TheVariants.{Doctype, Html, EndHtml, Head, EndHead, Charset, Viewport, ColorScheme, Referrer, Policy, BodyGood, BodyBad, BodyOpen, EndBody, Header, EndHeader, Title1, EndTitle1, Sign, EndSign, Nav, EndNav, Main, EndMain, FailedSection, SummarySection, TreeSection, TimelineSection, EndSection, FailedHeading, SummaryHeading, TreeHeading, TimelineHeading, EndHeading, FailedLink, SummaryLink, TreeLink, TimelineLink, TargetLink, OutputLink, EndLink, Article, EndArticle, Title3, EndTitle3, Paragraph, MetaParagraph, QuietParagraph, CutParagraph, ProblemParagraph, EndParagraph, Unordered, Tree, EndUnordered, Ordered, OrderedFrom, EndOrdered, Item, NoteItem, TargetItem, EndItem, Details, OpenDetails, QuietDetails, MoreDetails, EndDetails, Summary, EndSummary, Pre, EndPre, Bdi, EndBdi, Code, EndCode, ExitBadge, OpenBadge, EndBadge, Warnings, EndWarnings, Small, EndSmall, Footer, EndFooter, DescriptionList, EndDescriptionList, Div, EndDiv, Term, EndTerm, Description, EndDescription, Columns, Table, EndTable, TableBody, EndTableBody, TableRow, EndTableRow, RowHeading, EndRowHeading, NumberCell, MeterCell, EndCell, TimelineScroll}
@@ -22,20 +22,20 @@ use Rattle.redo_html.specs.Chart.Node.{StartTag, EndTag, Words}
 use Rattle.redo_html.specs.Html.{Normal, is_digit}
 use Rattle.redo_html.specs.Laws.{is_byte, has_bytes, node_has_bytes}
 use Rattle.redo_html.specs.Parts.{Part, part_html}
-use Rattle.redo_html.specs.Parts.Part.{MarkupPart, LogPart, NamePart, NumberPart, TitlePart, StylePart, ChartPart, MeterPart}
-use Rattle.redo_html.specs.Passage.{Inline, escaped, hue_class, style_name, has_marks, mark_html, inline_html, has_element, style_start, style_end, is_same_style, mark_if, marks_between, after_letter, with_wanted, start_look, inlines_from, html_from, passage_html}
-use Rattle.redo_html.specs.Passage.Inline.{OddStart, OddEnd, StyleStart, StyleEnd, Text}
-use Rattle.redo_html.specs.Shown.{is_between, is_odd, lower_hex, upper_hex, picture, number_text, odd_text, Run, with_letter, runs_of, letters_text, run_text, shown_text}
-use Rattle.redo_html.specs.Shown.Run.{Letters, Restyle}
+use Rattle.redo_html.specs.Parts.Part.{MarkupPart, LogPart, TextPart, NumberPart, TitlePart, StylePart, ChartPart, MeterPart}
+use Rattle.redo_html.specs.Passage.{Inline, escaped, hue_class, style_name, has_highlights, highlight_html, inline_html, has_element, style_start, style_end, is_same_style, highlight_if, highlights_between, after_code_point, with_wanted, start_look, inlines_from, html_from, passage_html}
+use Rattle.redo_html.specs.Passage.Inline.{UnprintableStart, UnprintableEnd, StyleStart, StyleEnd, Text}
+use Rattle.redo_html.specs.Shown.{is_between, is_unprintable, lower_hex, upper_hex, notation, number_text, unprintable_text, Run, with_code_point, runs_of, code_points_text, run_text, shown_text}
+use Rattle.redo_html.specs.Shown.Run.{CodePoints, Restyle}
 use Rattle.redo_html.specs.Style.{plain_style, restyled}
 use Rattle.redo_html.specs.StyleSheet.{style_sheet}
-use Rattle.redo_html.specs.Symbols.{Symbol, letter_of, first_letter, is_sequence, first_symbol, symbol_len, symbols_after, symbols}
-use Rattle.redo_html.specs.Symbols.Symbol.{Letter, Sequence}
+use Rattle.redo_html.specs.Symbols.{Symbol, code_point_of, first_code_point, is_sequence, first_symbol, symbol_len, symbols_after, symbols}
+use Rattle.redo_html.specs.Symbols.Symbol.{CodePoint, Sequence}
 use Rattle.redo_html.specs.Tags.{markup_html}
-use Rattle.redo_html.proofs.ChartReading.{drawing_places, is_well_formed, meter_places, nodes_well_formed}
-use Rattle.redo_html.proofs.SymbolLemmas.{odd_byte}
+use Rattle.redo_html.proofs.ChartReading.{drawing_contexts, is_well_formed, meter_contexts, nodes_well_formed}
+use Rattle.redo_html.proofs.SymbolLemmas.{unprintable_byte}
 use Rattle.redo_html.proofs.TagReading.{element_name_low, is_attribute, is_element, is_low, tag_low}
-use Rattle.redo_html.proofs.TextReading.{all_append, all_weaker, number_digits, odd_safe, safe_escaped, encoded_escaped}
+use Rattle.redo_html.proofs.TextReading.{all_append, all_weaker, number_digits, unprintable_safe, safe_escaped, encoded_escaped}
 
 -- ---- ASCII
 
@@ -59,98 +59,98 @@ lower_low n = agree_below_at (λ d. is_low (digit_glyph false d)) (λ d. true) 1
 upper_low : (n : ℕ) → is_low (upper_hex n) ≡ true
 upper_low n = agree_below_at (λ d. is_low (digit_glyph true d)) (λ d. true) 16 (n % 16) refl (omega arith)
 
-picture_low : (letter : ℕ) → list_all is_low (picture letter) ≡ true
-unfolding picture
-picture_low letter =
+notation_low : (code_point : ℕ) → list_all is_low (notation code_point) ≡ true
+unfolding notation
+notation_low code_point =
     let Low : List ℕ → Type 0 = λ bytes. list_all is_low bytes ≡ true in
-    cond_both (nat_lt letter 32) _ _ Low (λ is. let small = ltb-true letter 32 is in and_from (is_low (letter + 64)) true (lt-ltb (letter + 64) 128 (omega (arith, small))) refl)
-    (λ not_low. cond_both (letter == 127) _ _ Low (λ is. refl)
-    (λ not_delete. cond_both (is_between letter (0xDC00, 0xDCFF)) _ _ Low
-    (λ is. and_from _ _ (lower_low ((letter - 0xDC00) / 16)) (and_from _ _ (lower_low (letter - 0xDC00)) refl))
-    (λ not_byte. cond_both (nat_lt letter 0x10000) _ _ Low
-    (λ is. and_from _ _ (upper_low (letter / 4096)) (and_from _ _ (upper_low (letter / 256)) (and_from _ _ (upper_low (letter / 16)) (and_from _ _ (upper_low letter) refl))))
-    (λ large. and_from _ _ (upper_low (letter / 65536)) (and_from _ _ (upper_low (letter / 4096)) (and_from _ _ (upper_low (letter / 256)) (and_from _ _ (upper_low (letter / 16)) (and_from _ _ (upper_low letter) refl))))))))
+    cond_both (nat_lt code_point 32) _ _ Low (λ is. let small = ltb-true code_point 32 is in and_from (is_low (code_point + 64)) true (lt-ltb (code_point + 64) 128 (omega (arith, small))) refl)
+    (λ not_low. cond_both (code_point == 127) _ _ Low (λ is. refl)
+    (λ not_delete. cond_both (is_between code_point (0xDC00, 0xDCFF)) _ _ Low
+    (λ is. and_from _ _ (lower_low ((code_point - 0xDC00) / 16)) (and_from _ _ (lower_low (code_point - 0xDC00)) refl))
+    (λ not_byte. cond_both (nat_lt code_point 0x10000) _ _ Low
+    (λ is. and_from _ _ (upper_low (code_point / 4096)) (and_from _ _ (upper_low (code_point / 256)) (and_from _ _ (upper_low (code_point / 16)) (and_from _ _ (upper_low code_point) refl))))
+    (λ large. and_from _ _ (upper_low (code_point / 65536)) (and_from _ _ (upper_low (code_point / 4096)) (and_from _ _ (upper_low (code_point / 256)) (and_from _ _ (upper_low (code_point / 16)) (and_from _ _ (upper_low code_point) refl))))))))
 
 repeat_low : (count : ℕ) (bytes : List ℕ) → list_all is_low bytes ≡ true → list_all is_low (repeat count bytes) ≡ true
 repeat_low zero bytes low = refl
 repeat_low (suc count) bytes low = all_append is_low bytes (repeat count bytes) low (repeat_low count bytes low)
 
--- ---- letters
+-- ---- code points
 
 -- The character `×`.
 times_utf8 : IsUtf8 (0xC3 ∷ 0x97 ∷ [])
 unfolding encode_utf8
 times_utf8 = IsUtf8-encode 0xD7 (grind (arith, nat_tests))
 
-odd_utf8 : (letter count : ℕ) → IsUtf8 (odd_text letter count)
-unfolding odd_text
-odd_utf8 letter count =
-    cond_both (nat_lt count 5) _ _ IsUtf8 (λ few. ascii (repeat count (picture letter)) (repeat_low count (picture letter) (picture_low letter)))
-    (λ many. IsUtf8-append ((picture letter ++ (0xC3 ∷ 0x97 ∷ [])) ++ number_text count) (codes " ")
-    (IsUtf8-append (picture letter ++ (0xC3 ∷ 0x97 ∷ [])) (number_text count) (IsUtf8-append (picture letter) (0xC3 ∷ 0x97 ∷ []) (ascii (picture letter) (picture_low letter)) times_utf8) (ascii (number_text count) (number_low count)))
+unprintable_utf8 : (code_point count : ℕ) → IsUtf8 (unprintable_text code_point count)
+unfolding unprintable_text
+unprintable_utf8 code_point count =
+    cond_both (nat_lt count 5) _ _ IsUtf8 (λ few. ascii (repeat count (notation code_point)) (repeat_low count (notation code_point) (notation_low code_point)))
+    (λ many. IsUtf8-append ((notation code_point ++ (0xC3 ∷ 0x97 ∷ [])) ++ number_text count) (codes " ")
+    (IsUtf8-append (notation code_point ++ (0xC3 ∷ 0x97 ∷ [])) (number_text count) (IsUtf8-append (notation code_point) (0xC3 ∷ 0x97 ∷ []) (ascii (notation code_point) (notation_low code_point)) times_utf8) (ascii (number_text count) (number_low count)))
     (ascii (codes " ") refl))
 
--- A letter that is odd or a character.
+-- A code point that is unprintable or a character.
 abbrev IsShowable : ℕ → Type 0
-IsShowable letter = is_odd letter ≡ false → IsScalar letter
+IsShowable code_point = is_unprintable code_point ≡ false → IsScalar code_point
 
-letters_utf8 : (letter count : ℕ) → IsShowable letter → IsUtf8 (letters_text letter count)
-letters_utf8 letter count showable = cond_both (is_odd letter) (odd_text letter count) (encode_utf8 letter) IsUtf8 (λ odd. odd_utf8 letter count) (λ visible. IsUtf8-encode letter (showable visible))
+code_points_utf8 : (code_point count : ℕ) → IsShowable code_point → IsUtf8 (code_points_text code_point count)
+code_points_utf8 code_point count showable = cond_both (is_unprintable code_point) (unprintable_text code_point count) (encode_utf8 code_point) IsUtf8 (λ unprintable. unprintable_utf8 code_point count) (λ visible. IsUtf8-encode code_point (showable visible))
 
-escaped_encoded : (letter : ℕ) → IsScalar letter → IsUtf8 (escaped (encode_utf8 letter))
+escaped_encoded : (code_point : ℕ) → IsScalar code_point → IsUtf8 (escaped (encode_utf8 code_point))
 unfolding encode_utf8
-escaped_encoded letter scalar = amp (letter == 38) refl
+escaped_encoded code_point scalar = amp (code_point == 38) refl
   where
-    gt : (letter == 38) ≡ false → (letter == 60) ≡ false → (is : Bool) → (letter == 62) ≡ is → IsUtf8 (escaped (encode_utf8 letter))
-    gt a l true is = subst (λ n. IsUtf8 (escaped (encode_utf8 n))) (sym (eqb-true letter 62 is)) (ascii (codes "&gt;") refl)
-    gt a l false is = subst IsUtf8 (sym (encoded_escaped letter a l is)) (IsUtf8-encode letter scalar)
+    gt : (code_point == 38) ≡ false → (code_point == 60) ≡ false → (is : Bool) → (code_point == 62) ≡ is → IsUtf8 (escaped (encode_utf8 code_point))
+    gt a l true is = subst (λ n. IsUtf8 (escaped (encode_utf8 n))) (sym (eqb-true code_point 62 is)) (ascii (codes "&gt;") refl)
+    gt a l false is = subst IsUtf8 (sym (encoded_escaped code_point a l is)) (IsUtf8-encode code_point scalar)
 
-    lt : (letter == 38) ≡ false → (is : Bool) → (letter == 60) ≡ is → IsUtf8 (escaped (encode_utf8 letter))
-    lt a true is = subst (λ n. IsUtf8 (escaped (encode_utf8 n))) (sym (eqb-true letter 60 is)) (ascii (codes "&lt;") refl)
-    lt a false is = gt a is (letter == 62) refl
+    lt : (code_point == 38) ≡ false → (is : Bool) → (code_point == 60) ≡ is → IsUtf8 (escaped (encode_utf8 code_point))
+    lt a true is = subst (λ n. IsUtf8 (escaped (encode_utf8 n))) (sym (eqb-true code_point 60 is)) (ascii (codes "&lt;") refl)
+    lt a false is = gt a is (code_point == 62) refl
 
-    amp : (is : Bool) → (letter == 38) ≡ is → IsUtf8 (escaped (encode_utf8 letter))
-    amp true is = subst (λ n. IsUtf8 (escaped (encode_utf8 n))) (sym (eqb-true letter 38 is)) (ascii (codes "&amp;") refl)
-    amp false is = lt is (letter == 60) refl
+    amp : (is : Bool) → (code_point == 38) ≡ is → IsUtf8 (escaped (encode_utf8 code_point))
+    amp true is = subst (λ n. IsUtf8 (escaped (encode_utf8 n))) (sym (eqb-true code_point 38 is)) (ascii (codes "&amp;") refl)
+    amp false is = lt is (code_point == 60) refl
 
-escaped_utf8 : (letter count : ℕ) → IsShowable letter → IsUtf8 (escaped (letters_text letter count))
-escaped_utf8 letter count showable =
-    cond_both (is_odd letter) (odd_text letter count) (encode_utf8 letter) (λ text. IsUtf8 (escaped text)) (λ odd. subst IsUtf8 (sym (safe_escaped (odd_text letter count) (odd_safe letter count))) (odd_utf8 letter count))
-    (λ visible. escaped_encoded letter (showable visible))
+escaped_utf8 : (code_point count : ℕ) → IsShowable code_point → IsUtf8 (escaped (code_points_text code_point count))
+escaped_utf8 code_point count showable =
+    cond_both (is_unprintable code_point) (unprintable_text code_point count) (encode_utf8 code_point) (λ text. IsUtf8 (escaped text)) (λ unprintable. subst IsUtf8 (sym (safe_escaped (unprintable_text code_point count) (unprintable_safe code_point count))) (unprintable_utf8 code_point count))
+    (λ visible. escaped_encoded code_point (showable visible))
 
 -- ---- symbols and runs
 
 abbrev IsShowableSymbol : Symbol → Type 0
-IsShowableSymbol (Letter letter) = IsShowable letter
+IsShowableSymbol (CodePoint code_point) = IsShowable code_point
 IsShowableSymbol (Sequence numbers) = ⊤
 
-first_showable : (form : Form) (bytes : List ℕ) → slice_index bytes 0 < 256 → IsShowableSymbol (first_symbol form bytes)
-unfolding first_symbol first_letter
-first_showable form bytes below = cond_both (is_sequence form bytes) _ _ IsShowableSymbol (λ is. tt) (λ is. by (decoded bytes).char refl)
+first_showable : (kind : TextKind) (bytes : List ℕ) → slice_index bytes 0 < 256 → IsShowableSymbol (first_symbol kind bytes)
+unfolding first_symbol first_code_point
+first_showable kind bytes below = cond_both (is_sequence kind bytes) _ _ IsShowableSymbol (λ is. tt) (λ is. by (decoded bytes).char refl)
   where
-    by : (char : Option ℕ) → (decoded bytes).char ≡ char → IsShowable (letter_of (decoded bytes).char (slice_index bytes 0))
-    by None is visible = absurd (let e : true ≡ false = sym (odd_byte (slice_index bytes 0) below) ∙ ap (λ (o : Option ℕ). is_odd (letter_of o (slice_index bytes 0))) (sym is) ∙ visible in cc)
-    by (Some c) is visible = subst (λ (o : Option ℕ). IsScalar (letter_of o (slice_index bytes 0))) (sym is) (SpellsChar-decoded bytes c is).scalar
+    by : (char : Option ℕ) → (decoded bytes).char ≡ char → IsShowable (code_point_of (decoded bytes).char (slice_index bytes 0))
+    by None is visible = absurd (let e : true ≡ false = sym (unprintable_byte (slice_index bytes 0) below) ∙ ap (λ (o : Option ℕ). is_unprintable (code_point_of o (slice_index bytes 0))) (sym is) ∙ visible in cc)
+    by (Some c) is visible = subst (λ (o : Option ℕ). IsScalar (code_point_of o (slice_index bytes 0))) (sym is) (SpellsChar-decoded bytes c is).scalar
 
-symbols_showable : (form : Form) (skipped : ℕ) (bytes : List ℕ) → list_all is_byte bytes ≡ true → AllByRecursion IsShowableSymbol (symbols_after form skipped bytes)
+symbols_showable : (kind : TextKind) (skipped : ℕ) (bytes : List ℕ) → list_all is_byte bytes ≡ true → AllByRecursion IsShowableSymbol (symbols_after kind skipped bytes)
 unfolding symbols_after
-symbols_showable form skipped [] are = tt
-symbols_showable form zero (byte ∷ bytes) are =
-    let parts = and_parts (is_byte byte) (list_all is_byte bytes) are in (first_showable form (byte ∷ bytes) (ltb-true byte 256 parts.0), symbols_showable form (symbol_len form (byte ∷ bytes) - 1) bytes parts.1)
-symbols_showable form (suc skipped) (byte ∷ bytes) are = symbols_showable form skipped bytes (and_parts (is_byte byte) (list_all is_byte bytes) are).1
+symbols_showable kind skipped [] are = tt
+symbols_showable kind zero (byte ∷ bytes) are =
+    let parts = and_parts (is_byte byte) (list_all is_byte bytes) are in (first_showable kind (byte ∷ bytes) (ltb-true byte 256 parts.0), symbols_showable kind (symbol_len kind (byte ∷ bytes) - 1) bytes parts.1)
+symbols_showable kind (suc skipped) (byte ∷ bytes) are = symbols_showable kind skipped bytes (and_parts (is_byte byte) (list_all is_byte bytes) are).1
 
 abbrev IsShowableRun : Run → Type 0
-IsShowableRun (Letters letter count) = IsShowable letter
+IsShowableRun (CodePoints code_point count) = IsShowable code_point
 IsShowableRun (Restyle numbers) = ⊤
 
-letter_showable : (letter : ℕ) (runs : List Run) → IsShowable letter → AllByRecursion IsShowableRun runs → AllByRecursion IsShowableRun (with_letter letter runs)
-letter_showable letter [] one all = (one, tt)
-letter_showable letter (Restyle numbers ∷ runs) one all = (one, all)
-letter_showable letter (Letters next count ∷ runs) one all = cond_both (is_odd letter && letter == next) _ _ (AllByRecursion IsShowableRun) (λ same. (all.0, all.1)) (λ other. (one, all))
+code_point_showable : (code_point : ℕ) (runs : List Run) → IsShowable code_point → AllByRecursion IsShowableRun runs → AllByRecursion IsShowableRun (with_code_point code_point runs)
+code_point_showable code_point [] one all = (one, tt)
+code_point_showable code_point (Restyle numbers ∷ runs) one all = (one, all)
+code_point_showable code_point (CodePoints next count ∷ runs) one all = cond_both (is_unprintable code_point && code_point == next) _ _ (AllByRecursion IsShowableRun) (λ same. (all.0, all.1)) (λ other. (one, all))
 
 runs_showable : (symbols : List Symbol) → AllByRecursion IsShowableSymbol symbols → AllByRecursion IsShowableRun (runs_of symbols)
 runs_showable [] all = tt
-runs_showable (Letter letter ∷ symbols) all = letter_showable letter (runs_of symbols) all.0 (runs_showable symbols all.1)
+runs_showable (CodePoint code_point ∷ symbols) all = code_point_showable code_point (runs_of symbols) all.0 (runs_showable symbols all.1)
 runs_showable (Sequence numbers ∷ symbols) all = (tt, runs_showable symbols all.1)
 
 each_utf8 : {X : Type 0} (f : X → List ℕ) (P : X → Type 0) → ((x : X) → P x → IsUtf8 (f x)) → (xs : List X) → AllByRecursion P xs → IsUtf8 (flat_map f xs)
@@ -158,27 +158,27 @@ each_utf8 f P one [] all = IsUtf8-nil
 each_utf8 f P one (x ∷ xs) all = IsUtf8-append (f x) (flat_map f xs) (one x all.0) (each_utf8 f P one xs all.1)
 
 run_utf8 : (run : Run) → IsShowableRun run → IsUtf8 (run_text run)
-run_utf8 (Letters letter count) showable = letters_utf8 letter count showable
+run_utf8 (CodePoints code_point count) showable = code_points_utf8 code_point count showable
 run_utf8 (Restyle numbers) showable = IsUtf8-nil
 
 -- The runs of bytes are showable.
-text_showable : (form : Form) (bytes : List ℕ) → list_all is_byte bytes ≡ true → AllByRecursion IsShowableRun (runs_of (symbols form bytes))
-text_showable form bytes are = runs_showable (symbols form bytes) (symbols_showable form 0 bytes are)
+text_showable : (kind : TextKind) (bytes : List ℕ) → list_all is_byte bytes ≡ true → AllByRecursion IsShowableRun (runs_of (symbols kind bytes))
+text_showable kind bytes are = runs_showable (symbols kind bytes) (symbols_showable kind 0 bytes are)
 
-pub shown_utf8 : (form : Form) (bytes : List ℕ) → list_all is_byte bytes ≡ true → IsUtf8 (shown_text form bytes)
-shown_utf8 form bytes are = each_utf8 run_text IsShowableRun run_utf8 (runs_of (symbols form bytes)) (text_showable form bytes are)
+pub shown_utf8 : (kind : TextKind) (bytes : List ℕ) → list_all is_byte bytes ≡ true → IsUtf8 (shown_text kind bytes)
+shown_utf8 kind bytes are = each_utf8 run_text IsShowableRun run_utf8 (runs_of (symbols kind bytes)) (text_showable kind bytes are)
 
 -- ---- HTML
 
 abbrev IsShowableInline : Inline → Type 0
-IsShowableInline OddStart = ⊤
-IsShowableInline OddEnd = ⊤
+IsShowableInline UnprintableStart = ⊤
+IsShowableInline UnprintableEnd = ⊤
 IsShowableInline (StyleStart style) = ⊤
 IsShowableInline (StyleEnd style) = ⊤
-IsShowableInline (Text letter count) = IsShowable letter
+IsShowableInline (Text code_point count) = IsShowable code_point
 
-mark_utf8 : (form : Form) (tag : List ℕ) → list_all is_low tag ≡ true → IsUtf8 (mark_html form tag)
-mark_utf8 form tag low = cond_both (has_marks form) _ _ IsUtf8 (λ has. ascii (60 ∷ (tag ++ 62 ∷ [])) (and_from true _ refl (all_append is_low tag (62 ∷ []) low refl))) (λ none. IsUtf8-nil)
+highlight_utf8 : (kind : TextKind) (tag : List ℕ) → list_all is_low tag ≡ true → IsUtf8 (highlight_html kind tag)
+highlight_utf8 kind tag low = cond_both (has_highlights kind) _ _ IsUtf8 (λ has. ascii (60 ∷ (tag ++ 62 ∷ [])) (and_from true _ refl (all_append is_low tag (62 ∷ []) low refl))) (λ none. IsUtf8-nil)
 
 style_low : (bold : Bool) (hue : Hue) → list_all is_low (style_name bold ++ hue_class hue) ≡ true
 style_low true Plain = refl
@@ -200,43 +200,43 @@ style_end_low : (bold : Bool) → list_all is_low (47 ∷ style_name bold) ≡ t
 style_end_low true = refl
 style_end_low false = refl
 
-inline_utf8 : (form : Form) (inline : Inline) → IsShowableInline inline → IsUtf8 (inline_html form inline)
-inline_utf8 form OddStart showable = mark_utf8 form (codes "i") refl
-inline_utf8 form OddEnd showable = mark_utf8 form (codes "/i") refl
-inline_utf8 form (StyleStart style) showable = mark_utf8 form (style_name style.bold ++ hue_class style.hue) (style_low style.bold style.hue)
-inline_utf8 form (StyleEnd style) showable = mark_utf8 form (47 ∷ style_name style.bold) (style_end_low style.bold)
-inline_utf8 form (Text letter count) showable = escaped_utf8 letter count showable
+inline_utf8 : (kind : TextKind) (inline : Inline) → IsShowableInline inline → IsUtf8 (inline_html kind inline)
+inline_utf8 kind UnprintableStart showable = highlight_utf8 kind (codes "i") refl
+inline_utf8 kind UnprintableEnd showable = highlight_utf8 kind (codes "/i") refl
+inline_utf8 kind (StyleStart style) showable = highlight_utf8 kind (style_name style.bold ++ hue_class style.hue) (style_low style.bold style.hue)
+inline_utf8 kind (StyleEnd style) showable = highlight_utf8 kind (47 ∷ style_name style.bold) (style_end_low style.bold)
+inline_utf8 kind (Text code_point count) showable = escaped_utf8 code_point count showable
 
 both_showable : (a b : List Inline) → AllByRecursion IsShowableInline a → AllByRecursion IsShowableInline b → AllByRecursion IsShowableInline (a ++ b)
 both_showable [] b first second = second
 both_showable (inline ∷ a) b first second = (first.0, both_showable a b first.1 second)
 
-mark_showable : (wanted : Bool) (mark : Inline) → IsShowableInline mark → AllByRecursion IsShowableInline (mark_if wanted mark)
-mark_showable true mark showable = (showable, tt)
-mark_showable false mark showable = tt
+highlight_showable : (wanted : Bool) (highlight : Inline) → IsShowableInline highlight → AllByRecursion IsShowableInline (highlight_if wanted highlight)
+highlight_showable true highlight showable = (showable, tt)
+highlight_showable false highlight showable = tt
 
-between_showable : (look : Look) (odd : Bool) → AllByRecursion IsShowableInline (marks_between look odd)
-between_showable look odd =
+between_showable : (look : Look) (unprintable : Bool) → AllByRecursion IsShowableInline (highlights_between look unprintable)
+between_showable look unprintable =
     let same = is_same_style look.wanted look.current in
     let styles = if same then [] else style_end look.current ++ style_start look.wanted in
-    let first = mark_if (look.odd && not (same && odd)) OddEnd in
-    let last = mark_if (odd && not (same && look.odd)) OddStart in
+    let first = highlight_if (look.unprintable && not (same && unprintable)) UnprintableEnd in
+    let last = highlight_if (unprintable && not (same && look.unprintable)) UnprintableStart in
     both_showable (first ++ styles) last
-    (both_showable first styles (mark_showable (look.odd && not (same && odd)) OddEnd tt)
-    (cond_both same [] (style_end look.current ++ style_start look.wanted) (AllByRecursion IsShowableInline) (λ is. tt) (λ other. both_showable (style_end look.current) (style_start look.wanted) (mark_showable (has_element look.current) (StyleEnd look.current) tt) (mark_showable (has_element look.wanted) (StyleStart look.wanted) tt))))
-    (mark_showable (odd && not (same && look.odd)) OddStart tt)
+    (both_showable first styles (highlight_showable (look.unprintable && not (same && unprintable)) UnprintableEnd tt)
+    (cond_both same [] (style_end look.current ++ style_start look.wanted) (AllByRecursion IsShowableInline) (λ is. tt) (λ other. both_showable (style_end look.current) (style_start look.wanted) (highlight_showable (has_element look.current) (StyleEnd look.current) tt) (highlight_showable (has_element look.wanted) (StyleStart look.wanted) tt))))
+    (highlight_showable (unprintable && not (same && look.unprintable)) UnprintableStart tt)
 
 inlines_showable : (look : Look) (runs : List Run) → AllByRecursion IsShowableRun runs → AllByRecursion IsShowableInline (inlines_from look runs)
-inlines_showable look [] all = both_showable (mark_if look.odd OddEnd) (style_end look.current) (mark_showable look.odd OddEnd tt) (mark_showable (has_element look.current) (StyleEnd look.current) tt)
+inlines_showable look [] all = both_showable (highlight_if look.unprintable UnprintableEnd) (style_end look.current) (highlight_showable look.unprintable UnprintableEnd tt) (highlight_showable (has_element look.current) (StyleEnd look.current) tt)
 inlines_showable look (Restyle numbers ∷ runs) all = inlines_showable (with_wanted look (restyled look.wanted numbers)) runs all.1
-inlines_showable look (Letters letter count ∷ runs) all =
-    both_showable (marks_between look (is_odd letter)) (Text letter count ∷ inlines_from (after_letter look (is_odd letter)) runs) (between_showable look (is_odd letter))
-    (all.0, inlines_showable (after_letter look (is_odd letter)) runs all.1)
+inlines_showable look (CodePoints code_point count ∷ runs) all =
+    both_showable (highlights_between look (is_unprintable code_point)) (Text code_point count ∷ inlines_from (after_code_point look (is_unprintable code_point)) runs) (between_showable look (is_unprintable code_point))
+    (all.0, inlines_showable (after_code_point look (is_unprintable code_point)) runs all.1)
 
-pub passage_utf8 : (form : Form) (style : Style) (bytes : List ℕ) → list_all is_byte bytes ≡ true → IsUtf8 (passage_html form style bytes)
+pub passage_utf8 : (kind : TextKind) (style : Style) (bytes : List ℕ) → list_all is_byte bytes ≡ true → IsUtf8 (passage_html kind style bytes)
 unfolding html_from
-passage_utf8 form style bytes are =
-    each_utf8 (inline_html form) IsShowableInline (inline_utf8 form) (inlines_from (start_look style) (runs_of (symbols form bytes))) (inlines_showable (start_look style) (runs_of (symbols form bytes)) (text_showable form bytes are))
+passage_utf8 kind style bytes are =
+    each_utf8 (inline_html kind) IsShowableInline (inline_utf8 kind) (inlines_from (start_look style) (runs_of (symbols kind bytes))) (inlines_showable (start_look style) (runs_of (symbols kind bytes)) (text_showable kind bytes are))
 
 -- ---- tags
 
@@ -374,13 +374,13 @@ nodes_utf8 (node ∷ nodes) well are =
 part_utf8 : (part : Part) → has_bytes part ≡ true → IsUtf8 (part_html part)
 part_utf8 (MarkupPart markup) are = ascii (markup_html markup) (markup_low markup)
 part_utf8 (LogPart style text) are = passage_utf8 Log style text are
-part_utf8 (NamePart name) are = passage_utf8 Name plain_style name are
+part_utf8 (TextPart text) are = passage_utf8 Monochrome plain_style text are
 part_utf8 (NumberPart number) are = ascii (number_text number) (number_low number)
 part_utf8 (TitlePart title) are =
     IsUtf8-append (codes "<title>" ++ passage_html Title plain_style title) (codes "</title>") (IsUtf8-append (codes "<title>") (passage_html Title plain_style title) (ascii (codes "<title>") refl) (passage_utf8 Title plain_style title are)) (ascii (codes "</title>") refl)
 part_utf8 StylePart are = ascii (codes "<style>" ++ style_sheet ++ codes "</style>") (all_append is_low (codes "<style>" ++ style_sheet) (codes "</style>") (all_append is_low (codes "<style>") style_sheet refl sheet_low) refl)
-part_utf8 (ChartPart drawing) are = nodes_utf8 (drawing_nodes drawing) (nodes_well_formed Normal Normal (drawing_nodes drawing) (drawing_places drawing)) are
-part_utf8 (MeterPart width) are = nodes_utf8 (meter_nodes width) (nodes_well_formed Normal Normal (meter_nodes width) (meter_places width)) refl
+part_utf8 (ChartPart drawing) are = nodes_utf8 (drawing_nodes drawing) (nodes_well_formed Normal Normal (drawing_nodes drawing) (drawing_contexts drawing)) are
+part_utf8 (MeterPart width) are = nodes_utf8 (meter_nodes width) (nodes_well_formed Normal Normal (meter_nodes width) (meter_contexts width)) refl
 
 pub parts_utf8 : (parts : List Part) → list_all has_bytes parts ≡ true → IsUtf8 (flat_map part_html parts)
 parts_utf8 [] are = IsUtf8-nil

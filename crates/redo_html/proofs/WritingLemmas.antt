@@ -1,34 +1,16 @@
 -- Texts that are written in parts.
-use Rattle.std.proofs.Common.{◌≡◌, ℕ, zero, suc, ◌<◌, List, [], ◌∷◌, ◌++◌, Option, None, Some, Result, Ok, Err, length, take, drop, get_or, map, refl, sym, ◌∙◌, ap, subst, arith}
+use Rattle.std.proofs.Common.{◌≡◌, ℕ, zero, suc, ◌<◌, List, [], ◌∷◌, ◌++◌, Option, Result, Ok, Err, length, take, drop, get_or, map, refl, sym, ◌∙◌, ap, subst, arith}
 use Rattle.std.specs.List.{flat_map}
 use Rattle.std.specs.Result.{IsErr}
 use Rattle.std.proofs.lemmas.List.{append_assoc, append-nil}
 use Rattle.redo_device.specs.declared.feed.Broken.{Broken}
 use Rattle.redo_device.specs.Sink.{Output, append_output, Writes}
-use Rattle.redo_device.proofs.WritesLemmas.{then, stops}
-use Rattle.redo_html.specs.declared.form.Form.{Form}
+use Rattle.redo_device.proofs.WritesLemmas.{at_first, in_middle, at_last, one_more, append_nothing}
+use Rattle.redo_html.specs.declared.text_kind.TextKind.{TextKind}
 use Rattle.redo_html.specs.declared.look.Look.{Look}
 use Rattle.redo_html.specs.declared.style.Style.{Style}
 use Rattle.redo_html.specs.Passage.{html_from, passage_html}
 use Rattle.redo_html.specs.Private.Writing.{WroteUpTo, WroteSomeOrFailed, WrotePassage}
-
-module _ (before : Option Output) (text : List ℕ) where
-  -- The first part of a text failed.
-  pub at_first : (after : Option Output) (part suffix : List ℕ) (broken : Broken) (done : Result (Unit {0}) Broken) → IsErr done → Writes before after part (Err broken) → part ++ suffix ≡ text → Writes before after text done
-  at_first after part suffix broken done failed wrote is = subst (λ t. Writes before after t done) is (stops before after part suffix broken done failed wrote)
-
-  -- A part failed after others were written.
-  pub in_middle : (middle after : Option Output) (prefix part suffix : List ℕ) (broken : Broken) (done : Result (Unit {0}) Broken) → IsErr done → middle ≡ append_output before prefix 0 → Writes middle after part (Err broken) → (prefix ++ part) ++ suffix ≡ text → Writes before after text done
-  in_middle middle after prefix part suffix broken done failed written wrote is =
-      at_first after (prefix ++ part) suffix broken done failed (then before middle after prefix part (Err broken) written wrote) is
-
-  -- The last part.
-  pub at_last : (middle after : Option Output) (prefix part : List ℕ) (done : Result (Unit {0}) Broken) → middle ≡ append_output before prefix 0 → Writes middle after part done → prefix ++ part ≡ text → Writes before after text done
-  at_last middle after prefix part done written wrote is = subst (λ t. Writes before after t done) is (then before middle after prefix part done written wrote)
-
--- One more part was written.
-pub one_more : (before middle after : Option Output) (prefix part : List ℕ) → middle ≡ append_output before prefix 0 → after ≡ append_output middle part 0 → after ≡ append_output before (prefix ++ part) 0
-one_more before middle after prefix part written wrote = then before middle after prefix part (Ok tt) written wrote
 
 -- One more part of what is left was written.
 pub wrote_more : (before middle after : Option Output) (text part rest : List ℕ) → WroteUpTo before middle text (part ++ rest) → after ≡ append_output middle part 0 → WroteUpTo before after text rest
@@ -65,11 +47,6 @@ one_among f seen (x ∷ xs) (suc i) d below =
 
 -- ---- texts in several parts
 
-append_nothing : (taken : Option Output) → taken ≡ append_output taken [] 0
-append_nothing None = refl
-append_nothing (Some taken) =
-    ap (λ (b : List ℕ). Some (record { bytes = b; failures = taken.failures })) (sym (append-nil taken.bytes)) ∙ ap (λ (n : ℕ). Some (record { bytes = taken.bytes ++ []; failures = n })) (omega arith)
-
 -- Nothing of these parts of a text was written yet.
 pub begin_parts : (before : Option Output) (text parts : List ℕ) → parts ≡ text → WroteUpTo before before text parts
 begin_parts before text parts is = record { prefix = []; wrote = append_nothing before; splits = is }
@@ -80,14 +57,14 @@ failed_part before middle after text part rest broken done failed so_far wrote =
     in_middle before text middle after so_far.prefix part rest broken done failed so_far.wrote wrote (append_assoc so_far.prefix part rest ∙ so_far.splits)
 
 -- A write of some of a passage failed.
-pub some_failed : (before after : Option Output) (form : Form) (look : Look) (bytes : List ℕ) (broken : Broken) (done : Result (Look × ℕ) Broken) → IsErr done → Writes before after (html_from form look bytes) (Err broken) → WroteSomeOrFailed before after form look bytes done
-some_failed before after form look bytes broken (Ok step) failed wrote = absurd (cc)
-some_failed before after form look bytes broken (Err other) failed wrote = wrote
+pub some_failed : (before after : Option Output) (kind : TextKind) (look : Look) (bytes : List ℕ) (broken : Broken) (done : Result (Look × ℕ) Broken) → IsErr done → Writes before after (html_from kind look bytes) (Err broken) → WroteSomeOrFailed before after kind look bytes done
+some_failed before after kind look bytes broken (Ok step) failed wrote = absurd (cc)
+some_failed before after kind look bytes broken (Err other) failed wrote = wrote
 
 -- A write of a passage failed.
-pub passage_failed : (before after : Option Output) (form : Form) (style : Style) (bytes : List ℕ) (broken : Broken) (done : Result Style Broken) → IsErr done → Writes before after (passage_html form style bytes) (Err broken) → WrotePassage before after form style bytes done
-passage_failed before after form style bytes broken (Ok last) failed wrote = absurd (cc)
-passage_failed before after form style bytes broken (Err other) failed wrote = wrote
+pub passage_failed : (before after : Option Output) (kind : TextKind) (style : Style) (bytes : List ℕ) (broken : Broken) (done : Result Style Broken) → IsErr done → Writes before after (passage_html kind style bytes) (Err broken) → WrotePassage before after kind style bytes done
+passage_failed before after kind style bytes broken (Ok last) failed wrote = absurd (cc)
+passage_failed before after kind style bytes broken (Err other) failed wrote = wrote
 
 -- The same writes, of an equal text.
 pub writes_as : (before after : Option Output) (text other : List ℕ) (done : Result (Unit {0}) Broken) → text ≡ other → Writes before after text done → Writes before after other done

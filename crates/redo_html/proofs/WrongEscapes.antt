@@ -4,14 +4,14 @@ use Rattle.std.specs.Prelude.{◌==◌, codes, if◌then◌else◌}
 use Rattle.std.specs.List.{flat_map}
 use Rattle.std.specs.Char.{encode_utf8}
 use Rattle.std.specs.Fmt.{digits}
-use Rattle.redo_html.specs.declared.form.Form.TheVariants.{Name}
+use Rattle.redo_html.specs.declared.text_kind.TextKind.TheVariants.{Monochrome}
 use Rattle.redo_html.specs.Passage.{escaped_byte, html_from, passage_html, passage_tokens}
-use Rattle.redo_html.specs.Html.{Place, Svg}
+use Rattle.redo_html.specs.Html.{Context, Svg}
 use Rattle.redo_html.specs.Html.Token.{Character, Lost, Tag}
 use Rattle.redo_html.specs.Laws.{ReadsAs}
-use Rattle.redo_html.specs.Shown.{is_odd, number_text, odd_text, picture}
+use Rattle.redo_html.specs.Shown.{is_unprintable, number_text, unprintable_text, notation}
 use Rattle.redo_html.specs.Style.{plain_style}
-use Rattle.redo_html.specs.Symbols.{first_letter, first_symbol, is_sequence, letter_len, sequence_len, sequence_numbers, symbol_len, symbols_after}
+use Rattle.redo_html.specs.Symbols.{first_code_point, first_symbol, is_sequence, code_point_len, sequence_len, sequence_numbers, symbol_len, symbols_after}
 use Rattle.redo_html.proofs.TextReading.{ReadsIn}
 
 -- What `escaped_byte` is for printable text: what it writes is read as the same characters.
@@ -46,7 +46,7 @@ escapes_twice is = let same : Character 38 ∷ Character 108 ∷ Character 116 �
 drops_a_byte : IsEscape (except 7 []) (7 ∷ []) → ⊥
 drops_a_byte is = let same : [] ≡ Character 7 ∷ [] = is [] in cc
 
--- A carriage return and the byte 0 can't be in the text at all: no escape of them is read as themselves. So pictures are shown in their place.
+-- A carriage return and the byte 0 can't be in the text at all: no escape of them is read as themselves. So notations are shown in their place.
 leaves_carriage_return : IsEscape escaped_byte (13 ∷ []) → ⊥
 leaves_carriage_return is = let same : Lost ∷ [] ≡ Character 13 ∷ [] = is [] in cc
 
@@ -54,7 +54,7 @@ leaves_byte_0 : IsEscape escaped_byte (0 ∷ []) → ⊥
 leaves_byte_0 is = let same : Lost ∷ [] ≡ Character 0 ∷ [] = is [] in cc
 
 -- The same in the tooltip of a bar.
-abbrev tooltip : Place
+abbrev tooltip : Context
 tooltip = Svg (codes "title") (codes "rect" ∷ codes "a" ∷ codes "g" ∷ codes "svg" ∷ [])
 
 abbrev IsTooltipEscape : (ℕ → List ℕ) → List ℕ → Type 0
@@ -74,7 +74,7 @@ escapes_nothing_in_tooltip is =
 forgets_amp_in_tooltip : IsTooltipEscape (except 38 (codes "&")) (codes "&lt;") → ⊥
 forgets_amp_in_tooltip is = let same : Character 60 ∷ Lost ∷ [] ≡ Character 38 ∷ Character 108 ∷ Character 116 ∷ Character 59 ∷ Lost ∷ [] = is [] in cc
 
--- A mark in a label would end the chart.
-marks_a_label : ReadsIn (Svg (codes "text") (codes "svg" ∷ [])) (passage_html Name plain_style (1 ∷ [])) (passage_tokens Name plain_style (1 ∷ [])) → ⊥
-unfolding symbols_after first_symbol symbol_len is_sequence sequence_len sequence_numbers first_letter letter_len is_odd picture odd_text number_text encode_utf8 digits html_from
-marks_a_label is = let same : Lost ∷ [] ≡ Tag (codes "i") ∷ Character 94 ∷ Character 65 ∷ Tag (codes "/i") ∷ Lost ∷ [] = is [] in cc
+-- A highlight in a label would end the chart.
+highlights_a_label : ReadsIn (Svg (codes "text") (codes "svg" ∷ [])) (passage_html Monochrome plain_style (1 ∷ [])) (passage_tokens Monochrome plain_style (1 ∷ [])) → ⊥
+unfolding symbols_after first_symbol symbol_len is_sequence sequence_len sequence_numbers first_code_point code_point_len is_unprintable notation unprintable_text number_text encode_utf8 digits html_from
+highlights_a_label is = let same : Lost ∷ [] ≡ Tag (codes "i") ∷ Character 94 ∷ Character 65 ∷ Tag (codes "/i") ∷ Lost ∷ [] = is [] in cc

@@ -9,8 +9,8 @@ use Rattle.redo_html.specs.declared.chart.ChartGroup.{ChartGroup}
 use Rattle.redo_html.specs.declared.chart.ChartItem.{ChartItem}
 use Rattle.redo_html.specs.declared.chart.ChartItem.TheVariants as item
 use Rattle.redo_html.specs.declared.chart.GroupKind.{GroupKind}
-use Rattle.redo_html.specs.declared.chart.GroupKind.TheVariants.{Axis, Parents, Recipes, Untimed}
-use Rattle.redo_html.specs.declared.form.Form.TheVariants.{Title}
+use Rattle.redo_html.specs.declared.chart.GroupKind.TheVariants.{Axis, Callers, Recipes, Untimed}
+use Rattle.redo_html.specs.declared.text_kind.TextKind.TheVariants.{Title}
 use Rattle.redo_html.specs.Html.{Token}
 use Rattle.redo_html.specs.Html.Token.{Tag}
 use Rattle.redo_html.specs.Passage.{passage_html, passage_tokens}
@@ -22,7 +22,7 @@ use Rattle.redo_html.specs.Style.{plain_style}
 -- A bar: the number of its target, where it is, whether the target failed, its tooltip, and its label, if it has one. `x` and `width` are in
 -- hundredths of a percent.
 pub record DrawnBar : Type 0 where
-  pub place : ℕ
+  pub target : ℕ
   pub x : ℕ
   pub y : ℕ
   pub width : ℕ
@@ -48,7 +48,7 @@ pub record Drawing : Type 0 where
 
 abbrev pub bar_of : Bar → DrawnBar
 bar_of bar = record {
-  place = bar.place;
+  target = bar.target;
   x = bar.x;
   y = bar.y;
   width = bar.width;
@@ -106,7 +106,7 @@ attribute_text attribute = codes " " ++ (attribute.name ++ (codes "=\"" ++ (flat
 abbrev pub tag_text : List ℕ → List Attribute → List ℕ
 tag_text element attributes = element ++ flat_map attribute_text attributes
 
--- A node, as it is written, as it is read, and as a reader sees it. Its text has no marks, because those are HTML elements.
+-- A node, as it is written, as it is read, and as a reader sees it. Its text has no highlights, because those are HTML elements.
 abbrev pub node_html : Node → List ℕ
 node_html (StartTag element attributes) = codes "<" ++ (tag_text element attributes ++ codes ">")
 node_html (EndTag element) = codes "</" ++ (element ++ codes ">")
@@ -146,7 +146,7 @@ failed_attributes failed = if failed then fixed (codes "class") (codes "f") ∷ 
 -- The bars of recipes that ran others are pale, except those that failed.
 abbrev pub label_fill : GroupKind → Bool → List ℕ
 label_fill Axis failed = codes "#fff"
-label_fill Parents failed = if failed then codes "#fff" else codes "currentColor"
+label_fill Callers failed = if failed then codes "#fff" else codes "currentColor"
 label_fill Recipes failed = codes "#fff"
 label_fill Untimed failed = codes "#fff"
 
@@ -172,12 +172,12 @@ shape_nodes kind (LineShape x bottom) =
     element (codes "line") (percent (codes "x1") x ∷ percent (codes "x2") x ∷ fixed (codes "y1") (codes "15") ∷ number (codes "y2") bottom ∷ []) []
 shape_nodes kind (TickShape x at text) = element (codes "text") (percent (codes "x") x ∷ fixed (codes "y") (codes "11") ∷ anchor_attributes at) (Words text ∷ [])
 shape_nodes kind (BarShape bar) =
-    element (codes "a") (record { name = codes "href"; values = Fixed (codes "#t") ∷ Number bar.place ∷ [] } ∷ fixed (codes "tabindex") (codes "-1") ∷ []) (bar_nodes kind bar bar.label)
+    element (codes "a") (record { name = codes "href"; values = Fixed (codes "#t") ∷ Number bar.target ∷ [] } ∷ fixed (codes "tabindex") (codes "-1") ∷ []) (bar_nodes kind bar bar.label)
 
 abbrev pub group_attributes : GroupKind → List Attribute
 group_attributes Axis =
     fixed (codes "class") (codes "axis") ∷ fixed (codes "stroke") (codes "#8886") ∷ fixed (codes "fill") (codes "currentColor") ∷ fixed (codes "stroke-width") (codes ".5") ∷ []
-group_attributes Parents = fixed (codes "class") (codes "w") ∷ fixed (codes "fill") (codes "#8886") ∷ []
+group_attributes Callers = fixed (codes "class") (codes "w") ∷ fixed (codes "fill") (codes "#8886") ∷ []
 group_attributes Recipes = fixed (codes "class") (codes "k") ∷ fixed (codes "fill") (codes "#3a6ea5") ∷ []
 group_attributes Untimed = fixed (codes "class") (codes "e") ∷ fixed (codes "fill") (codes "#8a6d3b") ∷ []
 
@@ -219,7 +219,7 @@ nodes_text nodes = flat_map node_text nodes
 abbrev pub shape_links : Shape → List ℕ
 shape_links (LineShape x bottom) = []
 shape_links (TickShape x at text) = []
-shape_links (BarShape bar) = bar.place ∷ []
+shape_links (BarShape bar) = bar.target ∷ []
 
 abbrev pub drawing_links : Drawing → List ℕ
 drawing_links drawing = flat_map (λ layer. flat_map shape_links layer.shapes) drawing.layers

@@ -16,42 +16,42 @@ pub data Token : Type 0 where
 -- Where text is: in an HTML element whose text may have tags and references (13.2.5.1), in a `title`, whose text may have references alone
 -- (13.2.5.2), or in a `style`, whose text has neither (13.2.5.3).
 --
--- In an `svg` a browser parses foreign content (13.2.6.5), in the data state too. `Svg inner outer` is a place in the element `inner`, which
+-- In an `svg` a browser parses foreign content (13.2.6.5), in the data state too. `Svg inner outer` is a context in the element `inner`, which
 -- is in the elements `outer`, the innermost first. The outermost one is an `svg` in HTML.
-pub data Place : Type 0 where
-  Normal : Place
-  Rcdata : Place
-  Rawtext : Place
-  Svg : List ℕ → List (List ℕ) → Place
+pub data Context : Type 0 where
+  Normal : Context
+  Rcdata : Context
+  Rawtext : Context
+  Svg : List ℕ → List (List ℕ) → Context
 
 -- A state, with what was read of a tag or of a reference.
 pub data State : Type 0 where
   -- 13.2.5.1 to 13.2.5.3: the data, RCDATA and RAWTEXT states
-  DataState : Place → State
+  DataState : Context → State
   -- the data state directly after `<pre>`, where a browser drops a line feed (13.2.6.4.7, "A start tag whose tag name is pre")
   PreState : State
   -- 13.2.5.72, 13.2.5.73
-  CharacterReference : Place → List ℕ → State
+  CharacterReference : Context → List ℕ → State
   -- 13.2.5.6
-  TagOpen : Place → State
+  TagOpen : Context → State
   -- 13.2.5.7
-  EndTagOpen : Place → State
+  EndTagOpen : Context → State
   -- 13.2.5.9 to 13.2.5.11, 13.2.5.12 to 13.2.5.14: `<` in the text of a `title` or `style`, and what follows it
-  TextLessThan : Place → List ℕ → State
+  TextLessThan : Context → List ℕ → State
   -- 13.2.5.42, 13.2.5.53 to 13.2.5.55
   MarkupDeclaration : List ℕ → State
   -- 13.2.5.8
-  TagName : Place → List ℕ → State
+  TagName : Context → List ℕ → State
   -- 13.2.5.32
-  BeforeAttributeName : Place → List ℕ → State
+  BeforeAttributeName : Context → List ℕ → State
   -- 13.2.5.33
-  AttributeName : Place → List ℕ → State
+  AttributeName : Context → List ℕ → State
   -- 13.2.5.35
-  BeforeAttributeValue : Place → List ℕ → State
+  BeforeAttributeValue : Context → List ℕ → State
   -- 13.2.5.36
-  AttributeValue : Place → List ℕ → State
+  AttributeValue : Context → List ℕ → State
   -- 13.2.5.39
-  AfterAttributeValue : Place → List ℕ → State
+  AfterAttributeValue : Context → List ℕ → State
   LostState : State
 
 -- The state after a byte, and the tokens that are emitted there.
@@ -101,21 +101,21 @@ abbrev pub svg_start_tag : List ℕ → List (List ℕ) → List ℕ → Step
 svg_start_tag inner outer tag =
     if not (bytes_eq inner (codes "title")) && is_one_of (start_name tag) svg_elements then (DataState (Svg (start_name tag) (inner ∷ outer)), Tag tag ∷ []) else lost
 
--- The place in elements of an `svg`, the innermost first.
-abbrev pub place_in : List (List ℕ) → Place
-place_in [] = Normal
-place_in (inner ∷ outer) = Svg inner outer
+-- The context in elements of an `svg`, the innermost first.
+abbrev pub context_in : List (List ℕ) → Context
+context_in [] = Normal
+context_in (inner ∷ outer) = Svg inner outer
 
 -- An end tag in an `svg`. It ends the innermost element: any other end tag is a parse error, and may end elements of HTML (13.2.6.5, "Any other
 -- end tag").
 abbrev pub svg_end_tag : List ℕ → List (List ℕ) → List ℕ → Step
-svg_end_tag inner outer name = if bytes_eq name inner then (DataState (place_in outer), Tag (47 ∷ name) ∷ []) else lost
+svg_end_tag inner outer name = if bytes_eq name inner then (DataState (context_in outer), Tag (47 ∷ name) ∷ []) else lost
 
 -- A tag. After an end tag in HTML, text is in the data state. An end tag of `svg` in HTML ends nothing, like any end tag without a start tag.
-abbrev pub emit_tag : Place → List ℕ → Step
-emit_tag place [] = lost
+abbrev pub emit_tag : Context → List ℕ → Step
+emit_tag context [] = lost
 emit_tag (Svg inner outer) (byte ∷ bytes) = if byte == 47 then svg_end_tag inner outer bytes else svg_start_tag inner outer (byte ∷ bytes)
-emit_tag place (byte ∷ bytes) = if byte == 47 then (DataState Normal, Tag (byte ∷ bytes) ∷ []) else start_tag (byte ∷ bytes)
+emit_tag context (byte ∷ bytes) = if byte == 47 then (DataState Normal, Tag (byte ∷ bytes) ∷ []) else start_tag (byte ∷ bytes)
 
 abbrev pub is_lower_letter : ℕ → Bool
 is_lower_letter byte = nat_le 97 byte && nat_le byte 122
@@ -131,58 +131,58 @@ is_rejected byte = byte == 0 || byte == 13
 abbrev pub named_character : List ℕ → Option ℕ
 named_character name = if bytes_eq name (codes "lt") then Some 60 else if bytes_eq name (codes "gt") then Some 62 else if bytes_eq name (codes "amp") then Some 38 else None
 
-abbrev pub after_reference : Place → Option ℕ → Step
-after_reference place None = lost
-after_reference place (Some character) = (DataState place, Character character ∷ [])
+abbrev pub after_reference : Context → Option ℕ → Step
+after_reference context None = lost
+after_reference context (Some character) = (DataState context, Character character ∷ [])
 
 -- Text that may have tags and references.
-abbrev pub data_step : Place → ℕ → Step
-data_step place byte = if byte == 60 then on (TagOpen place) else if byte == 38 then on (CharacterReference place []) else if is_rejected byte then lost else (DataState place, Character byte ∷ [])
+abbrev pub data_step : Context → ℕ → Step
+data_step context byte = if byte == 60 then on (TagOpen context) else if byte == 38 then on (CharacterReference context []) else if is_rejected byte then lost else (DataState context, Character byte ∷ [])
 
--- Text, in each of the places. A tag ends a `title` or a `style` of HTML only if it is the end tag of that element.
-abbrev pub text_step : Place → ℕ → Step
+-- Text, in each of the contexts. A tag ends a `title` or a `style` of HTML only if it is the end tag of that element.
+abbrev pub text_step : Context → ℕ → Step
 text_step Normal byte = data_step Normal byte
 text_step (Svg inner outer) byte = data_step (Svg inner outer) byte
 text_step Rcdata byte =
     if byte == 60 then on (TextLessThan Rcdata []) else if byte == 38 then on (CharacterReference Rcdata []) else if is_rejected byte then lost else (DataState Rcdata, Character byte ∷ [])
 text_step Rawtext byte = if byte == 60 then on (TextLessThan Rawtext []) else if is_rejected byte then lost else (DataState Rawtext, Character byte ∷ [])
 
--- The end tag that ends the `title` or the `style` around text in this place.
-abbrev pub closing_tag : Place → List ℕ
+-- The end tag that ends the `title` or the `style` around text in this context.
+abbrev pub closing_tag : Context → List ℕ
 closing_tag Normal = []
 closing_tag (Svg inner outer) = []
 closing_tag Rcdata = codes "/title"
 closing_tag Rawtext = codes "/style"
 
 -- `<!` in HTML. A declaration or CDATA (13.2.5.42) in an `svg` is lost.
-abbrev pub declaration : Place → Step
+abbrev pub declaration : Context → Step
 declaration Normal = on (MarkupDeclaration (33 ∷ []))
-declaration place = lost
+declaration context = lost
 
 abbrev pub step : State → ℕ → Step
-step (DataState place) byte = text_step place byte
+step (DataState context) byte = text_step context byte
 step PreState byte = if byte == 10 then on (DataState Normal) else text_step Normal byte
-step (CharacterReference place name) byte =
-    if is_lower_letter byte then on (CharacterReference place (name ++ byte ∷ [])) else if byte == 59 then after_reference place (named_character name) else lost
-step (TagOpen place) byte = if byte == 47 then on (EndTagOpen place) else if byte == 33 then declaration place else if is_lower_letter byte then on (TagName place (byte ∷ [])) else lost
-step (EndTagOpen place) byte = if is_lower_letter byte then on (TagName place (47 ∷ byte ∷ [])) else lost
-step (TextLessThan place tag) byte = if byte == 62 then (if bytes_eq tag (closing_tag place) then emit_tag place tag else lost) else on (TextLessThan place (tag ++ byte ∷ []))
+step (CharacterReference context name) byte =
+    if is_lower_letter byte then on (CharacterReference context (name ++ byte ∷ [])) else if byte == 59 then after_reference context (named_character name) else lost
+step (TagOpen context) byte = if byte == 47 then on (EndTagOpen context) else if byte == 33 then declaration context else if is_lower_letter byte then on (TagName context (byte ∷ [])) else lost
+step (EndTagOpen context) byte = if is_lower_letter byte then on (TagName context (47 ∷ byte ∷ [])) else lost
+step (TextLessThan context tag) byte = if byte == 62 then (if bytes_eq tag (closing_tag context) then emit_tag context tag else lost) else on (TextLessThan context (tag ++ byte ∷ []))
 step (MarkupDeclaration tag) byte = if byte == 62 then (if bytes_eq tag (codes "!doctype html") then (DataState Normal, Tag tag ∷ []) else lost) else on (MarkupDeclaration (tag ++ byte ∷ []))
-step (TagName place tag) byte =
-    if byte == 62 then emit_tag place tag
-    else if byte == 32 then on (BeforeAttributeName place (tag ++ byte ∷ []))
-    else if is_lower_letter byte || is_digit byte then on (TagName place (tag ++ byte ∷ []))
+step (TagName context tag) byte =
+    if byte == 62 then emit_tag context tag
+    else if byte == 32 then on (BeforeAttributeName context (tag ++ byte ∷ []))
+    else if is_lower_letter byte || is_digit byte then on (TagName context (tag ++ byte ∷ []))
     else lost
-step (BeforeAttributeName place tag) byte = if is_lower_letter byte then on (AttributeName place (tag ++ byte ∷ [])) else lost
-step (AttributeName place tag) byte =
-    if byte == 62 then emit_tag place tag
-    else if byte == 32 then on (BeforeAttributeName place (tag ++ byte ∷ []))
-    else if byte == 61 then on (BeforeAttributeValue place (tag ++ byte ∷ []))
-    else if is_lower_letter byte || is_digit byte || byte == 45 then on (AttributeName place (tag ++ byte ∷ []))
+step (BeforeAttributeName context tag) byte = if is_lower_letter byte then on (AttributeName context (tag ++ byte ∷ [])) else lost
+step (AttributeName context tag) byte =
+    if byte == 62 then emit_tag context tag
+    else if byte == 32 then on (BeforeAttributeName context (tag ++ byte ∷ []))
+    else if byte == 61 then on (BeforeAttributeValue context (tag ++ byte ∷ []))
+    else if is_lower_letter byte || is_digit byte || byte == 45 then on (AttributeName context (tag ++ byte ∷ []))
     else lost
-step (BeforeAttributeValue place tag) byte = if byte == 34 then on (AttributeValue place (tag ++ byte ∷ [])) else lost
-step (AttributeValue place tag) byte = if byte == 34 then on (AfterAttributeValue place (tag ++ byte ∷ [])) else if byte == 38 || is_rejected byte then lost else on (AttributeValue place (tag ++ byte ∷ []))
-step (AfterAttributeValue place tag) byte = if byte == 62 then emit_tag place tag else if byte == 32 then on (BeforeAttributeName place (tag ++ byte ∷ [])) else lost
+step (BeforeAttributeValue context tag) byte = if byte == 34 then on (AttributeValue context (tag ++ byte ∷ [])) else lost
+step (AttributeValue context tag) byte = if byte == 34 then on (AfterAttributeValue context (tag ++ byte ∷ [])) else if byte == 38 || is_rejected byte then lost else on (AttributeValue context (tag ++ byte ∷ []))
+step (AfterAttributeValue context tag) byte = if byte == 62 then emit_tag context tag else if byte == 32 then on (BeforeAttributeName context (tag ++ byte ∷ [])) else lost
 step LostState byte = on LostState
 
 -- At the end of the bytes nothing may be open.

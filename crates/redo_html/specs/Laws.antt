@@ -1,14 +1,14 @@
 -- Definitions that state the laws about reading.
 use Rattle.std.specs.Prelude.{◌≡◌, ◌⊎◌, ℕ, Bool, true, ◌==◌, ◌||◌, ◌&&◌, not, nat_lt, nat_le, List, [], ◌∷◌, ◌++◌, map, option_map, codes}
 use Rattle.std.specs.List.{list_all}
-use Rattle.redo_html.specs.declared.form.Form.{Form}
+use Rattle.redo_html.specs.declared.text_kind.TextKind.{TextKind}
 use Rattle.redo_html.specs.declared.style.Style.{Style}
 use Rattle.redo_html.specs.Chart.{Shape, Layer, Drawing, Node, drawing_nodes}
 use Rattle.redo_html.specs.Chart.Node.{StartTag, EndTag, Words}
 use Rattle.redo_html.specs.Chart.Shape.{LineShape, TickShape, BarShape}
 use Rattle.redo_html.specs.Passage.{passage_html, passage_tokens}
 use Rattle.redo_html.specs.Parts.{Part, part_tokens}
-use Rattle.redo_html.specs.Parts.Part.{MarkupPart, LogPart, NamePart, NumberPart, TitlePart, StylePart, ChartPart, MeterPart}
+use Rattle.redo_html.specs.Parts.Part.{MarkupPart, LogPart, TextPart, NumberPart, TitlePart, StylePart, ChartPart, MeterPart}
 use Rattle.redo_html.specs.Tags.{markup_text}
 use Rattle.redo_html.specs.Html.{Token, DataState, Normal, read_from, text_of, tags_of, nests_in, is_one_of}
 use Rattle.redo_html.specs.Shown.{shown_text}
@@ -17,18 +17,18 @@ use Rattle.redo_html.specs.Shown.{shown_text}
 abbrev pub ReadsAs : List ℕ → List Token → Type 0
 ReadsAs bytes tokens = (behind : List ℕ) → read_from (DataState Normal) (bytes ++ behind) ≡ tokens ++ read_from (DataState Normal) behind
 
--- The marks of a passage.
-abbrev pub is_mark : List ℕ → Bool
-is_mark tag =
+-- The highlights of a passage.
+abbrev pub is_highlight : List ℕ → Bool
+is_highlight tag =
     is_one_of tag (codes "i" ∷ codes "/i" ∷ codes "b" ∷ codes "b class=\"r\"" ∷ codes "b class=\"g\"" ∷ codes "b class=\"y\"" ∷ codes "b class=\"b\"" ∷ codes "b class=\"m\"" ∷ codes "b class=\"c\"" ∷ codes "/b"
     ∷ codes "span class=\"r\"" ∷ codes "span class=\"g\"" ∷ codes "span class=\"y\"" ∷ codes "span class=\"b\"" ∷ codes "span class=\"m\"" ∷ codes "span class=\"c\"" ∷ codes "/span" ∷ [])
 
--- A passage is read as its tokens, of which the characters are the text that is shown, and the tags are marks that nest.
-pub record IsReadAsShown (form : Form) (style : Style) (bytes : List ℕ) : Type 0 where
-  pub reads : ReadsAs (passage_html form style bytes) (passage_tokens form style bytes)
-  pub text : text_of (passage_tokens form style bytes) ≡ shown_text form bytes
-  pub marks : list_all is_mark (tags_of (passage_tokens form style bytes)) ≡ true
-  pub nests : (around tags : List (List ℕ)) → nests_in around (tags_of (passage_tokens form style bytes) ++ tags) ≡ nests_in around tags
+-- A passage is read as its tokens, of which the characters are the text that is shown, and the tags are highlights that nest.
+pub record IsReadAsShown (kind : TextKind) (style : Style) (bytes : List ℕ) : Type 0 where
+  pub reads : ReadsAs (passage_html kind style bytes) (passage_tokens kind style bytes)
+  pub text : text_of (passage_tokens kind style bytes) ≡ shown_text kind bytes
+  pub highlights : list_all is_highlight (tags_of (passage_tokens kind style bytes)) ≡ true
+  pub nests : (around tags : List (List ℕ)) → nests_in around (tags_of (passage_tokens kind style bytes) ++ tags) ≡ nests_in around tags
 
 -- Printable ASCII other than `&`, `<` and `>`; tabs; line feeds.
 abbrev pub is_plain : ℕ → Bool
@@ -48,7 +48,7 @@ node_has_bytes (Words text) = list_all is_byte text
 abbrev pub has_bytes : Part → Bool
 has_bytes (MarkupPart markup) = true
 has_bytes (LogPart style text) = list_all is_byte text
-has_bytes (NamePart name) = list_all is_byte name
+has_bytes (TextPart text) = list_all is_byte text
 has_bytes (NumberPart number) = true
 has_bytes (TitlePart title) = list_all is_byte title
 has_bytes StylePart = true
@@ -59,7 +59,7 @@ has_bytes (MeterPart width) = true
 abbrev pub markup_tag : Part → List (List ℕ)
 markup_tag (MarkupPart markup) = markup_text markup ∷ []
 markup_tag (LogPart style text) = []
-markup_tag (NamePart name) = []
+markup_tag (TextPart text) = []
 markup_tag (NumberPart number) = []
 markup_tag (TitlePart title) = []
 markup_tag StylePart = []

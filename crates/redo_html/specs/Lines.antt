@@ -2,17 +2,17 @@
 use Rattle.std.specs.Prelude.{ℕ, Bool, ◌==◌, not, List, [], ◌∷◌, fold}
 use Rattle.std.specs.List.{flat_map}
 use Rattle.redo_line.specs.Lines.{with_line_feed}
-use Rattle.redo_html.specs.declared.form.Form.TheVariants.{Log}
+use Rattle.redo_html.specs.declared.text_kind.TextKind.TheVariants.{Log}
 use Rattle.redo_html.specs.declared.style.Style.{Style}
 use Rattle.redo_html.specs.Parts.{Part, part_html}
 use Rattle.redo_html.specs.Parts.Part.{LogPart}
 use Rattle.redo_html.specs.Style.{restyled}
 use Rattle.redo_html.specs.Symbols.{Symbol, symbols}
-use Rattle.redo_html.specs.Symbols.Symbol.{Letter, Sequence}
+use Rattle.redo_html.specs.Symbols.Symbol.{CodePoint, Sequence}
 
 -- The style after a symbol.
 abbrev pub style_after_symbol : Style → Symbol → Style
-style_after_symbol style (Letter letter) = style
+style_after_symbol style (CodePoint code_point) = style
 style_after_symbol style (Sequence numbers) = restyled style numbers
 
 -- The style at the end of a log's text that begins with this style.

@@ -1,6 +1,6 @@
 -- The parts of a page, as they are written and as they are read.
 use Rattle.std.specs.Prelude.{ℕ, List, [], ◌∷◌, ◌++◌, map, codes}
-use Rattle.redo_html.specs.declared.form.Form.TheVariants as form
+use Rattle.redo_html.specs.declared.text_kind.TextKind.TheVariants as text_kind
 use Rattle.redo_html.specs.declared.markup.Markup.{Markup}
 use Rattle.redo_html.specs.declared.piece.Piece.{Piece}
 use Rattle.redo_html.specs.declared.piece.Piece.TheVariants as piece
@@ -19,7 +19,7 @@ use Rattle.redo_html.specs.Tags.{markup_text, markup_html}
 pub data Part : Type 0 where
   MarkupPart : Markup → Part
   LogPart : Style → List ℕ → Part
-  NamePart : List ℕ → Part
+  TextPart : List ℕ → Part
   NumberPart : ℕ → Part
   TitlePart : List ℕ → Part
   StylePart : Part
@@ -29,7 +29,7 @@ pub data Part : Type 0 where
 abbrev pub part_of : Piece → Part
 part_of (piece.Markup markup) = MarkupPart markup
 part_of (piece.Log style text) = LogPart style text.now
-part_of (piece.Name name) = NamePart name.now
+part_of (piece.Text text) = TextPart text.now
 part_of (piece.Number number) = NumberPart number
 part_of (piece.Title title) = TitlePart title.now
 part_of piece.StyleSheet = StylePart
@@ -38,20 +38,20 @@ part_of (piece.Meter width) = MeterPart width
 
 abbrev pub part_html : Part → List ℕ
 part_html (MarkupPart markup) = markup_html markup
-part_html (LogPart style text) = passage_html form.Log style text
-part_html (NamePart name) = passage_html form.Name plain_style name
+part_html (LogPart style text) = passage_html text_kind.Log style text
+part_html (TextPart text) = passage_html text_kind.Monochrome plain_style text
 part_html (NumberPart number) = number_text number
-part_html (TitlePart title) = codes "<title>" ++ passage_html form.Title plain_style title ++ codes "</title>"
+part_html (TitlePart title) = codes "<title>" ++ passage_html text_kind.Title plain_style title ++ codes "</title>"
 part_html StylePart = codes "<style>" ++ style_sheet ++ codes "</style>"
 part_html (ChartPart drawing) = nodes_html (drawing_nodes drawing)
 part_html (MeterPart width) = nodes_html (meter_nodes width)
 
 abbrev pub part_tokens : Part → List Token
 part_tokens (MarkupPart markup) = Tag (markup_text markup) ∷ []
-part_tokens (LogPart style text) = passage_tokens form.Log style text
-part_tokens (NamePart name) = passage_tokens form.Name plain_style name
+part_tokens (LogPart style text) = passage_tokens text_kind.Log style text
+part_tokens (TextPart text) = passage_tokens text_kind.Monochrome plain_style text
 part_tokens (NumberPart number) = map Character (number_text number)
-part_tokens (TitlePart title) = Tag (codes "title") ∷ (passage_tokens form.Title plain_style title ++ Tag (codes "/title") ∷ [])
+part_tokens (TitlePart title) = Tag (codes "title") ∷ (passage_tokens text_kind.Title plain_style title ++ Tag (codes "/title") ∷ [])
 part_tokens StylePart = Tag (codes "style") ∷ (map Character style_sheet ++ Tag (codes "/style") ∷ [])
 part_tokens (ChartPart drawing) = nodes_tokens (drawing_nodes drawing)
 part_tokens (MeterPart width) = nodes_tokens (meter_nodes width)
@@ -59,10 +59,10 @@ part_tokens (MeterPart width) = nodes_tokens (meter_nodes width)
 -- The text of a part, as a reader sees it: of a chart, its ticks, tooltips and labels. A browser doesn't show the text of a style sheet.
 abbrev pub part_text : Part → List ℕ
 part_text (MarkupPart markup) = []
-part_text (LogPart style text) = shown_text form.Log text
-part_text (NamePart name) = shown_text form.Name name
+part_text (LogPart style text) = shown_text text_kind.Log text
+part_text (TextPart text) = shown_text text_kind.Monochrome text
 part_text (NumberPart number) = number_text number
-part_text (TitlePart title) = shown_text form.Title title
+part_text (TitlePart title) = shown_text text_kind.Title title
 part_text StylePart = style_sheet
 part_text (ChartPart drawing) = nodes_text (drawing_nodes drawing)
 part_text (MeterPart width) = []

@@ -1,16 +1,16 @@
--- A passage of text as HTML: what it shows, with marks for odd letters and for styles. All elements that are begun in a passage end in it.
+-- A passage of text as HTML: what it shows, with highlights for unprintable code points and for styles. All elements that are begun in a passage end in it.
 use Rattle.std.specs.Prelude.{ℕ, Bool, true, false, ◌==◌, ◌||◌, ◌&&◌, not, List, [], ◌∷◌, ◌++◌, map, codes, if◌then◌else◌}
 use Rattle.std.specs.List.{flat_map}
-use Rattle.redo_html.specs.declared.form.Form.{Form}
-use Rattle.redo_html.specs.declared.form.Form.TheVariants.{Log, Name, Title}
+use Rattle.redo_html.specs.declared.text_kind.TextKind.{TextKind}
+use Rattle.redo_html.specs.declared.text_kind.TextKind.TheVariants.{Log, Monochrome, Title}
 use Rattle.redo_html.specs.declared.look.Look.{Look}
 use Rattle.redo_html.specs.declared.style.Hue.{Hue}
 use Rattle.redo_html.specs.declared.style.Hue.TheVariants.{Plain, Red, Green, Yellow, Blue, Magenta, Cyan}
 use Rattle.redo_html.specs.declared.style.Style.{Style}
 use Rattle.redo_html.specs.Html.{Token}
 use Rattle.redo_html.specs.Html.Token.{Character, Tag}
-use Rattle.redo_html.specs.Shown.{Run, runs_of, letters_text, is_odd}
-use Rattle.redo_html.specs.Shown.Run.{Letters, Restyle}
+use Rattle.redo_html.specs.Shown.{Run, runs_of, code_points_text, is_unprintable}
+use Rattle.redo_html.specs.Shown.Run.{CodePoints, Restyle}
 use Rattle.redo_html.specs.Style.{plain_style, restyled}
 use Rattle.redo_html.specs.Symbols.{symbols}
 
@@ -35,48 +35,48 @@ abbrev pub style_name : Bool → List ℕ
 style_name true = codes "b"
 style_name false = codes "span"
 
--- A part of a passage: where a mark begins or ends, or letters.
+-- A part of a passage: where a highlight begins or ends, or code points.
 pub data Inline : Type 0 where
-  OddStart : Inline
-  OddEnd : Inline
+  UnprintableStart : Inline
+  UnprintableEnd : Inline
   StyleStart : Style → Inline
   StyleEnd : Style → Inline
   Text : ℕ → ℕ → Inline
 
--- The text between the `<` and the `>` of a mark.
-abbrev pub mark_text : Inline → List ℕ
-mark_text OddStart = codes "i"
-mark_text OddEnd = codes "/i"
-mark_text (StyleStart style) = style_name style.bold ++ hue_class style.hue
-mark_text (StyleEnd style) = 47 ∷ style_name style.bold
-mark_text (Text letter count) = []
+-- The text between the `<` and the `>` of a highlight.
+abbrev pub highlight_text : Inline → List ℕ
+highlight_text UnprintableStart = codes "i"
+highlight_text UnprintableEnd = codes "/i"
+highlight_text (StyleStart style) = style_name style.bold ++ hue_class style.hue
+highlight_text (StyleEnd style) = 47 ∷ style_name style.bold
+highlight_text (Text code_point count) = []
 
 -- In a `title` there are no elements.
-abbrev pub has_marks : Form → Bool
-has_marks Log = true
-has_marks Name = true
-has_marks Title = false
+abbrev pub has_highlights : TextKind → Bool
+has_highlights Log = true
+has_highlights Monochrome = true
+has_highlights Title = false
 
-abbrev pub mark_html : Form → List ℕ → List ℕ
-mark_html form tag = if has_marks form then 60 ∷ (tag ++ 62 ∷ []) else []
+abbrev pub highlight_html : TextKind → List ℕ → List ℕ
+highlight_html kind tag = if has_highlights kind then 60 ∷ (tag ++ 62 ∷ []) else []
 
-abbrev pub mark_tokens : Form → List ℕ → List Token
-mark_tokens form tag = if has_marks form then Tag tag ∷ [] else []
+abbrev pub highlight_tokens : TextKind → List ℕ → List Token
+highlight_tokens kind tag = if has_highlights kind then Tag tag ∷ [] else []
 
 -- A part of a passage, as it is written and as it is read.
-abbrev pub inline_html : Form → Inline → List ℕ
-inline_html form (Text letter count) = escaped (letters_text letter count)
-inline_html form OddStart = mark_html form (mark_text OddStart)
-inline_html form OddEnd = mark_html form (mark_text OddEnd)
-inline_html form (StyleStart style) = mark_html form (mark_text (StyleStart style))
-inline_html form (StyleEnd style) = mark_html form (mark_text (StyleEnd style))
+abbrev pub inline_html : TextKind → Inline → List ℕ
+inline_html kind (Text code_point count) = escaped (code_points_text code_point count)
+inline_html kind UnprintableStart = highlight_html kind (highlight_text UnprintableStart)
+inline_html kind UnprintableEnd = highlight_html kind (highlight_text UnprintableEnd)
+inline_html kind (StyleStart style) = highlight_html kind (highlight_text (StyleStart style))
+inline_html kind (StyleEnd style) = highlight_html kind (highlight_text (StyleEnd style))
 
-abbrev pub inline_tokens : Form → Inline → List Token
-inline_tokens form (Text letter count) = map Character (letters_text letter count)
-inline_tokens form OddStart = mark_tokens form (mark_text OddStart)
-inline_tokens form OddEnd = mark_tokens form (mark_text OddEnd)
-inline_tokens form (StyleStart style) = mark_tokens form (mark_text (StyleStart style))
-inline_tokens form (StyleEnd style) = mark_tokens form (mark_text (StyleEnd style))
+abbrev pub inline_tokens : TextKind → Inline → List Token
+inline_tokens kind (Text code_point count) = map Character (code_points_text code_point count)
+inline_tokens kind UnprintableStart = highlight_tokens kind (highlight_text UnprintableStart)
+inline_tokens kind UnprintableEnd = highlight_tokens kind (highlight_text UnprintableEnd)
+inline_tokens kind (StyleStart style) = highlight_tokens kind (highlight_text (StyleStart style))
+inline_tokens kind (StyleEnd style) = highlight_tokens kind (highlight_text (StyleEnd style))
 
 -- A style other than the page's own has an element.
 abbrev pub is_plain_hue : Hue → Bool
@@ -113,39 +113,40 @@ same_bool false other = not other
 abbrev pub is_same_style : Style → Style → Bool
 is_same_style one other = same_bool one.bold other.bold && hue_number one.hue == hue_number other.hue
 
--- The marks between two letters. `look.wanted` is the style of the next letter. Open are the mark of the style `look.current`, and within it, if `look.odd`
--- is set, the mark for odd letters. `odd` states whether the next letter is odd.
-abbrev pub mark_if : Bool → Inline → List Inline
-mark_if condition mark = if condition then mark ∷ [] else []
+-- The highlights between two code points. `look.wanted` is the style of the next code point. Open are the highlight of the style `look.current`,
+-- and within it, if `look.unprintable` is set, the highlight for unprintable code points. `unprintable` states whether the next code point is
+-- unprintable.
+abbrev pub highlight_if : Bool → Inline → List Inline
+highlight_if condition highlight = if condition then highlight ∷ [] else []
 
-abbrev pub marks_between : Look → Bool → List Inline
-marks_between look odd =
+abbrev pub highlights_between : Look → Bool → List Inline
+highlights_between look unprintable =
     let same = is_same_style look.wanted look.current in
-    mark_if (look.odd && not (same && odd)) OddEnd ++ (if same then [] else style_end look.current ++ style_start look.wanted) ++ mark_if (odd && not (same && look.odd)) OddStart
+    highlight_if (look.unprintable && not (same && unprintable)) UnprintableEnd ++ (if same then [] else style_end look.current ++ style_start look.wanted) ++ highlight_if (unprintable && not (same && look.unprintable)) UnprintableStart
 
-abbrev pub after_letter : Look → Bool → Look
-after_letter look odd = record { wanted = look.wanted; current = look.wanted; odd = odd }
+abbrev pub after_code_point : Look → Bool → Look
+after_code_point look unprintable = record { wanted = look.wanted; current = look.wanted; unprintable = unprintable }
 
 abbrev pub with_wanted : Look → Style → Look
-with_wanted look style = record { wanted = style; current = look.current; odd = look.odd }
+with_wanted look style = record { wanted = style; current = look.current; unprintable = look.unprintable }
 
--- The look at the start of a passage that begins with this style: no mark is open.
+-- The look at the start of a passage that begins with this style: no highlight is open.
 abbrev pub start_look : Style → Look
-start_look style = record { wanted = style; current = plain_style; odd = false }
+start_look style = record { wanted = style; current = plain_style; unprintable = false }
 
--- The parts of the rest of a passage. At its end, all marks end.
+-- The parts of the rest of a passage. At its end, all highlights end.
 abbrev pub inlines_from : Look → List Run → List Inline
-inlines_from look [] = mark_if look.odd OddEnd ++ style_end look.current
-inlines_from look (Letters letter count ∷ runs) = marks_between look (is_odd letter) ++ Text letter count ∷ inlines_from (after_letter look (is_odd letter)) runs
+inlines_from look [] = highlight_if look.unprintable UnprintableEnd ++ style_end look.current
+inlines_from look (CodePoints code_point count ∷ runs) = highlights_between look (is_unprintable code_point) ++ Text code_point count ∷ inlines_from (after_code_point look (is_unprintable code_point)) runs
 inlines_from look (Restyle numbers ∷ runs) = inlines_from (with_wanted look (restyled look.wanted numbers)) runs
 
 -- The HTML of the rest of a passage.
-unfoldable pub html_from : Form → Look → List ℕ → List ℕ
-html_from form look bytes = flat_map (inline_html form) (inlines_from look (runs_of (symbols form bytes)))
+unfoldable pub html_from : TextKind → Look → List ℕ → List ℕ
+html_from kind look bytes = flat_map (inline_html kind) (inlines_from look (runs_of (symbols kind bytes)))
 
 -- A passage that begins with this style, as it is written and as it is read.
-abbrev pub passage_html : Form → Style → List ℕ → List ℕ
-passage_html form style bytes = html_from form (start_look style) bytes
+abbrev pub passage_html : TextKind → Style → List ℕ → List ℕ
+passage_html kind style bytes = html_from kind (start_look style) bytes
 
-abbrev pub passage_tokens : Form → Style → List ℕ → List Token
-passage_tokens form style bytes = flat_map (inline_tokens form) (inlines_from (start_look style) (runs_of (symbols form bytes)))
+abbrev pub passage_tokens : TextKind → Style → List ℕ → List Token
+passage_tokens kind style bytes = flat_map (inline_tokens kind) (inlines_from (start_look style) (runs_of (symbols kind bytes)))

@@ -2,9 +2,9 @@
 use Rattle.std.specs.Prelude.{ℕ, suc, ◌+◌, ◌-◌, ◌/◌, ◌%◌, Bool, true, false, ◌==◌, ◌||◌, ◌&&◌, not, nat_le, nat_lt, List, [], ◌∷◌, ◌++◌, codes, decimal, encode_utf8, if◌then◌else◌}
 use Rattle.std.specs.Fmt.{digit_glyph}
 use Rattle.std.specs.List.{flat_map, list_any, repeat}
-use Rattle.redo_html.specs.declared.form.Form.{Form}
+use Rattle.redo_html.specs.declared.text_kind.TextKind.{TextKind}
 use Rattle.redo_html.specs.Symbols.{Symbol, symbols}
-use Rattle.redo_html.specs.Symbols.Symbol.{Letter, Sequence}
+use Rattle.redo_html.specs.Symbols.Symbol.{CodePoint, Sequence}
 
 -- Characters that can't be seen, or that change the direction of others, by their first and last numbers; and the numbers of bytes that are
 -- no part of a character, which are among the surrogates.
@@ -14,15 +14,15 @@ unseen_ranges =
     ∷ (0xD800, 0xDFFF) ∷ (0xFE00, 0xFE0E) ∷ (0xFEFF, 0xFEFF) ∷ (0xFFA0, 0xFFA0) ∷ (0xFFF0, 0xFFFB) ∷ (0xE0000, 0xE0FFF) ∷ []
 
 abbrev pub is_between : ℕ → ℕ × ℕ → Bool
-is_between letter range = nat_le range.0 letter && nat_le letter range.1
+is_between code_point range = nat_le range.0 code_point && nat_le code_point range.1
 
 -- A control character other than a tab or a line feed.
 abbrev pub is_control : ℕ → Bool
-is_control letter = (nat_lt letter 32 && not (letter == 9) && not (letter == 10)) || letter == 127
+is_control code_point = (nat_lt code_point 32 && not (code_point == 9) && not (code_point == 10)) || code_point == 127
 
--- Whether a picture is shown instead of a letter.
-unfoldable pub is_odd : ℕ → Bool
-is_odd letter = is_control letter || list_any (is_between letter) unseen_ranges
+-- Whether a notation is shown instead of a code point.
+unfoldable pub is_unprintable : ℕ → Bool
+is_unprintable code_point = is_control code_point || list_any (is_between code_point) unseen_ranges
 
 abbrev pub lower_hex : ℕ → ℕ
 lower_hex digit = digit_glyph false (digit % 16)
@@ -30,44 +30,44 @@ lower_hex digit = digit_glyph false (digit % 16)
 abbrev pub upper_hex : ℕ → ℕ
 upper_hex digit = digit_glyph true (digit % 16)
 
--- The picture of a byte that is no part of a character: `\xff`.
-abbrev pub byte_picture : ℕ → List ℕ
-byte_picture byte = 92 ∷ 120 ∷ lower_hex (byte / 16) ∷ lower_hex byte ∷ []
+-- The notation of a byte that is no part of a character: `\xff`.
+abbrev pub byte_notation : ℕ → List ℕ
+byte_notation byte = 92 ∷ 120 ∷ lower_hex (byte / 16) ∷ lower_hex byte ∷ []
 
--- The picture of a character by its number: `[U+202E]`.
-abbrev pub code_picture : ℕ → List ℕ
-code_picture letter =
-    if nat_lt letter 0x10000 then 91 ∷ 85 ∷ 43 ∷ upper_hex (letter / 4096) ∷ upper_hex (letter / 256) ∷ upper_hex (letter / 16) ∷ upper_hex letter ∷ 93 ∷ []
-    else 91 ∷ 85 ∷ 43 ∷ upper_hex (letter / 65536) ∷ upper_hex (letter / 4096) ∷ upper_hex (letter / 256) ∷ upper_hex (letter / 16) ∷ upper_hex letter ∷ 93 ∷ []
+-- The notation of a character by its number: `[U+202E]`.
+abbrev pub code_point_notation : ℕ → List ℕ
+code_point_notation code_point =
+    if nat_lt code_point 0x10000 then 91 ∷ 85 ∷ 43 ∷ upper_hex (code_point / 4096) ∷ upper_hex (code_point / 256) ∷ upper_hex (code_point / 16) ∷ upper_hex code_point ∷ 93 ∷ []
+    else 91 ∷ 85 ∷ 43 ∷ upper_hex (code_point / 65536) ∷ upper_hex (code_point / 4096) ∷ upper_hex (code_point / 256) ∷ upper_hex (code_point / 16) ∷ upper_hex code_point ∷ 93 ∷ []
 
--- The picture of an odd letter. The picture of a control character is a caret and the letter 64 places after it: `^M`.
-unfoldable pub picture : ℕ → List ℕ
-picture letter =
-    if nat_lt letter 32 then 94 ∷ (letter + 64) ∷ []
-    else if letter == 127 then codes "^?"
-    else if is_between letter (0xDC00, 0xDCFF) then byte_picture (letter - 0xDC00)
-    else code_picture letter
+-- The notation of an unprintable code point. The notation of a control character is a caret and the letter 64 places after it: `^M`.
+unfoldable pub notation : ℕ → List ℕ
+notation code_point =
+    if nat_lt code_point 32 then 94 ∷ (code_point + 64) ∷ []
+    else if code_point == 127 then codes "^?"
+    else if is_between code_point (0xDC00, 0xDCFF) then byte_notation (code_point - 0xDC00)
+    else code_point_notation code_point
 
 -- A number in the text of a page, or in a tag. None is larger than 2^64 - 1.
 unfoldable pub number_text : ℕ → List ℕ
 number_text number = if nat_lt number 0x10000000000000000 then decimal number else []
 
--- The picture of an odd letter that occurs `count` times in a row: repeated, or, from five on, followed by `×` and the count.
-unfoldable pub odd_text : ℕ → ℕ → List ℕ
-odd_text letter count = if nat_lt count 5 then repeat count (picture letter) else picture letter ++ (0xC3 ∷ 0x97 ∷ []) ++ number_text count ++ codes " "
+-- The notation of an unprintable code point that occurs `count` times in a row: repeated, or, from five on, followed by `×` and the count.
+unfoldable pub unprintable_text : ℕ → ℕ → List ℕ
+unprintable_text code_point count = if nat_lt count 5 then repeat count (notation code_point) else notation code_point ++ (0xC3 ∷ 0x97 ∷ []) ++ number_text count ++ codes " "
 
--- A run of symbols: a letter with the number of times it occurs in a row, which is 1 unless it is odd; or the numbers of a sequence.
+-- A run of symbols: a code point with the number of times it occurs in a row, which is 1 unless it is unprintable; or the numbers of a sequence.
 pub data Run : Type 0 where
-  Letters : ℕ → ℕ → Run
+  CodePoints : ℕ → ℕ → Run
   Restyle : List ℕ → Run
 
-abbrev pub with_letter : ℕ → List Run → List Run
-with_letter letter [] = Letters letter 1 ∷ []
-with_letter letter (Restyle numbers ∷ runs) = Letters letter 1 ∷ Restyle numbers ∷ runs
-with_letter letter (Letters next count ∷ runs) = if is_odd letter && letter == next then Letters next (suc count) ∷ runs else Letters letter 1 ∷ Letters next count ∷ runs
+abbrev pub with_code_point : ℕ → List Run → List Run
+with_code_point code_point [] = CodePoints code_point 1 ∷ []
+with_code_point code_point (Restyle numbers ∷ runs) = CodePoints code_point 1 ∷ Restyle numbers ∷ runs
+with_code_point code_point (CodePoints next count ∷ runs) = if is_unprintable code_point && code_point == next then CodePoints next (suc count) ∷ runs else CodePoints code_point 1 ∷ CodePoints next count ∷ runs
 
 abbrev pub with_symbol : Symbol → List Run → List Run
-with_symbol (Letter letter) runs = with_letter letter runs
+with_symbol (CodePoint code_point) runs = with_code_point code_point runs
 with_symbol (Sequence numbers) runs = Restyle numbers ∷ runs
 
 -- The runs of a text.
@@ -76,13 +76,13 @@ runs_of [] = []
 runs_of (symbol ∷ symbols) = with_symbol symbol (runs_of symbols)
 
 -- What a run shows. A sequence shows nothing.
-abbrev pub letters_text : ℕ → ℕ → List ℕ
-letters_text letter count = if is_odd letter then odd_text letter count else encode_utf8 letter
+abbrev pub code_points_text : ℕ → ℕ → List ℕ
+code_points_text code_point count = if is_unprintable code_point then unprintable_text code_point count else encode_utf8 code_point
 
 abbrev pub run_text : Run → List ℕ
-run_text (Letters letter count) = letters_text letter count
+run_text (CodePoints code_point count) = code_points_text code_point count
 run_text (Restyle numbers) = []
 
 -- What a reader sees of a text.
-abbrev pub shown_text : Form → List ℕ → List ℕ
-shown_text form bytes = flat_map run_text (runs_of (symbols form bytes))
+abbrev pub shown_text : TextKind → List ℕ → List ℕ
+shown_text kind bytes = flat_map run_text (runs_of (symbols kind bytes))

@@ -1,32 +1,32 @@
--- What a text consists of: letters, and the sequences by which compilers set colours.
+-- What a text consists of: code points, and the sequences by which compilers set colours.
 use Rattle.std.specs.Prelude.{ℕ, zero, suc, ◌+◌, ◌-◌, ◌*◌, min, Bool, true, false, ◌==◌, ◌||◌, ◌&&◌, nat_le, nat_lt, List, [], ◌∷◌, take, drop, Option, None, Some, slice_index, if◌then◌else◌}
 use Rattle.std.specs.List.{prefix_len}
 use Rattle.bstr.specs.Utf8.{decoded}
-use Rattle.redo_html.specs.declared.form.Form.{Form}
-use Rattle.redo_html.specs.declared.form.Form.TheVariants.{Log, Name, Title}
+use Rattle.redo_html.specs.declared.text_kind.TextKind.{TextKind}
+use Rattle.redo_html.specs.declared.text_kind.TextKind.TheVariants.{Log, Monochrome, Title}
 
--- A letter is a character of valid UTF-8, by its number. A byte that is no part of such a character is a letter of its own: its number is
+-- A code point is a character of valid UTF-8, by its number. A byte that is no part of such a character is a code point of its own: its number is
 -- U+DC00 plus the byte, which is the number of no character. (Python's `surrogateescape` does the same.)
 --
 -- A sequence is `ESC [`, parameters, and `m` or `K`. It has the numbers of an SGR sequence (`m`), or none (`K`, which erases a line).
 pub data Symbol : Type 0 where
-  Letter : ℕ → Symbol
+  CodePoint : ℕ → Symbol
   Sequence : List ℕ → Symbol
 
-abbrev pub letter_of : Option ℕ → ℕ → ℕ
-letter_of None byte = 0xDC00 + byte
-letter_of (Some character) byte = character
+abbrev pub code_point_of : Option ℕ → ℕ → ℕ
+code_point_of None byte = 0xDC00 + byte
+code_point_of (Some character) byte = character
 
 abbrev pub size_of : Option ℕ → ℕ → ℕ
 size_of None size = 1
 size_of (Some character) size = size
 
--- The letter at the start of some bytes, and the number of its bytes. Table 3-7 of the Unicode Standard defines which bytes are a character.
-unfoldable pub first_letter : List ℕ → ℕ
-first_letter bytes = letter_of (decoded bytes).char (slice_index bytes 0)
+-- The code point at the start of some bytes, and the number of its bytes. Table 3-7 of the Unicode Standard defines which bytes are a character.
+unfoldable pub first_code_point : List ℕ → ℕ
+first_code_point bytes = code_point_of (decoded bytes).char (slice_index bytes 0)
 
-unfoldable pub letter_len : List ℕ → ℕ
-letter_len bytes = size_of (decoded bytes).char (decoded bytes).size
+unfoldable pub code_point_len : List ℕ → ℕ
+code_point_len bytes = size_of (decoded bytes).char (decoded bytes).size
 
 -- Parameters are digits and semicolons.
 abbrev pub is_parameter : ℕ → Bool
@@ -55,29 +55,29 @@ numbers_from value (byte ∷ bytes) = if byte == 59 then value ∷ numbers_from 
 unfoldable pub sequence_numbers : List ℕ → List ℕ
 sequence_numbers bytes = if final_byte bytes == 109 then numbers_from 0 (take (parameter_count bytes) (drop 2 bytes)) else []
 
--- Only the text of a log has colours. In a name, each ESC is a letter.
-abbrev pub has_colours : Form → Bool
+-- Only the text of a log has colours. In a name, each ESC is a code point.
+abbrev pub has_colours : TextKind → Bool
 has_colours Log = true
-has_colours Name = false
+has_colours Monochrome = false
 has_colours Title = false
 
 -- Whether a sequence is at the start of some bytes.
-unfoldable pub is_sequence : Form → List ℕ → Bool
-is_sequence form bytes = has_colours form && nat_lt 0 (sequence_len bytes)
+unfoldable pub is_sequence : TextKind → List ℕ → Bool
+is_sequence kind bytes = has_colours kind && nat_lt 0 (sequence_len bytes)
 
 -- The first symbol of some bytes, and the number of its bytes.
-unfoldable pub first_symbol : Form → List ℕ → Symbol
-first_symbol form bytes = if is_sequence form bytes then Sequence (sequence_numbers bytes) else Letter (first_letter bytes)
+unfoldable pub first_symbol : TextKind → List ℕ → Symbol
+first_symbol kind bytes = if is_sequence kind bytes then Sequence (sequence_numbers bytes) else CodePoint (first_code_point bytes)
 
-unfoldable pub symbol_len : Form → List ℕ → ℕ
-symbol_len form bytes = if is_sequence form bytes then sequence_len bytes else letter_len bytes
+unfoldable pub symbol_len : TextKind → List ℕ → ℕ
+symbol_len kind bytes = if is_sequence kind bytes then sequence_len bytes else code_point_len bytes
 
 -- The symbols of some bytes, without the first `skipped` bytes, which belong to the symbol before them.
-unfoldable pub symbols_after : Form → ℕ → List ℕ → List Symbol
-symbols_after form skipped [] = []
-symbols_after form zero (byte ∷ bytes) = first_symbol form (byte ∷ bytes) ∷ symbols_after form (symbol_len form (byte ∷ bytes) - 1) bytes
-symbols_after form (suc skipped) (byte ∷ bytes) = symbols_after form skipped bytes
+unfoldable pub symbols_after : TextKind → ℕ → List ℕ → List Symbol
+symbols_after kind skipped [] = []
+symbols_after kind zero (byte ∷ bytes) = first_symbol kind (byte ∷ bytes) ∷ symbols_after kind (symbol_len kind (byte ∷ bytes) - 1) bytes
+symbols_after kind (suc skipped) (byte ∷ bytes) = symbols_after kind skipped bytes
 
 -- The symbols of a text.
-abbrev pub symbols : Form → List ℕ → List Symbol
-symbols form bytes = symbols_after form 0 bytes
+abbrev pub symbols : TextKind → List ℕ → List Symbol
+symbols kind bytes = symbols_after kind 0 bytes

@@ -36,7 +36,7 @@ pub enum GroupKind {
     /// Lines and ticks. `<g class="axis" stroke="#8886" fill="currentColor" stroke-width=".5">`
     Axis,
     /// Recipes that ran others. `<g class="w" fill="#8886">`
-    Parents,
+    Callers,
     /// Other recipes. `<g class="k" fill="#3a6ea5">`
     Recipes,
     /// Recipes of which the start or the end is unknown. `<g class="e" fill="#8a6d3b">`
@@ -72,11 +72,11 @@ pub enum Anchor {
     End,
 }
 
-/// A bar with a tooltip, which links to a target. It is `<a href="#tPLACE" tabindex="-1">` with a `rect`, or with an `svg` if it has a label.
+/// A bar with a tooltip, which links to a target. It is `<a href="#tN" tabindex="-1">` with a `rect`, or with an `svg` if it has a label.
 #[derive(Clone, Copy)]
 pub struct Bar<'a> {
     /// The number of the target, as in [`Markup::TargetLink`](crate::Markup::TargetLink).
-    pub place: u64,
+    pub target: u64,
     /// The position of its left end, in hundredths of a percent of the chart's width.
     pub x: u64,
     /// The position of its upper end, in pixels.
@@ -175,7 +175,7 @@ fn group_start(kind: GroupKind) -> &'static [u8]
         GroupKind::Axis => {
             b"<g class=\"axis\" stroke=\"#8886\" fill=\"currentColor\" stroke-width=\".5\">"
         }
-        GroupKind::Parents => b"<g class=\"w\" fill=\"#8886\">",
+        GroupKind::Callers => b"<g class=\"w\" fill=\"#8886\">",
         GroupKind::Recipes => b"<g class=\"k\" fill=\"#3a6ea5\">",
         GroupKind::Untimed => b"<g class=\"e\" fill=\"#8a6d3b\">",
     }
@@ -252,7 +252,7 @@ fn write_bar<W: Sink>(kind: GroupKind, bar: Bar<'_>, out: &mut W) -> Result<(), 
     write_fragments(
         &[
             Fragment::Html(b"<a href=\"#t"),
-            Fragment::Number(bar.place),
+            Fragment::Number(bar.target),
             Fragment::Html(b"\" tabindex=\"-1\">"),
         ],
         out,
@@ -345,7 +345,7 @@ fn fill_of_label(kind: GroupKind, failed: bool) -> &'static [u8]
     ensures { result.now ≡ label_fill kind failed }
 {
     match kind {
-        GroupKind::Parents if !failed => b"currentColor",
+        GroupKind::Callers if !failed => b"currentColor",
         _ => b"#fff",
     }
 }

@@ -2,8 +2,8 @@
 ghost use Rattle.std.specs.Prelude.{◌≡◌, ◌++◌, ℕ, true, [], List, IsUtf8};
 ghost use Rattle.std.specs.List.{flat_map, list_all};
 ghost use Rattle.redo_line.specs.Lines.{with_line_feed};
-ghost use Rattle.redo_html.specs.declared.form.Form.{Form};
-ghost use Rattle.redo_html.specs.declared.form.Form.TheVariants.{Log, Title};
+ghost use Rattle.redo_html.specs.declared.text_kind.TextKind.{TextKind};
+ghost use Rattle.redo_html.specs.declared.text_kind.TextKind.TheVariants.{Log, Title};
 ghost use Rattle.redo_html.specs.declared.style.Style.{Style};
 ghost use Rattle.redo_html.specs.Style.{plain_style};
 ghost use Rattle.redo_html.specs.Passage.{passage_html, passage_tokens};
@@ -15,9 +15,9 @@ ghost use Rattle.redo_html.specs.Parts.{Part, part_html, part_tokens, part_text}
 ghost use Rattle.redo_html.specs.Parts.Part.{ChartPart};
 ghost use Rattle.redo_html.specs.Shown.{shown_text};
 
-/// Whatever the bytes and the style at their start are, they are read as the text that is shown, and as no other tags than marks, which nest.
+/// Whatever the bytes and the style at their start are, they are read as the text that is shown, and as no other tags than highlights, which nest.
 pub fn passages_are_read_as_shown()
-    ensures { (form : Form) (style : Style) (bytes : List ℕ) → IsReadAsShown form style bytes }
+    ensures { (kind : TextKind) (style : Style) (bytes : List ℕ) → IsReadAsShown kind style bytes }
 {}
 
 /// A title has no tags.
@@ -27,8 +27,8 @@ pub fn titles_have_no_tags()
 
 /// Printable ASCII is shown as it is, and, without `&`, `<` and `>`, written as it is.
 pub fn plain_text_is_unchanged()
-    ensures shown { (form : Form) (bytes : List ℕ) → list_all is_plain bytes ≡ true → shown_text form bytes ≡ bytes }
-    ensures written { (form : Form) (bytes : List ℕ) → list_all is_plain bytes ≡ true → passage_html form plain_style bytes ≡ bytes }
+    ensures shown { (kind : TextKind) (bytes : List ℕ) → list_all is_plain bytes ≡ true → shown_text kind bytes ≡ bytes }
+    ensures written { (kind : TextKind) (bytes : List ℕ) → list_all is_plain bytes ≡ true → passage_html kind plain_style bytes ≡ bytes }
 {}
 
 /// The parts of a page are read as what they are: each tag as itself, and text as characters.
@@ -52,9 +52,9 @@ pub fn plain_lines_are_one_text()
 
 /// Whatever the bytes are, what is shown of them is valid UTF-8, and so is the HTML of a page.
 pub fn html_is_utf8()
-    ensures shown { (form : Form) (bytes : List ℕ) → list_all is_byte bytes ≡ true → IsUtf8 (shown_text form bytes) }
-    ensures passages { (form : Form) (style : Style) (bytes : List ℕ) → list_all is_byte bytes ≡ true →
-        IsUtf8 (passage_html form style bytes) }
+    ensures shown { (kind : TextKind) (bytes : List ℕ) → list_all is_byte bytes ≡ true → IsUtf8 (shown_text kind bytes) }
+    ensures passages { (kind : TextKind) (style : Style) (bytes : List ℕ) → list_all is_byte bytes ≡ true →
+        IsUtf8 (passage_html kind style bytes) }
     ensures parts { (parts : List Part) → list_all has_bytes parts ≡ true → IsUtf8 (flat_map part_html parts) }
 {}
 

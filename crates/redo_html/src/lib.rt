@@ -7,29 +7,29 @@
 //!
 //! # Terms
 //!
-//! - *Letter*: a character of a text, or one byte that is no part of a character.
+//! - *Code point*: a character of a text, or one byte that is no part of a character, which counts as U+DC00 plus the byte.
 //! - *Sequence*: `ESC [`, digits and semicolons, and `m` (SGR, which sets colours) or `K` (which erases a line).
-//! - *Odd letter*: a letter that a browser would hide, change or act on: a control character, an invalid byte, an
-//!   invisible or bidirectional character. Its *picture* is shown instead: `^M`, `\xff`, `[U+202E]`.
-//! - *Passage*: a text that begins with a style, and of which all marks end at its end. A *mark* is an element around odd
-//!   letters or for a style.
+//! - *Unprintable code point*: a code point that a browser would hide, change or act on: a control character, an invalid byte, an
+//!   invisible or bidirectional character. Its *notation* is shown instead: `^M`, `\xff`, `[U+202E]`.
+//! - *Passage*: a text that begins with a style, and of which all highlights end at its end. A *highlight* is an element around unprintable
+//!   code points or for a style.
 //! - *Markup*: a tag of a page.
 //! - *Chart*: bars over time, drawn by one `svg` element. A *meter* is a bar in a cell of a table.
 //!
 //! # Design
 //!
-//! **Text** (`Symbols`, `Shown`). From five equal odd letters in a row on, one picture and a count are shown. In logs, the
-//! sequences by which compilers set colours are consumed, and all other escape characters are odd letters.
+//! **Text** (`Symbols`, `Shown`). From five equal unprintable code points in a row on, one notation and a count are shown. In
+//! logs, the sequences by which compilers set colours are consumed, and all other escape characters are unprintable.
 //!
-//! **Marks** (`Passage`, `Style`). Odd letters, bold text and six hues have elements. A `Look` has the style of the next
-//! letter and what is open. All elements that are begun in a passage end in it. The marks between two letters are written
-//! before the second letter, so a sequence that changes nothing writes nothing. What is bold, and in which hue, is part of
+//! **Highlights** (`Passage`, `Style`). Unprintable code points, bold text and six hues have elements. A `Look` has the style of the next
+//! code point and what is open. All elements that are begun in a passage end in it. The highlights between two code points are written
+//! before the second code point, so a sequence that changes nothing writes nothing. What is bold, and in which hue, is part of
 //! the definition of a passage. Background colours and concealed text are ignored, because they can hide what a log says.
 //!
 //! **Lines** (`Lines`). Each line of a log is a passage, and begins with the style after the line before it.
 //! [`write_log_lines`] takes the style at the start of some lines and sets it to the one at their end, so several calls may write
 //! the lines of a log. The crates above begin each block of lines with the plain style, and there a style of the log ends.
-//! Lines without escape characters are written as one passage, which has the same HTML: no symbol, run of letters or mark goes
+//! Lines without escape characters are written as one passage, which has the same HTML: no symbol, run of code points or highlight goes
 //! past a line feed.
 //!
 //! **Reading** (`Html`). The tokenizer of the HTML standard, in the states that a page needs. The laws compose: each part
@@ -37,7 +37,7 @@
 //! modelled states is lost, and no law allows that. The model reads tokens, not the tree that a browser builds. It knows
 //! three rules of the tree: the text of `title` and `style` is read by other states, a line feed directly after `<pre>`
 //! is dropped, and an `svg` is foreign content. There, HTML elements would end the `svg`, and an end tag that ends none of
-//! its elements could end HTML around it. So the place of the text has the elements that are open in the `svg`: only
+//! its elements could end HTML around it. So the context of the text has the elements that are open in the `svg`: only
 //! elements of SVG may begin, and only the innermost one may end. Nothing may begin in a `title` of SVG, because a browser
 //! reads start tags there as HTML. Only elements of a list are read, because others switch the tokenizer to other states.
 //! The model reads bytes, and a browser decodes them first: whatever the bytes of a log are, the page is valid UTF-8
@@ -48,27 +48,27 @@
 //!
 //! **Charts** (`Chart`). A chart is typed data: groups of lines, ticks and bars, with numbers and texts. The definition
 //! makes elements of it, whose attributes have text of the program, numbers and percentages. So elements nest by type. The
-//! texts are passages without marks, because a mark is an HTML element. Three laws about charts depend on one lemma: it
-//! computes, from the place before an element, the place after it (`next_place`). The laws also state that the tags of a
+//! texts are passages without highlights, because a highlight is an HTML element. Three laws about charts depend on one lemma: it
+//! computes, from the context before an element, the context after it (`next_context`). The laws also state that the tags of a
 //! chart stay the same with other texts, and that only the markup of a page decides whether its tags nest.
 //!
-//! **Speed.** A stretch of letters that are written as they are (`verbatim_len`) is one write. Bytes of ASCII are tested in
-//! blocks, without a branch for each byte, so that the compiler can test several at once. Every other letter is a write of
+//! **Speed.** A stretch of code points that are written as they are (`verbatim_len`) is one write. Bytes of ASCII are tested in
+//! strides, without a branch for each byte, so that the compiler can test several at once. Every other code point is a write of
 //! its own, and so is each number and each fixed text of a chart.
 #![tactic(auto)]
 
 mod chart;
-mod form;
 mod laws;
 mod lines;
 mod look;
 mod markup;
+mod notation;
 mod passage;
-mod picture;
 mod piece;
 mod style;
 mod style_sheet;
 mod symbol;
+mod text_kind;
 
 pub use chart::{Anchor, Bar, Chart, ChartGroup, ChartItem, GroupKind, write_chart, write_meter};
 pub use laws::{
@@ -78,6 +78,6 @@ pub use laws::{
 };
 pub use lines::write_log_lines;
 pub use markup::{Markup, write_markup, write_number};
-pub use passage::{write_log_text, write_name, write_title_text};
+pub use passage::{write_log_text, write_text, write_title_text};
 pub use piece::{Piece, write_pieces};
 pub use style::{Hue, Style};

@@ -6,9 +6,9 @@ ghost use Rattle.redo_line.specs.Lines.{ended, rest};
 ghost use Rattle.redo_html.specs.Lines.{is_no_escape, lines_html, style_after_lines};
 ghost use Rattle.redo_html.specs.Private.Writing.{BeginsPassage};
 
-use crate::form::Form;
 use crate::passage::write_passage;
 use crate::style::{Style, has_own_element};
+use crate::text_kind::TextKind;
 use memchr::{memchr, memrchr};
 use redo_device::{Broken, Sink};
 
@@ -27,7 +27,7 @@ pub fn write_log_lines<W: Sink>(style: &mut Style, lines: &[u8], out: &mut W) ->
     while done < lines.len() {
         let left = &lines[done..];
         let len = passage_len(current, left);
-        current = write_passage(Form::Log, current, &left[..len], out)?;
+        current = write_passage(TextKind::Log, current, &left[..len], out)?;
         done += len;
     }
     *style = current;

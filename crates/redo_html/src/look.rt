@@ -1,47 +1,47 @@
-//! Which marks are open in a passage.
+//! Which highlights are open in a passage.
 ghost use Rattle.std.specs.Prelude.{◌≡◌};
-ghost use Rattle.redo_html.specs.Passage.{start_look, after_letter, with_wanted};
+ghost use Rattle.redo_html.specs.Passage.{start_look, after_code_point, with_wanted};
 
 use crate::style::Style;
 
-/// The style of the next letter, and what is open in the passage: the mark of a style, and within it, if `odd` is set, the mark for odd
-/// letters.
+/// The style of the next code point, and what is open in the passage: the highlight of a style, and within it, if `unprintable` is set,
+/// the highlight for unprintable code points.
 #[derive(Clone, Copy)]
 pub struct Look {
     pub wanted: Style,
     pub current: Style,
-    pub odd: bool,
+    pub unprintable: bool,
 }
 
-/// Returns the look at the start of a passage that begins with this style: no mark is open.
+/// Returns the look at the start of a passage that begins with this style: no highlight is open.
 pub fn at_start(style: Style) -> Look
     ensures { result ≡ start_look style }
 {
     Look {
         wanted: style,
         current: Style::PLAIN,
-        odd: false,
+        unprintable: false,
     }
 }
 
-/// Returns the look after a letter.
-pub fn with_letter(look: Look, odd: bool) -> Look
-    ensures { result ≡ after_letter look odd }
+/// Returns the look after a code point.
+pub fn with_code_point(look: Look, unprintable: bool) -> Look
+    ensures { result ≡ after_code_point look unprintable }
 {
     Look {
         wanted: look.wanted,
         current: look.wanted,
-        odd,
+        unprintable,
     }
 }
 
-/// Returns the look with another style for the next letter.
+/// Returns the look with another style for the next code point.
 pub fn with_style(look: Look, style: Style) -> Look
     ensures { result ≡ with_wanted look style }
 {
     Look {
         wanted: style,
         current: look.current,
-        odd: look.odd,
+        unprintable: look.unprintable,
     }
 }

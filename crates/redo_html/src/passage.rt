@@ -1,39 +1,39 @@
-//! Passages of text: writes what they show, with marks for odd letters and for styles.
+//! Passages of text: writes what they show, with highlights for unprintable code points and for styles.
 ghost use Rattle.std.specs.Prelude.{◌≡◌, ◌≤◌, ◌<◌, ◌↔◌, ◌∷◌, ◌++◌, ◌&&◌, not, [], true, false, IsTrue, Some, length, take, encode_utf8};
 ghost use Rattle.std.specs.List.{flat_map, list_all};
 ghost use Rattle.redo_device.specs.Sink.{Writes};
-ghost use Rattle.redo_html.specs.declared.form.Form.TheVariants as form;
-ghost use Rattle.redo_html.specs.Passage.{escaped, has_element, is_same_style, mark_text, has_marks, inline_html, marks_between, passage_html, html_from};
+ghost use Rattle.redo_html.specs.declared.text_kind.TextKind.TheVariants as text_kind;
+ghost use Rattle.redo_html.specs.Passage.{escaped, has_element, is_same_style, highlight_text, has_highlights, inline_html, highlights_between, passage_html, html_from};
 ghost use Rattle.redo_html.specs.Passage.Inline.{StyleStart, StyleEnd};
 ghost use Rattle.redo_html.specs.Laws.{is_plain};
 ghost use Rattle.redo_html.specs.Style.{plain_style};
-ghost use Rattle.redo_html.specs.Shown.{is_odd};
+ghost use Rattle.redo_html.specs.Shown.{is_unprintable};
 ghost use Rattle.redo_html.specs.Symbols.{first_symbol, symbol_len};
-ghost use Rattle.redo_html.specs.Symbols.Symbol.{Letter};
-ghost use Rattle.redo_html.specs.Private.Writing.{WrotePassage, WroteSomeOrFailed, IsRepeated, IsVerbatim, optional_mark};
+ghost use Rattle.redo_html.specs.Symbols.Symbol.{CodePoint};
+ghost use Rattle.redo_html.specs.Private.Writing.{WrotePassage, WroteSomeOrFailed, IsRepeated, IsVerbatim, optional_highlight};
 
-use crate::form::Form;
-use crate::look::{Look, at_start, with_letter, with_style};
-use crate::picture::write_odd;
+use crate::look::{Look, at_start, with_code_point, with_style};
+use crate::notation::write_unprintable;
 use crate::style::{Hue, Style, after_sequence, has_own_element, is_same};
-use crate::symbol::{is_odd_letter, symbol_at, verbatim_len};
+use crate::symbol::{is_unprintable_code_point, symbol_at, verbatim_len};
+use crate::text_kind::TextKind;
 use redo_device::{Broken, Sink, push_all};
 
 /// Writes text of a log that begins with this style. Its colours are shown, and end with the text.
 pub fn write_log_text<W: Sink>(style: Style, bytes: &[u8], out: &mut W) -> Result<(), Broken>
-    ensures { Writes (W.written out.old) (W.written out.new) (passage_html form.Log style bytes.now) result }
+    ensures { Writes (W.written out.old) (W.written out.new) (passage_html text_kind.Log style bytes.now) result }
 {
-    match write_passage(Form::Log, style, bytes, out) {
+    match write_passage(TextKind::Log, style, bytes, out) {
         Ok(_) => Ok(()),
         Err(broken) => Err(broken),
     }
 }
 
 /// Writes a name, or words of the program.
-pub fn write_name<W: Sink>(bytes: &[u8], out: &mut W) -> Result<(), Broken>
-    ensures { Writes (W.written out.old) (W.written out.new) (passage_html form.Name plain_style bytes.now) result }
+pub fn write_text<W: Sink>(bytes: &[u8], out: &mut W) -> Result<(), Broken>
+    ensures { Writes (W.written out.old) (W.written out.new) (passage_html text_kind.Monochrome plain_style bytes.now) result }
 {
-    match write_passage(Form::Name, Style::PLAIN, bytes, out) {
+    match write_passage(TextKind::Monochrome, Style::PLAIN, bytes, out) {
         Ok(_) => Ok(()),
         Err(broken) => Err(broken),
     }
@@ -41,9 +41,9 @@ pub fn write_name<W: Sink>(bytes: &[u8], out: &mut W) -> Result<(), Broken>
 
 /// Writes the text of a title, which has no elements.
 pub fn write_title_text<W: Sink>(bytes: &[u8], out: &mut W) -> Result<(), Broken>
-    ensures { Writes (W.written out.old) (W.written out.new) (passage_html form.Title plain_style bytes.now) result }
+    ensures { Writes (W.written out.old) (W.written out.new) (passage_html text_kind.Title plain_style bytes.now) result }
 {
-    match write_passage(Form::Title, Style::PLAIN, bytes, out) {
+    match write_passage(TextKind::Title, Style::PLAIN, bytes, out) {
         Ok(_) => Ok(()),
         Err(broken) => Err(broken),
     }
@@ -51,57 +51,57 @@ pub fn write_title_text<W: Sink>(bytes: &[u8], out: &mut W) -> Result<(), Broken
 
 /// Writes a passage that begins with this style. Returns the style at its end.
 pub fn write_passage<W: Sink>(
-    form: Form,
+    kind: TextKind,
     style: Style,
     bytes: &[u8],
     out: &mut W,
 ) -> Result<Style, Broken>
-    ensures { WrotePassage (W.written out.old) (W.written out.new) form style bytes.now result }
+    ensures { WrotePassage (W.written out.old) (W.written out.new) kind style bytes.now result }
 {
     let mut look = at_start(style);
     let mut done = 0;
     while done < bytes.len() {
-        let (next, len) = write_some(form, look, &bytes[done..], out)?;
+        let (next, len) = write_some(kind, look, &bytes[done..], out)?;
         look = next;
         done += len;
     }
-    write_end(form, look, out)?;
+    write_end(kind, look, out)?;
     Ok(look.wanted)
 }
 
 // Writes the start of the rest of a passage, which isn't empty. Returns the look after it, and the number of its bytes.
 fn write_some<W: Sink>(
-    form: Form,
+    kind: TextKind,
     look: Look,
     bytes: &[u8],
     out: &mut W,
 ) -> Result<(Look, usize), Broken>
     requires { 0 < length bytes.now }
-    ensures { WroteSomeOrFailed (W.written out.old) (W.written out.new) form look bytes.now result }
+    ensures { WroteSomeOrFailed (W.written out.old) (W.written out.new) kind look bytes.now result }
 {
     let verbatim = verbatim_len(bytes);
     if verbatim > 0 {
-        return write_verbatim(form, look, bytes, verbatim, out);
+        return write_verbatim(kind, look, bytes, verbatim, out);
     }
-    let (symbol, len) = symbol_at(form, bytes);
+    let (symbol, len) = symbol_at(kind, bytes);
     match symbol {
         None => Ok((
             with_style(look, after_sequence(look.wanted, bytes, len)),
             len,
         )),
-        Some(letter) => {
-            if is_odd_letter(letter) {
-                write_odd_run(form, look, letter, bytes, out)
+        Some(code_point) => {
+            if is_unprintable_code_point(code_point) {
+                write_unprintable_run(kind, look, code_point, bytes, out)
             } else {
-                write_visible(form, look, letter, bytes, len, out)
+                write_visible(kind, look, code_point, bytes, len, out)
             }
         }
     }
 }
 
-// Writes letters that are written as they are.
+// Writes code points that are written as they are.
 fn write_verbatim<W: Sink>(
-    form: Form,
+    kind: TextKind,
     look: Look,
     bytes: &[u8],
     len: usize,
@@ -109,63 +109,63 @@ fn write_verbatim<W: Sink>(
 ) -> Result<(Look, usize), Broken>
     requires some { 0 < len }
     requires verbatim { IsVerbatim bytes.now len }
-    ensures { WroteSomeOrFailed (W.written out.old) (W.written out.new) form look bytes.now result }
+    ensures { WroteSomeOrFailed (W.written out.old) (W.written out.new) kind look bytes.now result }
 {
-    write_marks(form, look, false, out)?;
+    write_highlights(kind, look, false, out)?;
     push_all(out, &bytes[..len])?;
-    Ok((with_letter(look, false), len))
+    Ok((with_code_point(look, false), len))
 }
 
-// Writes a letter that is not odd.
+// Writes a code point that is not unprintable.
 fn write_visible<W: Sink>(
-    form: Form,
+    kind: TextKind,
     look: Look,
-    letter: u32,
+    code_point: u32,
     bytes: &[u8],
     len: usize,
     out: &mut W,
 ) -> Result<(Look, usize), Broken>
     requires some { 0 < length bytes.now }
-    requires letter { first_symbol form bytes.now ≡ Letter letter }
-    requires visible { is_odd letter ≡ false }
-    requires len { len ≡ symbol_len form bytes.now }
-    ensures { WroteSomeOrFailed (W.written out.old) (W.written out.new) form look bytes.now result }
+    requires code_point { first_symbol kind bytes.now ≡ CodePoint code_point }
+    requires visible { is_unprintable code_point ≡ false }
+    requires len { len ≡ symbol_len kind bytes.now }
+    ensures { WroteSomeOrFailed (W.written out.old) (W.written out.new) kind look bytes.now result }
 {
-    write_marks(form, look, false, out)?;
-    write_letter(letter, &bytes[..len], out)?;
-    Ok((with_letter(look, false), len))
+    write_highlights(kind, look, false, out)?;
+    write_code_point(code_point, &bytes[..len], out)?;
+    Ok((with_code_point(look, false), len))
 }
 
-// Writes the odd letter at the start, as often as it occurs in a row.
-fn write_odd_run<W: Sink>(
-    form: Form,
+// Writes the unprintable code point at the start, as often as it occurs in a row.
+fn write_unprintable_run<W: Sink>(
+    kind: TextKind,
     look: Look,
-    letter: u32,
+    code_point: u32,
     bytes: &[u8],
     out: &mut W,
 ) -> Result<(Look, usize), Broken>
     requires some { 0 < length bytes.now }
-    requires letter { first_symbol form bytes.now ≡ Letter letter }
-    requires odd { is_odd letter ≡ true }
-    ensures { WroteSomeOrFailed (W.written out.old) (W.written out.new) form look bytes.now result }
+    requires code_point { first_symbol kind bytes.now ≡ CodePoint code_point }
+    requires unprintable { is_unprintable code_point ≡ true }
+    ensures { WroteSomeOrFailed (W.written out.old) (W.written out.new) kind look bytes.now result }
 {
-    let (count, len) = repeats(form, letter, bytes);
-    write_marks(form, look, true, out)?;
-    write_odd(letter, count, out)?;
-    Ok((with_letter(look, true), len))
+    let (count, len) = repeats(kind, code_point, bytes);
+    write_highlights(kind, look, true, out)?;
+    write_unprintable(code_point, count, out)?;
+    Ok((with_code_point(look, true), len))
 }
 
-// Returns how often the letter at the start occurs in a row, and the number of bytes of all of them.
-fn repeats(form: Form, letter: u32, bytes: &[u8]) -> (usize, usize)
+// Returns how often the code point at the start occurs in a row, and the number of bytes of all of them.
+fn repeats(kind: TextKind, code_point: u32, bytes: &[u8]) -> (usize, usize)
     requires some { 0 < length bytes.now }
-    requires letter { first_symbol form bytes.now ≡ Letter letter }
-    ensures { IsRepeated form letter bytes.now result.0 result.1 }
+    requires code_point { first_symbol kind bytes.now ≡ CodePoint code_point }
+    ensures { IsRepeated kind code_point bytes.now result.0 result.1 }
 {
     let mut count = 0;
     let mut len = 0;
     while len < bytes.len() {
-        let (symbol, more) = symbol_at(form, &bytes[len..]);
-        if !is_letter(symbol, letter) {
+        let (symbol, more) = symbol_at(kind, &bytes[len..]);
+        if !is_code_point(symbol, code_point) {
             return (count, len);
         }
         count += 1;
@@ -174,61 +174,66 @@ fn repeats(form: Form, letter: u32, bytes: &[u8]) -> (usize, usize)
     (count, len)
 }
 
-fn is_letter(symbol: Option<u32>, letter: u32) -> bool
-    ensures { IsTrue result ↔ (symbol ≡ Some letter) }
+fn is_code_point(symbol: Option<u32>, code_point: u32) -> bool
+    ensures { IsTrue result ↔ (symbol ≡ Some code_point) }
 {
     match symbol {
-        Some(other) => other == letter,
+        Some(other) => other == code_point,
         None => false,
     }
 }
 
-// Writes a letter whose bytes these are.
-fn write_letter<W: Sink>(letter: u32, bytes: &[u8], out: &mut W) -> Result<(), Broken>
-    requires { bytes.now ≡ encode_utf8 letter }
-    ensures { Writes (W.written out.old) (W.written out.new) (escaped (encode_utf8 letter)) result }
+// Writes a code point whose bytes these are.
+fn write_code_point<W: Sink>(code_point: u32, bytes: &[u8], out: &mut W) -> Result<(), Broken>
+    requires { bytes.now ≡ encode_utf8 code_point }
+    ensures { Writes (W.written out.old) (W.written out.new) (escaped (encode_utf8 code_point)) result }
 {
-    if letter == 38 {
+    if code_point == 38 {
         push_all(out, b"&amp;")
-    } else if letter == 60 {
+    } else if code_point == 60 {
         push_all(out, b"&lt;")
-    } else if letter == 62 {
+    } else if code_point == 62 {
         push_all(out, b"&gt;")
     } else {
         push_all(out, bytes)
     }
 }
 
-// Writes the marks before a letter.
-fn write_marks<W: Sink>(form: Form, look: Look, odd: bool, out: &mut W) -> Result<(), Broken>
-    ensures { Writes (W.written out.old) (W.written out.new) (flat_map (inline_html form) (marks_between look odd)) result }
+// Writes the highlights before a code point.
+fn write_highlights<W: Sink>(
+    kind: TextKind,
+    look: Look,
+    unprintable: bool,
+    out: &mut W,
+) -> Result<(), Broken>
+    ensures { Writes (W.written out.old) (W.written out.new) (flat_map (inline_html kind) (highlights_between look unprintable)) result }
 {
-    let odd_ends = ends_odd(look, odd);
+    let unprintable_ends = ends_unprintable(look, unprintable);
     let style_ends = ends_style(look);
     let style_starts = starts_style(look);
-    let odd_starts = starts_odd(look, odd);
+    let unprintable_starts = starts_unprintable(look, unprintable);
     let end_tag = style_end_tag(look.current);
     let start_tag = style_start_tag(look.wanted);
-    write_mark(form, odd_ends, b"</i>", out)?;
-    write_mark(form, style_ends, end_tag, out)?;
-    write_mark(form, style_starts, start_tag, out)?;
-    write_mark(form, odd_starts, b"<i>", out)
+    write_highlight(kind, unprintable_ends, b"</i>", out)?;
+    write_highlight(kind, style_ends, end_tag, out)?;
+    write_highlight(kind, style_starts, start_tag, out)?;
+    write_highlight(kind, unprintable_starts, b"<i>", out)
 }
 
-// Returns whether the mark for odd letters ends before a letter.
-fn ends_odd(look: Look, odd: bool) -> bool
-    ensures { result ≡ (look.odd && not (is_same_style look.wanted look.current && odd)) }
+// Returns whether the highlight for unprintable code points ends before a code point.
+fn ends_unprintable(look: Look, unprintable: bool) -> bool
+    ensures { result ≡ (look.unprintable && not (is_same_style look.wanted look.current && unprintable)) }
 {
-    look.odd && !(is_same(look.wanted, look.current) && odd)
+    look.unprintable && !(is_same(look.wanted, look.current) && unprintable)
 }
 
-fn starts_odd(look: Look, odd: bool) -> bool
-    ensures { result ≡ (odd && not (is_same_style look.wanted look.current && look.odd)) }
+fn starts_unprintable(look: Look, unprintable: bool) -> bool
+    ensures { result ≡ (unprintable && not (is_same_style look.wanted look.current && look.unprintable)) }
 {
-    odd && !(is_same(look.wanted, look.current) && look.odd)
+    unprintable && !(is_same(look.wanted, look.current) && look.unprintable)
 }
 
-// Returns whether the mark of the open style ends before the next letter.
+// Returns whether the highlight of the open style ends before the next code point.
 fn ends_style(look: Look) -> bool
     ensures { result ≡ (not (is_same_style look.wanted look.current) && has_element look.current) }
 {
@@ -241,37 +246,42 @@ fn starts_style(look: Look) -> bool
     !is_same(look.wanted, look.current) && has_own_element(look.wanted)
 }
 
-// Writes the marks at the end of a passage.
-fn write_end<W: Sink>(form: Form, look: Look, out: &mut W) -> Result<(), Broken>
-    ensures { Writes (W.written out.old) (W.written out.new) (html_from form look []) result }
+// Writes the highlights at the end of a passage.
+fn write_end<W: Sink>(kind: TextKind, look: Look, out: &mut W) -> Result<(), Broken>
+    ensures { Writes (W.written out.old) (W.written out.new) (html_from kind look []) result }
 {
     let style_ends = has_own_element(look.current);
     let end_tag = style_end_tag(look.current);
-    write_mark(form, look.odd, b"</i>", out)?;
-    write_mark(form, style_ends, end_tag, out)
+    write_highlight(kind, look.unprintable, b"</i>", out)?;
+    write_highlight(kind, style_ends, end_tag, out)
 }
 
-fn write_mark<W: Sink>(form: Form, wanted: bool, tag: &[u8], out: &mut W) -> Result<(), Broken>
-    ensures { Writes (W.written out.old) (W.written out.new) (optional_mark form wanted tag.now) result }
+fn write_highlight<W: Sink>(
+    kind: TextKind,
+    wanted: bool,
+    tag: &[u8],
+    out: &mut W,
+) -> Result<(), Broken>
+    ensures { Writes (W.written out.old) (W.written out.new) (optional_highlight kind wanted tag.now) result }
 {
-    if wanted && shows_marks(form) {
+    if wanted && shows_highlights(kind) {
         push_all(out, tag)
     } else {
         Ok(())
     }
 }
 
-fn shows_marks(form: Form) -> bool
-    ensures { result ≡ has_marks form }
+fn shows_highlights(kind: TextKind) -> bool
+    ensures { result ≡ has_highlights kind }
 {
-    match form {
-        Form::Log | Form::Name => true,
-        Form::Title => false,
+    match kind {
+        TextKind::Log | TextKind::Monochrome => true,
+        TextKind::Title => false,
     }
 }
 
 fn style_start_tag(style: Style) -> &'static [u8]
-    ensures { result.now ≡ 60 ∷ (mark_text (StyleStart style) ++ 62 ∷ []) }
+    ensures { result.now ≡ 60 ∷ (highlight_text (StyleStart style) ++ 62 ∷ []) }
 {
     if style.bold {
         match style.hue {
@@ -297,7 +307,7 @@ fn style_start_tag(style: Style) -> &'static [u8]
 }
 
 fn style_end_tag(style: Style) -> &'static [u8]
-    ensures { result.now ≡ 60 ∷ (mark_text (StyleEnd style) ++ 62 ∷ []) }
+    ensures { result.now ≡ 60 ∷ (highlight_text (StyleEnd style) ++ 62 ∷ []) }
 {
     if style.bold { b"</b>" } else { b"</span>" }
 }

@@ -7,7 +7,7 @@ ghost use Rattle.redo_html.specs.Parts.Part.{StylePart, TitlePart};
 
 use crate::chart::{Chart, write_chart, write_meter};
 use crate::markup::{Markup, write_markup, write_number};
-use crate::passage::{write_log_text, write_name, write_title_text};
+use crate::passage::{write_log_text, write_text, write_title_text};
 use crate::style::Style;
 use crate::style_sheet::STYLE_SHEET;
 use redo_device::{Broken, Sink, push_all};
@@ -19,8 +19,8 @@ pub enum Piece<'a> {
     Markup(Markup),
     /// Text of a log that begins with this style. Its colours are shown, and end with it.
     Log(Style, &'a [u8]),
-    /// A name, or words of the program: any bytes, without colours.
-    Name(&'a [u8]),
+    /// Any bytes, without colours: a name, or words of the program.
+    Text(&'a [u8]),
     /// A number in decimal.
     Number(u64),
     /// The element `title` with this text. It belongs into the head of the page.
@@ -49,7 +49,7 @@ fn write_piece<W: Sink>(piece: Piece<'_>, out: &mut W) -> Result<(), Broken>
     match piece {
         Piece::Markup(markup) => write_markup(markup, out),
         Piece::Log(style, text) => write_log_text(style, text, out),
-        Piece::Name(name) => write_name(name, out),
+        Piece::Text(text) => write_text(text, out),
         Piece::Number(number) => write_number(number, out),
         Piece::Title(title) => write_title(title, out),
         Piece::StyleSheet => write_style_sheet(out),

@@ -17,7 +17,7 @@ pub enum Hue {
     Cyan,
 }
 
-/// How letters look.
+/// How text looks.
 #[derive(Clone, Copy, Debug, PartialEq, Eq)]
 pub struct Style {
     pub bold: bool,

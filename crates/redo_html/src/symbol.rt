@@ -1,12 +1,12 @@
-//! The symbols of a text: letters, and sequences that set colours.
+//! The symbols of a text: code points, and sequences that set colours.
 ghost use Rattle.std.specs.Prelude.{◌≡◌, ◌≤◌, ◌<◌, ◌==◌, ◌||◌, true, length, take, slice_index};
 ghost use Rattle.std.specs.List.{list_all, list_any, prefix_len};
 ghost use Rattle.redo_html.specs.Laws.{is_plain};
-ghost use Rattle.redo_html.specs.Shown.{is_odd, is_control, is_between, unseen_ranges};
-ghost use Rattle.redo_html.specs.Symbols.{first_letter, letter_len, is_parameter, sequence_len, has_colours, first_symbol, symbol_len};
-ghost use Rattle.redo_html.specs.Private.Writing.{IsVerbatim, oddness_if, symbol_letter};
+ghost use Rattle.redo_html.specs.Shown.{is_unprintable, is_control, is_between, unseen_ranges};
+ghost use Rattle.redo_html.specs.Symbols.{first_code_point, code_point_len, is_parameter, sequence_len, has_colours, first_symbol, symbol_len};
+ghost use Rattle.redo_html.specs.Private.Writing.{IsVerbatim, unprintable_bit_if, symbol_code_point};
 
-use crate::form::Form;
+use crate::text_kind::TextKind;
 use bstr::decode_utf8;
 
 // Characters that can't be seen, by their first and last numbers, and bytes that are no part of a character. The ranges are in
@@ -33,9 +33,9 @@ const UNSEEN: [(u32, u32); 18] = [
 ];
 
 // The number of bytes that are tested at once.
-const BLOCK: usize = 32;
+const STRIDE: usize = 32;
 
-/// Returns the number of bytes at the start that are letters which are written as they are.
+/// Returns the number of bytes at the start that are code points which are written as they are.
 pub fn verbatim_len(bytes: &[u8]) -> usize
     ensures { IsVerbatim bytes.now result }
 {
@@ -51,7 +51,7 @@ pub fn verbatim_len(bytes: &[u8]) -> usize
     len
 }
 
-// Returns the number of bytes of the first letter if it is visible and not in ASCII, or 0 otherwise.
+// Returns the number of bytes of the first code point if it is visible and not in ASCII, or 0 otherwise.
 fn visible_len(bytes: &[u8]) -> usize
     requires { 0 < length bytes.now }
     ensures { IsVerbatim bytes.now result }
@@ -61,7 +61,7 @@ fn visible_len(bytes: &[u8]) -> usize
     }
     match decode_utf8(bytes) {
         (Some(character), len) => {
-            if is_odd_letter(u32::from(character)) {
+            if is_unprintable_code_point(u32::from(character)) {
                 0
             } else {
                 len
@@ -76,21 +76,21 @@ fn plain_len(bytes: &[u8]) -> usize
     ensures within { result ≤ length bytes.now }
     ensures plain { list_all is_plain (take result bytes.now) ≡ true }
 {
-    let len = plain_blocks_len(bytes);
+    let len = plain_strides_len(bytes);
     len + plain_bytes_len(&bytes[len..])
 }
 
-// Returns the number of bytes in the blocks at the start that consist of plain bytes.
-fn plain_blocks_len(bytes: &[u8]) -> usize
+// Returns the number of bytes in the strides at the start that consist of plain bytes.
+fn plain_strides_len(bytes: &[u8]) -> usize
     ensures within { result ≤ length bytes.now }
     ensures plain { list_all is_plain (take result bytes.now) ≡ true }
 {
     let mut len = 0;
-    while bytes.len() - len >= BLOCK {
-        if !are_plain(&bytes[len..len + BLOCK]) {
+    while bytes.len() - len >= STRIDE {
+        if !are_plain(&bytes[len..len + STRIDE]) {
             return len;
         }
-        len += BLOCK;
+        len += STRIDE;
     }
     len
 }
@@ -112,16 +112,16 @@ fn plain_bytes_len(bytes: &[u8]) -> usize
 fn are_plain(bytes: &[u8]) -> bool
     ensures { result ≡ list_all is_plain bytes.now }
 {
-    let mut odd = 0;
+    let mut unprintable = 0;
     for byte in bytes {
-        odd = odd | oddness(*byte);
+        unprintable = unprintable | unprintable_bit(*byte);
     }
-    odd == 0
+    unprintable == 0
 }
 
 // Returns 0 for a plain byte, and 1 for any other.
-fn oddness(byte: u8) -> u8
-    ensures { result ≡ oddness_if (is_plain byte) }
+fn unprintable_bit(byte: u8) -> u8
+    ensures { result ≡ unprintable_bit_if (is_plain byte) }
 {
     if is_plain_byte(byte) { 0 } else { 1 }
 }
@@ -134,38 +134,38 @@ fn is_plain_byte(byte: u8) -> bool
         || byte == b'\n'
 }
 
-/// Returns the letter that is the first symbol of `bytes`, or `None` if that is a sequence; and the number of its bytes.
-pub fn symbol_at(form: Form, bytes: &[u8]) -> (Option<u32>, usize)
+/// Returns the code point that is the first symbol of `bytes`, or `None` if that is a sequence; and the number of its bytes.
+pub fn symbol_at(kind: TextKind, bytes: &[u8]) -> (Option<u32>, usize)
     requires { 0 < length bytes.now }
-    ensures letter { result.0 ≡ symbol_letter (first_symbol form bytes.now) }
-    ensures len { result.1 ≡ symbol_len form bytes.now }
+    ensures code_point { result.0 ≡ symbol_code_point (first_symbol kind bytes.now) }
+    ensures len { result.1 ≡ symbol_len kind bytes.now }
 {
-    if !is_log(form) {
-        let (letter, len) = letter_at(bytes);
-        return (Some(letter), len);
+    if !is_log(kind) {
+        let (code_point, len) = code_point_at(bytes);
+        return (Some(code_point), len);
     }
     let len = sequence_size(bytes);
     if len > 0 {
         return (None, len);
     }
-    let (letter, len) = letter_at(bytes);
-    (Some(letter), len)
+    let (code_point, len) = code_point_at(bytes);
+    (Some(code_point), len)
 }
 
-fn is_log(form: Form) -> bool
-    ensures { result ≡ has_colours form }
+fn is_log(kind: TextKind) -> bool
+    ensures { result ≡ has_colours kind }
 {
-    match form {
-        Form::Log => true,
-        Form::Name | Form::Title => false,
+    match kind {
+        TextKind::Log => true,
+        TextKind::Monochrome | TextKind::Title => false,
     }
 }
 
-// Returns the first letter, and the number of its bytes.
-fn letter_at(bytes: &[u8]) -> (u32, usize)
+// Returns the first code point, and the number of its bytes.
+fn code_point_at(bytes: &[u8]) -> (u32, usize)
     requires { 0 < length bytes.now }
-    ensures letter { result.0 ≡ first_letter bytes.now }
-    ensures len { result.1 ≡ letter_len bytes.now }
+    ensures code_point { result.0 ≡ first_code_point bytes.now }
+    ensures len { result.1 ≡ code_point_len bytes.now }
 {
     match decode_utf8(bytes) {
         (Some(character), len) => (u32::from(character), len),
@@ -223,25 +223,25 @@ fn is_parameter_byte(byte: u8) -> bool
     (b'0' <= byte && byte <= b'9') || byte == b';'
 }
 
-/// Returns whether a picture is shown instead of a letter.
-pub fn is_odd_letter(letter: u32) -> bool
-    ensures { result ≡ is_odd letter }
+/// Returns whether a notation is shown instead of a code point.
+pub fn is_unprintable_code_point(code_point: u32) -> bool
+    ensures { result ≡ is_unprintable code_point }
 {
-    is_control_letter(letter) || is_unseen(letter)
+    is_control_code_point(code_point) || is_unseen(code_point)
 }
 
-fn is_control_letter(letter: u32) -> bool
-    ensures { result ≡ is_control letter }
+fn is_control_code_point(code_point: u32) -> bool
+    ensures { result ≡ is_control code_point }
 {
-    (letter < 32 && letter != 9 && letter != 10) || letter == 127
+    (code_point < 32 && code_point != 9 && code_point != 10) || code_point == 127
 }
 
-fn is_unseen(letter: u32) -> bool
-    ensures { result ≡ list_any (is_between letter) unseen_ranges }
+fn is_unseen(code_point: u32) -> bool
+    ensures { result ≡ list_any (is_between code_point) unseen_ranges }
 {
     for range in &UNSEEN {
-        if letter <= range.1 {
-            return range.0 <= letter;
+        if code_point <= range.1 {
+            return range.0 <= code_point;
         }
     }
     false

@@ -30,9 +30,9 @@ static AXIS: [ChartItem<'static>; 5] = [
     },
 ];
 
-static PARENTS: [ChartItem<'static>; 2] = [
+static CALLERS: [ChartItem<'static>; 2] = [
     ChartItem::Bar(Bar {
-        place: 0,
+        target: 0,
         x: 0,
         y: 20,
         width: 10000,
@@ -42,7 +42,7 @@ static PARENTS: [ChartItem<'static>; 2] = [
         label: Some(b"all"),
     }),
     ChartItem::Bar(Bar {
-        place: 1,
+        target: 1,
         x: 5,
         y: 34,
         width: 9995,
@@ -55,7 +55,7 @@ static PARENTS: [ChartItem<'static>; 2] = [
 
 static RECIPES: [ChartItem<'static>; 4] = [
     ChartItem::Bar(Bar {
-        place: 7,
+        target: 7,
         x: 1234,
         y: 54,
         width: 30,
@@ -65,7 +65,7 @@ static RECIPES: [ChartItem<'static>; 4] = [
         label: None,
     }),
     ChartItem::Bar(Bar {
-        place: 8,
+        target: 8,
         x: 1264,
         y: 54,
         width: 700,
@@ -75,7 +75,7 @@ static RECIPES: [ChartItem<'static>; 4] = [
         label: None,
     }),
     ChartItem::Bar(Bar {
-        place: 9,
+        target: 9,
         x: 2000,
         y: 72,
         width: 350,
@@ -85,7 +85,7 @@ static RECIPES: [ChartItem<'static>; 4] = [
         label: Some(b"a<b>&"),
     }),
     ChartItem::Bar(Bar {
-        place: 12,
+        target: 12,
         x: 2350,
         y: 72,
         width: 400,
@@ -98,7 +98,7 @@ static RECIPES: [ChartItem<'static>; 4] = [
 
 static UNTIMED: [ChartItem<'static>; 2] = [
     ChartItem::Bar(Bar {
-        place: 18_446_744_073_709_551_615,
+        target: 18_446_744_073_709_551_615,
         x: 9999,
         y: 90,
         width: 10,
@@ -108,7 +108,7 @@ static UNTIMED: [ChartItem<'static>; 2] = [
         label: None,
     }),
     ChartItem::Bar(Bar {
-        place: 13,
+        target: 13,
         x: 0,
         y: 90,
         width: 350,
@@ -149,8 +149,8 @@ fn write_full<W: Sink>(out: &mut W) -> Result<(), Broken> {
             items: &AXIS,
         },
         ChartGroup {
-            kind: GroupKind::Parents,
-            items: &PARENTS,
+            kind: GroupKind::Callers,
+            items: &CALLERS,
         },
         ChartGroup {
             kind: GroupKind::Recipes,

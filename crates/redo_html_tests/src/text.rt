@@ -1,7 +1,7 @@
 //! The HTML of texts.
 use crate::cases::{LOGS, NAMES, STYLED, TITLES};
 use redo_device::{Broken, Taker};
-use redo_html::{Style, write_log_text, write_name, write_title_text};
+use redo_html::{Style, write_log_text, write_text, write_title_text};
 use std::process::Abort;
 use std::test::Fail;
 
@@ -29,7 +29,7 @@ fn text_begins_with_style(rt: HostRuntime) -> Result<(), Fail> {
 fn name_is_written(rt: HostRuntime) -> Result<(), Fail> {
     for (name, want) in &NAMES {
         let mut out = Taker::new(rt.alloc(), 4096, 3)?;
-        let written = write_name(name, &mut out);
+        let written = write_text(name, &mut out);
         expect_written(&rt, written, out.bytes(), want);
     }
     Ok(())

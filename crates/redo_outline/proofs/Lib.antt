@@ -1,9 +1,10 @@
 mod CollectingLemmas
 mod ContentsLemmas
 mod FactsLemmas
+pub mod Nodes
 mod OutlineLemmas
 mod OutlineRows
-mod PlacesLemmas
+mod PositionsLemmas
 mod StatusLemmas
 mod SummaryLemmas
 mod SweepLemmas

@@ -67,10 +67,10 @@ module _ (logs : List Log) (number : ℕ) where
   abbrev status_in : Event → Option ℤ
   status_in event = done_status logs number event
 
-  done_set : (place : Option ℕ) (status : ℤ) (statuses : List (Option ℤ)) → ((n : ℕ) → place ≡ Some n → n < length statuses)
-      → slice_index_or (with_status_at place status statuses) number None ≡ option_or (slice_index_or statuses number None) (status_if (is_number number place) status)
+  done_set : (position : Option ℕ) (status : ℤ) (statuses : List (Option ℤ)) → ((n : ℕ) → position ≡ Some n → n < length statuses)
+      → slice_index_or (with_status_at position status statuses) number None ≡ option_or (slice_index_or statuses number None) (status_if (is_number number position) status)
   done_set None status statuses below = or_none (slice_index_or statuses number None)
-  done_set (Some place) status statuses below = with-any place number status statuses (below place refl)
+  done_set (Some position) status statuses below = with-any position number status statuses (below position refl)
 
   abbrev StatusIs : Event → Type 0
   StatusIs event = (before : Collected) → before.logs ≡ logs → length before.statuses ≡ length logs
@@ -105,9 +105,9 @@ event_logs (Mentioned depth pid how name (OpensHere n)) before = refl
 event_logs (EntryShown depth entry) before = refl
 event_logs (LogEnds depth) before = refl
 
-length-at : (place : Option ℕ) (status : ℤ) (statuses : List (Option ℤ)) → length (with_status_at place status statuses) ≡ length statuses
+length-at : (position : Option ℕ) (status : ℤ) (statuses : List (Option ℤ)) → length (with_status_at position status statuses) ≡ length statuses
 length-at None status statuses = refl
-length-at (Some place) status statuses = length-with place status statuses
+length-at (Some position) status statuses = length-with position status statuses
 
 event_length : (event : Event) (before : Collected) → length (after before event).statuses ≡ length before.statuses
 event_length (Requested name NotOpened) before = refl

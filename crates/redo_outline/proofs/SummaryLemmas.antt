@@ -80,18 +80,18 @@ module _ (logs : List Log) (statuses : List (Option ℤ)) where
   -- What a sweep has before contents, if it had `nodes` after them.
   abbrev After : Contents → Type 0
   After contents =
-      (parent : Option ℕ) (place : ℕ) (opened : List OpenedLog) (outer : List Summary) (nodes : List Node)
-      → contents_added contents (swept_with (opened ++ opened_in parent place contents) nothing_left outer nodes)
-      ≡ swept_with opened (summary_of contents) outer (nodes ++ reverse (nodes_of logs status parent place contents))
+      (parent : Option ℕ) (position : ℕ) (opened : List OpenedLog) (outer : List Summary) (nodes : List Node)
+      → contents_added contents (swept_with (opened ++ opened_in parent position contents) nothing_left outer nodes)
+      ≡ swept_with opened (summary_of contents) outer (nodes ++ reverse (nodes_of logs status parent position contents))
 
   after_nothing : After Nothing
-  after_nothing parent place opened outer nodes =
+  after_nothing parent position opened outer nodes =
       ap (λ os. swept_with os nothing_left outer nodes) (append-nil opened) ∙ ap (swept_with opened nothing_left outer) (sym (append-nil nodes))
 
   after_shown : (event : Event) (rest : Contents) → After rest → After (Shown event rest)
-  after_shown event rest later parent place opened outer nodes =
-      ap (others_added (is_visible event)) (later parent place opened outer nodes)
-      ∙ ap (λ inner. swept_with opened inner outer (nodes ++ reverse (nodes_of logs status parent place rest))) (shown_summary event rest)
+  after_shown event rest later parent position opened outer nodes =
+      ap (others_added (is_visible event)) (later parent position opened outer nodes)
+      ∙ ap (λ inner. swept_with opened inner outer (nodes ++ reverse (nodes_of logs status parent position rest))) (shown_summary event rest)
 
   opening_then : (log : OpenedLog) (opened : List OpenedLog) (inside rest : Summary) (outer : List Summary) (nodes : List Node)
       → opening_added (swept_with (opened ++ log ∷ []) inside (outer ++ rest ∷ []) nodes)
@@ -102,11 +102,11 @@ module _ (logs : List Log) (statuses : List (Option ℤ)) where
       (split_last-append outer rest)
 
   after_opened : (event : Event) (number : ℕ) (inside rest : Contents) → After inside → After rest → After (Opened event number inside rest)
-  after_opened event number inside rest first second parent place opened outer nodes =
+  after_opened event number inside rest first second parent position opened outer nodes =
       ap (λ os. opening_added (contents_added inside (end_added (contents_added rest (swept_with os nothing_left outer nodes))))) (sym (append_assoc opened (log ∷ opened_inside) opened_rest))
-      ∙ ap (λ swept. opening_added (contents_added inside (end_added swept))) (second parent (suc place + log_count inside) (opened ++ log ∷ opened_inside) outer nodes)
+      ∙ ap (λ swept. opening_added (contents_added inside (end_added swept))) (second parent (suc position + log_count inside) (opened ++ log ∷ opened_inside) outer nodes)
       ∙ ap (λ os. opening_added (contents_added inside (swept_with os nothing_left (outer ++ summary_of rest ∷ []) (nodes ++ reverse nodes_rest)))) (sym (append_assoc opened (log ∷ []) opened_inside))
-      ∙ ap opening_added (first (Some place) (suc place) (opened ++ log ∷ []) (outer ++ summary_of rest ∷ []) (nodes ++ reverse nodes_rest))
+      ∙ ap opening_added (first (Some position) (suc position) (opened ++ log ∷ []) (outer ++ summary_of rest ∷ []) (nodes ++ reverse nodes_rest))
       ∙ opening_then log opened (summary_of inside) (summary_of rest) outer ((nodes ++ reverse nodes_rest) ++ reverse nodes_inside)
       ∙ ap (λ node. swept_with opened (with_log node (summary_of inside) (summary_of rest)) outer (((nodes ++ reverse nodes_rest) ++ reverse nodes_inside) ++ node ∷ [])) (node_is parent number inside rest)
       ∙ ap (λ inner. swept_with opened inner outer (((nodes ++ reverse nodes_rest) ++ reverse nodes_inside) ++ node_of logs status parent number inside rest ∷ [])) (opened_summary event parent number inside rest)
@@ -116,16 +116,16 @@ module _ (logs : List Log) (statuses : List (Option ℤ)) where
       log = opened_log number parent
 
       opened_inside : List OpenedLog
-      opened_inside = opened_in (Some place) (suc place) inside
+      opened_inside = opened_in (Some position) (suc position) inside
 
       opened_rest : List OpenedLog
-      opened_rest = opened_in parent (suc place + log_count inside) rest
+      opened_rest = opened_in parent (suc position + log_count inside) rest
 
       nodes_inside : List Node
-      nodes_inside = nodes_of logs status (Some place) (suc place) inside
+      nodes_inside = nodes_of logs status (Some position) (suc position) inside
 
       nodes_rest : List Node
-      nodes_rest = nodes_of logs status parent (suc place + log_count inside) rest
+      nodes_rest = nodes_of logs status parent (suc position + log_count inside) rest
 
   pub after_contents : (contents : Contents) → After contents
   after_contents Nothing = after_nothing

@@ -70,19 +70,19 @@ are_right events = innermost_right (contents_from events) (all_right events)
 
 -- ---- what is opened, and what brackets add
 
--- The logs that are opened in contents. The first one has this place.
+-- The logs that are opened in contents. The first one has this position.
 abbrev pub opened_in : Option ℕ → ℕ → Contents → List OpenedLog
-opened_in parent place Nothing = []
-opened_in parent place (Shown event rest) = opened_in parent place rest
-opened_in parent place (Opened event number inside rest) = opened_log number parent ∷ (opened_in (Some place) (suc place) inside ++ opened_in parent (suc place + log_count inside) rest)
+opened_in parent position Nothing = []
+opened_in parent position (Shown event rest) = opened_in parent position rest
+opened_in parent position (Opened event number inside rest) = opened_log number parent ∷ (opened_in (Some position) (suc position) inside ++ opened_in parent (suc position + log_count inside) rest)
 
-length-opened : (parent : Option ℕ) (place : ℕ) (contents : Contents) → length (opened_in parent place contents) ≡ log_count contents
-length-opened parent place Nothing = refl
-length-opened parent place (Shown event rest) = length-opened parent place rest
-length-opened parent place (Opened event number inside rest) =
-    let first = length-opened (Some place) (suc place) inside in
-    let second = length-opened parent (suc place + log_count inside) rest in
-    omega (arith, first, second, length-append (opened_in (Some place) (suc place) inside) (opened_in parent (suc place + log_count inside) rest))
+length-opened : (parent : Option ℕ) (position : ℕ) (contents : Contents) → length (opened_in parent position contents) ≡ log_count contents
+length-opened parent position Nothing = refl
+length-opened parent position (Shown event rest) = length-opened parent position rest
+length-opened parent position (Opened event number inside rest) =
+    let first = length-opened (Some position) (suc position) inside in
+    let second = length-opened parent (suc position + log_count inside) rest in
+    omega (arith, first, second, length-append (opened_in (Some position) (suc position) inside) (opened_in parent (suc position + log_count inside) rest))
 
 -- What a sweep adds for contents.
 abbrev pub contents_added : Contents → Swept → Swept
@@ -132,15 +132,15 @@ module _ (event : Event) (number : ℕ) (inside rest : Contents) (before : Colle
         ap (parent_of middle.opened) first.innermost
         ∙ ap (option_and_then (λ (log : OpenedLog). log.parent)) (ap (λ opened. slice_get opened (length before.opened)) opened_first ∙ slice_get-seam before.opened one inner)
 
-    place_is : length middle.opened ≡ suc (length before.opened) + log_count inside
-    place_is = let whole = ap length opened_first in omega (arith, whole, length-append before.opened (one ∷ inner), length-opened (Some (length before.opened)) (suc (length before.opened)) inside)
+    position_is : length middle.opened ≡ suc (length before.opened) + log_count inside
+    position_is = let whole = ap length opened_first in omega (arith, whole, length-append before.opened (one ∷ inner), length-opened (Some (length before.opened)) (suc (length before.opened)) inside)
 
     opened_all : now.opened ≡ before.opened ++ opened_in before.innermost (length before.opened) (Opened event number inside rest)
     opened_all =
         second.opened
         ∙ ap (λ opened. opened ++ opened_in (log_ended middle).innermost (length middle.opened) rest) opened_first
         ∙ ap (λ parent. (before.opened ++ one ∷ inner) ++ opened_in parent (length middle.opened) rest) parent_is
-        ∙ ap (λ (n : ℕ). (before.opened ++ one ∷ inner) ++ opened_in before.innermost n rest) place_is
+        ∙ ap (λ (n : ℕ). (before.opened ++ one ∷ inner) ++ opened_in before.innermost n rest) position_is
         ∙ append_assoc before.opened (one ∷ inner) (opened_in before.innermost (suc (length before.opened) + log_count inside) rest)
 
     brackets_all : (swept : Swept) → brackets_added now.brackets (others_added now.after_others swept) ≡ brackets_added before.brackets (others_added before.after_others (contents_added (Opened event number inside rest) swept))

@@ -79,7 +79,7 @@ module _ (logs : List Log) (status : ℕ → Option ℤ) where
   silent_count (Shown event rest) = if is_visible event then 0 else silent_count rest
   silent_count (Opened event number inside rest) = if not (has_failed number) && is_silent inside then suc (silent_count rest) else 0
 
-  -- What is known of the log with which some contents begin. `parent` is the place of the log that contains it.
+  -- What is known of the log with which some contents begin. `parent` is the position of the log that contains it.
   abbrev pub node_of : Option ℕ → ℕ → Contents → Contents → Node
   node_of parent number inside rest = record {
     number = number;
@@ -98,12 +98,12 @@ module _ (logs : List Log) (status : ℕ → Option ℤ) where
     ended = None;
   }
 
-  -- The nodes of some contents. The first one has the place `place`: a place is the number of nodes before it.
+  -- The nodes of some contents. The first one has the position `position`: a position is the number of nodes before it.
   abbrev pub nodes_of : Option ℕ → ℕ → Contents → List Node
-  nodes_of parent place Nothing = []
-  nodes_of parent place (Shown event rest) = nodes_of parent place rest
-  nodes_of parent place (Opened event number inside rest) =
-      node_of parent number inside rest ∷ (nodes_of (Some place) (suc place) inside ++ nodes_of parent (suc place + log_count inside) rest)
+  nodes_of parent position Nothing = []
+  nodes_of parent position (Shown event rest) = nodes_of parent position rest
+  nodes_of parent position (Opened event number inside rest) =
+      node_of parent number inside rest ∷ (nodes_of (Some position) (suc position) inside ++ nodes_of parent (suc position + log_count inside) rest)
 
 abbrev pub unknown_times : RunTimes
 unknown_times = record { took = None; ended = None }

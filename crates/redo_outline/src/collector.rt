@@ -13,7 +13,7 @@ use redo_view::{EventRef, Form, FormFault, Opening};
 use std::alloc::{AllocError, Global};
 use std::marker::Model;
 
-/// A log that is opened, and the place of the log that contains it.
+/// A log that is opened, and the position of the log that contains it.
 #[derive(Clone, Copy)]
 pub struct OpenedLog {
     pub number: u32,
@@ -34,7 +34,7 @@ pub struct Bracket {
 pub struct Collector<'a> {
     table: &'a LogTable,
     opened: Vec<OpenedLog>,
-    // The place of the log that was opened last of those that are open.
+    // The position of the log that was opened last of those that are open.
     innermost: Option<usize>,
     brackets: Vec<Bracket>,
     // Whether anything else than logs is to be seen after the last bracket.
@@ -109,7 +109,7 @@ impl<'a> Collector<'a> {
     fn begin_log(&mut self, number: u32) -> Result<(), AllocError>
         ensures { OnOk result (self.new ≡ log_begun number self.old) }
     {
-        let place = self.opened.len();
+        let position = self.opened.len();
         self.opened.push(OpenedLog {
             number,
             parent: self.innermost,
@@ -118,7 +118,7 @@ impl<'a> Collector<'a> {
             opens: true,
             after_others: self.after_others,
         })?;
-        self.innermost = Some(place);
+        self.innermost = Some(position);
         self.after_others = false;
         Ok(())
     }
@@ -155,11 +155,11 @@ impl<'a> Collector<'a> {
     }
 }
 
-// Returns the place of the log that contains the log at this place.
-fn parent_of(opened: &[OpenedLog], place: Option<usize>) -> Option<usize>
-    ensures { result ≡ parent_of opened.now place }
+// Returns the position of the log that contains the log at this position.
+fn parent_of(opened: &[OpenedLog], position: Option<usize>) -> Option<usize>
+    ensures { result ≡ parent_of opened.now position }
 {
-    opened.get(place?)?.parent
+    opened.get(position?)?.parent
 }
 
 // Sets the status of a target, by the number of its log, unless it has one.

@@ -6,7 +6,7 @@
 //! # Terms
 //!
 //! - *Contents*: what is shown, as a tree. `specs/Contents.antt` makes this tree of events; a law says that it has each event, in order.
-//! - *Node*: what is known of a log that is opened. Its *place* is the number of nodes before it.
+//! - *Node*: what is known of a log that is opened. Its *position* is the number of nodes before it.
 //! - *Silent*: a target that printed nothing and didn't fail, and so each target below it.
 #![tactic(auto)]
 
@@ -15,7 +15,7 @@ mod facts;
 mod laws;
 mod node;
 mod outline;
-mod places;
+mod positions;
 mod sweep;
 
 pub use facts::target_at;

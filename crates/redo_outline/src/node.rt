@@ -5,7 +5,7 @@
 pub struct Node {
     /// The number of the log.
     pub number: u32,
-    /// The place of the log that contains it. The log of a requested target is in none.
+    /// The position of the log that contains it. The log of a requested target is in none.
     pub parent: Option<usize>,
     /// The status of the target, as its log says, or else as another log says that is shown.
     pub status: Option<i32>,

@@ -9,7 +9,7 @@ ghost use Rattle.redo_outline.specs.Outline.{outline_of, times_at, with_times};
 use crate::collector::Collector;
 use crate::laws::events_are_in_contents;
 use crate::node::{Node, RunTimes};
-use crate::places::node_places;
+use crate::positions::node_positions;
 use redo_line::{Broken, Sink, TargetName};
 use redo_logs::LogTable;
 use redo_view::{Options, ViewFault, view_as};
@@ -20,8 +20,8 @@ use std::marker::Model;
 #[derive(Drop)]
 pub struct Outline {
     nodes: Vec<Node>,
-    // The place of each log, by its number. A log past the end isn't opened.
-    places: Vec<Option<usize>>,
+    // The position of each log, by its number. A log past the end isn't opened.
+    positions: Vec<Option<usize>>,
 }
 
 impl Model for Outline {
@@ -30,11 +30,11 @@ impl Model for Outline {
 
     ghost Value = { List spec.Node };
 
-    ghost use Rattle.redo_outline.specs.Private.Places.{AreNodePlaces};
+    ghost use Rattle.redo_outline.specs.Private.Positions.{AreNodePositions};
 
     ghost view = { λ outline. outline.nodes.items };
 
-    ghost invariant = { λ outline. AreNodePlaces outline.nodes.items outline.places.items };
+    ghost invariant = { λ outline. AreNodePositions outline.nodes.items outline.positions.items };
 }
 
 impl Outline {
@@ -59,8 +59,8 @@ impl Outline {
         }
         events_are_in_contents();
         let nodes = collector.into_nodes(alloc)?;
-        let places = node_places(alloc, &nodes)?;
-        Ok(Outline { nodes, places })
+        let positions = node_positions(alloc, &nodes)?;
+        Ok(Outline { nodes, positions })
     }
 
     /// Sets how long the targets took, and when they ended. `times` has this by the numbers of logs; nothing is known of a log past its
@@ -78,12 +78,12 @@ impl Outline {
         self.nodes.as_slice()
     }
 
-    /// Returns the place of the log with this number, if it is opened.
-    pub fn place_of(&self, number: u32) -> Option<usize>
+    /// Returns the position of the log with this number, if it is opened.
+    pub fn position_of(&self, number: u32) -> Option<usize>
         ensures { result ≡ position (λ node. node.number == number) self.now }
     {
-        match self.places.get(number as usize) {
-            Some(place) => *place,
+        match self.positions.get(number as usize) {
+            Some(position) => *position,
             None => None,
         }
     }
@@ -92,8 +92,8 @@ impl Outline {
 fn set_times(nodes: &mut [Node], times: &[RunTimes])
     ensures { nodes.new ≡ map (with_times times.now) nodes.old }
 {
-    for place in 0..nodes.len() {
-        nodes[place] = with_times(times, nodes[place]);
+    for position in 0..nodes.len() {
+        nodes[position] = with_times(times, nodes[position]);
     }
 }
 

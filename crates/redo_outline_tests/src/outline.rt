@@ -94,7 +94,7 @@ fn outline_of(
     }
 }
 
-// Returns the fields of each node in a line, and a line with the place of each log, and of a log that doesn't exist.
+// Returns the fields of each node in a line, and a line with the position of each log, and of a log that doesn't exist.
 fn outline_text(alloc: Global, table: &LogTable, outline: &Outline) -> Result<String, AllocError> {
     let mut text = String::new(alloc);
     for node in outline.nodes() {
@@ -105,7 +105,7 @@ fn outline_text(alloc: Global, table: &LogTable, outline: &Outline) -> Result<St
         if number > 0 {
             text.push_str(" ")?;
         }
-        add_place(alloc, &mut text, outline.place_of(number))?;
+        add_position(alloc, &mut text, outline.position_of(number))?;
     }
     text.push_str("\n")?;
     Ok(text)
@@ -113,7 +113,7 @@ fn outline_text(alloc: Global, table: &LogTable, outline: &Outline) -> Result<St
 
 fn add_log(alloc: Global, text: &mut String, node: &Node) -> Result<(), AllocError> {
     text.push_str(&format!(in alloc; "{} ", node.number)?)?;
-    add_place(alloc, text, node.parent)?;
+    add_position(alloc, text, node.parent)?;
     match node.status {
         Some(status) => text.push_str(&format!(in alloc; " {status}")?)?,
         None => text.push_str(" -")?,
@@ -127,9 +127,13 @@ fn add_contents(alloc: Global, text: &mut String, node: &Node) -> Result<(), All
     text.push_str(&format!(in alloc; " {} {fails} {}\n", node.warnings_below, node.silent)?)
 }
 
-fn add_place(alloc: Global, text: &mut String, place: Option<usize>) -> Result<(), AllocError> {
-    match place {
-        Some(place) => text.push_str(&format!(in alloc; "{place}")?),
+fn add_position(
+    alloc: Global,
+    text: &mut String,
+    position: Option<usize>,
+) -> Result<(), AllocError> {
+    match position {
+        Some(position) => text.push_str(&format!(in alloc; "{position}")?),
         None => text.push_str("-"),
     }
 }

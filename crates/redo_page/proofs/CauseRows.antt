@@ -49,7 +49,7 @@ tests =
     ∷ found (codes "test a ... FAILED" ∷ codes "last" ∷ []) (codes "test a ... FAILED")
     ∷ []
 
--- Outputs in which no line reports an error: the last line that isn't blank. Words count as a whole, at any place in a line.
+-- Outputs in which no line reports an error: the last line that isn't blank. Words count as a whole, at any position in a line.
 abbrev others : List Row
 others =
     found (codes "Traceback (most recent call last):" ∷ codes "ModuleNotFoundError: No module named 'x'" ∷ []) (codes "ModuleNotFoundError: No module named 'x'")

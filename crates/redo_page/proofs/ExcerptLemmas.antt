@@ -41,9 +41,9 @@ last_within passes (suc limit) = by (passes (suc limit)) (last_within passes lim
 
 -- ---- stretches
 
-module _ (place : ℕ) where
+module _ (position : ℕ) where
   abbrev others : List Stretch → List Part
-  others stretches = flat_map (stretch_parts place) stretches
+  others stretches = flat_map (stretch_parts position) stretches
 
   -- The parts of stretches, of which the first goes on if it is of the same kind as the open one.
   abbrev continued : OpenStretch → List Stretch → List Part
@@ -51,12 +51,12 @@ module _ (place : ℕ) where
   continued Shown [] = MarkupPart EndPre ∷ []
   continued Shown (Stretch.Shown lines ∷ stretches) = flat_map excerpt_line_parts lines ++ (MarkupPart EndPre ∷ others stretches)
   continued Shown (Stretch.LeftOut more ∷ stretches) = MarkupPart EndPre ∷ others (Stretch.LeftOut more ∷ stretches)
-  continued (LeftOut count) [] = left_out_parts place count
-  continued (LeftOut count) (Stretch.Shown lines ∷ stretches) = left_out_parts place count ++ others (Stretch.Shown lines ∷ stretches)
-  continued (LeftOut count) (Stretch.LeftOut more ∷ stretches) = left_out_parts place (count + more) ++ others stretches
+  continued (LeftOut count) [] = left_out_parts position count
+  continued (LeftOut count) (Stretch.Shown lines ∷ stretches) = left_out_parts position count ++ others (Stretch.Shown lines ∷ stretches)
+  continued (LeftOut count) (Stretch.LeftOut more ∷ stretches) = left_out_parts position (count + more) ++ others stretches
 
   shown_step : (current : OpenStretch) (line : List ℕ) (stretches : List Stretch)
-      → step_parts place current true line ++ continued Shown stretches ≡ continued current (with_shown line stretches)
+      → step_parts position current true line ++ continued Shown stretches ≡ continued current (with_shown line stretches)
   shown_step Nothing line [] = simp append_assoc
   shown_step Nothing line (Stretch.Shown lines ∷ stretches) = simp append_assoc
   shown_step Nothing line (Stretch.LeftOut more ∷ stretches) = simp append_assoc
@@ -68,43 +68,43 @@ module _ (place : ℕ) where
   shown_step (LeftOut count) line (Stretch.LeftOut more ∷ stretches) = simp append_assoc
 
   begins : (stretches : List Stretch) → continued (LeftOut 1) stretches ≡ others (with_left_out stretches)
-  begins [] = sym (append-nil (left_out_parts place 1))
+  begins [] = sym (append-nil (left_out_parts position 1))
   begins (Stretch.Shown lines ∷ stretches) = refl
-  begins (Stretch.LeftOut more ∷ stretches) = let same : 1 + more ≡ suc more = omega arith in ap (λ (n : ℕ). left_out_parts place n ++ others stretches) same
+  begins (Stretch.LeftOut more ∷ stretches) = let same : 1 + more ≡ suc more = omega arith in ap (λ (n : ℕ). left_out_parts position n ++ others stretches) same
 
   left_out_step : (current : OpenStretch) (line : List ℕ) (stretches : List Stretch)
-      → step_parts place current false line ++ continued (open_after current false) stretches ≡ continued current (with_left_out stretches)
+      → step_parts position current false line ++ continued (open_after current false) stretches ≡ continued current (with_left_out stretches)
   left_out_step Nothing line stretches = begins stretches
   left_out_step Shown line [] = ap (λ (parts : List Part). MarkupPart EndPre ∷ parts) (begins [])
   left_out_step Shown line (Stretch.Shown lines ∷ stretches) = refl
   left_out_step Shown line (Stretch.LeftOut more ∷ stretches) = ap (λ (parts : List Part). MarkupPart EndPre ∷ parts) (begins (Stretch.LeftOut more ∷ stretches))
-  left_out_step (LeftOut count) line [] = sym (append-nil (left_out_parts place (count + 1)))
+  left_out_step (LeftOut count) line [] = sym (append-nil (left_out_parts position (count + 1)))
   left_out_step (LeftOut count) line (Stretch.Shown lines ∷ stretches) = refl
   left_out_step (LeftOut count) line (Stretch.LeftOut more ∷ stretches) =
-      let same : count + 1 + more ≡ count + suc more = omega arith in ap (λ (n : ℕ). left_out_parts place n ++ others stretches) same
+      let same : count + 1 + more ≡ count + suc more = omega arith in ap (λ (n : ℕ). left_out_parts position n ++ others stretches) same
 
   step : (kept : Bool) (current : OpenStretch) (line : List ℕ) (stretches : List Stretch)
-      → step_parts place current kept line ++ continued (open_after current kept) stretches ≡ continued current (if kept then with_shown line stretches else with_left_out stretches)
+      → step_parts position current kept line ++ continued (open_after current kept) stretches ≡ continued current (if kept then with_shown line stretches else with_left_out stretches)
   step true current line stretches = shown_step current line stretches
   step false current line stretches = left_out_step current line stretches
 
-  ends : (current : OpenStretch) → end_parts place current ≡ continued current []
+  ends : (current : OpenStretch) → end_parts position current ≡ continued current []
   ends Nothing = refl
   ends Shown = refl
   ends (LeftOut count) = refl
 
-  continues : (kept : ℕ → Bool) (current : OpenStretch) (at : ℕ) (lines : List (List ℕ)) → parts_from place kept current at lines ≡ continued current (stretches_from kept at lines)
+  continues : (kept : ℕ → Bool) (current : OpenStretch) (at : ℕ) (lines : List (List ℕ)) → parts_from position kept current at lines ≡ continued current (stretches_from kept at lines)
   continues kept current at [] = ends current
   continues kept current at (line ∷ lines) =
-      ap (λ (parts : List Part). step_parts place current (kept at) line ++ parts) (continues kept (open_after current (kept at)) (suc at) lines)
+      ap (λ (parts : List Part). step_parts position current (kept at) line ++ parts) (continues kept (open_after current (kept at)) (suc at) lines)
       ∙ step (kept at) current line (stretches_from kept (suc at) lines)
 
-  pub line_by_line : (lines : List (List ℕ)) (count error : ℕ) → count ≡ length lines → error ≡ error_position lines → excerpt_parts place lines ≡ parts_from place (is_kept count error) Nothing 0 lines
+  pub line_by_line : (lines : List (List ℕ)) (count error : ℕ) → count ≡ length lines → error ≡ error_position lines → excerpt_parts position lines ≡ parts_from position (is_kept count error) Nothing 0 lines
   unfolding excerpt_parts
   line_by_line lines count error count_is error_is =
       sym (continues (is_kept (length lines) (error_position lines)) Nothing 0 lines)
-      ∙ ap (λ (n : ℕ). parts_from place (is_kept n (error_position lines)) Nothing 0 lines) (sym count_is)
-      ∙ ap (λ (n : ℕ). parts_from place (is_kept count n) Nothing 0 lines) (sym error_is)
+      ∙ ap (λ (n : ℕ). parts_from position (is_kept n (error_position lines)) Nothing 0 lines) (sym count_is)
+      ∙ ap (λ (n : ℕ). parts_from position (is_kept count n) Nothing 0 lines) (sym error_is)
 
 -- ---- loops
 
@@ -114,11 +114,11 @@ open_next Nothing false at low = omega arith
 open_next Shown false at low = omega arith
 open_next (LeftOut count) false at low = omega (arith, low)
 
-pub next_line : (place : ℕ) (kept : ℕ → Bool) (current next : OpenStretch) (at : ℕ) (shown : Bool) (left : List (List ℕ)) (line : List ℕ) (lines : List (List ℕ))
+pub next_line : (position : ℕ) (kept : ℕ → Bool) (current next : OpenStretch) (at : ℕ) (shown : Bool) (left : List (List ℕ)) (line : List ℕ) (lines : List (List ℕ))
     → left ≡ line ∷ lines → shown ≡ kept at → next ≡ open_after current shown
-    → parts_from place kept current at left ≡ step_parts place current shown line ++ parts_from place kept next (at + 1) lines
-next_line place kept current next at shown left line lines left_is shown_is next_is =
-    ap (parts_from place kept current at) left_is
-    ∙ ap (λ (now : Bool). step_parts place current now line ++ parts_from place kept (open_after current now) (suc at) lines) (sym shown_is)
-    ∙ ap (λ (after : OpenStretch). step_parts place current shown line ++ parts_from place kept after (suc at) lines) (sym next_is)
-    ∙ ap (λ (n : ℕ). step_parts place current shown line ++ parts_from place kept next n lines) (sym (add-one at))
+    → parts_from position kept current at left ≡ step_parts position current shown line ++ parts_from position kept next (at + 1) lines
+next_line position kept current next at shown left line lines left_is shown_is next_is =
+    ap (parts_from position kept current at) left_is
+    ∙ ap (λ (now : Bool). step_parts position current now line ++ parts_from position kept (open_after current now) (suc at) lines) (sym shown_is)
+    ∙ ap (λ (after : OpenStretch). step_parts position current shown line ++ parts_from position kept after (suc at) lines) (sym next_is)
+    ∙ ap (λ (n : ℕ). step_parts position current shown line ++ parts_from position kept next n lines) (sym (add-one at))

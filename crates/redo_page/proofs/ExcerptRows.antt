@@ -8,10 +8,10 @@ use Rattle.redo_html.specs.declared.markup.Markup.{Markup}
 use Rattle.redo_html.specs.declared.markup.Markup.TheVariants as markup
 use Rattle.redo_html.specs.Passage.{html_from}
 use Rattle.redo_html.specs.Parts.{Part, part_html}
-use Rattle.redo_html.specs.Parts.Part.{MarkupPart, LogPart, NamePart, NumberPart}
-use Rattle.redo_html.specs.Shown.{is_odd, number_text, odd_text, picture}
+use Rattle.redo_html.specs.Parts.Part.{MarkupPart, LogPart, TextPart, NumberPart}
+use Rattle.redo_html.specs.Shown.{is_unprintable, number_text, unprintable_text, notation}
 use Rattle.redo_html.specs.Style.{plain_style}
-use Rattle.redo_html.specs.Symbols.{first_letter, first_symbol, is_sequence, letter_len, sequence_len, sequence_numbers, symbol_len, symbols_after}
+use Rattle.redo_html.specs.Symbols.{first_code_point, first_symbol, is_sequence, code_point_len, sequence_len, sequence_numbers, symbol_len, symbols_after}
 use Rattle.redo_page.specs.Errors.{begins_with}
 use Rattle.redo_page.specs.Excerpt.{Stretch, cut_to, error_position, excerpt_line_end, excerpt_line_parts, excerpt_parts, in_tree_parts, is_continuation, is_kept, last_where, left_out_parts, may_cut, stretch_parts, stretches_from}
 
@@ -51,7 +51,7 @@ cuts_are = (refl, (refl, (refl, (refl, (refl, (refl, (refl, (refl, (refl, (refl,
 -- The bytes that parts show.
 abbrev bytes_of : Part → List ℕ
 bytes_of (LogPart style bytes) = bytes
-bytes_of (NamePart bytes) = bytes
+bytes_of (TextPart bytes) = bytes
 bytes_of part = []
 
 abbrev bytes : List Part → List ℕ
@@ -116,7 +116,7 @@ abbrev tag : Markup → Part
 tag markup = MarkupPart markup
 
 abbrev words : List ℕ → Part
-words text = NamePart text
+words text = TextPart text
 
 -- A letter of two bytes, and a sequence of four.
 may_cut_are :
@@ -185,7 +185,7 @@ excerpt_is :
     ++ (codes "error\n"
     ++ (a_text 24 ++ (codes "</pre><p class=\"cut\">1 more line: <a href=\"#t7\">in its log</a></p><pre>\n" ++ (a_text 60 ++ codes "</pre>"))))))))
     ≡ true
-unfolding excerpt_parts excerpt_line_parts excerpt_line_end cut_to left_out_parts in_tree_parts begins_with symbols_after first_symbol symbol_len is_sequence sequence_len sequence_numbers first_letter letter_len is_odd picture odd_text number_text encode_utf8 digits html_from
+unfolding excerpt_parts excerpt_line_parts excerpt_line_end cut_to left_out_parts in_tree_parts begins_with symbols_after first_symbol symbol_len is_sequence sequence_len sequence_numbers first_code_point code_point_len is_unprintable notation unprintable_text number_text encode_utf8 digits html_from
 excerpt_is = refl
 
 no_error : error_position (a_lines 3) ≡ 3

@@ -11,7 +11,7 @@ use Rattle.redo_html.specs.declared.markup.Markup.TheVariants as markup
 use Rattle.redo_html.specs.declared.style.Style.{Style}
 use Rattle.redo_html.specs.Lines.{line_parts, style_after}
 use Rattle.redo_html.specs.Parts.{Part}
-use Rattle.redo_html.specs.Parts.Part.{MarkupPart, LogPart, NamePart, NumberPart}
+use Rattle.redo_html.specs.Parts.Part.{MarkupPart, LogPart, TextPart, NumberPart}
 use Rattle.redo_html.specs.Style.{plain_style}
 use Rattle.redo_line.specs.Lines.{with_line_feed}
 use Rattle.redo_outline.specs.declared.node.Node.{Node}
@@ -20,14 +20,14 @@ use Rattle.redo_page.specs.Errors.{cause_of}
 use Rattle.redo_page.specs.Excerpt.{Stretch, error_position, excerpt_line_parts, excerpt_parts, in_tree_parts, is_kept, left_out_parts, stretch_parts, stretches_from}
 use Rattle.redo_page.specs.Excerpt.Stretch.{Shown, LeftOut}
 use Rattle.redo_units.specs.Durations.{duration_words}
-use Rattle.redo_page.specs.Failed.{article_of, article_parts, article_took, article_row, cause_if, cause_of_node, cause_parts, failed_above, failed_parts, is_unclosed, list_parts, max_path, max_rows, more_parts, nothing_parts, output_parts, path_parts, places_where, printed_by, row_parts, section_parts, target_row, unlisted_parts, whole_parts}
+use Rattle.redo_page.specs.Failed.{article_of, article_parts, article_took, article_row, cause_if, cause_of_node, cause_parts, is_dependent_failure, failed_parts, is_unclosed, list_parts, max_path, max_rows, more_parts, nothing_parts, output_parts, path_parts, positions_where, printed_by, row_parts, section_parts, target_row, unlisted_parts, whole_parts}
 use Rattle.redo_page.specs.Laws.{is_among}
 use Rattle.redo_page.specs.Targets.{parts_if}
-use Rattle.redo_page.specs.Tree.{articles, failed_first, first_failures, first_failures_from, is_short, max_articles, node_at}
+use Rattle.redo_page.specs.Tree.{articles, is_root_failure, root_failures, root_failures_from, is_short, max_articles, node_at}
 use Rattle.redo_page.proofs.FailedOrder.{sort-passes}
 use Rattle.redo_page.proofs.Ids.{Bare, Refer, Refers, badge_bare, bare_if, bare_refers, bare_then, link_refers, article_link_refers, reference, references, refer_each, refer_if, same_refer, then_refer, words_bare}
 
--- ---- places
+-- ---- positions
 
 -- All numbers of a list are below a number.
 abbrev pub AreBelow : ℕ → List ℕ → Type 0
@@ -45,20 +45,20 @@ all_drop passes zero numbers all = all
 all_drop passes (suc count) [] all = refl
 all_drop passes (suc count) (number ∷ numbers) all = all_drop passes count numbers (and_parts (passes number) (list_all passes numbers) all).1
 
-first_below : (place : ℕ) (nodes : List Node) → AreBelow (place + length nodes) (first_failures_from place nodes)
-first_below place [] = refl
-first_below place (node ∷ nodes) = by (failed_first node) (ap (λ count. list_all (λ number. nat_lt number count) (first_failures_from (suc place) nodes)) (omega arith) ∙ first_below (suc place) nodes)
+roots_below : (position : ℕ) (nodes : List Node) → AreBelow (position + length nodes) (root_failures_from position nodes)
+roots_below position [] = refl
+roots_below position (node ∷ nodes) = by (is_root_failure node) (ap (λ count. list_all (λ number. nat_lt number count) (root_failures_from (suc position) nodes)) (omega arith) ∙ roots_below (suc position) nodes)
   where
-    by : (first : Bool) → AreBelow (place + length (node ∷ nodes)) (first_failures_from (suc place) nodes) → AreBelow (place + length (node ∷ nodes)) ((if first then place ∷ [] else []) ++ first_failures_from (suc place) nodes)
-    by true others = and_from (nat_lt place (place + length (node ∷ nodes))) (list_all (λ number. nat_lt number (place + length (node ∷ nodes))) (first_failures_from (suc place) nodes)) (lt-ltb place (place + length (node ∷ nodes)) (omega arith)) others
+    by : (first : Bool) → AreBelow (position + length (node ∷ nodes)) (root_failures_from (suc position) nodes) → AreBelow (position + length (node ∷ nodes)) ((if first then position ∷ [] else []) ++ root_failures_from (suc position) nodes)
+    by true others = and_from (nat_lt position (position + length (node ∷ nodes))) (list_all (λ number. nat_lt number (position + length (node ∷ nodes))) (root_failures_from (suc position) nodes)) (lt-ltb position (position + length (node ∷ nodes)) (omega arith)) others
     by false others = others
 
-where_below : (holds : Node → Bool) (place : ℕ) (nodes : List Node) → AreBelow (place + length nodes) (places_where holds place nodes)
-where_below holds place [] = refl
-where_below holds place (node ∷ nodes) = by (holds node) (ap (λ count. list_all (λ number. nat_lt number count) (places_where holds (suc place) nodes)) (omega arith) ∙ where_below holds (suc place) nodes)
+where_below : (holds : Node → Bool) (position : ℕ) (nodes : List Node) → AreBelow (position + length nodes) (positions_where holds position nodes)
+where_below holds position [] = refl
+where_below holds position (node ∷ nodes) = by (holds node) (ap (λ count. list_all (λ number. nat_lt number count) (positions_where holds (suc position) nodes)) (omega arith) ∙ where_below holds (suc position) nodes)
   where
-    by : (is : Bool) → AreBelow (place + length (node ∷ nodes)) (places_where holds (suc place) nodes) → AreBelow (place + length (node ∷ nodes)) (if is then place ∷ places_where holds (suc place) nodes else places_where holds (suc place) nodes)
-    by true others = and_from (nat_lt place (place + length (node ∷ nodes))) (list_all (λ number. nat_lt number (place + length (node ∷ nodes))) (places_where holds (suc place) nodes)) (lt-ltb place (place + length (node ∷ nodes)) (omega arith)) others
+    by : (is : Bool) → AreBelow (position + length (node ∷ nodes)) (positions_where holds (suc position) nodes) → AreBelow (position + length (node ∷ nodes)) (if is then position ∷ positions_where holds (suc position) nodes else positions_where holds (suc position) nodes)
+    by true others = and_from (nat_lt position (position + length (node ∷ nodes))) (list_all (λ number. nat_lt number (position + length (node ∷ nodes))) (positions_where holds (suc position) nodes)) (lt-ltb position (position + length (node ∷ nodes)) (omega arith)) others
     by false others = others
 
 -- Each number of a list is in it.
@@ -72,36 +72,36 @@ among_after front (number ∷ numbers) =
     here [] = or_left (number == number) (is_among numbers number) (eq-eqb number number refl)
     here (other ∷ front) = or_right (number == other) (is_among (front ++ (number ∷ numbers)) number) (here front)
 
-first_are_below : (nodes : List Node) → AreBelow (length nodes) (first_failures nodes)
-first_are_below nodes =
-    sort-passes nodes (λ number. nat_lt number (length nodes)) (first_failures_from 0 nodes)
-    (ap (λ count. list_all (λ number. nat_lt number count) (first_failures_from 0 nodes)) (omega arith) ∙ first_below 0 nodes)
+roots_are_below : (nodes : List Node) → AreBelow (length nodes) (root_failures nodes)
+roots_are_below nodes =
+    sort-passes nodes (λ number. nat_lt number (length nodes)) (root_failures_from 0 nodes)
+    (ap (λ count. list_all (λ number. nat_lt number count) (root_failures_from 0 nodes)) (omega arith) ∙ roots_below 0 nodes)
 
 pub articles_below : (nodes : List Node) → AreBelow (length nodes) (articles nodes)
-articles_below nodes = all_take (λ number. nat_lt number (length nodes)) max_articles (first_failures nodes) (first_are_below nodes)
+articles_below nodes = all_take (λ number. nat_lt number (length nodes)) max_articles (root_failures nodes) (roots_are_below nodes)
 
 -- ---- paths
 
 pub article_took_bare : (took : Option ℕ) → Bare (article_took took)
 article_took_bare None = refl
-article_took_bare (Some ms) = words_bare [] (NamePart MIDDLE_DOT.now ∷ []) (duration_words ms) refl refl
+article_took_bare (Some ms) = words_bare [] (TextPart MIDDLE_DOT.now ∷ []) (duration_words ms) refl refl
 
-pub path_bare : (logs : List Log) (nodes : List Node) (levels : ℕ) (place : Option ℕ) → Bare (path_parts logs nodes levels place)
+pub path_bare : (logs : List Log) (nodes : List Node) (levels : ℕ) (position : Option ℕ) → Bare (path_parts logs nodes levels position)
 unfolding path_parts
 path_bare logs nodes levels None = refl
-path_bare logs nodes zero (Some place) = refl
-path_bare logs nodes (suc levels) (Some place) = bare_then (path_parts logs nodes levels (node_at nodes place).parent) _ (path_bare logs nodes levels (node_at nodes place).parent) refl
+path_bare logs nodes zero (Some position) = refl
+path_bare logs nodes (suc levels) (Some position) = bare_then (path_parts logs nodes levels (node_at nodes position).parent) _ (path_bare logs nodes levels (node_at nodes position).parent) refl
 
 -- ---- excerpts
 
 module _ (count : ℕ) (listed : List ℕ) where
-  in_tree_refers : (place : ℕ) (text : List ℕ) → nat_lt place count ≡ true → Refer count listed (in_tree_parts place text) [] []
+  in_tree_refers : (position : ℕ) (text : List ℕ) → nat_lt position count ≡ true → Refer count listed (in_tree_parts position text) [] []
   unfolding in_tree_parts
-  in_tree_refers place text below = same_refer {others = MarkupPart (markup.TargetLink place) ∷ []} refl (link_refers place below)
+  in_tree_refers position text below = same_refer {others = MarkupPart (markup.TargetLink position) ∷ []} refl (link_refers position below)
 
-  left_out_refers : (place left_out : ℕ) → nat_lt place count ≡ true → Refer count listed (left_out_parts place left_out) [] []
+  left_out_refers : (position left_out : ℕ) → nat_lt position count ≡ true → Refer count listed (left_out_parts position left_out) [] []
   unfolding left_out_parts in_tree_parts
-  left_out_refers place left_out below = same_refer {others = MarkupPart (markup.TargetLink place) ∷ []} refl (link_refers place below)
+  left_out_refers position left_out below = same_refer {others = MarkupPart (markup.TargetLink position) ∷ []} refl (link_refers position below)
 
   log_refers : (style : Style) (text : List ℕ) → Refer count listed (LogPart style text ∷ []) [] []
   log_refers style text = record { target_ids_are = refl; article_ids_are = refl; target_links_lead = refl; article_links_lead = refl; sections_are = refl }
@@ -110,13 +110,13 @@ module _ (count : ℕ) (listed : List ℕ) where
   unfolding excerpt_line_parts
   excerpt_line_refers line = record { target_ids_are = refl; article_ids_are = refl; target_links_lead = refl; article_links_lead = refl; sections_are = refl }
 
-  stretch_refers : (place : ℕ) (stretch : Stretch) → nat_lt place count ≡ true → Refer count listed (stretch_parts place stretch) [] []
-  stretch_refers place (Shown lines) below = same_refer {others = flat_map excerpt_line_parts lines} (simp (flat_map-append, append-nil)) (refer_each excerpt_line_parts excerpt_line_refers lines)
-  stretch_refers place (LeftOut left_out) below = left_out_refers place left_out below
+  stretch_refers : (position : ℕ) (stretch : Stretch) → nat_lt position count ≡ true → Refer count listed (stretch_parts position stretch) [] []
+  stretch_refers position (Shown lines) below = same_refer {others = flat_map excerpt_line_parts lines} (simp (flat_map-append, append-nil)) (refer_each excerpt_line_parts excerpt_line_refers lines)
+  stretch_refers position (LeftOut left_out) below = left_out_refers position left_out below
 
-  excerpt_refers : (place : ℕ) (lines : List (List ℕ)) → nat_lt place count ≡ true → Refer count listed (excerpt_parts place lines) [] []
+  excerpt_refers : (position : ℕ) (lines : List (List ℕ)) → nat_lt position count ≡ true → Refer count listed (excerpt_parts position lines) [] []
   unfolding excerpt_parts
-  excerpt_refers place lines below = refer_each (stretch_parts place) (λ stretch. stretch_refers place stretch below) (stretches_from (is_kept (length lines) (error_position lines)) 0 lines)
+  excerpt_refers position lines below = refer_each (stretch_parts position) (λ stretch. stretch_refers position stretch below) (stretches_from (is_kept (length lines) (error_position lines)) 0 lines)
 
   lines_refer : (style : Style) (lines : List (List ℕ)) → Refer count listed (line_parts style lines) [] []
   lines_refer style [] = bare_refers [] refl
@@ -135,11 +135,11 @@ module _ (count : ℕ) (listed : List ℕ) where
   cause_refers None = bare_refers [] refl
   cause_refers (Some line) = record { target_ids_are = refl; article_ids_are = refl; target_links_lead = refl; article_links_lead = refl; sections_are = refl }
 
-  rows_refer : (passes : ℕ → Bool) (row : ℕ → List Part) → ((place : ℕ) → passes place ≡ true → Refer count listed (row place) [] []) → (places : List ℕ) → list_all passes places ≡ true → Refer count listed (flat_map row places) [] []
+  rows_refer : (passes : ℕ → Bool) (row : ℕ → List Part) → ((position : ℕ) → passes position ≡ true → Refer count listed (row position) [] []) → (positions : List ℕ) → list_all passes positions ≡ true → Refer count listed (flat_map row positions) [] []
   rows_refer passes row each [] all = bare_refers [] refl
-  rows_refer passes row each (place ∷ places) all =
-      let parts = and_parts (passes place) (list_all passes places) all in
-      then_refer (each place parts.0) (rows_refer passes row each places parts.1)
+  rows_refer passes row each (position ∷ positions) all =
+      let parts = and_parts (passes position) (list_all passes positions) all in
+      then_refer (each position parts.0) (rows_refer passes row each positions parts.1)
 
   unlisted_bare : (number : ℕ) → Bare (unlisted_parts number)
   unfolding unlisted_parts
@@ -148,29 +148,29 @@ module _ (count : ℕ) (listed : List ℕ) where
   -- ---- articles
 
   module _ (logs : List Log) (nodes : List Node) where
-    output_refers : (place : ℕ) (node : Node) → nat_lt place count ≡ true → Refer count listed (output_parts logs place node) [] []
+    output_refers : (position : ℕ) (node : Node) → nat_lt position count ≡ true → Refer count listed (output_parts logs position node) [] []
     unfolding output_parts
-    output_refers place node below = by (node.lines == 0) (is_short node)
+    output_refers position node below = by (node.lines == 0) (is_short node)
       where
-        by : (none short : Bool) → Refer count listed (if none then nothing_parts node else if short then whole_parts (printed_by logs node) else excerpt_parts place (printed_by logs node)) [] []
+        by : (none short : Bool) → Refer count listed (if none then nothing_parts node else if short then whole_parts (printed_by logs node) else excerpt_parts position (printed_by logs node)) [] []
         by true short = nothing_refers node
         by false true = whole_refers (printed_by logs node)
-        by false false = excerpt_refers place (printed_by logs node) below
+        by false false = excerpt_refers position (printed_by logs node) below
 
-    article_refers : (place : ℕ) → nat_lt place count ≡ true → Refer count listed (article_parts logs nodes place) [] (place ∷ [])
+    article_refers : (position : ℕ) → nat_lt position count ≡ true → Refer count listed (article_parts logs nodes position) [] (position ∷ [])
     unfolding article_parts article_of
-    article_refers place below =
-        let node = node_at nodes place in
-        same_refer {others = MarkupPart (markup.Article place) ∷ (in_tree_parts place PLACE_IN_TREE.now ++ output_parts logs place node)}
+    article_refers position below =
+        let node = node_at nodes position in
+        same_refer {others = MarkupPart (markup.Article position) ∷ (in_tree_parts position PLACE_IN_TREE.now ++ output_parts logs position node)}
         (simp (flat_map-append, append-nil, badge_bare node.status, article_took_bare node.took, path_bare logs nodes (max_path logs nodes) node.parent))
-        (then_refer {parts = MarkupPart (markup.Article place) ∷ []} (record { target_ids_are = refl; article_ids_are = refl; target_links_lead = refl; article_links_lead = refl; sections_are = refl })
-        (then_refer (in_tree_refers place PLACE_IN_TREE.now below) (output_refers place node below)))
+        (then_refer {parts = MarkupPart (markup.Article position) ∷ []} (record { target_ids_are = refl; article_ids_are = refl; target_links_lead = refl; article_links_lead = refl; sections_are = refl })
+        (then_refer (in_tree_refers position PLACE_IN_TREE.now below) (output_refers position node below)))
 
-    articles_refer : (places : List ℕ) → AreBelow count places → Refer count listed (flat_map (article_parts logs nodes) places) [] places
+    articles_refer : (positions : List ℕ) → AreBelow count positions → Refer count listed (flat_map (article_parts logs nodes) positions) [] positions
     articles_refer [] below = bare_refers [] refl
-    articles_refer (place ∷ places) below =
-        let parts = and_parts (nat_lt place count) (list_all (λ number. nat_lt number count) places) below in
-        then_refer (article_refers place parts.0) (articles_refer places parts.1)
+    articles_refer (position ∷ positions) below =
+        let parts = and_parts (nat_lt position count) (list_all (λ number. nat_lt number count) positions) below in
+        then_refer (article_refers position parts.0) (articles_refer positions parts.1)
 
     -- ---- lists
 
@@ -179,75 +179,75 @@ module _ (count : ℕ) (listed : List ℕ) where
     cause_if_refers true node = cause_refers (cause_of (printed_by logs node))
     cause_if_refers false node = bare_refers [] refl
 
-    article_row_refers : (place : ℕ) → is_among listed place ≡ true → Refer count listed (article_row logs nodes place) [] []
+    article_row_refers : (position : ℕ) → is_among listed position ≡ true → Refer count listed (article_row logs nodes position) [] []
     unfolding article_row row_parts
-    article_row_refers place among =
-        let node = node_at nodes place in
-        same_refer {others = MarkupPart (markup.OutputLink place) ∷ cause_if logs true node} (simp (flat_map-append, append-nil, badge_bare node.status))
-        (then_refer (article_link_refers place among) (cause_if_refers true node))
+    article_row_refers position among =
+        let node = node_at nodes position in
+        same_refer {others = MarkupPart (markup.OutputLink position) ∷ cause_if logs true node} (simp (flat_map-append, append-nil, badge_bare node.status))
+        (then_refer (article_link_refers position among) (cause_if_refers true node))
 
-    target_row_refers : (causes : Bool) (place : ℕ) → nat_lt place count ≡ true → Refer count listed (target_row logs nodes causes place) [] []
+    target_row_refers : (causes : Bool) (position : ℕ) → nat_lt position count ≡ true → Refer count listed (target_row logs nodes causes position) [] []
     unfolding target_row row_parts
-    target_row_refers causes place below =
-        let node = node_at nodes place in
-        same_refer {others = MarkupPart (markup.TargetLink place) ∷ cause_if logs causes node} (simp (flat_map-append, append-nil, badge_bare node.status))
-        (then_refer (link_refers place below) (cause_if_refers causes node))
+    target_row_refers causes position below =
+        let node = node_at nodes position in
+        same_refer {others = MarkupPart (markup.TargetLink position) ∷ cause_if logs causes node} (simp (flat_map-append, append-nil, badge_bare node.status))
+        (then_refer (link_refers position below) (cause_if_refers causes node))
 
-    list_refers : (places : List ℕ) → list_all (is_among listed) places ≡ true → Refer count listed (list_parts logs nodes places) [] []
+    list_refers : (positions : List ℕ) → list_all (is_among listed) positions ≡ true → Refer count listed (list_parts logs nodes positions) [] []
     unfolding list_parts
-    list_refers places among =
-        refer_if (nat_lt 1 (length places)) (same_refer {others = flat_map (article_row logs nodes) places} (simp (flat_map-append, append-nil)) (rows_refer (is_among listed) (article_row logs nodes) article_row_refers places among))
+    list_refers positions among =
+        refer_if (nat_lt 1 (length positions)) (same_refer {others = flat_map (article_row logs nodes) positions} (simp (flat_map-append, append-nil)) (rows_refer (is_among listed) (article_row logs nodes) article_row_refers positions among))
 
-    more_refers : (list : Markup) (causes : Bool) → Bare (MarkupPart list ∷ []) → (heading places : List ℕ) → AreBelow count places → Refer count listed (more_parts logs nodes list causes heading places) [] []
+    more_refers : (list : Markup) (causes : Bool) → Bare (MarkupPart list ∷ []) → (heading positions : List ℕ) → AreBelow count positions → Refer count listed (more_parts logs nodes list causes heading positions) [] []
     unfolding more_parts
-    more_refers list causes bare heading places below =
-        let rows = flat_map (target_row logs nodes causes) (take max_rows places) in
-        refer_if (nat_lt 0 (length places)) (same_refer {others = rows} (more_same rows (unlisted_parts (length places)) (unlisted_bare (length places)))
-        (rows_refer (λ number. nat_lt number count) (target_row logs nodes causes) (target_row_refers causes) (take max_rows places) (all_take (λ number. nat_lt number count) max_rows places below)))
+    more_refers list causes bare heading positions below =
+        let rows = flat_map (target_row logs nodes causes) (take max_rows positions) in
+        refer_if (nat_lt 0 (length positions)) (same_refer {others = rows} (more_same rows (unlisted_parts (length positions)) (unlisted_bare (length positions)))
+        (rows_refer (λ number. nat_lt number count) (target_row logs nodes causes) (target_row_refers causes) (take max_rows positions) (all_take (λ number. nat_lt number count) max_rows positions below)))
       where
-        more_same : (rows unlisted : List Part) → Bare unlisted → references (MarkupPart markup.MoreDetails ∷ MarkupPart markup.Summary ∷ NumberPart (length places) ∷ NamePart heading ∷ MarkupPart markup.EndSummary ∷ MarkupPart list
+        more_same : (rows unlisted : List Part) → Bare unlisted → references (MarkupPart markup.MoreDetails ∷ MarkupPart markup.Summary ∷ NumberPart (length positions) ∷ TextPart heading ∷ MarkupPart markup.EndSummary ∷ MarkupPart list
             ∷ (rows ++ (MarkupPart markup.EndOrdered ∷ (unlisted ++ MarkupPart markup.EndDetails ∷ [])))) ≡ references rows
         more_same rows unlisted unlisted_is =
             ap (λ t. t ++ references (rows ++ (MarkupPart markup.EndOrdered ∷ (unlisted ++ MarkupPart markup.EndDetails ∷ [])))) (sym (append-nil (reference (MarkupPart list))) ∙ bare) ∙ simp (flat_map-append, append-nil, unlisted_is)
 
-    section_same : (a b c d e : List Part) → references (MarkupPart markup.FailedSection ∷ MarkupPart markup.FailedHeading ∷ NamePart WHAT_FAILED.now ∷ MarkupPart markup.EndHeading ∷ (a ++ (b ++ (c ++ (d ++ (e ++ MarkupPart markup.EndSection ∷ []))))))
+    section_same : (a b c d e : List Part) → references (MarkupPart markup.FailedSection ∷ MarkupPart markup.FailedHeading ∷ TextPart WHAT_FAILED.now ∷ MarkupPart markup.EndHeading ∷ (a ++ (b ++ (c ++ (d ++ (e ++ MarkupPart markup.EndSection ∷ []))))))
         ≡ references (MarkupPart markup.FailedSection ∷ (a ++ (b ++ (c ++ (d ++ e)))))
     section_same a b c d e = simp (flat_map-append, append-nil)
 
-    section_refers : (shown others above unclosed : List ℕ) → AreBelow count shown → list_all (is_among listed) shown ≡ true → AreBelow count others → AreBelow count above → AreBelow count unclosed
-        → Refers count listed (section_parts logs nodes shown others above unclosed) [] (shown ++ []) (MarkupPart markup.FailedSection ∷ [])
+    section_refers : (shown others dependents unclosed : List ℕ) → AreBelow count shown → list_all (is_among listed) shown ≡ true → AreBelow count others → AreBelow count dependents → AreBelow count unclosed
+        → Refers count listed (section_parts logs nodes shown others dependents unclosed) [] (shown ++ []) (MarkupPart markup.FailedSection ∷ [])
     unfolding section_parts
-    section_refers shown others above unclosed shown_below among others_below above_below unclosed_below =
+    section_refers shown others dependents unclosed shown_below among others_below dependents_below unclosed_below =
         let articles_shown = flat_map (article_parts logs nodes) shown in
         let more = more_parts logs nodes (markup.OrderedFrom (suc max_articles)) true MORE_FAILED.now others in
-        let with_these = more_parts logs nodes markup.Ordered false FAILED_WITH_THESE.now above in
+        let with_these = more_parts logs nodes markup.Ordered false FAILED_WITH_THESE.now dependents in
         let not_closed = more_parts logs nodes markup.Ordered false COUNT_NOT_CLOSED.now unclosed in
         same_refer {others = MarkupPart markup.FailedSection ∷ (list_parts logs nodes shown ++ (articles_shown ++ (more ++ (with_these ++ not_closed))))} (section_same (list_parts logs nodes shown) articles_shown more with_these not_closed)
         (then_refer {parts = MarkupPart markup.FailedSection ∷ []} (record { target_ids_are = refl; article_ids_are = refl; target_links_lead = refl; article_links_lead = refl; sections_are = refl })
         (then_refer (list_refers shown among)
         (then_refer (articles_refer shown shown_below)
         (then_refer (more_refers (markup.OrderedFrom (suc max_articles)) true refl MORE_FAILED.now others others_below)
-        (then_refer (more_refers markup.Ordered false refl FAILED_WITH_THESE.now above above_below) (more_refers markup.Ordered false refl COUNT_NOT_CLOSED.now unclosed unclosed_below))))))
+        (then_refer (more_refers markup.Ordered false refl FAILED_WITH_THESE.now dependents dependents_below) (more_refers markup.Ordered false refl COUNT_NOT_CLOSED.now unclosed unclosed_below))))))
 
 -- The section, if a target failed.
 abbrev pub failed_section : List ℕ → List Part
 failed_section first = parts_if (nat_lt 0 (length first)) (MarkupPart markup.FailedSection ∷ [])
 
-pub failed_refers : (logs : List Log) (nodes : List Node) → Refers (length nodes) (articles nodes) (failed_parts logs nodes) [] (articles nodes ++ []) (failed_section (first_failures nodes))
+pub failed_refers : (logs : List Log) (nodes : List Node) → Refers (length nodes) (articles nodes) (failed_parts logs nodes) [] (articles nodes ++ []) (failed_section (root_failures nodes))
 unfolding failed_parts
-failed_refers logs nodes = by (first_failures nodes) (first_are_below nodes)
+failed_refers logs nodes = by (root_failures nodes) (roots_are_below nodes)
   where
-    below : (holds : Node → Bool) → AreBelow (length nodes) (places_where holds 0 nodes)
-    below holds = ap (λ count. list_all (λ number. nat_lt number count) (places_where holds 0 nodes)) (omega arith) ∙ where_below holds 0 nodes
+    below : (holds : Node → Bool) → AreBelow (length nodes) (positions_where holds 0 nodes)
+    below holds = ap (λ count. list_all (λ number. nat_lt number count) (positions_where holds 0 nodes)) (omega arith) ∙ where_below holds 0 nodes
 
     some : (condition : Bool) → condition ≡ true → {listed ids : List ℕ} {parts sections : List Part} → Refers (length nodes) listed parts [] ids sections → Refers (length nodes) listed (parts_if condition parts) [] ids (parts_if condition sections)
     some condition is refer = rw is refer
 
     by : (first : List ℕ) → AreBelow (length nodes) first
-        → Refers (length nodes) (take max_articles first) (parts_if (nat_lt 0 (length first)) (section_parts logs nodes (take max_articles first) (drop max_articles first) (places_where failed_above 0 nodes) (places_where is_unclosed 0 nodes))) [] (take max_articles first ++ []) (failed_section first)
+        → Refers (length nodes) (take max_articles first) (parts_if (nat_lt 0 (length first)) (section_parts logs nodes (take max_articles first) (drop max_articles first) (positions_where is_dependent_failure 0 nodes) (positions_where is_unclosed 0 nodes))) [] (take max_articles first ++ []) (failed_section first)
     by [] first_are = bare_refers [] refl
-    by (place ∷ places) first_are =
-        let first = place ∷ places in
-        some (nat_lt 0 (length (place ∷ places))) (lt-ltb 0 (length (place ∷ places)) (omega arith))
-        (section_refers (length nodes) (take max_articles first) logs nodes (take max_articles first) (drop max_articles first) (places_where failed_above 0 nodes) (places_where is_unclosed 0 nodes)
-        (all_take (λ number. nat_lt number (length nodes)) max_articles first first_are) (among_after [] (take max_articles first)) (all_drop (λ number. nat_lt number (length nodes)) max_articles first first_are) (below failed_above) (below is_unclosed))
+    by (position ∷ positions) first_are =
+        let first = position ∷ positions in
+        some (nat_lt 0 (length (position ∷ positions))) (lt-ltb 0 (length (position ∷ positions)) (omega arith))
+        (section_refers (length nodes) (take max_articles first) logs nodes (take max_articles first) (drop max_articles first) (positions_where is_dependent_failure 0 nodes) (positions_where is_unclosed 0 nodes)
+        (all_take (λ number. nat_lt number (length nodes)) max_articles first first_are) (among_after [] (take max_articles first)) (all_drop (λ number. nat_lt number (length nodes)) max_articles first first_are) (below is_dependent_failure) (below is_unclosed))

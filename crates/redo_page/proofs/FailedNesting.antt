@@ -8,7 +8,7 @@ use Rattle.redo_html.specs.declared.markup.Markup.TheVariants as markup
 use Rattle.redo_html.specs.declared.style.Style.{Style}
 use Rattle.redo_html.specs.Lines.{line_parts, style_after}
 use Rattle.redo_html.specs.Parts.{Part}
-use Rattle.redo_html.specs.Parts.Part.{MarkupPart, NamePart, NumberPart}
+use Rattle.redo_html.specs.Parts.Part.{MarkupPart, TextPart, NumberPart}
 use Rattle.redo_html.specs.Style.{plain_style}
 use Rattle.redo_line.specs.Lines.{with_line_feed}
 use Rattle.redo_outline.specs.declared.node.Node.{Node}
@@ -17,30 +17,30 @@ use Rattle.redo_page.specs.Errors.{cause_of}
 use Rattle.redo_page.specs.Excerpt.{Stretch, error_position, excerpt_line_parts, excerpt_parts, in_tree_parts, is_kept, left_out_parts, stretch_parts, stretches_from}
 use Rattle.redo_page.specs.Excerpt.Stretch.{Shown, LeftOut}
 use Rattle.redo_units.specs.Durations.{duration_words}
-use Rattle.redo_page.specs.Failed.{article_of, article_parts, article_took, article_row, cause_if, cause_of_node, cause_parts, failed_above, failed_parts, is_unclosed, list_parts, max_path, max_rows, more_parts, nothing_parts, output_parts, path_parts, places_where, printed_by, row_parts, section_parts, target_row, unlisted_parts, whole_parts}
-use Rattle.redo_page.specs.Tree.{first_failures, is_short, max_articles, node_at}
+use Rattle.redo_page.specs.Failed.{article_of, article_parts, article_took, article_row, cause_if, cause_of_node, cause_parts, is_dependent_failure, failed_parts, is_unclosed, list_parts, max_path, max_rows, more_parts, nothing_parts, output_parts, path_parts, positions_where, printed_by, row_parts, section_parts, target_row, unlisted_parts, whole_parts}
+use Rattle.redo_page.specs.Tree.{root_failures, is_short, max_articles, node_at}
 use Rattle.redo_page.proofs.Nesting.{Leads, Nest, nest_if, nest_each, then_lead, joined}
 use Rattle.redo_page.proofs.TargetNesting.{badge_nests, words_nest}
 
-in_tree_nests : (place : ℕ) (text : List ℕ) → Nest (in_tree_parts place text)
+in_tree_nests : (position : ℕ) (text : List ℕ) → Nest (in_tree_parts position text)
 unfolding in_tree_parts
-in_tree_nests place text = record { leads = λ around tags. refl }
+in_tree_nests position text = record { leads = λ around tags. refl }
 
-left_out_nests : (place count : ℕ) → Nest (left_out_parts place count)
+left_out_nests : (position count : ℕ) → Nest (left_out_parts position count)
 unfolding left_out_parts in_tree_parts
-left_out_nests place count = record { leads = λ around tags. refl }
+left_out_nests position count = record { leads = λ around tags. refl }
 
 excerpt_line_nests : (line : List ℕ) → Nest (excerpt_line_parts line)
 unfolding excerpt_line_parts
 excerpt_line_nests line = record { leads = λ around tags. refl }
 
-stretch_nests : (place : ℕ) (stretch : Stretch) → Nest (stretch_parts place stretch)
-stretch_nests place (Shown lines) = record { leads = λ around tags. simp (joined, (nest_each excerpt_line_parts excerpt_line_nests lines).leads) }
-stretch_nests place (LeftOut count) = left_out_nests place count
+stretch_nests : (position : ℕ) (stretch : Stretch) → Nest (stretch_parts position stretch)
+stretch_nests position (Shown lines) = record { leads = λ around tags. simp (joined, (nest_each excerpt_line_parts excerpt_line_nests lines).leads) }
+stretch_nests position (LeftOut count) = left_out_nests position count
 
-excerpt_nests : (place : ℕ) (lines : List (List ℕ)) → Nest (excerpt_parts place lines)
+excerpt_nests : (position : ℕ) (lines : List (List ℕ)) → Nest (excerpt_parts position lines)
 unfolding excerpt_parts
-excerpt_nests place lines = nest_each (stretch_parts place) (stretch_nests place) (stretches_from (is_kept (length lines) (error_position lines)) 0 lines)
+excerpt_nests position lines = nest_each (stretch_parts position) (stretch_nests position) (stretches_from (is_kept (length lines) (error_position lines)) 0 lines)
 
 lines_nest : (style : Style) (lines : List (List ℕ)) → Nest (line_parts style lines)
 lines_nest style [] = record { leads = λ around tags. refl }
@@ -64,14 +64,14 @@ unfolding unlisted_parts
 unlisted_nests count = nest_if (nat_lt max_rows count) (record { leads = λ around tags. refl })
 
 module _ (logs : List Log) where
-  output_nests : (place : ℕ) (node : Node) → Nest (output_parts logs place node)
+  output_nests : (position : ℕ) (node : Node) → Nest (output_parts logs position node)
   unfolding output_parts
-  output_nests place node = by (node.lines == 0) (is_short node)
+  output_nests position node = by (node.lines == 0) (is_short node)
     where
-      by : (none short : Bool) → Nest (if none then nothing_parts node else if short then whole_parts (printed_by logs node) else excerpt_parts place (printed_by logs node))
+      by : (none short : Bool) → Nest (if none then nothing_parts node else if short then whole_parts (printed_by logs node) else excerpt_parts position (printed_by logs node))
       by true short = nothing_nests node
       by false true = whole_nests (printed_by logs node)
-      by false false = excerpt_nests place (printed_by logs node)
+      by false false = excerpt_nests position (printed_by logs node)
 
   cause_if_nests : (causes : Bool) (node : Node) → Nest (cause_if logs causes node)
   unfolding cause_of_node
@@ -85,55 +85,55 @@ module _ (logs : List Log) where
 
 article_took_nests : (took : Option ℕ) → Nest (article_took took)
 article_took_nests None = record { leads = λ around tags. refl }
-article_took_nests (Some ms) = words_nest {inside = []} [] (NamePart MIDDLE_DOT.now ∷ []) (duration_words ms) (record { leads = λ around tags. refl }) (record { leads = λ around tags. refl })
+article_took_nests (Some ms) = words_nest {inside = []} [] (TextPart MIDDLE_DOT.now ∷ []) (duration_words ms) (record { leads = λ around tags. refl }) (record { leads = λ around tags. refl })
 
 module _ (logs : List Log) (nodes : List Node) where
-  path_nests : (levels : ℕ) (place : Option ℕ) → Nest (path_parts logs nodes levels place)
+  path_nests : (levels : ℕ) (position : Option ℕ) → Nest (path_parts logs nodes levels position)
   unfolding path_parts
   path_nests levels None = record { leads = λ around tags. refl }
-  path_nests zero (Some place) = record { leads = λ around tags. refl }
-  path_nests (suc levels) (Some place) = then_lead (path_nests levels (node_at nodes place).parent) (record { leads = λ around tags. refl })
+  path_nests zero (Some position) = record { leads = λ around tags. refl }
+  path_nests (suc levels) (Some position) = then_lead (path_nests levels (node_at nodes position).parent) (record { leads = λ around tags. refl })
 
-  article_nests : (place : ℕ) → Nest (article_parts logs nodes place)
+  article_nests : (position : ℕ) → Nest (article_parts logs nodes position)
   unfolding article_parts article_of
-  article_nests place =
-      let node = node_at nodes place in
+  article_nests position =
+      let node = node_at nodes position in
       record {
-        leads = λ around tags. simp (joined, (badge_nests node.status).leads, (article_took_nests node.took).leads, (path_nests (max_path logs nodes) node.parent).leads, (in_tree_nests place PLACE_IN_TREE.now).leads, (output_nests logs place node).leads);
+        leads = λ around tags. simp (joined, (badge_nests node.status).leads, (article_took_nests node.took).leads, (path_nests (max_path logs nodes) node.parent).leads, (in_tree_nests position PLACE_IN_TREE.now).leads, (output_nests logs position node).leads);
       }
 
   -- ---- lists
 
-  article_row_nests : (place : ℕ) → Nest (article_row logs nodes place)
+  article_row_nests : (position : ℕ) → Nest (article_row logs nodes position)
   unfolding article_row
-  article_row_nests place = row_nests logs true (node_at nodes place) (record { leads = λ around tags. refl })
+  article_row_nests position = row_nests logs true (node_at nodes position) (record { leads = λ around tags. refl })
 
-  target_row_nests : (causes : Bool) (place : ℕ) → Nest (target_row logs nodes causes place)
+  target_row_nests : (causes : Bool) (position : ℕ) → Nest (target_row logs nodes causes position)
   unfolding target_row
-  target_row_nests causes place = row_nests logs causes (node_at nodes place) (record { leads = λ around tags. refl })
+  target_row_nests causes position = row_nests logs causes (node_at nodes position) (record { leads = λ around tags. refl })
 
-  list_nests : (places : List ℕ) → Nest (list_parts logs nodes places)
+  list_nests : (positions : List ℕ) → Nest (list_parts logs nodes positions)
   unfolding list_parts
-  list_nests places = nest_if (nat_lt 1 (length places)) (record { leads = λ around tags. simp (joined, (nest_each (article_row logs nodes) article_row_nests places).leads) })
+  list_nests positions = nest_if (nat_lt 1 (length positions)) (record { leads = λ around tags. simp (joined, (nest_each (article_row logs nodes) article_row_nests positions).leads) })
 
-  more_nest : {list : Markup} (causes : Bool) → Leads [] (MarkupPart list ∷ []) (codes "ol" ∷ []) → (heading places : List ℕ) → Nest (more_parts logs nodes list causes heading places)
+  more_nest : {list : Markup} (causes : Bool) → Leads [] (MarkupPart list ∷ []) (codes "ol" ∷ []) → (heading positions : List ℕ) → Nest (more_parts logs nodes list causes heading positions)
   unfolding more_parts
-  more_nest {list} causes list_leads heading places =
-      nest_if (nat_lt 0 (length places)) (listed (flat_map (target_row logs nodes causes) (take max_rows places)) (unlisted_parts (length places)) (nest_each (target_row logs nodes causes) (target_row_nests causes) (take max_rows places)) (unlisted_nests (length places)))
+  more_nest {list} causes list_leads heading positions =
+      nest_if (nat_lt 0 (length positions)) (listed (flat_map (target_row logs nodes causes) (take max_rows positions)) (unlisted_parts (length positions)) (nest_each (target_row logs nodes causes) (target_row_nests causes) (take max_rows positions)) (unlisted_nests (length positions)))
     where
-      listed : (rows unlisted : List Part) → Nest rows → Nest unlisted → Nest (MarkupPart markup.MoreDetails ∷ MarkupPart markup.Summary ∷ NumberPart (length places) ∷ NamePart heading ∷ MarkupPart markup.EndSummary ∷ MarkupPart list
+      listed : (rows unlisted : List Part) → Nest rows → Nest unlisted → Nest (MarkupPart markup.MoreDetails ∷ MarkupPart markup.Summary ∷ NumberPart (length positions) ∷ TextPart heading ∷ MarkupPart markup.EndSummary ∷ MarkupPart list
           ∷ (rows ++ (MarkupPart markup.EndOrdered ∷ (unlisted ++ MarkupPart markup.EndDetails ∷ []))))
       listed rows unlisted rows_nest unlisted_nest = record { leads = λ around tags. simp (joined, list_leads.leads, rows_nest.leads, unlisted_nest.leads) }
 
-  section_nests : (articles others above unclosed : List ℕ) → Nest (section_parts logs nodes articles others above unclosed)
+  section_nests : (articles others dependents unclosed : List ℕ) → Nest (section_parts logs nodes articles others dependents unclosed)
   unfolding section_parts
-  section_nests articles others above unclosed = record {
+  section_nests articles others dependents unclosed = record {
     leads = λ around tags. simp (
       joined,
       (list_nests articles).leads,
       (nest_each (article_parts logs nodes) article_nests articles).leads,
       (more_nest {list = markup.OrderedFrom (suc max_articles)} true (record { leads = λ around tags. refl }) MORE_FAILED.now others).leads,
-      (more_nest {list = markup.Ordered} false (record { leads = λ around tags. refl }) FAILED_WITH_THESE.now above).leads,
+      (more_nest {list = markup.Ordered} false (record { leads = λ around tags. refl }) FAILED_WITH_THESE.now dependents).leads,
       (more_nest {list = markup.Ordered} false (record { leads = λ around tags. refl }) COUNT_NOT_CLOSED.now unclosed).leads,
     );
   }
@@ -141,5 +141,5 @@ module _ (logs : List Log) (nodes : List Node) where
   pub failed_nests : Nest (failed_parts logs nodes)
   unfolding failed_parts
   failed_nests =
-      nest_if (nat_lt 0 (length (first_failures nodes)))
-      (section_nests (take max_articles (first_failures nodes)) (drop max_articles (first_failures nodes)) (places_where failed_above 0 nodes) (places_where is_unclosed 0 nodes))
+      nest_if (nat_lt 0 (length (root_failures nodes)))
+      (section_nests (take max_articles (root_failures nodes)) (drop max_articles (root_failures nodes)) (positions_where is_dependent_failure 0 nodes) (positions_where is_unclosed 0 nodes))

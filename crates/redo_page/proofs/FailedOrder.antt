@@ -14,9 +14,9 @@ use Rattle.std.proofs.lemmas.List.Sorted.{IsPermutation-append_left, IsPermutati
 use Rattle.std.proofs.lemmas.Map.Keys.{IsDistinct-IsPermutation, IsDistinct-cons, IsDistinct-head, IsDistinct-tail}
 use Rattle.std.proofs.lemmas.Map.Lookups.{CmpEqualImpliesEq, exact_unsigned}
 use Rattle.redo_outline.specs.declared.node.Node.{Node}
-use Rattle.redo_page.specs.Failed.{failed_above, places_where}
+use Rattle.redo_page.specs.Failed.{is_dependent_failure, positions_where}
 use Rattle.redo_page.specs.Laws.{AreInOrderOfEnd, EndsBefore, IsListedBefore}
-use Rattle.redo_page.specs.Tree.{articles, end_cmp, failed_first, failure_cmp, first_failures, first_failures_from, has_failed, max_articles, node_at}
+use Rattle.redo_page.specs.Tree.{articles, end_cmp, is_root_failure, failure_cmp, root_failures, root_failures_from, has_failed, max_articles, node_at}
 use Rattle.redo_timeline.specs.Order.{insert_sorted, sort}
 use Rattle.redo_timeline.proofs.OrderLemmas.{IsRising, sort-permutation, sort-rising, sorted_same}
 
@@ -46,7 +46,7 @@ ends_alike None None third same = refl
 end_cmp_total : IsTotalOrder end_cmp
 end_cmp_total = record { antisymm = ends_reversed; trans = ends_chained; congr = ends_alike }
 
--- ---- the order of places
+-- ---- the order of positions
 
 last_equal : (first last : Ordering) → ordering_then first last ≡ Equal → last ≡ Equal
 last_equal Less last same = absurd (cc)
@@ -55,126 +55,126 @@ last_equal Greater last same = absurd (cc)
 
 module _ (nodes : List Node) where
   pub failure_cmp_total : IsTotalOrder (failure_cmp nodes)
-  failure_cmp_total = then_total (on_total (λ (place : ℕ). (node_at nodes place).ended) end_cmp_total) nat_cmp_total
+  failure_cmp_total = then_total (on_total (λ (position : ℕ). (node_at nodes position).ended) end_cmp_total) nat_cmp_total
 
   failure_cmp_exact : CmpEqualImpliesEq (failure_cmp nodes)
-  failure_cmp_exact place other same = exact_unsigned place other (last_equal (end_cmp (node_at nodes place).ended (node_at nodes other).ended) (nat_cmp place other) same)
+  failure_cmp_exact position other same = exact_unsigned position other (last_equal (end_cmp (node_at nodes position).ended (node_at nodes other).ended) (nat_cmp position other) same)
 
-  pub are_sorted : (places sorted : List ℕ) → IsPermutation places sorted → IsSorted (failure_cmp nodes) sorted → sorted ≡ sort (failure_cmp nodes) places
-  are_sorted places sorted moved up = sorted_same (failure_cmp nodes) failure_cmp_total failure_cmp_exact places sorted moved up
+  pub are_sorted : (positions sorted : List ℕ) → IsPermutation positions sorted → IsSorted (failure_cmp nodes) sorted → sorted ≡ sort (failure_cmp nodes) positions
+  are_sorted positions sorted moved up = sorted_same (failure_cmp nodes) failure_cmp_total failure_cmp_exact positions sorted moved up
 
-  -- ---- what holds of all places
+  -- ---- what holds of all positions
 
-  insert-passes : (passes : ℕ → Bool) (place : ℕ) (places : List ℕ) → passes place ≡ true → list_all passes places ≡ true → list_all passes (insert_sorted (failure_cmp nodes) place places) ≡ true
-  insert-passes passes place [] here all = and_from (passes place) true here refl
-  insert-passes passes place (other ∷ places) here all =
-      let parts = and_parts (passes other) (list_all passes places) all in
-      by (is_gt (failure_cmp nodes place other)) parts.0 (insert-passes passes place places here parts.1)
+  insert-passes : (passes : ℕ → Bool) (position : ℕ) (positions : List ℕ) → passes position ≡ true → list_all passes positions ≡ true → list_all passes (insert_sorted (failure_cmp nodes) position positions) ≡ true
+  insert-passes passes position [] here all = and_from (passes position) true here refl
+  insert-passes passes position (other ∷ positions) here all =
+      let parts = and_parts (passes other) (list_all passes positions) all in
+      by (is_gt (failure_cmp nodes position other)) parts.0 (insert-passes passes position positions here parts.1)
     where
-      by : (after : Bool) → passes other ≡ true → list_all passes (insert_sorted (failure_cmp nodes) place places) ≡ true
-          → list_all passes (if after then other ∷ insert_sorted (failure_cmp nodes) place places else place ∷ other ∷ places) ≡ true
-      by true first more = and_from (passes other) (list_all passes (insert_sorted (failure_cmp nodes) place places)) first more
-      by false first more = and_from (passes place) (list_all passes (other ∷ places)) here all
+      by : (after : Bool) → passes other ≡ true → list_all passes (insert_sorted (failure_cmp nodes) position positions) ≡ true
+          → list_all passes (if after then other ∷ insert_sorted (failure_cmp nodes) position positions else position ∷ other ∷ positions) ≡ true
+      by true first more = and_from (passes other) (list_all passes (insert_sorted (failure_cmp nodes) position positions)) first more
+      by false first more = and_from (passes position) (list_all passes (other ∷ positions)) here all
 
-  pub sort-passes : (passes : ℕ → Bool) (places : List ℕ) → list_all passes places ≡ true → list_all passes (sort (failure_cmp nodes) places) ≡ true
+  pub sort-passes : (passes : ℕ → Bool) (positions : List ℕ) → list_all passes positions ≡ true → list_all passes (sort (failure_cmp nodes) positions) ≡ true
   sort-passes passes [] all = refl
-  sort-passes passes (place ∷ places) all =
-      let parts = and_parts (passes place) (list_all passes places) all in
-      insert-passes passes place (sort (failure_cmp nodes) places) parts.0 (sort-passes passes places parts.1)
+  sort-passes passes (position ∷ positions) all =
+      let parts = and_parts (passes position) (list_all passes positions) all in
+      insert-passes passes position (sort (failure_cmp nodes) positions) parts.0 (sort-passes passes positions parts.1)
 
--- ---- no place occurs twice
+-- ---- no position occurs twice
 
-apart : (other place : ℕ) → other < place → nat_eq other place ≡ false
-apart other place less = grind (arith, nat_tests)
+apart : (other position : ℕ) → other < position → nat_eq other position ≡ false
+apart other position less = grind (arith, nat_tests)
 
-places_apart : (other place : ℕ) (nodes : List Node) → other < place → AllByRecursion (λ number. nat_eq other number ≡ false) (first_failures_from place nodes)
-places_apart other place [] less = tt
-places_apart other place (node ∷ nodes) less = by (failed_first node) (places_apart other (suc place) nodes (omega arith))
+positions_apart : (other position : ℕ) (nodes : List Node) → other < position → AllByRecursion (λ number. nat_eq other number ≡ false) (root_failures_from position nodes)
+positions_apart other position [] less = tt
+positions_apart other position (node ∷ nodes) less = by (is_root_failure node) (positions_apart other (suc position) nodes (omega arith))
   where
-    by : (first : Bool) → AllByRecursion (λ number. nat_eq other number ≡ false) (first_failures_from (suc place) nodes)
-        → AllByRecursion (λ number. nat_eq other number ≡ false) ((if first then place ∷ [] else []) ++ first_failures_from (suc place) nodes)
-    by true others = (apart other place less, others)
+    by : (first : Bool) → AllByRecursion (λ number. nat_eq other number ≡ false) (root_failures_from (suc position) nodes)
+        → AllByRecursion (λ number. nat_eq other number ≡ false) ((if first then position ∷ [] else []) ++ root_failures_from (suc position) nodes)
+    by true others = (apart other position less, others)
     by false others = others
 
-places_distinct : (place : ℕ) (nodes : List Node) → IsDistinct nat_eq (first_failures_from place nodes)
+positions_distinct : (position : ℕ) (nodes : List Node) → IsDistinct nat_eq (root_failures_from position nodes)
 unfolding IsDistinct
-places_distinct place [] = tt
-places_distinct place (node ∷ nodes) = by (failed_first node) (places_distinct (suc place) nodes)
+positions_distinct position [] = tt
+positions_distinct position (node ∷ nodes) = by (is_root_failure node) (positions_distinct (suc position) nodes)
   where
-    by : (first : Bool) → IsDistinct nat_eq (first_failures_from (suc place) nodes) → IsDistinct nat_eq ((if first then place ∷ [] else []) ++ first_failures_from (suc place) nodes)
-    by true others = IsDistinct-cons nat_eq place (first_failures_from (suc place) nodes) (places_apart place (suc place) nodes (omega arith)) others
+    by : (first : Bool) → IsDistinct nat_eq (root_failures_from (suc position) nodes) → IsDistinct nat_eq ((if first then position ∷ [] else []) ++ root_failures_from (suc position) nodes)
+    by true others = IsDistinct-cons nat_eq position (root_failures_from (suc position) nodes) (positions_apart position (suc position) nodes (omega arith)) others
     by false others = others
 
-first_distinct : (nodes : List Node) → IsDistinct nat_eq (first_failures nodes)
-first_distinct nodes =
-    IsDistinct-IsPermutation nat_eq nat_eq_equiv.symm (first_failures_from 0 nodes) (first_failures nodes) (sort-permutation (failure_cmp nodes) (first_failures_from 0 nodes)) (places_distinct 0 nodes)
+roots_distinct : (nodes : List Node) → IsDistinct nat_eq (root_failures nodes)
+roots_distinct nodes =
+    IsDistinct-IsPermutation nat_eq nat_eq_equiv.symm (root_failures_from 0 nodes) (root_failures nodes) (sort-permutation (failure_cmp nodes) (root_failures_from 0 nodes)) (positions_distinct 0 nodes)
 
-take_apart : (other count : ℕ) (places : List ℕ) → AllByRecursion (λ number. nat_eq other number ≡ false) places → AllByRecursion (λ number. nat_eq other number ≡ false) (take count places)
-take_apart other zero places all = tt
+take_apart : (other count : ℕ) (positions : List ℕ) → AllByRecursion (λ number. nat_eq other number ≡ false) positions → AllByRecursion (λ number. nat_eq other number ≡ false) (take count positions)
+take_apart other zero positions all = tt
 take_apart other (suc count) [] all = tt
-take_apart other (suc count) (place ∷ places) all = (all.0, take_apart other count places all.1)
+take_apart other (suc count) (position ∷ positions) all = (all.0, take_apart other count positions all.1)
 
-take_distinct : (count : ℕ) (places : List ℕ) → IsDistinct nat_eq places → IsDistinct nat_eq (take count places)
+take_distinct : (count : ℕ) (positions : List ℕ) → IsDistinct nat_eq positions → IsDistinct nat_eq (take count positions)
 unfolding IsDistinct
-take_distinct zero places distinct = tt
+take_distinct zero positions distinct = tt
 take_distinct (suc count) [] distinct = tt
-take_distinct (suc count) (place ∷ places) distinct = (take_apart place count places distinct.0, take_distinct count places distinct.1)
+take_distinct (suc count) (position ∷ positions) distinct = (take_apart position count positions distinct.0, take_distinct count positions distinct.1)
 
 pub articles_distinct : (nodes : List Node) → IsDistinct nat_eq (articles nodes)
-articles_distinct nodes = take_distinct max_articles (first_failures nodes) (first_distinct nodes)
+articles_distinct nodes = take_distinct max_articles (root_failures nodes) (roots_distinct nodes)
 
 -- ---- which targets are listed
 
-pub all_listed : (place : ℕ) (nodes : List Node) → IsPermutation (places_where has_failed place nodes) (first_failures_from place nodes ++ places_where failed_above place nodes)
-all_listed place [] = IsPermutation-refl []
-all_listed place (node ∷ nodes) =
-    by (has_failed node) node.fails_below (places_where has_failed (suc place) nodes) (first_failures_from (suc place) nodes) (places_where failed_above (suc place) nodes) (all_listed (suc place) nodes)
+pub all_listed : (position : ℕ) (nodes : List Node) → IsPermutation (positions_where has_failed position nodes) (root_failures_from position nodes ++ positions_where is_dependent_failure position nodes)
+all_listed position [] = IsPermutation-refl []
+all_listed position (node ∷ nodes) =
+    by (has_failed node) node.fails_below (positions_where has_failed (suc position) nodes) (root_failures_from (suc position) nodes) (positions_where is_dependent_failure (suc position) nodes) (all_listed (suc position) nodes)
   where
-    by : (failed below : Bool) (all first above : List ℕ) → IsPermutation all (first ++ above)
-        → IsPermutation (if failed then place ∷ all else all) (((if failed && not below then place ∷ [] else []) ++ first) ++ (if failed && below then place ∷ above else above))
-    by false below all first above moved = moved
-    by true false all first above moved = IsPermutation-cons place all (first ++ above) moved
-    by true true all first above moved =
-        IsPermutation-trans _ _ _ (IsPermutation-cons place all (first ++ above) moved) (IsPermutation-sym _ _ (IsPermutation-middle first place above))
+    by : (failed below : Bool) (all roots dependents : List ℕ) → IsPermutation all (roots ++ dependents)
+        → IsPermutation (if failed then position ∷ all else all) (((if failed && not below then position ∷ [] else []) ++ roots) ++ (if failed && below then position ∷ dependents else dependents))
+    by false below all roots dependents moved = moved
+    by true false all roots dependents moved = IsPermutation-cons position all (roots ++ dependents) moved
+    by true true all roots dependents moved =
+        IsPermutation-trans _ _ _ (IsPermutation-cons position all (roots ++ dependents) moved) (IsPermutation-sym _ _ (IsPermutation-middle roots position dependents))
 
-pub are_listed : (nodes : List Node) → IsPermutation (places_where has_failed 0 nodes) (first_failures nodes ++ places_where failed_above 0 nodes)
+pub are_listed : (nodes : List Node) → IsPermutation (positions_where has_failed 0 nodes) (root_failures nodes ++ positions_where is_dependent_failure 0 nodes)
 are_listed nodes =
     IsPermutation-trans _ _ _ (all_listed 0 nodes)
-    (IsPermutation-append_left (places_where failed_above 0 nodes) (first_failures_from 0 nodes) (first_failures nodes) (sort-permutation (failure_cmp nodes) (first_failures_from 0 nodes)))
+    (IsPermutation-append_left (positions_where is_dependent_failure 0 nodes) (root_failures_from 0 nodes) (root_failures nodes) (sort-permutation (failure_cmp nodes) (root_failures_from 0 nodes)))
 
 -- ---- in which order
 
-lower : (place other : ℕ) → is_gt (nat_cmp place other) ≡ false → nat_eq place other ≡ false → place < other
-lower place other not_after differ = by (nat_cmp place other) (ranks place other) not_after
+lower : (position other : ℕ) → is_gt (nat_cmp position other) ≡ false → nat_eq position other ≡ false → position < other
+lower position other not_after differ = by (nat_cmp position other) (ranks position other) not_after
   where
-    by : (o : Ordering) → MatchOrdering o (place < other) (place ≡ other) (other < place) → is_gt o ≡ false → place < other
+    by : (o : Ordering) → MatchOrdering o (position < other) (position ≡ other) (other < position) → is_gt o ≡ false → position < other
     by Less is up = is
-    by Equal is up = absurd (eqb-false place other differ is)
+    by Equal is up = absurd (eqb-false position other differ is)
     by Greater is up = absurd (cc)
 
-listed_before : (ended other_ended : Option ℕ) (place other : ℕ) → is_gt (ordering_then (end_cmp ended other_ended) (nat_cmp place other)) ≡ false → nat_eq place other ≡ false
-    → EndsBefore ended other_ended ⊎ ((ended ≡ other_ended) × (place < other))
-listed_before (Some ended) (Some other_ended) place other not_after differ = by (nat_cmp ended other_ended) (ranks ended other_ended) not_after
+listed_before : (ended other_ended : Option ℕ) (position other : ℕ) → is_gt (ordering_then (end_cmp ended other_ended) (nat_cmp position other)) ≡ false → nat_eq position other ≡ false
+    → EndsBefore ended other_ended ⊎ ((ended ≡ other_ended) × (position < other))
+listed_before (Some ended) (Some other_ended) position other not_after differ = by (nat_cmp ended other_ended) (ranks ended other_ended) not_after
   where
-    by : (o : Ordering) → MatchOrdering o (ended < other_ended) (ended ≡ other_ended) (other_ended < ended) → is_gt (ordering_then o (nat_cmp place other)) ≡ false
-        → (ended < other_ended) ⊎ ((Some ended ≡ Some other_ended) × (place < other))
+    by : (o : Ordering) → MatchOrdering o (ended < other_ended) (ended ≡ other_ended) (other_ended < ended) → is_gt (ordering_then o (nat_cmp position other)) ≡ false
+        → (ended < other_ended) ⊎ ((Some ended ≡ Some other_ended) × (position < other))
     by Less is up = inl is
-    by Equal is up = inr (ap Some is, lower place other up differ)
+    by Equal is up = inr (ap Some is, lower position other up differ)
     by Greater is up = absurd (cc)
-listed_before (Some ended) None place other not_after differ = inl tt
-listed_before None (Some other_ended) place other not_after differ = absurd (cc)
-listed_before None None place other not_after differ = inr (refl, lower place other not_after differ)
+listed_before (Some ended) None position other not_after differ = inl tt
+listed_before None (Some other_ended) position other not_after differ = absurd (cc)
+listed_before None None position other not_after differ = inr (refl, lower position other not_after differ)
 
 module _ (nodes : List Node) where
-  all_before : (place : ℕ) (places : List ℕ) → AllByRecursion (λ other. is_gt (failure_cmp nodes place other) ≡ false) places → AllByRecursion (λ other. nat_eq place other ≡ false) places
-      → AllByRecursion (IsListedBefore nodes place) places
-  all_before place [] up differ = tt
-  all_before place (other ∷ places) up differ = (listed_before (node_at nodes place).ended (node_at nodes other).ended place other up.0 differ.0, all_before place places up.1 differ.1)
+  all_before : (position : ℕ) (positions : List ℕ) → AllByRecursion (λ other. is_gt (failure_cmp nodes position other) ≡ false) positions → AllByRecursion (λ other. nat_eq position other ≡ false) positions
+      → AllByRecursion (IsListedBefore nodes position) positions
+  all_before position [] up differ = tt
+  all_before position (other ∷ positions) up differ = (listed_before (node_at nodes position).ended (node_at nodes other).ended position other up.0 differ.0, all_before position positions up.1 differ.1)
 
-  rising : (places : List ℕ) → IsRising (failure_cmp nodes) places → IsDistinct nat_eq places → AreInOrderOfEnd nodes places
+  rising : (positions : List ℕ) → IsRising (failure_cmp nodes) positions → IsDistinct nat_eq positions → AreInOrderOfEnd nodes positions
   rising [] up distinct = tt
-  rising (place ∷ places) up distinct =
-      (all_before place places up.0 (IsDistinct-head nat_eq place places distinct), rising places up.1 (IsDistinct-tail nat_eq place places distinct))
+  rising (position ∷ positions) up distinct =
+      (all_before position positions up.0 (IsDistinct-head nat_eq position positions distinct), rising positions up.1 (IsDistinct-tail nat_eq position positions distinct))
 
-  pub are_in_order : AreInOrderOfEnd nodes (first_failures nodes)
-  are_in_order = rising (first_failures nodes) (sort-rising (failure_cmp nodes) (failure_cmp_total nodes) (first_failures_from 0 nodes)) (first_distinct nodes)
+  pub are_in_order : AreInOrderOfEnd nodes (root_failures nodes)
+  are_in_order = rising (root_failures nodes) (sort-rising (failure_cmp nodes) (failure_cmp_total nodes) (root_failures_from 0 nodes)) (roots_distinct nodes)

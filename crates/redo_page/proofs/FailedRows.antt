@@ -12,17 +12,18 @@ use Rattle.redo_logs.specs.Logs.{Log}
 use Rattle.redo_html.specs.declared.markup.Markup.TheVariants as markup
 use Rattle.redo_html.specs.Passage.{html_from}
 use Rattle.redo_html.specs.Parts.{Part, part_html}
-use Rattle.redo_html.specs.Parts.Part.{MarkupPart, NamePart, NumberPart}
-use Rattle.redo_html.specs.Shown.{is_odd, number_text, odd_text, picture}
-use Rattle.redo_html.specs.Symbols.{first_letter, first_symbol, is_sequence, letter_len, sequence_len, sequence_numbers, symbol_len, symbols_after}
+use Rattle.redo_html.specs.Parts.Part.{MarkupPart, TextPart, NumberPart}
+use Rattle.redo_html.specs.Shown.{is_unprintable, number_text, unprintable_text, notation}
+use Rattle.redo_html.specs.Symbols.{first_code_point, first_symbol, is_sequence, code_point_len, sequence_len, sequence_numbers, symbol_len, symbols_after}
 use Rattle.redo_outline.specs.declared.node.Node.{Node}
 use Rattle.redo_page.specs.Errors.{begins_with}
 use Rattle.redo_page.specs.Excerpt.{cut_to, excerpt_line_end, excerpt_line_parts, excerpt_parts, in_tree_parts, left_out_parts}
 use Rattle.redo_page.specs.declared.failed.Failures.{Failures}
 use Rattle.redo_page.specs.declared.labels.TheConstants.{MORE_ABOVE, PATH_SEPARATOR}
-use Rattle.redo_page.specs.Failed.{AreFailures, article_of, article_parts, article_row, article_took, cause_of_node, cause_parts, failed_above, failed_parts, is_unclosed, list_parts, more_parts, nothing_parts, output_parts, path_parts, places_where, row_parts, section_parts, target_row, unlisted_parts, whole_parts}
+use Rattle.redo_page.specs.Failed.{AreFailures, article_of, article_parts, article_row, article_took, cause_of_node, cause_parts, is_dependent_failure, failed_parts, is_unclosed, list_parts, more_parts, nothing_parts, output_parts, path_parts, positions_where, row_parts, section_parts, target_row, unlisted_parts, whole_parts}
 use Rattle.redo_page.specs.Laws.{target_links}
 use Rattle.redo_units.specs.Durations.{duration_words}
+use Rattle.redo_page.specs.Tree.{no_node}
 
 abbrev log : List ℕ → List Entry → Log
 log target entries = record { target = target; entries = entries; state = Ended }
@@ -41,22 +42,7 @@ logs =
 
 -- What is known of log `number`. It is in the log at `parent`.
 abbrev node : ℕ → Option ℕ → Option ℤ → ℕ → ℕ → Bool → Node
-node number parent status lines below fails = record {
-  number = number;
-  parent = parent;
-  status = status;
-  lines = lines;
-  bytes = lines;
-  warnings = 0;
-  below = below;
-  children = below;
-  others = false;
-  warnings_below = 0;
-  fails_below = fails;
-  silent = 0;
-  took = None;
-  ended = None;
-}
+node number parent status lines below fails = record no_node { number = number; parent = parent; status = status; lines = lines; bytes = lines; below = below; children = below; fails_below = fails }
 
 abbrev b : Node
 b = node 1 (Some 0) (Some (pos 1)) 2 0 false
@@ -87,7 +73,7 @@ one_failure :
     (codes "<section id=\"failed\" aria-labelledby=\"h-failed\"><h2 id=\"h-failed\">What failed</h2><article id=\"f1\"><h3><bdi>b</bdi> <strong class=\"x\">exit 1</strong></h3><p class=\"meta\"><bdi>all</bdi>"
     ++ then (codes "<a href=\"#t1\">its place in the tree</a></p><pre>\ncc b.c\nb.c:1: error: x\n</pre></article><details class=\"more\"><summary>1 above these, which failed with them</summary><ol class=\"list\"><li><a href=\"#t0\"><bdi>all</bdi></a> <strong class=\"x\">exit 3</strong></li></ol></details></section>"))
     ≡ true
-unfolding failed_parts section_parts list_parts more_parts target_row row_parts unlisted_parts cause_of_node cause_parts cut_to begins_with article_parts article_of path_parts output_parts whole_parts in_tree_parts symbols_after first_symbol symbol_len is_sequence sequence_len sequence_numbers first_letter letter_len is_odd picture odd_text number_text encode_utf8 digits html_from
+unfolding failed_parts section_parts list_parts more_parts target_row row_parts unlisted_parts cause_of_node cause_parts cut_to begins_with article_parts article_of path_parts output_parts whole_parts in_tree_parts symbols_after first_symbol symbol_len is_sequence sequence_len sequence_numbers first_code_point code_point_len is_unprintable notation unprintable_text number_text encode_utf8 digits html_from
 one_failure = refl
 
 -- Below the article, there is a list of those above, and then one of those that aren't closed.
@@ -96,7 +82,7 @@ one_unclosed :
     (codes "<section id=\"failed\" aria-labelledby=\"h-failed\"><h2 id=\"h-failed\">What failed</h2><article id=\"f1\"><h3><bdi>b</bdi> <strong class=\"x\">exit 1</strong></h3><p class=\"meta\"><bdi>all</bdi>"
     ++ then (codes "<a href=\"#t1\">its place in the tree</a></p><pre>\ncc b.c\nb.c:1: error: x\n</pre></article><details class=\"more\"><summary>1 above these, which failed with them</summary><ol class=\"list\"><li><a href=\"#t0\"><bdi>all</bdi></a> <strong class=\"x\">exit 3</strong></li></ol></details><details class=\"more\"><summary>1 not closed</summary><ol class=\"list\"><li><a href=\"#t2\"><bdi>d</bdi></a> <strong class=\"o\">not closed</strong></li></ol></details></section>"))
     ≡ true
-unfolding failed_parts section_parts list_parts more_parts article_row target_row row_parts unlisted_parts cause_of_node cause_parts cut_to begins_with article_parts article_of path_parts output_parts whole_parts in_tree_parts symbols_after first_symbol symbol_len is_sequence sequence_len sequence_numbers first_letter letter_len is_odd picture odd_text number_text encode_utf8 digits html_from
+unfolding failed_parts section_parts list_parts more_parts article_row target_row row_parts unlisted_parts cause_of_node cause_parts cut_to begins_with article_parts article_of path_parts output_parts whole_parts in_tree_parts symbols_after first_symbol symbol_len is_sequence sequence_len sequence_numbers first_code_point code_point_len is_unprintable notation unprintable_text number_text encode_utf8 digits html_from
 one_unclosed = refl
 
 -- ---- lists
@@ -105,25 +91,25 @@ two_failures :
     bytes_eq (html (list_parts logs (node 0 None None 0 2 true ∷ b ∷ c ∷ []) (1 ∷ 2 ∷ [])))
     (codes "<ol class=\"list\"><li><a href=\"#f1\"><bdi>b</bdi></a> <strong class=\"x\">exit 1</strong> <code>b.c:1: error: x</code></li><li><a href=\"#f2\"><bdi>c</bdi></a> <strong class=\"x\">exit 2</strong></li></ol>")
     ≡ true
-unfolding list_parts article_row row_parts cause_of_node cause_parts cut_to begins_with symbols_after first_symbol symbol_len is_sequence sequence_len sequence_numbers first_letter letter_len is_odd picture odd_text number_text encode_utf8 digits html_from
+unfolding list_parts article_row row_parts cause_of_node cause_parts cut_to begins_with symbols_after first_symbol symbol_len is_sequence sequence_len sequence_numbers first_code_point code_point_len is_unprintable notation unprintable_text number_text encode_utf8 digits html_from
 two_failures = refl
 
 one_is_no_list : html (list_parts logs (b ∷ []) (0 ∷ [])) ≡ []
-unfolding list_parts article_row row_parts cause_of_node cause_parts cut_to begins_with symbols_after first_symbol symbol_len is_sequence sequence_len sequence_numbers first_letter letter_len is_odd picture odd_text number_text encode_utf8 digits html_from
+unfolding list_parts article_row row_parts cause_of_node cause_parts cut_to begins_with symbols_after first_symbol symbol_len is_sequence sequence_len sequence_numbers first_code_point code_point_len is_unprintable notation unprintable_text number_text encode_utf8 digits html_from
 one_is_no_list = refl
 
 more_with_causes :
     bytes_eq (html (more_parts logs (b ∷ []) (markup.OrderedFrom 11) true (codes " more") (0 ∷ [])))
     (codes "<details class=\"more\"><summary>1 more</summary><ol class=\"list\" start=\"11\"><li><a href=\"#t0\"><bdi>b</bdi></a> <strong class=\"x\">exit 1</strong> <code>b.c:1: error: x</code></li></ol></details>")
     ≡ true
-unfolding more_parts target_row row_parts unlisted_parts cause_of_node cause_parts cut_to begins_with symbols_after first_symbol symbol_len is_sequence sequence_len sequence_numbers first_letter letter_len is_odd picture odd_text number_text encode_utf8 digits html_from
+unfolding more_parts target_row row_parts unlisted_parts cause_of_node cause_parts cut_to begins_with symbols_after first_symbol symbol_len is_sequence sequence_len sequence_numbers first_code_point code_point_len is_unprintable notation unprintable_text number_text encode_utf8 digits html_from
 more_with_causes = refl
 
 more_without_causes :
     bytes_eq (html (more_parts logs (b ∷ []) markup.Ordered false (codes " more") (0 ∷ [])))
     (codes "<details class=\"more\"><summary>1 more</summary><ol class=\"list\"><li><a href=\"#t0\"><bdi>b</bdi></a> <strong class=\"x\">exit 1</strong></li></ol></details>")
     ≡ true
-unfolding more_parts target_row row_parts unlisted_parts cause_of_node cause_parts cut_to begins_with symbols_after first_symbol symbol_len is_sequence sequence_len sequence_numbers first_letter letter_len is_odd picture odd_text number_text encode_utf8 digits html_from
+unfolding more_parts target_row row_parts unlisted_parts cause_of_node cause_parts cut_to begins_with symbols_after first_symbol symbol_len is_sequence sequence_len sequence_numbers first_code_point code_point_len is_unprintable notation unprintable_text number_text encode_utf8 digits html_from
 more_without_causes = refl
 
 -- Each row has the link, the name and the status of its own target.
@@ -131,15 +117,15 @@ more_than_one :
     bytes_eq (html (more_parts logs (node 0 None None 0 2 true ∷ b ∷ c ∷ []) markup.Ordered false (codes " more") (1 ∷ 2 ∷ [])))
     (codes "<details class=\"more\"><summary>2 more</summary><ol class=\"list\"><li><a href=\"#t1\"><bdi>b</bdi></a> <strong class=\"x\">exit 1</strong></li><li><a href=\"#t2\"><bdi>c</bdi></a> <strong class=\"x\">exit 2</strong></li></ol></details>")
     ≡ true
-unfolding more_parts target_row row_parts unlisted_parts cause_of_node cause_parts cut_to begins_with symbols_after first_symbol symbol_len is_sequence sequence_len sequence_numbers first_letter letter_len is_odd picture odd_text number_text encode_utf8 digits html_from
+unfolding more_parts target_row row_parts unlisted_parts cause_of_node cause_parts cut_to begins_with symbols_after first_symbol symbol_len is_sequence sequence_len sequence_numbers first_code_point code_point_len is_unprintable notation unprintable_text number_text encode_utf8 digits html_from
 more_than_one = refl
 
 -- The starts of articles and of lists, and the links to articles.
 abbrev marks_of : Part → List Part
-marks_of (MarkupPart (markup.Article place)) = MarkupPart (markup.Article place) ∷ []
+marks_of (MarkupPart (markup.Article position)) = MarkupPart (markup.Article position) ∷ []
 marks_of (MarkupPart markup.Ordered) = MarkupPart markup.Ordered ∷ []
 marks_of (MarkupPart (markup.OrderedFrom first)) = MarkupPart (markup.OrderedFrom first) ∷ []
-marks_of (MarkupPart (markup.OutputLink place)) = MarkupPart (markup.OutputLink place) ∷ []
+marks_of (MarkupPart (markup.OutputLink position)) = MarkupPart (markup.OutputLink position) ∷ []
 marks_of (MarkupPart markup.MoreDetails) = MarkupPart markup.MoreDetails ∷ []
 marks_of part = []
 
@@ -147,10 +133,10 @@ abbrev marks : List Part → List ℕ
 marks parts = html (flat_map marks_of parts)
 
 abbrev outputs : List ℕ → List ℕ
-outputs places = flat_map (λ place. codes "<a href=\"#f" ++ (number_text place ++ codes "\">")) places
+outputs positions = flat_map (λ position. codes "<a href=\"#f" ++ (number_text position ++ codes "\">")) positions
 
 abbrev articles : List ℕ → List ℕ
-articles places = flat_map (λ place. codes "<article id=\"f" ++ (number_text place ++ codes "\">")) places
+articles positions = flat_map (λ position. codes "<article id=\"f" ++ (number_text position ++ codes "\">")) positions
 
 abbrev cs : ℕ → List Node
 cs count = replicate count c
@@ -174,14 +160,14 @@ abbrev twelve : List Node
 twelve = replicate 10 (record c { parent = None }) ++ record b { parent = None } ∷ record c { parent = None } ∷ []
 
 abbrev listed : ℕ → List ℕ
-listed place = codes "<li><a href=\"#f" ++ (number_text place ++ codes "\"><bdi>c</bdi></a> <strong class=\"x\">exit 2</strong></li>")
+listed position = codes "<li><a href=\"#f" ++ (number_text position ++ codes "\"><bdi>c</bdi></a> <strong class=\"x\">exit 2</strong></li>")
 
 abbrev article : ℕ → List ℕ
-article place =
+article position =
     codes "<article id=\"f"
-    ++ (number_text place
+    ++ (number_text position
     ++ (codes "\"><h3><bdi>c</bdi> <strong class=\"x\">exit 2</strong></h3><p class=\"meta\"><a href=\"#t"
-    ++ (number_text place ++ codes "\">its place in the tree</a></p><p class=\"quiet\">It printed nothing that was captured.</p></article>")))
+    ++ (number_text position ++ codes "\">its place in the tree</a></p><p class=\"quiet\">It printed nothing that was captured.</p></article>")))
 
 -- The first ten have articles. The list of the others goes on with number 11, and says why they failed.
 twelve_failures :
@@ -192,7 +178,7 @@ twelve_failures :
     ++ (flat_map article (range_with_len 0 10)
     ++ codes "<details class=\"more\"><summary>2 more that failed</summary><ol class=\"list\" start=\"11\"><li><a href=\"#t10\"><bdi>b</bdi></a> <strong class=\"x\">exit 1</strong> <code>b.c:1: error: x</code></li><li><a href=\"#t11\"><bdi>c</bdi></a> <strong class=\"x\">exit 2</strong></li></ol></details></section>"))))
     ≡ true
-unfolding failed_parts section_parts list_parts more_parts article_row target_row row_parts unlisted_parts cause_of_node cause_parts cut_to begins_with article_parts article_of path_parts output_parts nothing_parts in_tree_parts symbols_after first_symbol symbol_len is_sequence sequence_len sequence_numbers first_letter letter_len is_odd picture odd_text number_text encode_utf8 digits html_from
+unfolding failed_parts section_parts list_parts more_parts article_row target_row row_parts unlisted_parts cause_of_node cause_parts cut_to begins_with article_parts article_of path_parts output_parts nothing_parts in_tree_parts symbols_after first_symbol symbol_len is_sequence sequence_len sequence_numbers first_code_point code_point_len is_unprintable notation unprintable_text number_text encode_utf8 digits html_from
 twelve_failures = refl
 
 abbrev items_of : Part → List Part
@@ -213,14 +199,14 @@ unfolding more_parts target_row row_parts unlisted_parts
 all_counted = refl
 
 all_listed : html (unlisted_parts 200) ≡ []
-unfolding unlisted_parts symbols_after first_symbol symbol_len is_sequence sequence_len sequence_numbers first_letter letter_len is_odd picture odd_text number_text encode_utf8 digits html_from
+unfolding unlisted_parts symbols_after first_symbol symbol_len is_sequence sequence_len sequence_numbers first_code_point code_point_len is_unprintable notation unprintable_text number_text encode_utf8 digits html_from
 all_listed = refl
 
 one_unlisted :
     bytes_eq (html (unlisted_parts 201))
     (codes "<p class=\"quiet\">and 1 more, in the tree</p>")
     ≡ true
-unfolding unlisted_parts symbols_after first_symbol symbol_len is_sequence sequence_len sequence_numbers first_letter letter_len is_odd picture odd_text number_text encode_utf8 digits html_from
+unfolding unlisted_parts symbols_after first_symbol symbol_len is_sequence sequence_len sequence_numbers first_code_point code_point_len is_unprintable notation unprintable_text number_text encode_utf8 digits html_from
 one_unlisted = refl
 
 -- ---- which targets are named
@@ -229,21 +215,21 @@ one_unlisted = refl
 abbrev nodes : List Node
 nodes = node 0 None (Some (pos 2)) 0 3 true ∷ b ∷ node 2 (Some 0) None 0 0 false ∷ node 3 (Some 0) (Some (pos 0)) 0 0 false ∷ []
 
-above_are : places_where failed_above 0 nodes ≡ 0 ∷ []
-above_are = refl
+dependents_are : positions_where is_dependent_failure 0 nodes ≡ 0 ∷ []
+dependents_are = refl
 
 -- A target that is made, though one below it failed.
-none_above : places_where failed_above 0 (node 0 None (Some (pos 0)) 0 1 true ∷ b ∷ []) ≡ []
-none_above = refl
+no_dependents : positions_where is_dependent_failure 0 (node 0 None (Some (pos 0)) 0 1 true ∷ b ∷ []) ≡ []
+no_dependents = refl
 
-unclosed_are : places_where is_unclosed 0 nodes ≡ 2 ∷ []
+unclosed_are : positions_where is_unclosed 0 nodes ≡ 2 ∷ []
 unclosed_are = refl
 
-failures_are : (failures : Failures) → failures.first.items ≡ 1 ∷ [] → failures.above.items ≡ 0 ∷ [] → failures.unclosed.items ≡ 2 ∷ [] → AreFailures nodes failures
-failures_are failures first above unclosed = record { first = first; above = above; unclosed = unclosed }
+failures_are : (failures : Failures) → failures.roots.items ≡ 1 ∷ [] → failures.dependents.items ≡ 0 ∷ [] → failures.unclosed.items ≡ 2 ∷ [] → AreFailures nodes failures
+failures_are failures roots dependents unclosed = record { roots = roots; dependents = dependents; unclosed = unclosed }
 
 -- A requested target, and one with others below it, are not at the end of a path.
-none_unclosed : places_where is_unclosed 0 (node 0 None None 0 0 false ∷ node 1 (Some 0) None 0 1 false ∷ []) ≡ []
+none_unclosed : positions_where is_unclosed 0 (node 0 None None 0 0 false ∷ node 1 (Some 0) None 0 1 false ∷ []) ≡ []
 none_unclosed = refl
 
 -- ---- outputs
@@ -253,7 +239,7 @@ whole_output :
     bytes_eq (html (output_parts logs 5 (node 3 None (Some (pos 1)) 2 0 false)))
     (codes "<pre>\n<span class=\"r\">one\n</span><span class=\"r\">two\n</span></pre>")
     ≡ true
-unfolding output_parts whole_parts symbols_after first_symbol symbol_len is_sequence sequence_len sequence_numbers first_letter letter_len is_odd picture odd_text number_text encode_utf8 digits html_from
+unfolding output_parts whole_parts symbols_after first_symbol symbol_len is_sequence sequence_len sequence_numbers first_code_point code_point_len is_unprintable notation unprintable_text number_text encode_utf8 digits html_from
 whole_output = refl
 
 -- An output of more than 300 lines is shown in part: each line begins without a colour.
@@ -261,14 +247,14 @@ long_output :
     bytes_eq (html (output_parts logs 5 (node 3 None (Some (pos 1)) 301 0 false)))
     (codes "<pre>\n<span class=\"r\">one</span>\ntwo\n</pre>")
     ≡ true
-unfolding output_parts whole_parts excerpt_parts excerpt_line_parts excerpt_line_end cut_to begins_with symbols_after first_symbol symbol_len is_sequence sequence_len sequence_numbers first_letter letter_len is_odd picture odd_text number_text encode_utf8 digits html_from
+unfolding output_parts whole_parts excerpt_parts excerpt_line_parts excerpt_line_end cut_to begins_with symbols_after first_symbol symbol_len is_sequence sequence_len sequence_numbers first_code_point code_point_len is_unprintable notation unprintable_text number_text encode_utf8 digits html_from
 long_output = refl
 
 -- Line 20 of 106 reports an error: lines are left out before the lines around it, and after them.
 abbrev many_lines : List Log
 many_lines = log (codes "e") (replicate 20 (Text (codes "a")) ++ Text (codes "error") ∷ replicate 85 (Text (codes "a"))) ∷ []
 
--- Where lines are left out, a link leads to the place of the target.
+-- Where lines are left out, a link leads to the position of the target.
 excerpt_links : target_links (output_parts many_lines 5 (node 0 None (Some (pos 1)) 301 0 false)) ≡ 5 ∷ 5 ∷ []
 unfolding output_parts excerpt_parts excerpt_line_parts excerpt_line_end cut_to left_out_parts in_tree_parts begins_with
 excerpt_links = refl
@@ -277,14 +263,14 @@ no_output :
     bytes_eq (html (output_parts logs 5 c))
     (codes "<p class=\"quiet\">It printed nothing that was captured.</p>")
     ≡ true
-unfolding output_parts nothing_parts symbols_after first_symbol symbol_len is_sequence sequence_len sequence_numbers first_letter letter_len is_odd picture odd_text number_text encode_utf8 digits html_from
+unfolding output_parts nothing_parts symbols_after first_symbol symbol_len is_sequence sequence_len sequence_numbers first_code_point code_point_len is_unprintable notation unprintable_text number_text encode_utf8 digits html_from
 no_output = refl
 
 no_failure_below_it :
     bytes_eq (html (output_parts logs 5 (node 0 None (Some (pos 2)) 0 3 false)))
     (codes "<p class=\"quiet\">It printed nothing that was captured. No target below it failed: make or redo reported the cause on the terminal.</p>")
     ≡ true
-unfolding output_parts nothing_parts symbols_after first_symbol symbol_len is_sequence sequence_len sequence_numbers first_letter letter_len is_odd picture odd_text number_text encode_utf8 digits html_from
+unfolding output_parts nothing_parts symbols_after first_symbol symbol_len is_sequence sequence_len sequence_numbers first_code_point code_point_len is_unprintable notation unprintable_text number_text encode_utf8 digits html_from
 no_failure_below_it = refl
 
 -- ---- how long targets took
@@ -293,7 +279,7 @@ no_failure_below_it = refl
 took_are :
     (article_took None ≡ [])
     × (article_took (Some 1234)
-    ≡ NumberPart 1 ∷ NamePart (codes ".") ∷ NumberPart 2 ∷ NumberPart 3 ∷ NamePart (codes " s") ∷ NamePart (32 ∷ 0xC2 ∷ 0xB7 ∷ 32 ∷ []) ∷ [])
+    ≡ NumberPart 1 ∷ TextPart (codes ".") ∷ NumberPart 2 ∷ NumberPart 3 ∷ TextPart (codes " s") ∷ TextPart (32 ∷ 0xC2 ∷ 0xB7 ∷ 32 ∷ []) ∷ [])
 unfolding duration_words
 took_are = (refl, refl)
 
@@ -302,7 +288,7 @@ article_begins :
     bytes_eq (html (take 22 (article_parts logs (node 0 None None 0 2 true ∷ record b { took = Some 61000 } ∷ []) 1)))
     (codes "<article id=\"f1\"><h3><bdi>b</bdi> <strong class=\"x\">exit 1</strong></h3><p class=\"meta\">1 min 01 s " ++ 0xC2 ∷ 0xB7 ∷ codes " <bdi>all</bdi>")
     ≡ true
-unfolding article_parts article_of path_parts output_parts whole_parts in_tree_parts duration_words symbols_after first_symbol symbol_len is_sequence sequence_len sequence_numbers first_letter letter_len is_odd picture odd_text number_text encode_utf8 digits html_from
+unfolding article_parts article_of path_parts output_parts whole_parts in_tree_parts duration_words symbols_after first_symbol symbol_len is_sequence sequence_len sequence_numbers first_code_point code_point_len is_unprintable notation unprintable_text number_text encode_utf8 digits html_from
 article_begins = refl
 
 -- ---- paths
@@ -317,7 +303,7 @@ short_path :
     bytes_eq (html (path_parts logs chain 4 (Some 3)))
     (codes "<bdi>all</bdi>" ++ then (codes "<bdi>b</bdi>" ++ then (codes "<bdi>c</bdi>" ++ then (codes "<bdi>d</bdi>" ++ then []))))
     ≡ true
-unfolding path_parts symbols_after first_symbol symbol_len is_sequence sequence_len sequence_numbers first_letter letter_len is_odd picture odd_text number_text encode_utf8 digits html_from
+unfolding path_parts symbols_after first_symbol symbol_len is_sequence sequence_len sequence_numbers first_code_point code_point_len is_unprintable notation unprintable_text number_text encode_utf8 digits html_from
 short_path = refl
 
 -- The path to the article of a target at the end of a long path begins with `…`.
@@ -328,7 +314,7 @@ long_path :
     ∷ then (codes "<bdi>b</bdi>" ++ then (codes "<bdi>c</bdi>" ++ then (codes "<bdi>d</bdi>" ++ then (codes "<bdi>all</bdi>"
     ++ then (codes "<a href=\"#t5\">its place in the tree</a></p><p class=\"quiet\">It printed nothing that was captured.</p></article>")))))))
     ≡ true
-unfolding article_parts article_of path_parts output_parts nothing_parts in_tree_parts symbols_after first_symbol symbol_len is_sequence sequence_len sequence_numbers first_letter letter_len is_odd picture odd_text number_text encode_utf8 digits html_from
+unfolding article_parts article_of path_parts output_parts nothing_parts in_tree_parts symbols_after first_symbol symbol_len is_sequence sequence_len sequence_numbers first_code_point code_point_len is_unprintable notation unprintable_text number_text encode_utf8 digits html_from
 long_path = refl
 
 no_path : path_parts logs chain 4 None ≡ []
@@ -346,12 +332,12 @@ more_is = refl
 -- ---- causes
 
 no_cause : html (cause_parts None) ≡ []
-unfolding cause_parts symbols_after first_symbol symbol_len is_sequence sequence_len sequence_numbers first_letter letter_len is_odd picture odd_text number_text encode_utf8 digits html_from
+unfolding cause_parts symbols_after first_symbol symbol_len is_sequence sequence_len sequence_numbers first_code_point code_point_len is_unprintable notation unprintable_text number_text encode_utf8 digits html_from
 no_cause = refl
 
 long_cause :
     bytes_eq (html (cause_parts (Some (replicate 161 97))))
     (codes " <code>" ++ (replicate 160 97 ++ codes "</code>"))
     ≡ true
-unfolding cause_parts cut_to symbols_after first_symbol symbol_len is_sequence sequence_len sequence_numbers first_letter letter_len is_odd picture odd_text number_text encode_utf8 digits html_from
+unfolding cause_parts cut_to symbols_after first_symbol symbol_len is_sequence sequence_len sequence_numbers first_code_point code_point_len is_unprintable notation unprintable_text number_text encode_utf8 digits html_from
 long_cause = refl

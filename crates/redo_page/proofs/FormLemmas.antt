@@ -1,5 +1,5 @@
 -- What the form of a tree writes.
-use Rattle.std.proofs.Common.{◌≡◌, ℕ, ◌+◌, ◌<◌, ◌≤◌, min, ⊎_elim, Bool, true, false, List, [], ◌∷◌, ◌++◌, Option, None, Result, Ok, Err, length, take, refl, sym, ◌∙◌, ap, arith}
+use Rattle.std.proofs.Common.{◌≡◌, ℕ, ◌+◌, ◌<◌, ◌≤◌, min, ⊎_elim, Bool, true, false, List, [], ◌∷◌, ◌++◌, Option, Result, Ok, Err, length, take, refl, sym, ◌∙◌, ap, arith}
 use Rattle.std.specs.Prelude.{if◌then◌else◌}
 use Rattle.std.specs.List.{flat_map}
 use Rattle.std.proofs.lemmas.Bool.{cases_lt}
@@ -21,9 +21,8 @@ use Rattle.redo_logs.specs.Logs.{Log}
 use Rattle.redo_options.specs.declared.options.Options.{Options}
 use Rattle.redo_outline.specs.declared.node.Node.{Node}
 use Rattle.redo_outline.specs.Contents.{Contents, contents_of}
-use Rattle.redo_outline.specs.Facts.{target_status}
 use Rattle.redo_outline.specs.Laws.{events_of}
-use Rattle.redo_outline.specs.Outline.{log_count, outline_of}
+use Rattle.redo_outline.specs.Outline.{log_count}
 use Rattle.redo_trim.specs.declared.limit.Limit.{Limit}
 use Rattle.redo_trim.specs.Laws.{AreInTree, KeepsLogs, StayInTree, TreeIsTrimmed}
 use Rattle.redo_trim.specs.Trim.{trim, trimmed}
@@ -32,7 +31,7 @@ use Rattle.redo_page.specs.Blocks.{after_line, end_parts, line_parts}
 use Rattle.redo_page.specs.Tree.{Build, articles, contents_parts, is_moved_if, section_end, section_start, top_level, tree_parts}
 use Rattle.redo_page.specs.Private.Texts.{after_lines, lines_parts}
 use Rattle.redo_page.specs.Private.Walking.{Walk, after_event, after_texts, level_in, start_of, texts_parts, tree_bytes, tree_text}
-use Rattle.redo_page.proofs.WalkLemmas.{node_count, parts_contents, pending_after, proper, state_contents, walked_html, walked_parts}
+use Rattle.redo_page.proofs.WalkLemmas.{parts_contents, pending_after, proper, state_contents, walked_html, walked_parts}
 
 -- All of a text is a prefix of it.
 pub all_is_prefix : (before after : Option Output) (text : List ℕ) → WroteAll before after text → WrotePrefix before after text
@@ -41,7 +40,7 @@ all_is_prefix before after text wrote = (length text, wrote ∙ ap (λ (t : List
 -- ---- text lines
 
 module _ (depth : ℕ) where
-  texts_by : (moved : Bool) (walk : Walk) → is_moved_if walk.build (level_in walk.logs).place ≡ moved → (lines : List (List ℕ))
+  texts_by : (moved : Bool) (walk : Walk) → is_moved_if walk.build (level_in walk.logs).position ≡ moved → (lines : List (List ℕ))
       → (bytes_of tree_bytes after_event walk (text_events depth lines) ≡ flat_map part_html (if moved then [] else lines_parts walk.before lines))
       × (state_after after_event walk (text_events depth lines) ≡ record walk { before = if moved then walk.before else after_lines walk.before lines })
   texts_by true walk is [] = (refl, refl)
@@ -67,10 +66,10 @@ module _ (depth : ℕ) where
       )
 
   pub texts_html : (walk : Walk) (lines : List (List ℕ)) → bytes_of tree_bytes after_event walk (text_events depth lines) ≡ flat_map part_html (texts_parts walk lines)
-  texts_html walk lines = (texts_by (is_moved_if walk.build (level_in walk.logs).place) walk refl lines).0
+  texts_html walk lines = (texts_by (is_moved_if walk.build (level_in walk.logs).position) walk refl lines).0
 
   pub texts_state : (walk : Walk) (lines : List (List ℕ)) → state_after after_event walk (text_events depth lines) ≡ after_texts walk lines
-  texts_state walk lines = (texts_by (is_moved_if walk.build (level_in walk.logs).place) walk refl lines).1
+  texts_state walk lines = (texts_by (is_moved_if walk.build (level_in walk.logs).position) walk refl lines).1
 
 -- ---- parts of a text, one after the other
 
@@ -111,24 +110,24 @@ module _ (build : Build) (events : List Event) (same : events_of 0 (contents_of 
       ∙ ap (λ (es : List Event). (walked_parts (start_of build) es ++ end_parts (pending_after build top_level 0 pending.Nothing (contents_of events))) ++ section_end) (sym same)
       ∙ ap (λ (ps : List Part). ps ++ section_end) (parts_contents build (contents_of events) (proper events) 0 [] 0 pending.Nothing (omega (arith, within))))
 
-module _ (logs : List Log) (options : Options) (nodes : List Node) (places : List ℕ) (events : List Event) (same : events_of 0 (contents_of events) ≡ events) (outline : length nodes ≡ log_count (contents_of events)) (are : places ≡ articles nodes) where
+module _ (logs : List Log) (options : Options) (nodes : List Node) (positions : List ℕ) (events : List Event) (same : events_of 0 (contents_of events) ≡ events) (outline : length nodes ≡ log_count (contents_of events)) (are : positions ≡ articles nodes) where
   within_outline : log_count (contents_of events) ≤ length nodes
   within_outline = omega (arith, outline)
 
-  pub whole_tree : flat_map part_html section_start ++ tree_text (record { logs = logs; options = options; nodes = nodes; articles = places }) events ≡ flat_map part_html (tree_parts logs options nodes (contents_of events))
+  pub whole_tree : flat_map part_html section_start ++ tree_text (record { logs = logs; options = options; nodes = nodes; articles = positions }) events ≡ flat_map part_html (tree_parts logs options nodes (contents_of events))
   whole_tree =
       ap (λ (these : List ℕ). flat_map part_html section_start ++ tree_text (record { logs = logs; options = options; nodes = nodes; articles = these }) events) are
       ∙ ap (λ (t : List ℕ). flat_map part_html section_start ++ t) (walked_tree (record { logs = logs; options = options; nodes = nodes; articles = articles nodes }) events same within_outline)
       ∙ sym (flat_map-append part_html section_start (contents_parts (record { logs = logs; options = options; nodes = nodes; articles = articles nodes }) top_level 0 pending.Nothing (contents_of events) ++ section_end))
 
 -- The same without the middle of long logs.
-module _ (logs : List Log) (options : Options) (nodes : List Node) (places : List ℕ)
+module _ (logs : List Log) (options : Options) (nodes : List Node) (positions : List ℕ)
     (stay : (limits : List Limit) (events : List Event) → StayInTree limits events) (are : (limits : List Limit) (events : List Event) → TreeIsTrimmed limits events)
     (keep : (limits : List Limit) (contents : Contents) → KeepsLogs limits contents) (limits : List Limit) (events : List Event) where
-  pub cut_tree : AreInTree events → length nodes ≡ log_count (contents_of events) → places ≡ articles nodes
-      → flat_map part_html section_start ++ tree_text (record { logs = logs; options = options; nodes = nodes; articles = places }) (trimmed limits [] events)
+  pub cut_tree : AreInTree events → length nodes ≡ log_count (contents_of events) → positions ≡ articles nodes
+      → flat_map part_html section_start ++ tree_text (record { logs = logs; options = options; nodes = nodes; articles = positions }) (trimmed limits [] events)
       ≡ flat_map part_html (tree_parts logs options nodes (trim limits [] (contents_of events)))
-  cut_tree same outline places_are =
+  cut_tree same outline positions_are =
       let tree_is = are limits events same in
       let count_is = outline ∙ sym (keep limits (contents_of events)) ∙ ap log_count (sym tree_is) in
-      whole_tree logs options nodes places (trimmed limits [] events) (stay limits events same) count_is places_are ∙ ap (λ (contents : Contents). flat_map part_html (tree_parts logs options nodes contents)) tree_is
+      whole_tree logs options nodes positions (trimmed limits [] events) (stay limits events same) count_is positions_are ∙ ap (λ (contents : Contents). flat_map part_html (tree_parts logs options nodes contents)) tree_is

@@ -5,7 +5,7 @@ use Rattle.std.proofs.lemmas.Grind.{flat_map-append}
 use Rattle.redo_logs.specs.Logs.{Log}
 use Rattle.redo_html.specs.declared.markup.Markup.TheVariants.{FailedLink, SummaryLink, TimelineLink, TreeLink, MetaParagraph, EndParagraph}
 use Rattle.redo_html.specs.Parts.{Part}
-use Rattle.redo_html.specs.Parts.Part.{MarkupPart, NamePart}
+use Rattle.redo_html.specs.Parts.Part.{MarkupPart, TextPart}
 use Rattle.redo_outline.specs.declared.node.Node.{Node}
 use Rattle.redo_page.specs.declared.labels.TheConstants.{BUILD_TOOK}
 use Rattle.redo_page.specs.declared.frame.Verdict.{Verdict}
@@ -80,8 +80,8 @@ date_bare (Some date) = refl
 began_bare : (window : Option Window) (took : ℕ) → Bare (began_parts window took)
 began_bare None took = refl
 began_bare (Some window) took =
-    bare_then (MarkupPart MetaParagraph ∷ date_parts (date_text_of (window.began / 1000))) (NamePart BUILD_TOOK.now ∷ (words_parts (duration_words took) ++ MarkupPart EndParagraph ∷ [])) (date_bare (date_text_of (window.began / 1000)))
-    (words_bare (NamePart BUILD_TOOK.now ∷ []) (MarkupPart EndParagraph ∷ []) (duration_words took) refl refl)
+    bare_then (MarkupPart MetaParagraph ∷ date_parts (date_text_of (window.began / 1000))) (TextPart BUILD_TOOK.now ∷ (words_parts (duration_words took) ++ MarkupPart EndParagraph ∷ [])) (date_bare (date_text_of (window.began / 1000)))
+    (words_bare (TextPart BUILD_TOOK.now ∷ []) (MarkupPart EndParagraph ∷ []) (duration_words took) refl refl)
 
 header_same : (title : List ℕ) (logs : List Log) (verdict : Verdict) (heading : List ℕ) (nodes : List Node) (facts : Facts) → references (header_parts title logs verdict heading nodes facts) ≡ links verdict (has_timeline facts)
 header_same title logs verdict heading nodes facts =

@@ -2,7 +2,7 @@
 use Rattle.std.proofs.Common.{ℕ, ◌/◌, Bool, List, [], ◌∷◌, ℤ, Option, None, Some, refl}
 use Rattle.std.specs.Prelude.{◌==◌, not, is_none, length, codes}
 use Rattle.redo_html.specs.declared.markup.Markup.TheVariants as markup
-use Rattle.redo_html.specs.Parts.Part.{MarkupPart, NamePart}
+use Rattle.redo_html.specs.Parts.Part.{MarkupPart, TextPart}
 use Rattle.redo_logs.specs.Logs.{Log}
 use Rattle.redo_outline.specs.declared.node.Node.{Node}
 use Rattle.redo_page.specs.declared.labels.TheConstants.{BUILD_TOOK}
@@ -46,7 +46,7 @@ began_nests None took = record { leads = λ around tags. refl }
 began_nests (Some window) took =
     then_lead {middle = codes "p" ∷ []} {parts = MarkupPart markup.MetaParagraph ∷ []} (record { leads = λ around tags. refl })
     (then_lead (lead_in (codes "p" ∷ []) (date_nests (date_text_of (window.began / 1000))))
-    (lead_through (codes "p" ∷ []) (NamePart BUILD_TOOK.now ∷ []) (MarkupPart markup.EndParagraph ∷ []) (duration_words took) (record { leads = λ around tags. refl }) (record { leads = λ around tags. refl })))
+    (lead_through (codes "p" ∷ []) (TextPart BUILD_TOOK.now ∷ []) (MarkupPart markup.EndParagraph ∷ []) (duration_words took) (record { leads = λ around tags. refl }) (record { leads = λ around tags. refl })))
 
 timeline_nav_nests : (timed : Bool) → Nest (timeline_nav timed)
 timeline_nav_nests timed = nest_if timed (record { leads = λ around tags. refl })

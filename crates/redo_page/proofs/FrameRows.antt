@@ -8,7 +8,7 @@ use Rattle.redo_html.specs.Shown.{number_text}
 use Rattle.redo_html.specs.declared.markup.Markup.{Markup}
 use Rattle.redo_html.specs.declared.markup.Markup.TheVariants as markup
 use Rattle.redo_html.specs.Parts.{Part}
-use Rattle.redo_html.specs.Parts.Part.{MarkupPart, NamePart, NumberPart, TitlePart, StylePart}
+use Rattle.redo_html.specs.Parts.Part.{MarkupPart, TextPart, NumberPart, TitlePart, StylePart}
 use Rattle.redo_logs.specs.declared.log_state.LogState.TheVariants.{Ended}
 use Rattle.redo_logs.specs.Logs.{Log}
 use Rattle.redo_options.specs.declared.options.Options.{Options}
@@ -20,12 +20,13 @@ use Rattle.redo_units.specs.Dates as dates
 use Rattle.redo_units.specs.Durations.{duration_words}
 use Rattle.redo_page.specs.Frame.{began_parts, timeline_nav, argument, body_markup, command, failed_nav, footer_parts, head_parts, header_parts, is_safe, log_count_parts, nav_parts, quoted, root_parts, sign_text, title_parts, title_text, titled, top_heading_parts, verdict_of, verdict_text}
 use Rattle.redo_page.specs.Laws.{section_links}
+use Rattle.redo_page.specs.Tree.{no_node}
 
 abbrev tag : Markup → Part
 tag markup = MarkupPart markup
 
 abbrev words : List ℕ → Part
-words text = NamePart text
+words text = TextPart text
 
 abbrev number : ℕ → Part
 number value = NumberPart value
@@ -34,7 +35,7 @@ number value = NumberPart value
 
 -- What is known of a target that is in the log at `parent`.
 abbrev node : Option ℕ → Option ℤ → Bool → Node
-node parent status fails = record { number = 0; parent = parent; status = status; lines = 0; bytes = 0; warnings = 0; below = 0; children = 0; others = false; warnings_below = 0; fails_below = fails; silent = 0; took = None; ended = None }
+node parent status fails = record no_node { parent = parent; status = status; fails_below = fails }
 
 abbrev begun : Node
 begun = node None None false
@@ -117,7 +118,7 @@ navs_are = (refl, refl, refl)
 
 -- What is known of times: a window, and how long it took.
 abbrev facts : Option Window → ℕ → Facts
-facts window took = record { window = window; took = took; parents = []; recipes = []; marks = []; sum = 0; most = 0; warnings = 0; bytes = 0; longest = []; warned = [] }
+facts window took = record { window = window; took = took; callers = []; recipes = []; marks = []; sum = 0; most = 0; warnings = 0; bytes = 0; longest = []; warned = [] }
 
 -- A number of seconds from the year 10000 on has no date.
 began_are :
@@ -177,7 +178,7 @@ requested_are = refl
 -- Only if most times are known, there is a link to the timeline.
 header_links_are :
     (section_links (header_parts [] logs Made [] [] (facts None 0)) ≡ codes "summary" ∷ codes "tree" ∷ [])
-    × (section_links (header_parts [] logs Failed [] [] (record (facts (Some (record { began = 7; width = 1 })) 1) { recipes = record { began = 7; place = 0; ended = 8; failed = false } ∷ [] }))
+    × (section_links (header_parts [] logs Failed [] [] (record (facts (Some (record { began = 7; width = 1 })) 1) { recipes = record { began = 7; position = 0; ended = 8; failed = false } ∷ [] }))
     ≡ codes "failed" ∷ codes "summary" ∷ codes "timeline" ∷ codes "tree" ∷ [])
 unfolding duration_words dates.date_text_of dates.date_parts dates.period_of
 header_links_are = (refl, refl)

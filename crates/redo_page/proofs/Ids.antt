@@ -10,7 +10,7 @@ use Rattle.redo_html.specs.declared.markup.Markup.{Markup}
 use Rattle.redo_html.specs.declared.markup.Markup.TheVariants.{FailedSection, SummarySection, TimelineSection, TreeSection, FailedLink, SummaryLink, TimelineLink, TreeLink, TargetLink, OutputLink, Article, TargetItem, Details, OpenDetails, Small, EndSmall}
 use Rattle.redo_html.specs.Chart.{drawing_links}
 use Rattle.redo_html.specs.Parts.{Part}
-use Rattle.redo_html.specs.Parts.Part.{MarkupPart, LogPart, NamePart, NumberPart, TitlePart, StylePart, ChartPart, MeterPart}
+use Rattle.redo_html.specs.Parts.Part.{MarkupPart, LogPart, TextPart, NumberPart, TitlePart, StylePart, ChartPart, MeterPart}
 use Rattle.redo_page.specs.Laws.{target_id, target_ids, target_link, target_links, article_id, article_ids, article_link, article_links, is_among}
 use Rattle.redo_line.specs.declared.entry.How.{How}
 use Rattle.redo_outline.specs.declared.node.Node.{Node}
@@ -53,7 +53,7 @@ is_reference markup = is_section markup
 abbrev pub reference : Part → List Part
 reference (MarkupPart markup) = if is_reference markup then MarkupPart markup ∷ [] else []
 reference (LogPart style text) = LogPart style text ∷ []
-reference (NamePart name) = []
+reference (TextPart text) = []
 reference (NumberPart number) = []
 reference (TitlePart title) = []
 reference StylePart = []
@@ -211,7 +211,7 @@ words_bare before after words first last =
 
 pub took_bare : (took : Option ℕ) → Bare (took_parts took)
 took_bare None = refl
-took_bare (Some ms) = words_bare (NamePart (codes " ") ∷ MarkupPart Small ∷ []) (MarkupPart EndSmall ∷ []) (duration_words ms) refl refl
+took_bare (Some ms) = words_bare (TextPart (codes " ") ∷ MarkupPart Small ∷ []) (MarkupPart EndSmall ∷ []) (duration_words ms) refl refl
 
 warnings_below_bare : (warnings : ℕ) → Bare (warnings_below_parts warnings)
 warnings_below_bare warnings = bare_if (not (warnings == 0)) _ refl
@@ -222,11 +222,11 @@ facts_bare node = simp (flat_map-append, badge_bare node.status, took_bare node.
 pub how_bare : (shown : Bool) (how : How) → Bare (how_parts shown how)
 how_bare shown how = bare_if shown _ refl
 
--- A place, if there is one, is below a number.
+-- A position, if there is one, is below a number.
 abbrev pub IsBelow : ℕ → Option ℕ → Type 0
 IsBelow count None = Unit {0}
-IsBelow count (Some place) = nat_lt place count ≡ true
+IsBelow count (Some position) = nat_lt position count ≡ true
 
-pub linked_refers : {count : ℕ} {articles : List ℕ} (place : Option ℕ) (name : List ℕ) → IsBelow count place → Refer count articles (linked_parts place name) [] []
+pub linked_refers : {count : ℕ} {articles : List ℕ} (position : Option ℕ) (name : List ℕ) → IsBelow count position → Refer count articles (linked_parts position name) [] []
 linked_refers None name below = bare_refers (name_parts name) refl
-linked_refers (Some place) name below = same_refer {others = MarkupPart (TargetLink place) ∷ []} refl (link_refers place below)
+linked_refers (Some position) name below = same_refer {others = MarkupPart (TargetLink position) ∷ []} refl (link_refers position below)

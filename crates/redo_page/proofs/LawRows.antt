@@ -11,12 +11,12 @@ use Rattle.redo_html.specs.declared.markup.Markup.TheVariants as markup
 use Rattle.redo_html.specs.Chart.{Drawing, Shape}
 use Rattle.redo_html.specs.Chart.Shape.{BarShape}
 use Rattle.redo_html.specs.Parts.{Part}
-use Rattle.redo_html.specs.Parts.Part.{MarkupPart, LogPart, NamePart, NumberPart, TitlePart, StylePart, ChartPart, MeterPart}
+use Rattle.redo_html.specs.Parts.Part.{MarkupPart, LogPart, TextPart, NumberPart, TitlePart, StylePart, ChartPart, MeterPart}
 use Rattle.redo_html.specs.Style.{plain_style}
 use Rattle.redo_outline.specs.declared.node.Node.{Node}
 use Rattle.redo_outline.specs.Contents.{Contents}
 use Rattle.redo_outline.specs.Contents.Contents.{Nothing, Shown, Opened}
-use Rattle.redo_page.specs.Laws.{AreInOrderOfEnd, PlacedLine, article_ids, article_links, blank_event, blanked, event_lines, is_among, lines_at, log_bytes, markups, numbers_from, placed_bytes, placed_lines, section_ids, section_links, target_ids, target_links, texts_of, unmoved_lines, IsPartOf, charts, IsOwnTag}
+use Rattle.redo_page.specs.Laws.{AreInOrderOfEnd, PositionedLine, article_ids, article_links, blank_event, blanked, event_lines, is_among, lines_at, log_bytes, markups, numbers_from, positioned_bytes, positioned_lines, section_ids, section_links, target_ids, target_links, texts_of, unmoved_lines, IsPartOf, charts, IsOwnTag}
 use Rattle.redo_page.specs.Tree.{Build, no_node}
 use Rattle.redo_page.proofs.OtherTags.{script_is_not_own}
 
@@ -24,7 +24,7 @@ use Rattle.redo_page.proofs.OtherTags.{script_is_not_own}
 
 -- A bar that leads to a target.
 abbrev bar : ℕ → Shape
-bar place = BarShape (record { place = place; x = 1; y = 2; width = 3; height = 4; failed = false; title = codes "e"; label = None })
+bar position = BarShape (record { target = position; x = 1; y = 2; width = 3; height = 4; failed = false; title = codes "e"; label = None })
 
 abbrev drawing : Drawing
 drawing = record { height = 9; lanes = 1; layers = record { kind = Recipes; shapes = bar 11 ∷ bar 10 ∷ [] } ∷ [] }
@@ -32,7 +32,7 @@ drawing = record { height = 9; lanes = 1; layers = record { kind = Recipes; shap
 abbrev parts : List Part
 parts =
     MarkupPart (markup.TargetItem 3) ∷ MarkupPart (markup.Details 4) ∷ LogPart plain_style (codes "a\n") ∷ MarkupPart (markup.OpenDetails 5) ∷ MarkupPart (markup.TargetLink 6)
-    ∷ NamePart (codes "b") ∷ MarkupPart (markup.OutputLink 7) ∷ NumberPart 9 ∷ MarkupPart (markup.Article 8) ∷ TitlePart (codes "c") ∷ StylePart ∷ LogPart plain_style (codes "d\n")
+    ∷ TextPart (codes "b") ∷ MarkupPart (markup.OutputLink 7) ∷ NumberPart 9 ∷ MarkupPart (markup.Article 8) ∷ TitlePart (codes "c") ∷ StylePart ∷ LogPart plain_style (codes "d\n")
     ∷ ChartPart drawing ∷ MeterPart 12 ∷ []
 
 target_ids_are : target_ids parts ≡ 3 ∷ 4 ∷ 5 ∷ []
@@ -148,26 +148,26 @@ contents =
     (Shown (EntryShown 1 (Text (codes "a"))) (Opened (Mentioned 1 9 Made (codes "x") (OpensHere 1)) 1 (Shown (EntryShown 2 (Text (codes "bc"))) (Shown (EntryShown 2 (Note 9 (codes "n") (codes "t"))) Nothing)) (Shown (EntryShown 1 (Text (codes "d"))) Nothing)))
     (Opened (Requested (codes "y") (OpensHere 2)) 2 (Shown (EntryShown 1 (Text (codes "e"))) Nothing) (Shown (Requested (codes "z") NotOpened) Nothing))
 
-abbrev at : ℕ → List ℕ → PlacedLine
-at place line = record { place = Some place; line = line }
+abbrev at : ℕ → List ℕ → PositionedLine
+at position line = record { position = Some position; line = line }
 
-lines_are : placed_lines None 0 contents ≡ at 0 (codes "a") ∷ at 1 (codes "bc") ∷ at 0 (codes "d") ∷ at 2 (codes "e") ∷ []
+lines_are : positioned_lines None 0 contents ≡ at 0 (codes "a") ∷ at 1 (codes "bc") ∷ at 0 (codes "d") ∷ at 2 (codes "e") ∷ []
 lines_are = refl
 
-texts_are : texts_of (placed_lines None 0 contents) ≡ codes "a" ∷ codes "bc" ∷ codes "d" ∷ codes "e" ∷ []
+texts_are : texts_of (positioned_lines None 0 contents) ≡ codes "a" ∷ codes "bc" ∷ codes "d" ∷ codes "e" ∷ []
 texts_are = refl
 
-bytes_are : placed_bytes (placed_lines None 0 contents) ≡ codes "a\nbc\nd\ne\n"
+bytes_are : positioned_bytes (positioned_lines None 0 contents) ≡ codes "a\nbc\nd\ne\n"
 bytes_are = refl
 
-lines_at_are : lines_at 0 (placed_lines None 0 contents) ≡ at 0 (codes "a") ∷ at 0 (codes "d") ∷ []
+lines_at_are : lines_at 0 (positioned_lines None 0 contents) ≡ at 0 (codes "a") ∷ at 0 (codes "d") ∷ []
 lines_at_are = refl
 
--- The log at place 1 has an article that shows its output.
+-- The log at position 1 has an article that shows its output.
 abbrev build : Build
 build = record { logs = []; options = record { recursive = true; unchanged = false; details = true; debug_locks = false; debug_pids = false }; nodes = no_node ∷ record no_node { lines = 1; bytes = 3 } ∷ no_node ∷ []; articles = 1 ∷ [] }
 
-unmoved_are : unmoved_lines build (placed_lines None 0 contents) ≡ at 0 (codes "a") ∷ at 0 (codes "d") ∷ at 2 (codes "e") ∷ []
+unmoved_are : unmoved_lines build (positioned_lines None 0 contents) ≡ at 0 (codes "a") ∷ at 0 (codes "d") ∷ at 2 (codes "e") ∷ []
 unmoved_are = refl
 
 event_lines_are : event_lines (EntryShown 1 (Text (codes "a"))) ∷ event_lines (EntryShown 1 (Note 9 (codes "n") (codes "t"))) ∷ event_lines (Requested (codes "z") NotOpened) ∷ [] ≡ (codes "a" ∷ []) ∷ [] ∷ [] ∷ []

@@ -1,11 +1,11 @@
--- The highest level at which logs fit into a budget.
-use Rattle.std.proofs.Common.{◌≡◌, ℕ, zero, suc, ◌+◌, ◌-◌, length, ◌<◌, ◌≤◌, min, ◌⊎◌, inl, inr, Bool, true, false, List, [], ◌∷◌, ◌++◌, Some, refl, ◌∙◌, ap, arith}
+-- The highest cap at which logs fit into a budget.
+use Rattle.std.proofs.Common.{◌≡◌, ℕ, zero, suc, ◌+◌, ◌-◌, ◌<◌, ◌≤◌, min, ◌⊎◌, inl, inr, Bool, true, false, List, [], ◌∷◌, ◌++◌, Some, refl, ◌∙◌, ap, arith}
 use Rattle.std.specs.Prelude.{if◌then◌else◌}
 use Rattle.std.proofs.lemmas.Bool.{cases_lt, le-leb, leb-false, leb-true, lt-leb}
 use Rattle.redo_outline.specs.declared.node.Node.{Node}
 use Rattle.redo_page.specs.Excerpt.{last_where}
-use Rattle.redo_page.specs.Limits.{at_most, bytes_shown, fit_in, highest_level, limit_if, limits_from}
-use Rattle.redo_page.specs.Tree.{Build, place_of}
+use Rattle.redo_page.specs.Limits.{at_most, bytes_shown, fit_in, highest_cap, limit_if, limits_from}
+use Rattle.redo_page.specs.Tree.{Build, position_of}
 use Rattle.redo_trim.specs.declared.limit.Limit.{Limit}
 use Rattle.std.proofs.lemmas.List.{append_assoc}
 use Rattle.std.proofs.lemmas.List.Sums.{sum_by-cons}
@@ -63,11 +63,11 @@ module _ (passes : ℕ → Bool) where
       by false is before less (inl above) = let same : higher ≡ suc n = omega (arith, above, within) in ap passes same ∙ is
       by false is before less (inr below) = before less below
 
--- ---- levels
+-- ---- caps
 
 module _ (budget : ℕ) (nodes : List Node) where
   abbrev pub fits : ℕ → Bool
-  fits level = fit_in (Some level) budget nodes
+  fits cap = fit_in (Some cap) budget nodes
 
   higher_fails : (low high : ℕ) → fits low ≡ false → low ≤ high → fits high ≡ false
   higher_fails low high fails below =
@@ -75,9 +75,9 @@ module _ (budget : ℕ) (nodes : List Node) where
       let more = more_bytes nodes low high below in
       lt-leb (bytes_shown (Some high) nodes) budget (omega (arith, too_many, more))
 
-  -- If a level fails, only lower ones count.
-  pub lower_counts : (level above : ℕ) → fits level ≡ false → 0 < level → level ≤ above → last_where fits above ≡ last_where fits (level - 1)
-  lower_counts level above fails some below = last_below fits (level - 1) above (omega arith) (λ n higher. higher_fails level n fails (omega arith))
+  -- If a cap fails, only lower ones count.
+  pub lower_counts : (cap above : ℕ) → fits cap ≡ false → 0 < cap → cap ≤ above → last_where fits above ≡ last_where fits (cap - 1)
+  lower_counts cap above fails some below = last_below fits (cap - 1) above (omega arith) (λ n higher. higher_fails cap n fails (omega arith))
 
 no_bytes : (nodes : List Node) → bytes_shown (Some 0) nodes ≡ 0
 no_bytes [] = refl
@@ -87,27 +87,27 @@ no_bytes (node ∷ nodes) =
     let one : min node.bytes 0 ≡ 0 = omega arith in
     omega (arith, others, all, one)
 
-pub highest_fits : (budget : ℕ) (nodes : List Node) → bytes_shown (Some (highest_level budget nodes)) nodes ≤ budget
+pub highest_fits : (budget : ℕ) (nodes : List Node) → bytes_shown (Some (highest_cap budget nodes)) nodes ≤ budget
 highest_fits budget nodes =
     let none = no_bytes nodes in
-    leb-true (bytes_shown (Some (highest_level budget nodes)) nodes) budget
+    leb-true (bytes_shown (Some (highest_cap budget nodes)) nodes) budget
     (last_passes (fits budget nodes) budget (le-leb (bytes_shown (Some 0) nodes) budget (omega (arith, none))))
 
-pub none_higher : (budget : ℕ) (nodes : List Node) (level : ℕ) → highest_level budget nodes < level → level ≤ budget → budget < bytes_shown (Some level) nodes
-none_higher budget nodes level above within = leb-false (bytes_shown (Some level) nodes) budget (none_after (fits budget nodes) budget level above within)
+pub none_higher : (budget : ℕ) (nodes : List Node) (cap : ℕ) → highest_cap budget nodes < cap → cap ≤ budget → budget < bytes_shown (Some cap) nodes
+none_higher budget nodes cap above within = leb-false (bytes_shown (Some cap) nodes) budget (none_after (fits budget nodes) budget cap above within)
 
 -- ---- limits, one by one
 
 -- The limit of one log more.
-pub next_limit : (build : Build) (level number count : ℕ) → number < count → (limits after : List Limit) (limit : Limit) → limit ≡ limit_if build level (place_of build.nodes number) → after ≡ limits ++ (limit ∷ [])
-    → limits ++ limits_from build level number (count - number) ≡ limits_from build level 0 count → after ++ limits_from build level (number + 1) (count - (number + 1)) ≡ limits_from build level 0 count
-next_limit build level number count below limits after limit limit_is after_is so_far =
-    let rest = limits_from build level (suc number) (count - suc number) in
+pub next_limit : (build : Build) (cap number count : ℕ) → number < count → (limits after : List Limit) (limit : Limit) → limit ≡ limit_if build cap (position_of build.nodes number) → after ≡ limits ++ (limit ∷ [])
+    → limits ++ limits_from build cap number (count - number) ≡ limits_from build cap 0 count → after ++ limits_from build cap (number + 1) (count - (number + 1)) ≡ limits_from build cap 0 count
+next_limit build cap number count below limits after limit limit_is after_is so_far =
+    let rest = limits_from build cap (suc number) (count - suc number) in
     let next : number + 1 ≡ suc number = omega arith in
     let left : suc (count - suc number) ≡ count - number = omega (arith, below) in
-    ap (λ (n : ℕ). after ++ limits_from build level n (count - n)) next
+    ap (λ (n : ℕ). after ++ limits_from build cap n (count - n)) next
     ∙ ap (λ (ls : List Limit). ls ++ rest) after_is
     ∙ append_assoc limits (limit ∷ []) rest
     ∙ ap (λ (l : Limit). limits ++ (l ∷ rest)) limit_is
-    ∙ ap (λ (n : ℕ). limits ++ limits_from build level number n) left
+    ∙ ap (λ (n : ℕ). limits ++ limits_from build cap number n) left
     ∙ so_far

@@ -5,30 +5,15 @@ use Rattle.redo_logs.specs.declared.log_state.LogState.TheVariants.{Ended}
 use Rattle.redo_logs.specs.Logs.{Log}
 use Rattle.redo_options.specs.declared.options.Options.{Options}
 use Rattle.redo_outline.specs.declared.node.Node.{Node}
-use Rattle.redo_page.specs.Limits.{at_most, bytes_shown, fit_in, highest_level, level_for, limit_at, limit_if, limits_from, limits_of, min_level, place_limit, tree_limits}
-use Rattle.redo_page.specs.Tree.{Build}
+use Rattle.redo_page.specs.Limits.{at_most, bytes_shown, fit_in, highest_cap, cap_for, limit_at, limit_if, limits_from, limits_of, min_cap, position_limit, tree_limits}
+use Rattle.redo_page.specs.Tree.{Build, no_node}
 use Rattle.redo_trim.specs.declared.limit.Limit.{Limit}
 
 -- ---- values
 
 -- The log with this number, in which a target with this status printed this many bytes in two lines.
 abbrev printed : ℕ → Option ℤ → ℕ → Node
-printed number status bytes = record {
-  number = number;
-  parent = None;
-  status = status;
-  lines = 2;
-  bytes = bytes;
-  warnings = 0;
-  below = 0;
-  children = 0;
-  others = true;
-  warnings_below = 0;
-  fails_below = false;
-  silent = 0;
-  took = None;
-  ended = None;
-}
+printed number status bytes = record no_node { number = number; status = status; lines = 2; bytes = bytes; others = true }
 
 abbrev node : ℕ → Node
 node bytes = printed 0 (Some (pos 0)) bytes
@@ -39,7 +24,7 @@ limit head tail = record { head = head; tail = tail }
 abbrev whole : Limit
 whole = limit 0 0
 
--- ---- the level
+-- ---- the cap
 
 shown_are :
     (at_most None 5 ≡ 5) × (at_most (Some 3) 5 ≡ 3) × (at_most (Some 7) 5 ≡ 5) × (bytes_shown None (node 5 ∷ node 3 ∷ []) ≡ 8) × (bytes_shown (Some 4) (node 5 ∷ node 3 ∷ []) ≡ 7)
@@ -51,26 +36,26 @@ fits_are :
     × (fit_in (Some 4) 6 (node 5 ∷ node 3 ∷ []) ≡ false) × (fit_in (Some 4) 0 [] ≡ true)
 fits_are = (refl, refl, refl, refl, refl)
 
--- The level that fits exactly; the highest one below a level that doesn't fit; no byte; all bytes.
-levels_are :
-    (highest_level 10 (node 20 ∷ node 3 ∷ []) ≡ 7) × (highest_level 10 (node 4 ∷ node 4 ∷ node 4 ∷ []) ≡ 3) × (highest_level 0 (node 5 ∷ []) ≡ 0)
-    × (highest_level 2 (node 5 ∷ node 5 ∷ node 5 ∷ []) ≡ 0) × (highest_level 12 (node 3 ∷ node 3 ∷ []) ≡ 12)
-levels_are = (refl, refl, refl, refl, refl)
+-- The cap that fits exactly; the highest one below a cap that doesn't fit; no byte; all bytes.
+caps_are :
+    (highest_cap 10 (node 20 ∷ node 3 ∷ []) ≡ 7) × (highest_cap 10 (node 4 ∷ node 4 ∷ node 4 ∷ []) ≡ 3) × (highest_cap 0 (node 5 ∷ []) ≡ 0)
+    × (highest_cap 2 (node 5 ∷ node 5 ∷ node 5 ∷ []) ≡ 0) × (highest_cap 12 (node 3 ∷ node 3 ∷ []) ≡ 12)
+caps_are = (refl, refl, refl, refl, refl)
 
 -- The three smaller logs have 48 bytes, and 52 are left for the largest one, though a quarter of the budget is 25.
-uneven_level_is : highest_level 100 (node 100 ∷ node 30 ∷ node 10 ∷ node 8 ∷ []) ≡ 52
-uneven_level_is = refl
+uneven_cap_is : highest_cap 100 (node 100 ∷ node 30 ∷ node 10 ∷ node 8 ∷ []) ≡ 52
+uneven_cap_is = refl
 
 -- A budget of 0 allows all bytes. So does one into which all logs fit, even exactly.
-no_levels_are :
-    (level_for 0 (node 9999 ∷ []) ≡ None) × (level_for 300 (node 200 ∷ node 100 ∷ []) ≡ None) × (level_for 5000 [] ≡ None)
-no_levels_are = (refl, refl, refl)
+no_caps_are :
+    (cap_for 0 (node 9999 ∷ []) ≡ None) × (cap_for 300 (node 200 ∷ node 100 ∷ []) ≡ None) × (cap_for 5000 [] ≡ None)
+no_caps_are = (refl, refl, refl)
 
 -- 4,096 bytes are shown, even if this is more than the budget.
-some_levels_are :
-    (min_level ≡ 4096) × (level_for 299 (node 200 ∷ node 100 ∷ []) ≡ Some 4096) × (level_for 5000 (node 20000 ∷ []) ≡ Some 5000) × (level_for 5000 (node 20000 ∷ node 50 ∷ []) ≡ Some 4950)
-    × (level_for 4097 (node 5000 ∷ node 1 ∷ []) ≡ Some 4096) × (level_for 4097 (node 5000 ∷ []) ≡ Some 4097)
-some_levels_are = (refl, refl, refl, refl, refl, refl)
+some_caps_are :
+    (min_cap ≡ 4096) × (cap_for 299 (node 200 ∷ node 100 ∷ []) ≡ Some 4096) × (cap_for 5000 (node 20000 ∷ []) ≡ Some 5000) × (cap_for 5000 (node 20000 ∷ node 50 ∷ []) ≡ Some 4950)
+    × (cap_for 4097 (node 5000 ∷ node 1 ∷ []) ≡ Some 4096) × (cap_for 4097 (node 5000 ∷ []) ≡ Some 4097)
+some_caps_are = (refl, refl, refl, refl, refl, refl)
 
 -- ---- limits
 
@@ -96,12 +81,12 @@ nodes = printed 2 (Some (pos 0)) 20000 ∷ printed 3 (Some (pos 1)) 40000 ∷ pr
 abbrev build : Build
 build = record { logs = logs; options = options; nodes = nodes; articles = 1 ∷ 2 ∷ [] }
 
--- A log that has as many bytes as the level is shown whole.
-places_are :
-    (place_limit build 5000 0 ≡ limit 1250 16250) × (place_limit build 19999 0 ≡ limit 4999 5000) × (place_limit build 20000 0 ≡ whole) × (place_limit build 5000 1 ≡ whole)
-    × (place_limit build 5000 2 ≡ limit 1250 36251) × (place_limit (record build { articles = [] }) 5000 1 ≡ limit 1250 36250)
+-- A log that has as many bytes as the cap is shown whole.
+positions_are :
+    (position_limit build 5000 0 ≡ limit 1250 16250) × (position_limit build 19999 0 ≡ limit 4999 5000) × (position_limit build 20000 0 ≡ whole) × (position_limit build 5000 1 ≡ whole)
+    × (position_limit build 5000 2 ≡ limit 1250 36251) × (position_limit (record build { articles = [] }) 5000 1 ≡ limit 1250 36250)
     × (limit_if build 5000 None ≡ whole) × (limit_if build 5000 (Some 0) ≡ limit 1250 16250)
-places_are = (refl, refl, refl, refl, refl, refl, refl, refl)
+positions_are = (refl, refl, refl, refl, refl, refl, refl, refl)
 
 numbers_are :
     (limits_from build 5000 0 4 ≡ limit 1250 36251 ∷ whole ∷ limit 1250 16250 ∷ whole ∷ []) × (limits_from build 5000 2 1 ≡ limit 1250 16250 ∷ []) × (limits_from build 5000 0 0 ≡ [])

@@ -14,8 +14,8 @@ use Rattle.redo_html.specs.Laws.{reworded, reworded_shape}
 use Rattle.redo_html.specs.Parts.{part_tokens}
 use Rattle.redo_html.specs.Parts.Part.{ChartPart, MeterPart}
 use Rattle.redo_html.specs.Passage.{html_from}
-use Rattle.redo_html.specs.Shown.{is_odd, number_text, odd_text, picture}
-use Rattle.redo_html.specs.Symbols.{first_letter, first_symbol, is_sequence, letter_len, sequence_len, sequence_numbers, symbol_len, symbols_after}
+use Rattle.redo_html.specs.Shown.{is_unprintable, number_text, unprintable_text, notation}
+use Rattle.redo_html.specs.Symbols.{first_code_point, first_symbol, is_sequence, code_point_len, sequence_len, sequence_numbers, symbol_len, symbols_after}
 use Rattle.redo_html.specs.Tags.{markup_text}
 use Rattle.redo_page.specs.Laws.{IsOwnTag}
 
@@ -48,7 +48,7 @@ abbrev blank : List ℕ → List ℕ
 blank text = []
 
 shape_lacks : (kind : GroupKind) (shape : Shape) → Lack (shape_nodes kind (reworded_shape blank shape))
-unfolding symbols_after first_symbol symbol_len is_sequence sequence_len sequence_numbers first_letter letter_len is_odd picture odd_text number_text html_from
+unfolding symbols_after first_symbol symbol_len is_sequence sequence_len sequence_numbers first_code_point code_point_len is_unprintable notation unprintable_text number_text html_from
 shape_lacks kind (LineShape x bottom) = refl
 shape_lacks kind (TickShape x at text) = refl
 shape_lacks kind (BarShape bar) = by bar.label
@@ -80,6 +80,6 @@ no_meter_tag width = refl
 
 pub script_is_not_own : IsOwnTag script → ⊥
 script_is_not_own (inl own) = let is : bytes_eq (take 3 (markup_text own.0)) (codes "scr") ≡ true = ap (λ tag. bytes_eq (take 3 tag) (codes "scr")) (sym own.1) in let no = no_markup own.0 in absurd (cc)
-script_is_not_own (inr (inl mark)) = absurd (cc)
+script_is_not_own (inr (inl highlight)) = absurd (cc)
 script_is_not_own (inr (inr (inl own))) = let no = no_chart_tag own.0 in let is = own.1 in absurd (cc)
 script_is_not_own (inr (inr (inr own))) = let no = no_meter_tag own.0 in let is = own.1 in absurd (cc)

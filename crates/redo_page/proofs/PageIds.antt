@@ -16,13 +16,12 @@ use Rattle.redo_outline.specs.Contents.{Contents, contents_of}
 use Rattle.redo_outline.specs.Facts.{target_status}
 use Rattle.redo_outline.specs.Outline.{log_count, outline_of, with_times}
 use Rattle.std.specs.Prelude.{None, Option, Some}
-use Rattle.redo_html.specs.Parts.Part.{ChartPart}
 use Rattle.redo_page.specs.declared.frame.Verdict.TheVariants.{Failed, Unfinished, Made}
 use Rattle.redo_page.specs.Frame.{command, footer_parts, head_parts, is_unfinished, title_text, verdict_of}
 use Rattle.redo_page.specs.Laws.{article_ids, article_links, charts, is_among, numbers_from, page_chart, part_chart, section_id, section_ids, section_link, section_links, target_ids, target_links}
 use Rattle.redo_page.specs.declared.frame.Verdict.{Verdict}
 use Rattle.redo_page.specs.Page.{Request, heading_of, options_of, page_contents, page_events, page_facts, page_outline, page_parts, run_times, top_parts_of}
-use Rattle.redo_page.specs.Tree.{articles, first_failures}
+use Rattle.redo_page.specs.Tree.{articles, root_failures}
 use Rattle.redo_page.proofs.Ids.{Refers, bare_refers, is_section, section, then_refer}
 use Rattle.redo_page.proofs.FrameIds.{footer_bare, head_bare, header_refers, links}
 use Rattle.redo_page.proofs.FailedIds.{failed_refers, failed_section}
@@ -112,13 +111,13 @@ charts_found verdict timed some timeline = by verdict timed some
     by Made false true = last
     by Made false false = last
 
-module _ (nodes : List Node) (facts : Facts) (places : AreOfNodes nodes facts) where
+module _ (nodes : List Node) (facts : Facts) (positions : AreOfNodes nodes facts) where
   top_refers : (title : List ℕ) (logs : List Log) (verdict : Verdict) (title_is heading : List ℕ)
-      → Refers (length nodes) (articles nodes) (top_parts_of title logs verdict title_is heading nodes facts) [] ((articles nodes ++ []) ++ []) (top_sections verdict (has_timeline facts) (failed_section (first_failures nodes)))
+      → Refers (length nodes) (articles nodes) (top_parts_of title logs verdict title_is heading nodes facts) [] ((articles nodes ++ []) ++ []) (top_sections verdict (has_timeline facts) (failed_section (root_failures nodes)))
   unfolding top_parts_of
   top_refers title logs verdict title_is heading =
       then_refer (bare_refers (head_parts title_is verdict) (head_bare title_is verdict))
-      (then_refer (header_refers title logs verdict heading nodes facts) (then_refer (failed_refers logs nodes) (summary_refers (length nodes) (articles nodes) logs nodes facts places.longest places.warned)))
+      (then_refer (header_refers title logs verdict heading nodes facts) (then_refer (failed_refers logs nodes) (summary_refers (length nodes) (articles nodes) logs nodes facts positions.longest positions.warned)))
 
 -- There is a link to each section.
 module _ (logs : List Log) (nodes : List Node) (facts : Facts) where
@@ -127,9 +126,9 @@ module _ (logs : List Log) (nodes : List Node) (facts : Facts) where
   sections_of verdict some timed window = page_sections verdict (is_some window && timed) (parts_if some (MarkupPart FailedSection ∷ [])) (timeline_found logs nodes facts timed window)
 
   sections_linked :
-      section_links (page_sections (verdict_of nodes) (has_timeline facts) (failed_section (first_failures nodes)) (timeline_found logs nodes facts (is_timed facts) facts.window))
-      ≡ section_ids (page_sections (verdict_of nodes) (has_timeline facts) (failed_section (first_failures nodes)) (timeline_found logs nodes facts (is_timed facts) facts.window))
-  sections_linked = by (nat_lt 0 (length (first_failures nodes))) (list_any is_unfinished nodes) (is_timed facts) facts.window
+      section_links (page_sections (verdict_of nodes) (has_timeline facts) (failed_section (root_failures nodes)) (timeline_found logs nodes facts (is_timed facts) facts.window))
+      ≡ section_ids (page_sections (verdict_of nodes) (has_timeline facts) (failed_section (root_failures nodes)) (timeline_found logs nodes facts (is_timed facts) facts.window))
+  sections_linked = by (nat_lt 0 (length (root_failures nodes))) (list_any is_unfinished nodes) (is_timed facts) facts.window
     where
       by : (some unfinished timed : Bool) (window : Option Window)
           → section_links (sections_of (if some then Failed else if unfinished then Unfinished else Made) some timed window) ≡ section_ids (sections_of (if some then Failed else if unfinished then Unfinished else Made) some timed window)
@@ -143,9 +142,9 @@ module _ (logs : List Log) (nodes : List Node) (facts : Facts) where
       by false false true (Some window) = refl
       by false false false (Some window) = refl
 
--- The times of shown targets lead to places of nodes.
-abbrev pub HavePlaces : Type 0
-HavePlaces = (nodes : List Node) (times : List Times) → AreOfNodes nodes (summary_of nodes times)
+-- The times of shown targets lead to positions of nodes.
+abbrev pub HavePositions : Type 0
+HavePositions = (nodes : List Node) (times : List Times) → AreOfNodes nodes (summary_of nodes times)
 
 -- No log is left out of the tree.
 abbrev pub KeepLogs : Type 0
@@ -157,7 +156,7 @@ outline_counted request logs requested =
     let events = page_events request logs requested in
     length-map (outline_of logs events) (with_times (map run_times request.times)) ∙ nodes_counted logs (target_status logs events) None 0 (contents_of events)
 
-module _ (have : HavePlaces) (lead : BarsLead) (keep : KeepLogs) (request : Request) (logs : List Log) (requested : List (List ℕ)) where
+module _ (have : HavePositions) (lead : BarsLead) (keep : KeepLogs) (request : Request) (logs : List Log) (requested : List (List ℕ)) where
   abbrev parts : List Part
   parts = page_parts request logs requested
 
@@ -175,12 +174,12 @@ module _ (have : HavePlaces) (lead : BarsLead) (keep : KeepLogs) (request : Requ
   shown = page_contents request logs requested
 
   page_refers : Refers (length nodes) (articles nodes) parts (numbers_from 0 (log_count shown) ++ []) (((articles nodes ++ []) ++ []) ++ [])
-      (page_sections (verdict_of nodes) (has_timeline facts) (failed_section (first_failures nodes)) (timeline_found logs nodes facts (is_timed facts) facts.window))
+      (page_sections (verdict_of nodes) (has_timeline facts) (failed_section (root_failures nodes)) (timeline_found logs nodes facts (is_timed facts) facts.window))
   unfolding page_parts
   page_refers =
-      let places = have nodes request.times in
-      then_refer (top_refers nodes facts places request.title logs (verdict_of nodes) (title_text request.title (verdict_of nodes) (heading_of nodes)) (heading_of nodes))
-      (then_refer (then_refer (timeline_refers lead (length nodes) (articles nodes) logs nodes facts places.parents places.recipes places.marks) (tree_refers logs (options_of request) nodes shown))
+      let positions = have nodes request.times in
+      then_refer (top_refers nodes facts positions request.title logs (verdict_of nodes) (title_text request.title (verdict_of nodes) (heading_of nodes)) (heading_of nodes))
+      (then_refer (then_refer (timeline_refers lead (length nodes) (articles nodes) logs nodes facts positions.callers positions.recipes positions.marks) (tree_refers logs (options_of request) nodes shown))
       (bare_refers (footer_parts request.dir (command request.dir (options_of request) requested) (length nodes)) (footer_bare request.dir (command request.dir (options_of request) requested) (length nodes))))
 
   pub page_target_ids : target_ids parts ≡ numbers_from 0 (length nodes)
@@ -206,7 +205,7 @@ module _ (have : HavePlaces) (lead : BarsLead) (keep : KeepLogs) (request : Requ
   charts_are : charts parts ≡ charts (timeline_found logs nodes facts (is_timed facts) facts.window)
   charts_are =
       in_sections part_chart chart_part parts ∙ ap charts page_refers.sections_are
-      ∙ charts_found (verdict_of nodes) (has_timeline facts) (nat_lt 0 (length (first_failures nodes))) (timeline_found logs nodes facts (is_timed facts) facts.window)
+      ∙ charts_found (verdict_of nodes) (has_timeline facts) (nat_lt 0 (length (root_failures nodes))) (timeline_found logs nodes facts (is_timed facts) facts.window)
 
   pub page_has_chart : (window : Window) → facts.window ≡ Some window → is_timed facts ≡ true → charts parts ≡ page_chart request logs requested window ∷ []
   page_has_chart window is timed = charts_are ∙ ap (λ (w : Option Window). charts (timeline_found logs nodes facts (is_timed facts) w)) is ∙ ap (λ (b : Bool). charts (timeline_found logs nodes facts b (Some window))) timed

@@ -2,28 +2,24 @@
 use Rattle.std.proofs.Common.{◌≡◌, ℕ, ◌+◌, ◌≤◌, List, ◌++◌, Option, Result, Ok, Err, length, take, min, refl, sym, ◌∙◌, ap, subst, arith}
 use Rattle.std.specs.Prelude.{IsErrAnd}
 use Rattle.std.specs.List.{flat_map}
-use Rattle.redo_page.proofs.PartLoops.{append_nothing}
 use Rattle.std.proofs.lemmas.Grind.{flat_map-append}
 use Rattle.std.proofs.lemmas.List.{take-append-le, take_min}
 use Rattle.std.proofs.Math.Seq.{take-append-add}
 use Rattle.redo_device.specs.declared.feed.Broken.{Broken}
 use Rattle.redo_device.specs.Sink.{Output, append_output, Writes}
-use Rattle.redo_device.proofs.WritesLemmas.{append_output-append_output, then, stops}
+use Rattle.redo_device.proofs.WritesLemmas.{append_output-append_output, then, stops, append_nothing}
 use Rattle.redo_html.specs.Parts.{part_html}
 use Rattle.redo_logs.specs.Logs.{Log}
 use Rattle.redo_view.specs.declared.form.FormFault.{FormFault}
 use Rattle.redo_view.specs.declared.form.FormFault.TheVariants.{Write, OutOfMemory}
 use Rattle.redo_options.specs.declared.options.Options.{Options}
-use Rattle.redo_view.specs.Expansion.{shown_events}
 use Rattle.redo_view.specs.Form.{FormWrites}
 use Rattle.redo_outline.specs.declared.node.Node.{Node}
-use Rattle.redo_outline.specs.Contents.{contents_of}
 use Rattle.redo_page.specs.declared.page.Texts.{Texts}
 use Rattle.redo_page.specs.Frame.{command, footer_parts, title_text, verdict_of}
 use Rattle.redo_summary.specs.Summary.{Facts, summary_of}
 use Rattle.redo_page.specs.Page.{Request, body_parts, heading_of, options_of, page_facts, page_html, page_outline, page_parts, top_parts, top_parts_of}
 use Rattle.redo_page.specs.Private.PageTexts.{AreTexts}
-use Rattle.redo_page.specs.Tree.{tree_parts}
 
 -- ---- stages
 

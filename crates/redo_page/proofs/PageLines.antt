@@ -23,24 +23,24 @@ use Rattle.redo_outline.specs.Facts.{entries_at, text_of}
 use Rattle.redo_outline.specs.Facts as facts
 use Rattle.redo_outline.specs.Laws.{events_of}
 use Rattle.redo_outline.specs.Outline.{log_count, nodes_of}
-use Rattle.redo_page.specs.Laws.{PlacedLine, event_lines, is_among, lines_at, placed_at, placed_lines, texts_of}
-use Rattle.redo_page.specs.Tree.{is_same_place, no_node}
+use Rattle.redo_page.specs.Laws.{PositionedLine, event_lines, is_among, lines_at, positioned_at, positioned_lines, texts_of}
+use Rattle.redo_page.specs.Tree.{is_same_position, no_node}
 use Rattle.redo_page.proofs.TreeIds.{nodes_counted}
 
 -- ---- all lines
 
-texts-append : (lines others : List PlacedLine) → texts_of (lines ++ others) ≡ texts_of lines ++ texts_of others
-texts-append lines others = map-append (λ (placed : PlacedLine). placed.line) lines others
+texts-append : (lines others : List PositionedLine) → texts_of (lines ++ others) ≡ texts_of lines ++ texts_of others
+texts-append lines others = map-append (λ (positioned : PositionedLine). positioned.line) lines others
 
-placed_texts : (around : Option ℕ) (event : Event) → texts_of (placed_at around event) ≡ event_lines event
-placed_texts around (Requested name opening) = refl
-placed_texts around (Mentioned depth pid how name opening) = refl
-placed_texts around (EntryShown depth (Text line)) = refl
-placed_texts around (EntryShown depth (Mention pid how name)) = refl
-placed_texts around (EntryShown depth (Done pid status name)) = refl
-placed_texts around (EntryShown depth (Closing pid status)) = refl
-placed_texts around (EntryShown depth (Note pid kind text)) = refl
-placed_texts around (LogEnds depth) = refl
+positioned_texts : (around : Option ℕ) (event : Event) → texts_of (positioned_at around event) ≡ event_lines event
+positioned_texts around (Requested name opening) = refl
+positioned_texts around (Mentioned depth pid how name opening) = refl
+positioned_texts around (EntryShown depth (Text line)) = refl
+positioned_texts around (EntryShown depth (Mention pid how name)) = refl
+positioned_texts around (EntryShown depth (Done pid status name)) = refl
+positioned_texts around (EntryShown depth (Closing pid status)) = refl
+positioned_texts around (EntryShown depth (Note pid kind text)) = refl
+positioned_texts around (LogEnds depth) = refl
 
 -- ---- the lines of each log
 
@@ -59,14 +59,14 @@ Have lines (Opened event number inside rest) = (event_lines event ≡ []) × (di
 abbrev pub HaveLines : List Log → Contents → Type 0
 HaveLines logs contents = Have (λ number. lines_of_log number logs) contents
 
-pub all_lines : (logs : List Log) (depth : ℕ) (around : Option ℕ) (place : ℕ) (contents : Contents) → HaveLines logs contents → texts_of (placed_lines around place contents) ≡ flat_map event_lines (events_of depth contents)
-all_lines logs depth around place Nothing opens = refl
-all_lines logs depth around place (Shown event rest) opens =
-    texts-append (placed_at around event) (placed_lines around place rest) ∙ ap (λ t. t ++ texts_of (placed_lines around place rest)) (placed_texts around event) ∙ ap (λ t. event_lines event ++ t) (all_lines logs depth around place rest opens)
-all_lines logs depth around place (Opened event number inside rest) opens =
-    texts-append (placed_lines (Some place) (suc place) inside) (placed_lines around (suc place + log_count inside) rest)
-    ∙ ap (λ t. t ++ texts_of (placed_lines around (suc place + log_count inside) rest)) (all_lines logs (depth + 1) (Some place) (suc place) inside opens.2)
-    ∙ ap (λ t. flat_map event_lines (events_of (depth + 1) inside) ++ t) (all_lines logs depth around (suc place + log_count inside) rest opens.3)
+pub all_lines : (logs : List Log) (depth : ℕ) (around : Option ℕ) (position : ℕ) (contents : Contents) → HaveLines logs contents → texts_of (positioned_lines around position contents) ≡ flat_map event_lines (events_of depth contents)
+all_lines logs depth around position Nothing opens = refl
+all_lines logs depth around position (Shown event rest) opens =
+    texts-append (positioned_at around event) (positioned_lines around position rest) ∙ ap (λ t. t ++ texts_of (positioned_lines around position rest)) (positioned_texts around event) ∙ ap (λ t. event_lines event ++ t) (all_lines logs depth around position rest opens)
+all_lines logs depth around position (Opened event number inside rest) opens =
+    texts-append (positioned_lines (Some position) (suc position) inside) (positioned_lines around (suc position + log_count inside) rest)
+    ∙ ap (λ t. t ++ texts_of (positioned_lines around (suc position + log_count inside) rest)) (all_lines logs (depth + 1) (Some position) (suc position) inside opens.2)
+    ∙ ap (λ t. flat_map event_lines (events_of (depth + 1) inside) ++ t) (all_lines logs depth around (suc position + log_count inside) rest opens.3)
     ∙ sym (flat_map-append event_lines (events_of (depth + 1) inside) (LogEnds (depth + 1) ∷ events_of depth rest))
     ∙ ap (λ t. t ++ flat_map event_lines (events_of (depth + 1) inside ++ LogEnds (depth + 1) ∷ events_of depth rest)) (sym opens.0)
 
@@ -143,28 +143,28 @@ contents_have_lines logs events is = by (contents_from events) (events_left logs
     by (whole ∷ []) are = are.1
     by (whole ∷ next ∷ outer) are = absurd are
 
--- ---- the lines at a place
+-- ---- the lines at a position
 
 abbrev pub texts_at : ℕ → Option ℕ → ℕ → Contents → List (List ℕ)
-texts_at at around place contents = texts_of (lines_at at (placed_lines around place contents))
+texts_at at around position contents = texts_of (lines_at at (positioned_lines around position contents))
 
-at-append : (at : ℕ) (lines others : List PlacedLine) → texts_of (lines_at at (lines ++ others)) ≡ texts_of (lines_at at lines) ++ texts_of (lines_at at others)
+at-append : (at : ℕ) (lines others : List PositionedLine) → texts_of (lines_at at (lines ++ others)) ≡ texts_of (lines_at at lines) ++ texts_of (lines_at at others)
 at-append at lines others =
-    ap texts_of (filter-append (λ (placed : PlacedLine). is_same_place placed.place (Some at)) lines others) ∙ texts-append (lines_at at lines) (lines_at at others)
+    ap texts_of (filter-append (λ (positioned : PositionedLine). is_same_position positioned.position (Some at)) lines others) ∙ texts-append (lines_at at lines) (lines_at at others)
 
--- All lines of one log are at its place, or none.
-event_at : (at : ℕ) (around : Option ℕ) (event : Event) (same : Bool) → is_same_place around (Some at) ≡ same → texts_of (lines_at at (placed_at around event)) ≡ (if same then event_lines event else [])
+-- All lines of one log are at its position, or none.
+event_at : (at : ℕ) (around : Option ℕ) (event : Event) (same : Bool) → is_same_position around (Some at) ≡ same → texts_of (lines_at at (positioned_at around event)) ≡ (if same then event_lines event else [])
 event_at at around event same is = by event same is
   where
     none : (same : Bool) → ◌≡◌ {A = List (List ℕ)} [] (if same then [] else [])
     none true = refl
     none false = refl
 
-    by : (event : Event) (same : Bool) → is_same_place around (Some at) ≡ same → texts_of (lines_at at (placed_at around event)) ≡ (if same then event_lines event else [])
+    by : (event : Event) (same : Bool) → is_same_position around (Some at) ≡ same → texts_of (lines_at at (positioned_at around event)) ≡ (if same then event_lines event else [])
     by (Requested name opening) same is = none same
     by (Mentioned depth pid how name opening) same is = none same
-    by (EntryShown depth (Text line)) true is = ap (λ (b : Bool). texts_of (cond b (record { place = around; line = line } ∷ []) [])) is
-    by (EntryShown depth (Text line)) false is = ap (λ (b : Bool). texts_of (cond b (record { place = around; line = line } ∷ []) [])) is
+    by (EntryShown depth (Text line)) true is = ap (λ (b : Bool). texts_of (cond b (record { position = around; line = line } ∷ []) [])) is
+    by (EntryShown depth (Text line)) false is = ap (λ (b : Bool). texts_of (cond b (record { position = around; line = line } ∷ []) [])) is
     by (EntryShown depth (Mention pid how name)) same is = none same
     by (EntryShown depth (Done pid status name)) same is = none same
     by (EntryShown depth (Closing pid status)) same is = none same
@@ -172,102 +172,102 @@ event_at at around event same is = by event same is
     by (LogEnds depth) same is = none same
 
 abbrev IsOutside : ℕ → ℕ → ℕ → Type 0
-IsOutside at place count = (at < place) ⊎ (place + count ≤ at)
+IsOutside at position count = (at < position) ⊎ (position + count ≤ at)
 
-same_differs : (place at : ℕ) → (place ≡ at → ⊥) → is_same_place (Some place) (Some at) ≡ false
-same_differs place at differ = ne_eqb place at differ
+same_differs : (position at : ℕ) → (position ≡ at → ⊥) → is_same_position (Some position) (Some at) ≡ false
+same_differs position at differ = ne_eqb position at differ
 
--- If no log with this place is opened in some contents, only their own lines can be at it.
-outside_lines : (at : ℕ) (around : Option ℕ) (place : ℕ) (contents : Contents) (same : Bool) → is_same_place around (Some at) ≡ same → IsOutside at place (log_count contents) → texts_at at around place contents ≡ (if same then direct_lines contents else [])
-outside_lines at around place Nothing true is outside = refl
-outside_lines at around place Nothing false is outside = refl
-outside_lines at around place (Shown event rest) same is outside =
-    at-append at (placed_at around event) (placed_lines around place rest) ∙ ap (λ t. t ++ texts_at at around place rest) (event_at at around event same is)
-    ∙ ap (λ t. (if same then event_lines event else []) ++ t) (outside_lines at around place rest same is outside) ∙ joined same
+-- If no log with this position is opened in some contents, only their own lines can be at it.
+outside_lines : (at : ℕ) (around : Option ℕ) (position : ℕ) (contents : Contents) (same : Bool) → is_same_position around (Some at) ≡ same → IsOutside at position (log_count contents) → texts_at at around position contents ≡ (if same then direct_lines contents else [])
+outside_lines at around position Nothing true is outside = refl
+outside_lines at around position Nothing false is outside = refl
+outside_lines at around position (Shown event rest) same is outside =
+    at-append at (positioned_at around event) (positioned_lines around position rest) ∙ ap (λ t. t ++ texts_at at around position rest) (event_at at around event same is)
+    ∙ ap (λ t. (if same then event_lines event else []) ++ t) (outside_lines at around position rest same is outside) ∙ joined same
   where
     joined : (same : Bool) → (if same then event_lines event else []) ++ (if same then direct_lines rest else []) ≡ (if same then event_lines event ++ direct_lines rest else [])
     joined true = refl
     joined false = refl
-outside_lines at around place (Opened event number inside rest) same is outside =
-    at-append at (placed_lines (Some place) (suc place) inside) (placed_lines around (suc place + log_count inside) rest)
-    ∙ ap (λ t. t ++ texts_at at around (suc place + log_count inside) rest) (outside_lines at (Some place) (suc place) inside false (same_differs place at (apart outside)) (inside_is outside))
-    ∙ outside_lines at around (suc place + log_count inside) rest same is (rest_is outside)
+outside_lines at around position (Opened event number inside rest) same is outside =
+    at-append at (positioned_lines (Some position) (suc position) inside) (positioned_lines around (suc position + log_count inside) rest)
+    ∙ ap (λ t. t ++ texts_at at around (suc position + log_count inside) rest) (outside_lines at (Some position) (suc position) inside false (same_differs position at (apart outside)) (inside_is outside))
+    ∙ outside_lines at around (suc position + log_count inside) rest same is (rest_is outside)
   where
-    apart : IsOutside at place (suc (log_count inside + log_count rest)) → place ≡ at → ⊥
+    apart : IsOutside at position (suc (log_count inside + log_count rest)) → position ≡ at → ⊥
     apart (inl before) equal = omega arith
     apart (inr after) equal = omega arith
 
-    inside_is : IsOutside at place (suc (log_count inside + log_count rest)) → IsOutside at (suc place) (log_count inside)
+    inside_is : IsOutside at position (suc (log_count inside + log_count rest)) → IsOutside at (suc position) (log_count inside)
     inside_is (inl before) = inl (omega arith)
     inside_is (inr after) = inr (omega arith)
 
-    rest_is : IsOutside at place (suc (log_count inside + log_count rest)) → IsOutside at (suc place + log_count inside) (log_count rest)
+    rest_is : IsOutside at position (suc (log_count inside + log_count rest)) → IsOutside at (suc position + log_count inside) (log_count rest)
     rest_is (inl before) = inl (omega arith)
     rest_is (inr after) = inr (omega arith)
 
--- The log around some contents has a place before the places of the logs that are opened in them.
+-- The log around some contents has a position before the positions of the logs that are opened in them.
 abbrev IsBefore : Option ℕ → ℕ → Type 0
-IsBefore None place = Unit {0}
-IsBefore (Some around) place = around < place
+IsBefore None position = Unit {0}
+IsBefore (Some around) position = around < position
 
-before_differs : (around : Option ℕ) (place at : ℕ) → IsBefore around place → place ≤ at → is_same_place around (Some at) ≡ false
-before_differs None place at before after = refl
-before_differs (Some around) place at before after = ne_eqb around at (omega arith)
+before_differs : (around : Option ℕ) (position at : ℕ) → IsBefore around position → position ≤ at → is_same_position around (Some at) ≡ false
+before_differs None position at before after = refl
+before_differs (Some around) position at before after = ne_eqb around at (omega arith)
 
-before_later : (around : Option ℕ) (place later : ℕ) → IsBefore around place → place ≤ later → IsBefore around later
-before_later None place later before after = tt
-before_later (Some around) place later before after = omega arith
+before_later : (around : Option ℕ) (position later : ℕ) → IsBefore around position → position ≤ later → IsBefore around later
+before_later None position later before after = tt
+before_later (Some around) position later before after = omega arith
 
--- The lines at the place of a log are the lines of this log.
+-- The lines at the position of a log are the lines of this log.
 module _ (lines : ℕ → List (List ℕ)) (logs : List Log) (status : ℕ → Option ℤ) where
   abbrev number_at : Option ℕ → ℕ → Contents → ℕ → ℕ
-  number_at parent place contents k = (get_or (nodes_of logs status parent place contents) k no_node).number
+  number_at parent position contents k = (get_or (nodes_of logs status parent position contents) k no_node).number
 
-  pub opened_lines : (parent around : Option ℕ) (place : ℕ) (contents : Contents) → Have lines contents → IsBefore around place → (k : ℕ) → k < log_count contents
-      → texts_at (place + k) around place contents ≡ lines (number_at parent place contents k)
-  opened_lines parent around place Nothing have before k below = absurd (omega arith)
-  opened_lines parent around place (Shown event rest) have before k below =
-      at-append (place + k) (placed_at around event) (placed_lines around place rest)
-      ∙ ap (λ t. t ++ texts_at (place + k) around place rest) (event_at (place + k) around event false (before_differs around place (place + k) before (omega arith)))
-      ∙ opened_lines parent around place rest have before k below
-  opened_lines parent around place (Opened event number inside rest) have before k below =
-      by k below (λ j less. opened_lines (Some place) (Some place) (suc place) inside have.2 (omega arith) j less)
-      (λ j less. opened_lines parent around (suc place + log_count inside) rest have.3 (before_later around place (suc place + log_count inside) before (omega arith)) j less)
+  pub opened_lines : (parent around : Option ℕ) (position : ℕ) (contents : Contents) → Have lines contents → IsBefore around position → (k : ℕ) → k < log_count contents
+      → texts_at (position + k) around position contents ≡ lines (number_at parent position contents k)
+  opened_lines parent around position Nothing have before k below = absurd (omega arith)
+  opened_lines parent around position (Shown event rest) have before k below =
+      at-append (position + k) (positioned_at around event) (positioned_lines around position rest)
+      ∙ ap (λ t. t ++ texts_at (position + k) around position rest) (event_at (position + k) around event false (before_differs around position (position + k) before (omega arith)))
+      ∙ opened_lines parent around position rest have before k below
+  opened_lines parent around position (Opened event number inside rest) have before k below =
+      by k below (λ j less. opened_lines (Some position) (Some position) (suc position) inside have.2 (omega arith) j less)
+      (λ j less. opened_lines parent around (suc position + log_count inside) rest have.3 (before_later around position (suc position + log_count inside) before (omega arith)) j less)
     where
-      split : (at : ℕ) → texts_at at around place (Opened event number inside rest) ≡ texts_at at (Some place) (suc place) inside ++ texts_at at around (suc place + log_count inside) rest
-      split at = at-append at (placed_lines (Some place) (suc place) inside) (placed_lines around (suc place + log_count inside) rest)
+      split : (at : ℕ) → texts_at at around position (Opened event number inside rest) ≡ texts_at at (Some position) (suc position) inside ++ texts_at at around (suc position + log_count inside) rest
+      split at = at-append at (positioned_lines (Some position) (suc position) inside) (positioned_lines around (suc position + log_count inside) rest)
 
       later : (j : ℕ) (is_in : Bool) → nat_lt j (log_count inside) ≡ is_in → suc j < suc (log_count inside + log_count rest)
-          → ((i : ℕ) → i < log_count inside → texts_at (suc place + i) (Some place) (suc place) inside ≡ lines (number_at (Some place) (suc place) inside i))
-          → ((i : ℕ) → i < log_count rest → texts_at (suc place + log_count inside + i) around (suc place + log_count inside) rest ≡ lines (number_at parent (suc place + log_count inside) rest i))
-          → texts_at (place + suc j) (Some place) (suc place) inside ++ texts_at (place + suc j) around (suc place + log_count inside) rest ≡ lines (number_at parent place (Opened event number inside rest) (suc j))
+          → ((i : ℕ) → i < log_count inside → texts_at (suc position + i) (Some position) (suc position) inside ≡ lines (number_at (Some position) (suc position) inside i))
+          → ((i : ℕ) → i < log_count rest → texts_at (suc position + log_count inside + i) around (suc position + log_count inside) rest ≡ lines (number_at parent (suc position + log_count inside) rest i))
+          → texts_at (position + suc j) (Some position) (suc position) inside ++ texts_at (position + suc j) around (suc position + log_count inside) rest ≡ lines (number_at parent position (Opened event number inside rest) (suc j))
       later j true is below inner others =
           let less : j < log_count inside = ltb-true j (log_count inside) is in
-          let counted = nodes_counted logs status (Some place) (suc place) inside in
-          let at : place + suc j ≡ suc place + j = omega arith in
-          ap (λ t. texts_at (place + suc j) (Some place) (suc place) inside ++ t)
-          (outside_lines (place + suc j) around (suc place + log_count inside) rest false (before_differs around place (place + suc j) before (omega arith)) (inl (omega arith)))
-          ∙ append-nil (texts_at (place + suc j) (Some place) (suc place) inside)
-          ∙ ap (λ (n : ℕ). texts_at n (Some place) (suc place) inside) at ∙ inner j less
-          ∙ ap (λ (node : Node). lines node.number) (sym (get_or_append_left (nodes_of logs status (Some place) (suc place) inside) (nodes_of logs status parent (suc place + log_count inside) rest) no_node j (omega (arith, less, counted))))
+          let counted = nodes_counted logs status (Some position) (suc position) inside in
+          let at : position + suc j ≡ suc position + j = omega arith in
+          ap (λ t. texts_at (position + suc j) (Some position) (suc position) inside ++ t)
+          (outside_lines (position + suc j) around (suc position + log_count inside) rest false (before_differs around position (position + suc j) before (omega arith)) (inl (omega arith)))
+          ∙ append-nil (texts_at (position + suc j) (Some position) (suc position) inside)
+          ∙ ap (λ (n : ℕ). texts_at n (Some position) (suc position) inside) at ∙ inner j less
+          ∙ ap (λ (node : Node). lines node.number) (sym (get_or_append_left (nodes_of logs status (Some position) (suc position) inside) (nodes_of logs status parent (suc position + log_count inside) rest) no_node j (omega (arith, less, counted))))
       later j false is below inner others =
           let more : log_count inside ≤ j = ltb-false j (log_count inside) is in
-          let at : place + suc j ≡ suc place + log_count inside + (j - log_count inside) = omega arith in
-          ap (λ t. t ++ texts_at (place + suc j) around (suc place + log_count inside) rest)
-          (outside_lines (place + suc j) (Some place) (suc place) inside false (same_differs place (place + suc j) (λ equal. omega arith)) (inr (omega arith)))
-          ∙ ap (λ (n : ℕ). texts_at n around (suc place + log_count inside) rest) at ∙ others (j - log_count inside) (omega arith)
-          ∙ ap (λ (node : Node). lines node.number) (sym (get_or-append_right (nodes_of logs status (Some place) (suc place) inside) (nodes_of logs status parent (suc place + log_count inside) rest) (log_count inside) j no_node (nodes_counted logs status (Some place) (suc place) inside) more))
+          let at : position + suc j ≡ suc position + log_count inside + (j - log_count inside) = omega arith in
+          ap (λ t. t ++ texts_at (position + suc j) around (suc position + log_count inside) rest)
+          (outside_lines (position + suc j) (Some position) (suc position) inside false (same_differs position (position + suc j) (λ equal. omega arith)) (inr (omega arith)))
+          ∙ ap (λ (n : ℕ). texts_at n around (suc position + log_count inside) rest) at ∙ others (j - log_count inside) (omega arith)
+          ∙ ap (λ (node : Node). lines node.number) (sym (get_or-append_right (nodes_of logs status (Some position) (suc position) inside) (nodes_of logs status parent (suc position + log_count inside) rest) (log_count inside) j no_node (nodes_counted logs status (Some position) (suc position) inside) more))
 
       by : (k : ℕ) → k < suc (log_count inside + log_count rest)
-          → ((i : ℕ) → i < log_count inside → texts_at (suc place + i) (Some place) (suc place) inside ≡ lines (number_at (Some place) (suc place) inside i))
-          → ((i : ℕ) → i < log_count rest → texts_at (suc place + log_count inside + i) around (suc place + log_count inside) rest ≡ lines (number_at parent (suc place + log_count inside) rest i))
-          → texts_at (place + k) around place (Opened event number inside rest) ≡ lines (number_at parent place (Opened event number inside rest) k)
+          → ((i : ℕ) → i < log_count inside → texts_at (suc position + i) (Some position) (suc position) inside ≡ lines (number_at (Some position) (suc position) inside i))
+          → ((i : ℕ) → i < log_count rest → texts_at (suc position + log_count inside + i) around (suc position + log_count inside) rest ≡ lines (number_at parent (suc position + log_count inside) rest i))
+          → texts_at (position + k) around position (Opened event number inside rest) ≡ lines (number_at parent position (Opened event number inside rest) k)
       by zero below inner others =
-          split (place + 0)
-          ∙ ap (λ t. t ++ texts_at (place + 0) around (suc place + log_count inside) rest) (outside_lines (place + 0) (Some place) (suc place) inside true (eq-eqb place (place + 0) (omega arith)) (inl (omega arith)))
-          ∙ ap (λ t. direct_lines inside ++ t) (outside_lines (place + 0) around (suc place + log_count inside) rest false (before_differs around place (place + 0) before (omega arith)) (inl (omega arith)))
+          split (position + 0)
+          ∙ ap (λ t. t ++ texts_at (position + 0) around (suc position + log_count inside) rest) (outside_lines (position + 0) (Some position) (suc position) inside true (eq-eqb position (position + 0) (omega arith)) (inl (omega arith)))
+          ∙ ap (λ t. direct_lines inside ++ t) (outside_lines (position + 0) around (suc position + log_count inside) rest false (before_differs around position (position + 0) before (omega arith)) (inl (omega arith)))
           ∙ append-nil (direct_lines inside) ∙ have.1
-      by (suc j) below inner others = split (place + suc j) ∙ later j (nat_lt j (log_count inside)) refl below inner others
+      by (suc j) below inner others = split (position + suc j) ∙ later j (nat_lt j (log_count inside)) refl below inner others
 
 -- ---- what a log printed
 
@@ -284,13 +284,13 @@ printed_lines number [] = refl
 printed_lines zero (log ∷ logs) = entry_texts log.entries
 printed_lines (suc number) (log ∷ logs) = printed_lines number logs
 
--- The lines at a place of the tree are what the target at this place printed.
-pub lines_of_place : (logs : List Log) (status : ℕ → Option ℤ) (contents : Contents) (place : ℕ) → HaveLines logs contents → place < length (nodes_of logs status None 0 contents)
-    → facts.texts_of (entries_at (get_or (nodes_of logs status None 0 contents) place no_node).number logs) ≡ texts_of (lines_at place (placed_lines None 0 contents))
-lines_of_place logs status contents place have below =
+-- The lines at a position of the tree are what the target at this position printed.
+pub lines_of_position : (logs : List Log) (status : ℕ → Option ℤ) (contents : Contents) (position : ℕ) → HaveLines logs contents → position < length (nodes_of logs status None 0 contents)
+    → facts.texts_of (entries_at (get_or (nodes_of logs status None 0 contents) position no_node).number logs) ≡ texts_of (lines_at position (positioned_lines None 0 contents))
+lines_of_position logs status contents position have below =
     let counted = nodes_counted logs status None 0 contents in
-    let at : 0 + place ≡ place = omega arith in
-    printed_lines (number_at (λ (number : ℕ). lines_of_log number logs) logs status None 0 contents place) logs ∙ sym (opened_lines (λ (number : ℕ). lines_of_log number logs) logs status None None 0 contents have tt place (omega (arith, below, counted))) ∙ ap (λ (n : ℕ). texts_at n None 0 contents) at
+    let at : 0 + position ≡ position = omega arith in
+    printed_lines (number_at (λ (number : ℕ). lines_of_log number logs) logs status None 0 contents position) logs ∙ sym (opened_lines (λ (number : ℕ). lines_of_log number logs) logs status None None 0 contents have tt position (omega (arith, below, counted))) ∙ ap (λ (n : ℕ). texts_at n None 0 contents) at
 
 pub among_below : (count : ℕ) (numbers : List ℕ) (number : ℕ) → list_all (λ other. nat_lt other count) numbers ≡ true → is_among numbers number ≡ true → number < count
 among_below count [] number all among = absurd (cc)

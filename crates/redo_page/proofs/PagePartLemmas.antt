@@ -1,5 +1,5 @@
 -- The tree and the articles are parts of a page.
-use Rattle.std.proofs.Common.{◌≡◌, ℕ, suc, Bool, true, false, List, [], ◌∷◌, ◌++◌, Some, refl, sym, ◌∙◌, ap, inl, inr, ◌⊎◌, arith}
+use Rattle.std.proofs.Common.{◌≡◌, ℕ, suc, Bool, true, false, List, [], ◌∷◌, ◌++◌, sym, ◌∙◌, ap, inl, inr, ◌⊎◌, arith}
 use Rattle.std.specs.Prelude.{◌==◌, nat_lt, drop, length, take}
 use Rattle.std.specs.List.{flat_map}
 use Rattle.std.proofs.lemmas.Bool.{eqb-true, lt-ltb, or_cases}
@@ -7,11 +7,11 @@ use Rattle.std.proofs.lemmas.List.{append_assoc, append-nil}
 use Rattle.redo_logs.specs.Logs.{Log}
 use Rattle.redo_html.specs.declared.markup.Markup.TheVariants as markup
 use Rattle.redo_html.specs.Parts.{Part}
-use Rattle.redo_html.specs.Parts.Part.{MarkupPart, NamePart}
+use Rattle.redo_html.specs.Parts.Part.{MarkupPart, TextPart}
 use Rattle.redo_outline.specs.declared.node.Node.{Node}
 use Rattle.redo_page.specs.declared.labels.TheConstants.{COUNT_NOT_CLOSED, FAILED_WITH_THESE, MORE_FAILED, WHAT_FAILED}
 use Rattle.redo_page.specs.declared.frame.Verdict.{Verdict}
-use Rattle.redo_page.specs.Failed.{article_parts, failed_above, failed_parts, is_unclosed, list_parts, more_parts, places_where, section_parts}
+use Rattle.redo_page.specs.Failed.{article_parts, is_dependent_failure, failed_parts, is_unclosed, list_parts, more_parts, positions_where, section_parts}
 use Rattle.redo_page.specs.Frame.{command, footer_parts, head_parts, header_parts, title_text, verdict_of}
 use Rattle.redo_page.specs.Laws.{IsPartOf, is_among, page_article, page_tree}
 use Rattle.redo_page.specs.Timeline.{timeline_parts}
@@ -19,7 +19,7 @@ use Rattle.redo_page.specs.Page.{Request, heading_of, options_of, page_facts, pa
 use Rattle.redo_page.specs.Summary.{summary_parts}
 use Rattle.redo_page.specs.Targets.{parts_if}
 use Rattle.redo_summary.specs.Summary.{Facts}
-use Rattle.redo_page.specs.Tree.{articles, first_failures, max_articles}
+use Rattle.redo_page.specs.Tree.{articles, root_failures, max_articles}
 
 whole_part : (parts : List Part) → IsPartOf parts parts
 whole_part parts = record { before = []; after = []; splits = append-nil parts }
@@ -46,35 +46,35 @@ part_among f (other ∷ numbers) number among = by (part_among f numbers number)
     by later (inl same) = record { before = []; after = flat_map f numbers; splits = ap (λ n. f n ++ flat_map f numbers) (eqb-true number other same) }
     by later (inr found) = part_later (f other) (later found)
 
-section_has_article : (logs : List Log) (nodes : List Node) (shown others above unclosed : List ℕ) (place : ℕ) → is_among shown place ≡ true → IsPartOf (article_parts logs nodes place) (section_parts logs nodes shown others above unclosed)
+section_has_article : (logs : List Log) (nodes : List Node) (shown others dependents unclosed : List ℕ) (position : ℕ) → is_among shown position ≡ true → IsPartOf (article_parts logs nodes position) (section_parts logs nodes shown others dependents unclosed)
 unfolding section_parts
-section_has_article logs nodes shown others above unclosed place among =
-    part_later (MarkupPart markup.FailedSection ∷ MarkupPart markup.FailedHeading ∷ NamePart WHAT_FAILED.now ∷ MarkupPart markup.EndHeading ∷ [])
+section_has_article logs nodes shown others dependents unclosed position among =
+    part_later (MarkupPart markup.FailedSection ∷ MarkupPart markup.FailedHeading ∷ TextPart WHAT_FAILED.now ∷ MarkupPart markup.EndHeading ∷ [])
     (part_later (list_parts logs nodes shown)
     (part_earlier (more_parts logs nodes (markup.OrderedFrom (suc max_articles)) true MORE_FAILED.now others
-    ++ (more_parts logs nodes markup.Ordered false FAILED_WITH_THESE.now above
+    ++ (more_parts logs nodes markup.Ordered false FAILED_WITH_THESE.now dependents
     ++ (more_parts logs nodes markup.Ordered false COUNT_NOT_CLOSED.now unclosed ++ MarkupPart markup.EndSection ∷ [])))
-    (part_among (article_parts logs nodes) shown place among)))
+    (part_among (article_parts logs nodes) shown position among)))
 
-failed_has_article : (logs : List Log) (nodes : List Node) (place : ℕ) → is_among (articles nodes) place ≡ true → IsPartOf (article_parts logs nodes place) (failed_parts logs nodes)
+failed_has_article : (logs : List Log) (nodes : List Node) (position : ℕ) → is_among (articles nodes) position ≡ true → IsPartOf (article_parts logs nodes position) (failed_parts logs nodes)
 unfolding failed_parts
-failed_has_article logs nodes place among = by (first_failures nodes) among
+failed_has_article logs nodes position among = by (root_failures nodes) among
   where
     some : (condition : Bool) → condition ≡ true → {inner parts : List Part} → IsPartOf inner parts → IsPartOf inner (parts_if condition parts)
     some condition is part = rw is part
 
-    by : (first : List ℕ) → is_among (take max_articles first) place ≡ true
-        → IsPartOf (article_parts logs nodes place) (parts_if (nat_lt 0 (length first)) (section_parts logs nodes (take max_articles first) (drop max_articles first) (places_where failed_above 0 nodes) (places_where is_unclosed 0 nodes)))
+    by : (first : List ℕ) → is_among (take max_articles first) position ≡ true
+        → IsPartOf (article_parts logs nodes position) (parts_if (nat_lt 0 (length first)) (section_parts logs nodes (take max_articles first) (drop max_articles first) (positions_where is_dependent_failure 0 nodes) (positions_where is_unclosed 0 nodes)))
     by [] is = absurd (cc)
-    by (other ∷ places) is =
-        some (nat_lt 0 (length (other ∷ places))) (lt-ltb 0 (length (other ∷ places)) (omega arith))
-        (section_has_article logs nodes (take max_articles (other ∷ places)) (drop max_articles (other ∷ places)) (places_where failed_above 0 nodes) (places_where is_unclosed 0 nodes) place is)
+    by (other ∷ positions) is =
+        some (nat_lt 0 (length (other ∷ positions))) (lt-ltb 0 (length (other ∷ positions)) (omega arith))
+        (section_has_article logs nodes (take max_articles (other ∷ positions)) (drop max_articles (other ∷ positions)) (positions_where is_dependent_failure 0 nodes) (positions_where is_unclosed 0 nodes) position is)
 
-top_has_article : (title : List ℕ) (logs : List Log) (verdict : Verdict) (title_is heading : List ℕ) (nodes : List Node) (facts : Facts) (place : ℕ) → is_among (articles nodes) place ≡ true
-    → IsPartOf (article_parts logs nodes place) (top_parts_of title logs verdict title_is heading nodes facts)
+top_has_article : (title : List ℕ) (logs : List Log) (verdict : Verdict) (title_is heading : List ℕ) (nodes : List Node) (facts : Facts) (position : ℕ) → is_among (articles nodes) position ≡ true
+    → IsPartOf (article_parts logs nodes position) (top_parts_of title logs verdict title_is heading nodes facts)
 unfolding top_parts_of
-top_has_article title logs verdict title_is heading nodes facts place among =
-    part_later (head_parts title_is verdict) (part_later (header_parts title logs verdict heading nodes facts) (part_earlier (summary_parts logs nodes facts) (failed_has_article logs nodes place among)))
+top_has_article title logs verdict title_is heading nodes facts position among =
+    part_later (head_parts title_is verdict) (part_later (header_parts title logs verdict heading nodes facts) (part_earlier (summary_parts logs nodes facts) (failed_has_article logs nodes position among)))
 
 module _ (request : Request) (logs : List Log) (requested : List (List ℕ)) where
   abbrev footer : List Part
@@ -84,8 +84,8 @@ module _ (request : Request) (logs : List Log) (requested : List (List ℕ)) whe
   unfolding page_parts
   page_has_tree = part_later (top_parts request.title logs (page_outline request logs requested) (page_facts request logs requested)) (part_earlier footer (part_later (timeline_parts logs (page_outline request logs requested) (page_facts request logs requested)) (whole_part (page_tree request logs requested))))
 
-  pub page_has_article : (place : ℕ) → is_among (articles (page_outline request logs requested)) place ≡ true → IsPartOf (page_article request logs requested place) (page_parts request logs requested)
+  pub page_has_article : (position : ℕ) → is_among (articles (page_outline request logs requested)) position ≡ true → IsPartOf (page_article request logs requested position) (page_parts request logs requested)
   unfolding page_parts
-  page_has_article place among =
+  page_has_article position among =
       let nodes = page_outline request logs requested in
-      part_earlier ((timeline_parts logs nodes (page_facts request logs requested) ++ page_tree request logs requested) ++ footer) (top_has_article request.title logs (verdict_of nodes) (title_text request.title (verdict_of nodes) (heading_of nodes)) (heading_of nodes) nodes (page_facts request logs requested) place among)
+      part_earlier ((timeline_parts logs nodes (page_facts request logs requested) ++ page_tree request logs requested) ++ footer) (top_has_article request.title logs (verdict_of nodes) (title_text request.title (verdict_of nodes) (heading_of nodes)) (heading_of nodes) nodes (page_facts request logs requested) position among)

@@ -16,19 +16,19 @@ use Rattle.redo_outline.specs.declared.node.Node.{Node}
 use Rattle.redo_outline.specs.declared.node.RunTimes.{RunTimes}
 use Rattle.redo_view.specs.Expansion.{show_log, show_log_within}
 use Rattle.redo_html.specs.Passage.{html_from}
-use Rattle.redo_html.specs.Shown.{is_odd, number_text, odd_text, picture}
+use Rattle.redo_html.specs.Shown.{is_unprintable, number_text, unprintable_text, notation}
 use Rattle.redo_html.specs.Style.{plain_style}
 use Rattle.redo_html.specs.StyleSheet.{style_sheet}
-use Rattle.redo_html.specs.Symbols.{first_letter, first_symbol, is_sequence, letter_len, sequence_len, sequence_numbers, symbol_len, symbols_after}
+use Rattle.redo_html.specs.Symbols.{first_code_point, first_symbol, is_sequence, code_point_len, sequence_len, sequence_numbers, symbol_len, symbols_after}
 use Rattle.redo_html.specs.declared.markup.Markup.{Markup}
 use Rattle.redo_html.specs.declared.markup.Markup.TheVariants as markup
 use Rattle.redo_html.specs.Parts.{Part}
-use Rattle.redo_html.specs.Parts.Part.{MarkupPart, LogPart, NamePart, NumberPart, TitlePart, StylePart, ChartPart}
+use Rattle.redo_html.specs.Parts.Part.{MarkupPart, LogPart, TextPart, NumberPart, TitlePart, StylePart, ChartPart}
 use Rattle.redo_page.specs.Excerpt.{in_tree_parts}
 use Rattle.redo_page.specs.Failed.{article_of, article_parts, article_row, cause_of_node, cause_parts, failed_parts, list_parts, more_parts, nothing_parts, output_parts, path_parts, row_parts, section_parts, whole_parts}
 use Rattle.redo_page.specs.Frame.{footer_parts, is_safe}
 use Rattle.redo_page.specs.Summary.{rank_parts, summary_parts, table_parts, tables_parts}
-use Rattle.redo_page.specs.Laws.{article_ids, article_links, log_bytes, placed_lines}
+use Rattle.redo_page.specs.Laws.{article_ids, article_links, log_bytes, positioned_lines}
 use Rattle.redo_page.specs.Page.{Request, body_parts, options_of, page_contents, page_events, page_facts, page_html, page_outline, page_parts, request_of, run_times, top_parts_of, tree_contents}
 use Rattle.redo_summary.specs.Summary.{Facts}
 use Rattle.redo_timeline.specs.declared.span.Window.{Window}
@@ -41,7 +41,7 @@ abbrev tag : Markup → Part
 tag markup = MarkupPart markup
 
 abbrev words : List ℕ → Part
-words text = NamePart text
+words text = TextPart text
 
 abbrev name : List ℕ → List Part → List Part
 name text rest = tag markup.Bdi ∷ words text ∷ tag markup.EndBdi ∷ rest
@@ -128,14 +128,14 @@ facts_are :
     page_facts timed made (codes "a" ∷ []) ≡ record {
       window = Some window;
       took = 2500;
-      parents = record { began = 1795829211000; place = 0; ended = 1795829213500; failed = false } ∷ [];
-      recipes = record { began = 1795829211200; place = 1; ended = 1795829213000; failed = false } ∷ [];
+      callers = record { began = 1795829211000; position = 0; ended = 1795829213500; failed = false } ∷ [];
+      recipes = record { began = 1795829211200; position = 1; ended = 1795829213000; failed = false } ∷ [];
       marks = [];
       sum = 1800;
       most = 1;
       warnings = 0;
       bytes = 2;
-      longest = record { value = 1800; place = 1 } ∷ [];
+      longest = record { value = 1800; position = 1 } ∷ [];
       warned = [];
     }
 unfolding show_log show_log_within
@@ -151,7 +151,7 @@ abbrev limited : ℕ → Request
 limited bytes = record (request [] false false) { max_bytes = bytes }
 
 abbrev line_count : Contents → ℕ
-line_count contents = length (placed_lines None 0 contents)
+line_count contents = length (positioned_lines None 0 contents)
 
 -- Without a limit, or within it, all lines are shown. Otherwise, the first line ends in the first 1,024 bytes, and three lines begin in the
 -- last 3,072.
@@ -325,7 +325,7 @@ title_of (TitlePart title) = title ∷ []
 title_of part = []
 
 abbrev words_of : Part → List (List ℕ)
-words_of (NamePart text) = text ∷ []
+words_of (TextPart text) = text ∷ []
 words_of part = []
 
 title_is : flat_map title_of (page_parts (request (codes "t") false false) made (codes "a" ∷ [])) ≡ (0xE2 ∷ 0x9C ∷ 0x93 ∷ (codes " t " ++ 0xC2 ∷ 0xB7 ∷ codes " 2 targets made, none failed")) ∷ []
@@ -353,5 +353,5 @@ page_begins :
     bytes_eq (take 42 (page_html (request [] false false) [] []))
     (codes "<!doctype html><html lang=\"en\"><head><meta")
     ≡ true
-unfolding page_parts top_parts_of summary_parts tables_parts size_words footer_parts failed_parts is_safe style_sheet symbols_after first_symbol symbol_len is_sequence sequence_len sequence_numbers first_letter letter_len is_odd picture odd_text number_text digits html_from show_log show_log_within
+unfolding page_parts top_parts_of summary_parts tables_parts size_words footer_parts failed_parts is_safe style_sheet symbols_after first_symbol symbol_len is_sequence sequence_len sequence_numbers first_code_point code_point_len is_unprintable notation unprintable_text number_text digits html_from show_log show_log_within
 page_begins = refl

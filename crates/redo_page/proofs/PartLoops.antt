@@ -1,8 +1,9 @@
 -- Parts that are written one after the other in a loop.
-use Rattle.std.proofs.Common.{◌≡◌, ℕ, ◌+◌, Bool, true, false, List, [], ◌∷◌, ◌++◌, Option, None, Some, refl, sym, ◌∙◌, ap, subst, arith}
+use Rattle.std.proofs.Common.{◌≡◌, ℕ, Bool, true, false, List, [], ◌∷◌, ◌++◌, Option, refl, sym, ◌∙◌, ap, subst}
 use Rattle.std.proofs.lemmas.Bool.{true≢false}
-use Rattle.std.proofs.lemmas.List.{append_assoc, append-nil}
-use Rattle.redo_device.specs.Sink.{Output, append_output}
+use Rattle.std.proofs.lemmas.List.{append_assoc}
+use Rattle.redo_device.specs.Sink.{Output}
+use Rattle.redo_device.proofs.WritesLemmas.{append_nothing}
 use Rattle.redo_html.specs.declared.style.Style.{Style}
 use Rattle.redo_html.specs.Lines.{line_parts, style_after, style_after_lines}
 use Rattle.redo_html.specs.Parts.{Part}
@@ -12,14 +13,6 @@ use Rattle.redo_page.specs.declared.writer.PageWriter.{PageWriter}
 use Rattle.redo_page.specs.Private.Writing.{WroteParts, WroteUnless, WrotePartsUpTo}
 use Rattle.redo_page.specs.Targets.{parts_if}
 use Rattle.redo_page.proofs.WriterLemmas.{wrote_then}
-
-pub append_nothing : (output : Option Output) → output ≡ append_output output [] 0
-append_nothing None = refl
-append_nothing (Some taken) =
-    ap (λ (bytes : List ℕ). Some (record { bytes = bytes; failures = taken.failures })) (sym (append-nil taken.bytes)) ∙ ap (λ (n : ℕ). Some (record { bytes = taken.bytes ++ []; failures = n })) more
-  where
-    more : taken.failures ≡ taken.failures + 0
-    more = omega arith
 
 unless_nothing : (failed : Bool) (output : Option Output) → WroteUnless failed output output [] failed
 unless_nothing true output = (refl, refl)

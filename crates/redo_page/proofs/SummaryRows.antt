@@ -5,12 +5,12 @@ use Rattle.std.specs.Prelude.{codes, take}
 use Rattle.redo_html.specs.declared.markup.Markup.{Markup}
 use Rattle.redo_html.specs.declared.markup.Markup.TheVariants as markup
 use Rattle.redo_html.specs.Parts.{Part}
-use Rattle.redo_html.specs.Parts.Part.{MarkupPart, MeterPart, NamePart, NumberPart}
+use Rattle.redo_html.specs.Parts.Part.{MarkupPart, MeterPart, TextPart, NumberPart}
 use Rattle.redo_logs.specs.declared.log_state.LogState.TheVariants.{Ended}
 use Rattle.redo_logs.specs.Logs.{Log}
 use Rattle.redo_outline.specs.declared.node.Node.{Node}
 use Rattle.redo_page.specs.declared.summary.Measure.TheVariants.{Milliseconds, Count}
-use Rattle.redo_page.specs.Summary.{above_parts, at_once_parts, failed_counts, known_count, largest_of, measure_parts, meter_width, rank_parts, shown_longest, summary_parts, table_parts, table_start, tables_parts, tile, tile_end, tile_start, tiles, timed_tiles, took_tile, unknown_parts, why_parts}
+use Rattle.redo_page.specs.Summary.{dependents_parts, at_once_parts, failed_counts, known_count, largest_of, measure_parts, meter_width, rank_parts, shown_longest, summary_parts, table_parts, table_start, tables_parts, tile, tile_end, tile_start, tiles, timed_tiles, took_tile, unknown_parts, why_parts}
 use Rattle.redo_page.specs.Words.{word_part, words_parts}
 use Rattle.redo_summary.specs.declared.rank.Rank.{Rank}
 use Rattle.redo_summary.specs.Summary.{Facts}
@@ -19,12 +19,13 @@ use Rattle.redo_timeline.specs.declared.span.Window.{Window}
 use Rattle.redo_units.specs.Durations.{duration_words}
 use Rattle.redo_units.specs.Sizes.{size_words, tenths_words}
 use Rattle.redo_units.specs.Words.WordValue.{NumberWord, TextWord}
+use Rattle.redo_page.specs.Tree.{no_node}
 
 abbrev tag : Markup → Part
 tag markup = MarkupPart markup
 
 abbrev words : List ℕ → Part
-words text = NamePart text
+words text = TextPart text
 
 abbrev number : ℕ → Part
 number value = NumberPart value
@@ -35,22 +36,7 @@ abbrev log : List ℕ → Log
 log target = record { target = target; entries = []; state = Ended }
 
 abbrev node : ℕ → Option ℕ → Option ℤ → Bool → Node
-node number parent status fails_below = record {
-  number = number;
-  parent = parent;
-  status = status;
-  lines = 0;
-  bytes = 0;
-  warnings = 0;
-  below = 0;
-  children = 0;
-  others = false;
-  warnings_below = 0;
-  fails_below = fails_below;
-  silent = 0;
-  took = None;
-  ended = None;
-}
+node number parent status fails_below = record no_node { number = number; parent = parent; status = status; fails_below = fails_below }
 
 abbrev logs : List Log
 logs = log (codes "a") ∷ log (codes "b") ∷ log (codes "all") ∷ []
@@ -60,14 +46,14 @@ abbrev nodes : List Node
 nodes = node 2 None (Some (pos 1)) true ∷ node 0 (Some 0) (Some (pos 0)) false ∷ node 1 (Some 0) (Some (pos 2)) false ∷ []
 
 abbrev span : ℕ → Span
-span place = record { began = 0; place = place; ended = 9; failed = false }
+span position = record { began = 0; position = position; ended = 9; failed = false }
 
 abbrev rank : ℕ → ℕ → Rank
-rank value place = record { value = value; place = place }
+rank value position = record { value = value; position = position }
 
 -- No time is known.
 abbrev unknown : Facts
-unknown = record { window = None; took = 0; parents = []; recipes = []; marks = []; sum = 0; most = 0; warnings = 4; bytes = 46099; longest = rank 9 0 ∷ []; warned = [] }
+unknown = record { window = None; took = 0; callers = []; recipes = []; marks = []; sum = 0; most = 0; warnings = 4; bytes = 46099; longest = rank 9 0 ∷ []; warned = [] }
 
 abbrev window : Window
 window = record { began = 1000; width = 90000 }
@@ -77,7 +63,7 @@ abbrev known : Facts
 known = record {
   window = Some window;
   took = 90000;
-  parents = span 0 ∷ [];
+  callers = span 0 ∷ [];
   recipes = span 1 ∷ span 2 ∷ [];
   marks = [];
   sum = 125000;
@@ -90,7 +76,7 @@ known = record {
 
 -- One of three times is unknown.
 abbrev few : Facts
-few = record known { parents = []; marks = span 0 ∷ [] }
+few = record known { callers = []; marks = span 0 ∷ [] }
 
 -- ---- numbers with units
 
@@ -109,7 +95,7 @@ tile_is :
 tile_is = (refl, refl, refl)
 
 failures_are :
-    (above_parts 0 ≡ []) × (above_parts 1 ≡ words (codes ", and ") ∷ number 1 ∷ words (codes " above") ∷ [])
+    (dependents_parts 0 ≡ []) × (dependents_parts 1 ≡ words (codes ", and ") ∷ number 1 ∷ words (codes " above") ∷ [])
     × (failed_counts 0 0 ≡ number 0 ∷ []) × (failed_counts 3 0 ≡ number 3 ∷ []) × (failed_counts 3 2 ≡ number 3 ∷ words (codes ", and ") ∷ number 2 ∷ words (codes " above") ∷ [])
 failures_are = (refl, refl, refl, refl, refl)
 
@@ -154,7 +140,7 @@ tiles_are = (refl, refl)
 
 -- The words of some parts.
 abbrev words_of : Part → List (List ℕ)
-words_of (NamePart text) = text ∷ []
+words_of (TextPart text) = text ∷ []
 words_of part = []
 
 tile_words_are :

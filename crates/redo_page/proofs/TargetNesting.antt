@@ -3,7 +3,7 @@ use Rattle.std.proofs.Common.{ℕ, Bool, List, [], ◌∷◌, ◌++◌, ℤ, Opt
 use Rattle.std.specs.Prelude.{◌==◌, codes, not}
 use Rattle.redo_html.specs.declared.markup.Markup.TheVariants.{Small, EndSmall}
 use Rattle.redo_html.specs.Parts.{Part}
-use Rattle.redo_html.specs.Parts.Part.{MarkupPart, NamePart}
+use Rattle.redo_html.specs.Parts.Part.{MarkupPart, TextPart}
 use Rattle.redo_line.specs.declared.entry.How.{How}
 use Rattle.redo_outline.specs.declared.node.Node.{Node}
 use Rattle.redo_outline.specs.Facts.{is_failure}
@@ -51,7 +51,7 @@ lead_through inside before after words first last = then_lead first (then_lead (
 pub took_nests : (took : Option ℕ) → Nest (took_parts took)
 took_nests None = record { leads = λ around tags. refl }
 took_nests (Some ms) =
-    words_nest {inside = codes "small" ∷ []} (NamePart (codes " ") ∷ MarkupPart Small ∷ []) (MarkupPart EndSmall ∷ []) (duration_words ms)
+    words_nest {inside = codes "small" ∷ []} (TextPart (codes " ") ∷ MarkupPart Small ∷ []) (MarkupPart EndSmall ∷ []) (duration_words ms)
     (record { leads = λ around tags. refl }) (record { leads = λ around tags. refl })
 
 pub facts_nest : (node : Node) → Nest (facts_parts node)
@@ -62,6 +62,6 @@ facts_nest node = record {
 pub how_nests : (shown : Bool) (how : How) → Nest (how_parts shown how)
 how_nests shown how = nest_if shown (record { leads = λ around tags. refl })
 
-pub linked_nests : (place : Option ℕ) (name : List ℕ) → Nest (linked_parts place name)
+pub linked_nests : (position : Option ℕ) (name : List ℕ) → Nest (linked_parts position name)
 linked_nests None name = name_nests name
-linked_nests (Some place) name = record { leads = λ around tags. refl }
+linked_nests (Some position) name = record { leads = λ around tags. refl }

@@ -5,16 +5,17 @@ use Rattle.redo_line.specs.declared.entry.How.TheVariants.{Made, Waiting, Locked
 use Rattle.redo_html.specs.declared.markup.Markup.{Markup}
 use Rattle.redo_html.specs.declared.markup.Markup.TheVariants as markup
 use Rattle.redo_html.specs.Parts.{Part}
-use Rattle.redo_html.specs.Parts.Part.{MarkupPart, NamePart, NumberPart}
+use Rattle.redo_html.specs.Parts.Part.{MarkupPart, TextPart, NumberPart}
 use Rattle.redo_outline.specs.declared.node.Node.{Node}
 use Rattle.redo_page.specs.Targets.{badge_parts, below_parts, exit_parts, facts_parts, how_parts, lines_parts, linked_parts, name_parts, parts_if, took_parts, warnings_below_parts, warnings_parts}
 use Rattle.redo_units.specs.Durations.{duration_words}
+use Rattle.redo_page.specs.Tree.{no_node}
 
 abbrev tag : Markup → Part
 tag markup = MarkupPart markup
 
 abbrev words : List ℕ → Part
-words text = NamePart text
+words text = TextPart text
 
 abbrev number : ℕ → Part
 number value = NumberPart value
@@ -79,7 +80,7 @@ took_are = (refl, refl)
 
 -- It took 61 seconds and printed three lines, two of which are warnings. Four targets are below it, with one warning.
 abbrev node : Node
-node = record { number = 0; parent = None; status = Some (pos 5); lines = 3; bytes = 9; warnings = 2; below = 4; children = 1; others = true; warnings_below = 1; fails_below = false; silent = 0; took = Some 61000; ended = None }
+node = record no_node { status = Some (pos 5); lines = 3; bytes = 9; warnings = 2; below = 4; children = 1; others = true; warnings_below = 1; took = Some 61000 }
 
 facts_are :
     facts_parts node

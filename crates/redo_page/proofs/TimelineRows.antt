@@ -2,13 +2,13 @@
 use Rattle.std.proofs.Common.{◌≡◌, ℕ, Bool, true, false, List, [], ◌∷◌, Option, None, Some, pos, replicate, refl}
 use Rattle.std.specs.Fmt.{digits}
 use Rattle.std.specs.Prelude.{codes, length}
-use Rattle.redo_html.specs.declared.chart.GroupKind.TheVariants.{Parents, Recipes, Untimed}
+use Rattle.redo_html.specs.declared.chart.GroupKind.TheVariants.{Callers, Recipes, Untimed}
 use Rattle.redo_html.specs.declared.markup.Markup.{Markup}
 use Rattle.redo_html.specs.declared.markup.Markup.TheVariants as markup
 use Rattle.redo_html.specs.Chart.{Drawing, Shape}
 use Rattle.redo_html.specs.Chart.Shape.{BarShape}
 use Rattle.redo_html.specs.Parts.{Part}
-use Rattle.redo_html.specs.Parts.Part.{ChartPart, MarkupPart, NamePart, NumberPart}
+use Rattle.redo_html.specs.Parts.Part.{ChartPart, MarkupPart, TextPart, NumberPart}
 use Rattle.redo_chart.specs.Laws.{shapes_of}
 use Rattle.redo_logs.specs.declared.log_state.LogState.TheVariants.{Ended}
 use Rattle.redo_logs.specs.Logs.{Log}
@@ -20,12 +20,13 @@ use Rattle.redo_timeline.specs.declared.span.Window.{Window}
 use Rattle.redo_units.specs.Durations.{duration_words}
 use Rattle.redo_units.specs.Ticks.{tick_step_of, tick_words}
 use Rattle.redo_units.specs.Words.{decimal_text}
+use Rattle.redo_page.specs.Tree.{no_node}
 
 abbrev tag : Markup → Part
 tag markup = MarkupPart markup
 
 abbrev words : List ℕ → Part
-words text = NamePart text
+words text = TextPart text
 
 abbrev number : ℕ → Part
 number value = NumberPart value
@@ -36,22 +37,7 @@ abbrev log : List ℕ → Log
 log target = record { target = target; entries = []; state = Ended }
 
 abbrev node : ℕ → Option ℕ → ℕ → Node
-node number parent status = record {
-  number = number;
-  parent = parent;
-  status = Some (pos status);
-  lines = 0;
-  bytes = 0;
-  warnings = 0;
-  below = 0;
-  children = 0;
-  others = false;
-  warnings_below = 0;
-  fails_below = false;
-  silent = 0;
-  took = None;
-  ended = None;
-}
+node number parent status = record no_node { number = number; parent = parent; status = Some (pos status) }
 
 abbrev logs : List Log
 logs = log (codes "all") ∷ log (codes "a") ∷ log (codes "b") ∷ log (codes "c") ∷ []
@@ -60,16 +46,16 @@ abbrev nodes : List Node
 nodes = node 0 None 0 ∷ node 2 (Some 0) 0 ∷ node 1 (Some 0) 0 ∷ node 3 (Some 0) 1 ∷ []
 
 abbrev span : ℕ → ℕ → ℕ → Span
-span place began ended = record { began = began; place = place; ended = ended; failed = false }
+span position began ended = record { began = began; position = position; ended = ended; failed = false }
 
 abbrev window : Window
 window = record { began = 1000; width = 10000 }
 
 abbrev facts : Option Window → List Span → List Span → List Span → Facts
-facts window parents recipes marks = record {
+facts window callers recipes marks = record {
   window = window;
   took = 10000;
-  parents = parents;
+  callers = callers;
   recipes = recipes;
   marks = marks;
   sum = 0;
@@ -131,14 +117,14 @@ ends_are = (refl, refl)
 -- ---- the section
 
 abbrev drawn_at : ℕ → ℕ → ℕ → ℕ → ℕ → Bool → List ℕ → Option (List ℕ) → Shape
-drawn_at place x y width height failed title label = BarShape (record { place = place; x = x; y = y; width = width; height = height; failed = failed; title = title; label = label })
+drawn_at position x y width height failed title label = BarShape (record { target = position; x = x; y = y; width = width; height = height; failed = failed; title = title; label = label })
 
 -- With a mark of the last target, which failed.
 abbrev chart : Drawing
-chart = facts_drawing logs nodes (record known { marks = record { began = 9000; place = 3; ended = 9000; failed = true } ∷ [] }) window
+chart = facts_drawing logs nodes (record known { marks = record { began = 9000; position = 3; ended = 9000; failed = true } ∷ [] }) window
 
 chart_is :
-    (chart.height ≡ 102) × (chart.lanes ≡ 2) × (shapes_of Parents chart ≡ drawn_at 0 0 20 10000 12 false (codes "all, 10.0 s") (Some (codes "all")) ∷ [])
+    (chart.height ≡ 102) × (chart.lanes ≡ 2) × (shapes_of Callers chart ≡ drawn_at 0 0 20 10000 12 false (codes "all, 10.0 s") (Some (codes "all")) ∷ [])
     × (shapes_of Recipes chart ≡ drawn_at 1 0 40 5000 16 false (codes "b, 5.00 s") (Some (codes "b")) ∷ drawn_at 2 1000 58 9000 16 false (codes "a, 9.00 s") (Some (codes "a")) ∷ [])
     × (shapes_of Untimed chart ≡ drawn_at 3 8000 82 30 12 true (codes "c, exit 1") None ∷ [])
 unfolding duration_words tick_step_of tick_words decimal_text digits

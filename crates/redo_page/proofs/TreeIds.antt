@@ -15,7 +15,7 @@ use Rattle.redo_view.specs.Event.{Event}
 use Rattle.redo_view.specs.Event.Event.{Requested, Mentioned, EntryShown, LogEnds}
 use Rattle.redo_html.specs.declared.markup.Markup.TheVariants as markup
 use Rattle.redo_html.specs.Parts.{Part}
-use Rattle.redo_html.specs.Parts.Part.{MarkupPart, NamePart}
+use Rattle.redo_html.specs.Parts.Part.{MarkupPart, TextPart}
 use Rattle.redo_outline.specs.declared.node.Node.{Node}
 use Rattle.redo_outline.specs.Contents.{Contents}
 use Rattle.redo_outline.specs.Contents.Contents.{Nothing, Shown, Opened}
@@ -27,7 +27,7 @@ use Rattle.redo_page.specs.declared.level.Level.{Level}
 use Rattle.redo_page.specs.Blocks.{end_parts, fits, line_parts, line_size, line_start, nested_end}
 use Rattle.redo_page.specs.Laws.{numbers_from}
 use Rattle.redo_page.specs.Targets.{facts_parts, how_parts, linked_parts, parts_if}
-use Rattle.redo_page.specs.Tree.{Build, after_log, after_shown, articles, closing_parts, contents_parts, done_parts, empty_start, flat_end, flat_start, group_end, group_left, group_parts, group_size, group_start, has_article, heading_parts, is_empty, is_expanded, is_moved_if, is_seen, is_short, no_node, item_parts, level_of, log_end, log_start, max_depth, mention_parts, moved_parts, nested_start, node_at, note_parts, note_prefix, opening_parts, opening_place, place_of, place_of_name, request_parts, shown_parts, top_level, tree_parts}
+use Rattle.redo_page.specs.Tree.{Build, after_log, after_shown, articles, closing_parts, contents_parts, done_parts, empty_start, flat_end, flat_start, group_end, group_left, group_parts, group_size, group_start, has_article, heading_parts, is_empty, is_expanded, is_moved_if, is_seen, is_short, no_node, item_parts, level_of, log_end, log_start, max_depth, mention_parts, moved_parts, nested_start, node_at, note_parts, note_prefix, opening_parts, opening_position, position_of, position_of_name, request_parts, shown_parts, top_level, tree_parts}
 use Rattle.redo_page.proofs.Ids.{Bare, IsBelow, Refer, Refers, article_link_refers, bare_if, bare_refers, bare_then, facts_bare, how_bare, linked_refers, references, same_refer, then_refer}
 
 -- ---- numbers
@@ -39,13 +39,13 @@ numbers_from-append first (suc count) more =
     let next : suc first + count ≡ first + suc count = omega arith in
     ap (numbers_from first) sum ∙ ap (λ t. first ∷ t) (numbers_from-append (suc first) count more) ∙ ap (λ n. first ∷ (numbers_from (suc first) count ++ numbers_from n more)) next
 
-pub nodes_counted : (logs : List Log) (status : ℕ → Option ℤ) (parent : Option ℕ) (place : ℕ) (contents : Contents) → length (nodes_of logs status parent place contents) ≡ log_count contents
-nodes_counted logs status parent place Nothing = refl
-nodes_counted logs status parent place (Shown event rest) = nodes_counted logs status parent place rest
-nodes_counted logs status parent place (Opened event number inside rest) =
-    ap suc (length-append (nodes_of logs status (Some place) (suc place) inside) (nodes_of logs status parent (suc place + log_count inside) rest)
-    ∙ ap (λ n. n + length (nodes_of logs status parent (suc place + log_count inside) rest)) (nodes_counted logs status (Some place) (suc place) inside)
-    ∙ ap (λ n. log_count inside + n) (nodes_counted logs status parent (suc place + log_count inside) rest))
+pub nodes_counted : (logs : List Log) (status : ℕ → Option ℤ) (parent : Option ℕ) (position : ℕ) (contents : Contents) → length (nodes_of logs status parent position contents) ≡ log_count contents
+nodes_counted logs status parent position Nothing = refl
+nodes_counted logs status parent position (Shown event rest) = nodes_counted logs status parent position rest
+nodes_counted logs status parent position (Opened event number inside rest) =
+    ap suc (length-append (nodes_of logs status (Some position) (suc position) inside) (nodes_of logs status parent (suc position + log_count inside) rest)
+    ∙ ap (λ n. n + length (nodes_of logs status parent (suc position + log_count inside) rest)) (nodes_counted logs status (Some position) (suc position) inside)
+    ∙ ap (λ n. log_count inside + n) (nodes_counted logs status parent (suc position + log_count inside) rest))
 
 -- ---- what has no ids and no links
 
@@ -72,31 +72,31 @@ group_end_bare left = bare_if (left == 1) nested_end refl
 pub note_bare : (kind text : List ℕ) → Bare (note_parts kind text)
 note_bare kind text = by (bytes_eq kind (codes "check"))
   where
-    by : (check : Bool) → Bare (if check then note_parts (codes "check") text else MarkupPart markup.NoteItem ∷ NamePart (note_prefix kind) ∷ NamePart text ∷ MarkupPart markup.EndItem ∷ [])
+    by : (check : Bool) → Bare (if check then note_parts (codes "check") text else MarkupPart markup.NoteItem ∷ TextPart (note_prefix kind) ∷ TextPart text ∷ MarkupPart markup.EndItem ∷ [])
     by true = refl
     by false = refl
 
-place_below : (nodes : List Node) (number : ℕ) → IsBelow (length nodes) (place_of nodes number)
-place_below nodes number = by (place_of nodes number) refl
+position_below : (nodes : List Node) (number : ℕ) → IsBelow (length nodes) (position_of nodes number)
+position_below nodes number = by (position_of nodes number) refl
   where
-    by : (place : Option ℕ) → place_of nodes number ≡ place → IsBelow (length nodes) place
+    by : (position : Option ℕ) → position_of nodes number ≡ position → IsBelow (length nodes) position
     by None is = tt
-    by (Some place) is = lt-ltb place (length nodes) (position-Some (λ (node : Node). node.number == number) nodes place no_node is).0
+    by (Some position) is = lt-ltb position (length nodes) (position-Some (λ (node : Node). node.number == number) nodes position no_node is).0
 
 module _ (build : Build) where
   -- ---- events
 
-  named_below : (name : List ℕ) → IsBelow (length build.nodes) (place_of_name build name)
+  named_below : (name : List ℕ) → IsBelow (length build.nodes) (position_of_name build name)
   named_below name = by (log_number name build.logs)
     where
-      by : (number : Option ℕ) → IsBelow (length build.nodes) (option_and_then (place_of build.nodes) number)
+      by : (number : Option ℕ) → IsBelow (length build.nodes) (option_and_then (position_of build.nodes) number)
       by None = tt
-      by (Some number) = place_below build.nodes number
+      by (Some number) = position_below build.nodes number
 
-  opening_below : (opening : Opening) → IsBelow (length build.nodes) (opening_place build opening)
+  opening_below : (opening : Opening) → IsBelow (length build.nodes) (opening_position build opening)
   opening_below NotOpened = tt
-  opening_below (OpenedBefore number) = place_below build.nodes number
-  opening_below (OpensHere number) = place_below build.nodes number
+  opening_below (OpenedBefore number) = position_below build.nodes number
+  opening_below (OpensHere number) = position_below build.nodes number
 
   abbrev InTree : List Part → List ℕ → Type 0
   InTree parts targets = Refer (length build.nodes) build.articles parts targets []
@@ -106,11 +106,11 @@ module _ (build : Build) where
   item_refers before false refer = bare_refers [] refl
 
   done_refers : (status : ℤ) (name : List ℕ) → InTree (done_parts build status name) []
-  done_refers status name = same_refer {others = linked_parts (place_of_name build name) name} (simp (flat_map-append, append-nil)) (linked_refers (place_of_name build name) name (named_below name))
+  done_refers status name = same_refer {others = linked_parts (position_of_name build name) name} (simp (flat_map-append, append-nil)) (linked_refers (position_of_name build name) name (named_below name))
 
   mention_refers : (how : How) (name : List ℕ) (opening : Opening) → InTree (mention_parts build how name opening) []
   mention_refers how name opening =
-      same_refer {others = linked_parts (opening_place build opening) name} (simp (flat_map-append, append-nil, how_bare build.options.debug_locks how)) (linked_refers (opening_place build opening) name (opening_below opening))
+      same_refer {others = linked_parts (opening_position build opening) name} (simp (flat_map-append, append-nil, how_bare build.options.debug_locks how)) (linked_refers (opening_position build opening) name (opening_below opening))
 
   line_refers : (before : Pending) (line : List ℕ) → InTree (line_parts before line) []
   line_refers before line = then_refer (bare_refers (line_start before (line_size line)) (line_start_bare before (line_size line))) (record { target_ids_are = refl; article_ids_are = refl; target_links_lead = refl; article_links_lead = refl; sections_are = refl })
@@ -118,7 +118,7 @@ module _ (build : Build) where
   shown_refers : (level : Level) (before : Pending) (event : Event) → InTree (shown_parts build level before event) []
   shown_refers level before (Requested name opening) = item_refers before true (bare_refers (request_parts name) refl)
   shown_refers level before (Mentioned depth pid how name opening) = item_refers before true (mention_refers how name opening)
-  shown_refers level before (EntryShown depth (Text line)) = by (is_moved_if build level.place)
+  shown_refers level before (EntryShown depth (Text line)) = by (is_moved_if build level.position)
     where
       by : (moved : Bool) → InTree (if moved then [] else line_parts before line) []
       by true = bare_refers [] refl
@@ -131,72 +131,72 @@ module _ (build : Build) where
 
   -- ---- logs
 
-  pub heading_bare : (event : Event) (place : ℕ) → Bare (heading_parts build event place)
-  heading_bare (Requested name opening) place = facts_bare (node_at build.nodes place)
-  heading_bare (Mentioned depth pid how name opening) place = bare_then (how_parts build.options.debug_locks how) (facts_parts (node_at build.nodes place)) (how_bare build.options.debug_locks how) (facts_bare (node_at build.nodes place))
-  heading_bare (EntryShown depth entry) place = refl
-  heading_bare (LogEnds depth) place = refl
+  pub heading_bare : (event : Event) (position : ℕ) → Bare (heading_parts build event position)
+  heading_bare (Requested name opening) position = facts_bare (node_at build.nodes position)
+  heading_bare (Mentioned depth pid how name opening) position = bare_then (how_parts build.options.debug_locks how) (facts_parts (node_at build.nodes position)) (how_bare build.options.debug_locks how) (facts_bare (node_at build.nodes position))
+  heading_bare (EntryShown depth entry) position = refl
+  heading_bare (LogEnds depth) position = refl
 
-  moved_refers : (place : ℕ) → InTree (moved_parts build place) []
-  moved_refers place = by (has_article build place) (is_short (node_at build.nodes place)) refl
+  moved_refers : (position : ℕ) → InTree (moved_parts build position) []
+  moved_refers position = by (has_article build position) (is_short (node_at build.nodes position)) refl
     where
-      by : (has short : Bool) → has_article build place ≡ has → InTree (parts_if (has && short) (MarkupPart markup.NoteItem ∷ MarkupPart (markup.OutputLink place) ∷ NamePart SHOWN_ABOVE.now ∷ MarkupPart markup.EndLink ∷ MarkupPart markup.EndItem ∷ [])) []
-      by true true is = same_refer {others = MarkupPart (markup.OutputLink place) ∷ []} refl (article_link_refers place is)
+      by : (has short : Bool) → has_article build position ≡ has → InTree (parts_if (has && short) (MarkupPart markup.NoteItem ∷ MarkupPart (markup.OutputLink position) ∷ TextPart SHOWN_ABOVE.now ∷ MarkupPart markup.EndLink ∷ MarkupPart markup.EndItem ∷ [])) []
+      by true true is = same_refer {others = MarkupPart (markup.OutputLink position) ∷ []} refl (article_link_refers position is)
       by true false is = bare_refers [] refl
       by false short is = bare_refers [] refl
 
-  id_refers : (place : ℕ) → InTree (MarkupPart (markup.TargetItem place) ∷ []) (place ∷ [])
-  id_refers place = record { target_ids_are = refl; article_ids_are = refl; target_links_lead = refl; article_links_lead = refl; sections_are = refl }
+  id_refers : (position : ℕ) → InTree (MarkupPart (markup.TargetItem position) ∷ []) (position ∷ [])
+  id_refers position = record { target_ids_are = refl; article_ids_are = refl; target_links_lead = refl; article_links_lead = refl; sections_are = refl }
 
-  details_refer : (expanded : Bool) (place : ℕ) → InTree (MarkupPart (if expanded then markup.OpenDetails place else markup.Details place) ∷ []) (place ∷ [])
-  details_refer true place = record { target_ids_are = refl; article_ids_are = refl; target_links_lead = refl; article_links_lead = refl; sections_are = refl }
-  details_refer false place = record { target_ids_are = refl; article_ids_are = refl; target_links_lead = refl; article_links_lead = refl; sections_are = refl }
+  details_refer : (expanded : Bool) (position : ℕ) → InTree (MarkupPart (if expanded then markup.OpenDetails position else markup.Details position) ∷ []) (position ∷ [])
+  details_refer true position = record { target_ids_are = refl; article_ids_are = refl; target_links_lead = refl; article_links_lead = refl; sections_are = refl }
+  details_refer false position = record { target_ids_are = refl; article_ids_are = refl; target_links_lead = refl; article_links_lead = refl; sections_are = refl }
 
-  pub nested_same : (expanded : Bool) (place : ℕ) (heading : List Part) → Bare heading → references (nested_start build expanded place heading) ≡ references (MarkupPart (if expanded then markup.OpenDetails place else markup.Details place) ∷ moved_parts build place)
-  nested_same true place heading bare = simp (flat_map-append, bare)
-  nested_same false place heading bare = simp (flat_map-append, bare)
+  pub nested_same : (expanded : Bool) (position : ℕ) (heading : List Part) → Bare heading → references (nested_start build expanded position heading) ≡ references (MarkupPart (if expanded then markup.OpenDetails position else markup.Details position) ∷ moved_parts build position)
+  nested_same true position heading bare = simp (flat_map-append, bare)
+  nested_same false position heading bare = simp (flat_map-append, bare)
 
-  opening_refers : (level : Level) (place : ℕ) (heading : List Part) → Bare heading → InTree (opening_parts build level place heading) (place ∷ [])
-  opening_refers level place heading bare = by (is_empty (node_at build.nodes place)) (nat_le max_depth level.depth)
+  opening_refers : (level : Level) (position : ℕ) (heading : List Part) → Bare heading → InTree (opening_parts build level position heading) (position ∷ [])
+  opening_refers level position heading bare = by (is_empty (node_at build.nodes position)) (nat_le max_depth level.depth)
     where
-      by : (empty deep : Bool) → InTree (if empty then empty_start place heading else if deep then flat_start build place level.depth heading else nested_start build (is_expanded build level (node_at build.nodes place)) place heading) (place ∷ [])
-      by true deep = then_refer (id_refers place) (bare_refers heading bare)
-      by false true = same_refer {others = MarkupPart (markup.TargetItem place) ∷ moved_parts build place} (simp (flat_map-append, bare)) (then_refer (id_refers place) (moved_refers place))
+      by : (empty deep : Bool) → InTree (if empty then empty_start position heading else if deep then flat_start build position level.depth heading else nested_start build (is_expanded build level (node_at build.nodes position)) position heading) (position ∷ [])
+      by true deep = then_refer (id_refers position) (bare_refers heading bare)
+      by false true = same_refer {others = MarkupPart (markup.TargetItem position) ∷ moved_parts build position} (simp (flat_map-append, bare)) (then_refer (id_refers position) (moved_refers position))
       by false false =
-          same_refer {others = MarkupPart (if is_expanded build level (node_at build.nodes place) then markup.OpenDetails place else markup.Details place) ∷ moved_parts build place} (nested_same (is_expanded build level (node_at build.nodes place)) place heading bare)
-          (then_refer (details_refer (is_expanded build level (node_at build.nodes place)) place) (moved_refers place))
+          same_refer {others = MarkupPart (if is_expanded build level (node_at build.nodes position) then markup.OpenDetails position else markup.Details position) ∷ moved_parts build position} (nested_same (is_expanded build level (node_at build.nodes position)) position heading bare)
+          (then_refer (details_refer (is_expanded build level (node_at build.nodes position)) position) (moved_refers position))
 
-  pub closing_bare : (level : Level) (place : ℕ) → Bare (closing_parts build level place)
-  closing_bare level place = by (is_empty (node_at build.nodes place)) (nat_le max_depth level.depth)
+  pub closing_bare : (level : Level) (position : ℕ) → Bare (closing_parts build level position)
+  closing_bare level position = by (is_empty (node_at build.nodes position)) (nat_le max_depth level.depth)
     where
-      by : (empty deep : Bool) → Bare (if empty then MarkupPart markup.EndItem ∷ [] else if deep then flat_end build place else nested_end)
+      by : (empty deep : Bool) → Bare (if empty then MarkupPart markup.EndItem ∷ [] else if deep then flat_end build position else nested_end)
       by true deep = refl
       by false true = refl
       by false false = refl
 
-  pub group_start_bare : (level : Level) (place : ℕ) (before : Pending) → Bare (group_start build level place before)
-  group_start_bare level place pending.Nothing = group_bare (group_size build level place)
-  group_start_bare level place (pending.Group left) = refl
-  group_start_bare level place (pending.Text block) = group_bare (group_size build level place)
+  pub group_start_bare : (level : Level) (position : ℕ) (before : Pending) → Bare (group_start build level position before)
+  group_start_bare level position pending.Nothing = group_bare (group_size build level position)
+  group_start_bare level position (pending.Group left) = refl
+  group_start_bare level position (pending.Text block) = group_bare (group_size build level position)
 
-  log_start_refers : (level : Level) (place : ℕ) (before : Pending) (event : Event) → InTree (log_start build level place before event) (place ∷ [])
-  log_start_refers level place before event = then_refer (bare_refers (group_start build level place before) (group_start_bare level place before)) (opening_refers level place (heading_parts build event place) (heading_bare event place))
+  log_start_refers : (level : Level) (position : ℕ) (before : Pending) (event : Event) → InTree (log_start build level position before event) (position ∷ [])
+  log_start_refers level position before event = then_refer (bare_refers (group_start build level position before) (group_start_bare level position before)) (opening_refers level position (heading_parts build event position) (heading_bare event position))
 
-  pub log_end_bare : (level : Level) (place left : ℕ) → Bare (log_end build level place left)
-  log_end_bare level place left = bare_then (closing_parts build level place) (group_end left) (closing_bare level place) (group_end_bare left)
+  pub log_end_bare : (level : Level) (position left : ℕ) → Bare (log_end build level position left)
+  log_end_bare level position left = bare_then (closing_parts build level position) (group_end left) (closing_bare level position) (group_end_bare left)
 
   -- ---- contents
 
-  contents_refer : (level : Level) (place : ℕ) (before : Pending) (contents : Contents) → InTree (contents_parts build level place before contents) (numbers_from place (log_count contents))
-  contents_refer level place before Nothing = bare_refers (end_parts before) (end_bare before)
-  contents_refer level place before (Shown event rest) = then_refer (shown_refers level before event) (contents_refer level place (after_shown build level before event) rest)
-  contents_refer level place before (Opened event number inside rest) =
-      let left = group_left build level place before in
-      subst (InTree (contents_parts build level place before (Opened event number inside rest))) (ap (λ t. place ∷ t) (sym (numbers_from-append (suc place) (log_count inside) (log_count rest))))
-      (then_refer (log_start_refers level place before event)
-      (then_refer (contents_refer (level_of build level place) (suc place) pending.Nothing inside)
-      (then_refer (bare_refers (log_end build level place left) (log_end_bare level place left))
-      (contents_refer level (suc place + log_count inside) (after_log left) rest))))
+  contents_refer : (level : Level) (position : ℕ) (before : Pending) (contents : Contents) → InTree (contents_parts build level position before contents) (numbers_from position (log_count contents))
+  contents_refer level position before Nothing = bare_refers (end_parts before) (end_bare before)
+  contents_refer level position before (Shown event rest) = then_refer (shown_refers level before event) (contents_refer level position (after_shown build level before event) rest)
+  contents_refer level position before (Opened event number inside rest) =
+      let left = group_left build level position before in
+      subst (InTree (contents_parts build level position before (Opened event number inside rest))) (ap (λ t. position ∷ t) (sym (numbers_from-append (suc position) (log_count inside) (log_count rest))))
+      (then_refer (log_start_refers level position before event)
+      (then_refer (contents_refer (level_of build level position) (suc position) pending.Nothing inside)
+      (then_refer (bare_refers (log_end build level position left) (log_end_bare level position left))
+      (contents_refer level (suc position + log_count inside) (after_log left) rest))))
 
 pub tree_refers : (logs : List Log) (options : Options) (nodes : List Node) (contents : Contents) → Refers (length nodes) (articles nodes) (tree_parts logs options nodes contents) (numbers_from 0 (log_count contents)) [] (MarkupPart markup.TreeSection ∷ [])
 tree_refers logs options nodes contents =

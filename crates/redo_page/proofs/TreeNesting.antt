@@ -13,7 +13,7 @@ use Rattle.redo_view.specs.Event.Event.{Requested, Mentioned, EntryShown, LogEnd
 use Rattle.redo_html.specs.declared.markup.Markup.TheVariants as markup
 use Rattle.redo_html.specs.declared.markup.Markup.TheVariants.{EndItem, Pre, EndPre}
 use Rattle.redo_html.specs.Parts.{Part}
-use Rattle.redo_html.specs.Parts.Part.{MarkupPart, NamePart}
+use Rattle.redo_html.specs.Parts.Part.{MarkupPart, TextPart}
 use Rattle.redo_outline.specs.declared.node.Node.{Node}
 use Rattle.redo_outline.specs.Contents.{Contents}
 use Rattle.redo_outline.specs.Contents.Contents.{Nothing, Shown, Opened}
@@ -23,7 +23,7 @@ use Rattle.redo_page.specs.declared.block.Pending.TheVariants as pending
 use Rattle.redo_page.specs.declared.level.Level.{Level}
 use Rattle.redo_page.specs.Blocks.{after_line, end_parts, fits, line_parts, line_size, line_start, nested_end}
 use Rattle.redo_page.specs.Targets.{parts_if}
-use Rattle.redo_page.specs.Tree.{Build, after_item, after_log, after_shown, articles, closing_parts, contents_parts, done_parts, empty_start, entry_parts, flat_end, flat_start, group_end, group_left, group_parts, group_size, group_start, heading_parts, is_empty, is_expanded, is_moved, is_moved_if, is_seen, item_parts, level_of, log_end, log_start, max_depth, mention_parts, moved_parts, nested_start, node_at, note_parts, note_prefix, opening_parts, opening_place, place_of_name, request_parts, seen_parts, shown_parts, top_level, tree_parts}
+use Rattle.redo_page.specs.Tree.{Build, after_item, after_log, after_shown, articles, closing_parts, contents_parts, done_parts, empty_start, entry_parts, flat_end, flat_start, group_end, group_left, group_parts, group_size, group_start, heading_parts, is_empty, is_expanded, is_moved, is_moved_if, is_seen, item_parts, level_of, log_end, log_start, max_depth, mention_parts, moved_parts, nested_start, node_at, note_parts, note_prefix, opening_parts, opening_position, position_of_name, request_parts, seen_parts, shown_parts, top_level, tree_parts}
 use Rattle.redo_page.proofs.Nesting.{Leads, Nest, nest_if, lead_around, lead_in, then_lead, joined}
 use Rattle.redo_page.proofs.TargetNesting.{name_nests, exit_nests, facts_nest, how_nests, linked_nests}
 
@@ -112,16 +112,16 @@ request_nests name = record { leads = λ around tags. refl }
 note_nests : (kind text : List ℕ) → Nest (note_parts kind text)
 note_nests kind text = by (bytes_eq kind (codes "check"))
   where
-    by : (check : Bool) → Nest (if check then note_parts (codes "check") text else MarkupPart markup.NoteItem ∷ NamePart (note_prefix kind) ∷ NamePart text ∷ MarkupPart markup.EndItem ∷ [])
+    by : (check : Bool) → Nest (if check then note_parts (codes "check") text else MarkupPart markup.NoteItem ∷ TextPart (note_prefix kind) ∷ TextPart text ∷ MarkupPart markup.EndItem ∷ [])
     by true = record { leads = λ around tags. refl }
     by false = record { leads = λ around tags. refl }
 
 module _ (build : Build) where
   done_nests : (status : ℤ) (name : List ℕ) → Nest (done_parts build status name)
-  done_nests status name = record { leads = λ around tags. simp (joined, (linked_nests (place_of_name build name) name).leads, (exit_nests status).leads) }
+  done_nests status name = record { leads = λ around tags. simp (joined, (linked_nests (position_of_name build name) name).leads, (exit_nests status).leads) }
 
   mention_nests : (how : How) (name : List ℕ) (opening : Opening) → Nest (mention_parts build how name opening)
-  mention_nests how name opening = record { leads = λ around tags. simp (joined, (linked_nests (opening_place build opening) name).leads, (how_nests build.options.debug_locks how).leads) }
+  mention_nests how name opening = record { leads = λ around tags. simp (joined, (linked_nests (opening_position build opening) name).leads, (how_nests build.options.debug_locks how).leads) }
 
   entry_nests : (entry : Entry) → Nest (entry_parts build entry)
   entry_nests (Text line) = record { leads = λ around tags. refl }
@@ -138,61 +138,61 @@ module _ (build : Build) where
 
   -- ---- logs
 
-  heading_nests : (event : Event) (place : ℕ) → Nest (heading_parts build event place)
-  heading_nests (Requested name opening) place = then_lead (name_nests name) (facts_nest (node_at build.nodes place))
-  heading_nests (Mentioned depth pid how name opening) place = then_lead (name_nests name) (then_lead (how_nests build.options.debug_locks how) (facts_nest (node_at build.nodes place)))
-  heading_nests (EntryShown depth entry) place = record { leads = λ around tags. refl }
-  heading_nests (LogEnds depth) place = record { leads = λ around tags. refl }
+  heading_nests : (event : Event) (position : ℕ) → Nest (heading_parts build event position)
+  heading_nests (Requested name opening) position = then_lead (name_nests name) (facts_nest (node_at build.nodes position))
+  heading_nests (Mentioned depth pid how name opening) position = then_lead (name_nests name) (then_lead (how_nests build.options.debug_locks how) (facts_nest (node_at build.nodes position)))
+  heading_nests (EntryShown depth entry) position = record { leads = λ around tags. refl }
+  heading_nests (LogEnds depth) position = record { leads = λ around tags. refl }
 
-  moved_nests : (place : ℕ) → Nest (moved_parts build place)
-  moved_nests place = nest_if (is_moved build place) (record { leads = λ around tags. refl })
+  moved_nests : (position : ℕ) → Nest (moved_parts build position)
+  moved_nests position = nest_if (is_moved build position) (record { leads = λ around tags. refl })
 
   -- The elements around what a log contains.
   abbrev inside_names : Level → ℕ → List (List ℕ)
-  inside_names level place = if is_empty (node_at build.nodes place) then codes "li" ∷ [] else if nat_le max_depth level.depth then [] else list_names
+  inside_names level position = if is_empty (node_at build.nodes position) then codes "li" ∷ [] else if nat_le max_depth level.depth then [] else list_names
 
-  flat_nests : (place depth : ℕ) {heading : List Part} → Nest heading → Nest (flat_start build place depth heading)
-  flat_nests place depth nest = record { leads = λ around tags. simp (joined, nest.leads, (moved_nests place).leads) }
+  flat_nests : (position depth : ℕ) {heading : List Part} → Nest heading → Nest (flat_start build position depth heading)
+  flat_nests position depth nest = record { leads = λ around tags. simp (joined, nest.leads, (moved_nests position).leads) }
 
-  nested_leads : (expanded : Bool) (place : ℕ) {heading : List Part} → Nest heading → Leads [] (nested_start build expanded place heading) list_names
-  nested_leads true place nest = record { leads = λ around tags. simp (joined, nest.leads, (moved_nests place).leads) }
-  nested_leads false place nest = record { leads = λ around tags. simp (joined, nest.leads, (moved_nests place).leads) }
+  nested_leads : (expanded : Bool) (position : ℕ) {heading : List Part} → Nest heading → Leads [] (nested_start build expanded position heading) list_names
+  nested_leads true position nest = record { leads = λ around tags. simp (joined, nest.leads, (moved_nests position).leads) }
+  nested_leads false position nest = record { leads = λ around tags. simp (joined, nest.leads, (moved_nests position).leads) }
 
-  opening_leads : (level : Level) (place : ℕ) {heading : List Part} → Nest heading → Leads [] (opening_parts build level place heading) (inside_names level place)
-  opening_leads level place {heading} nest = by (is_empty (node_at build.nodes place)) (nat_le max_depth level.depth)
+  opening_leads : (level : Level) (position : ℕ) {heading : List Part} → Nest heading → Leads [] (opening_parts build level position heading) (inside_names level position)
+  opening_leads level position {heading} nest = by (is_empty (node_at build.nodes position)) (nat_le max_depth level.depth)
     where
-      by : (empty deep : Bool) → Leads [] (if empty then empty_start place heading else if deep then flat_start build place level.depth heading else nested_start build (is_expanded build level (node_at build.nodes place)) place heading)
+      by : (empty deep : Bool) → Leads [] (if empty then empty_start position heading else if deep then flat_start build position level.depth heading else nested_start build (is_expanded build level (node_at build.nodes position)) position heading)
           (if empty then codes "li" ∷ [] else if deep then [] else list_names)
       by true deep = record { leads = λ around tags. nest.leads (codes "li" ∷ around) tags }
-      by false true = flat_nests place level.depth nest
-      by false false = nested_leads (is_expanded build level (node_at build.nodes place)) place nest
+      by false true = flat_nests position level.depth nest
+      by false false = nested_leads (is_expanded build level (node_at build.nodes position)) position nest
 
-  closing_leads : (level : Level) (place : ℕ) → Leads (inside_names level place) (closing_parts build level place) []
-  closing_leads level place = by (is_empty (node_at build.nodes place)) (nat_le max_depth level.depth)
+  closing_leads : (level : Level) (position : ℕ) → Leads (inside_names level position) (closing_parts build level position) []
+  closing_leads level position = by (is_empty (node_at build.nodes position)) (nat_le max_depth level.depth)
     where
-      by : (empty deep : Bool) → Leads (if empty then codes "li" ∷ [] else if deep then [] else list_names) (if empty then MarkupPart EndItem ∷ [] else if deep then flat_end build place else nested_end) []
+      by : (empty deep : Bool) → Leads (if empty then codes "li" ∷ [] else if deep then [] else list_names) (if empty then MarkupPart EndItem ∷ [] else if deep then flat_end build position else nested_end) []
       by true deep = record { leads = λ around tags. refl }
       by false true = record { leads = λ around tags. refl }
       by false false = record { leads = λ around tags. refl }
 
-  group_start_leads : (level : Level) (place : ℕ) (before : Pending) → IsOpen before → Leads (open_names before) (group_start build level place before) (group_names (group_left build level place before))
-  group_start_leads level place pending.Nothing is = group_leads (group_size build level place)
-  group_start_leads level place (pending.Group left) is = rw is (record { leads = λ around tags. refl })
-  group_start_leads level place (pending.Text block) is = then_lead (end_leads (pending.Text block)) (group_leads (group_size build level place))
+  group_start_leads : (level : Level) (position : ℕ) (before : Pending) → IsOpen before → Leads (open_names before) (group_start build level position before) (group_names (group_left build level position before))
+  group_start_leads level position pending.Nothing is = group_leads (group_size build level position)
+  group_start_leads level position (pending.Group left) is = rw is (record { leads = λ around tags. refl })
+  group_start_leads level position (pending.Text block) is = then_lead (end_leads (pending.Text block)) (group_leads (group_size build level position))
 
-  log_start_leads : (level : Level) (place : ℕ) (before : Pending) (event : Event) → IsOpen before
-      → Leads (open_names before) (log_start build level place before event) (inside_names level place ++ group_names (group_left build level place before))
-  log_start_leads level place before event is = then_lead (group_start_leads level place before is) (lead_around (group_names (group_left build level place before)) (opening_leads level place (heading_nests event place)))
+  log_start_leads : (level : Level) (position : ℕ) (before : Pending) (event : Event) → IsOpen before
+      → Leads (open_names before) (log_start build level position before event) (inside_names level position ++ group_names (group_left build level position before))
+  log_start_leads level position before event is = then_lead (group_start_leads level position before is) (lead_around (group_names (group_left build level position before)) (opening_leads level position (heading_nests event position)))
 
-  log_end_leads : (level : Level) (place left : ℕ) → Leads (inside_names level place ++ group_names left) (log_end build level place left) (open_names (after_log left))
-  log_end_leads level place left = then_lead (lead_around (group_names left) (closing_leads level place)) (group_end_leads left)
+  log_end_leads : (level : Level) (position left : ℕ) → Leads (inside_names level position ++ group_names left) (log_end build level position left) (open_names (after_log left))
+  log_end_leads level position left = then_lead (lead_around (group_names left) (closing_leads level position)) (group_end_leads left)
 
   -- ---- contents
 
   shown_leads : (level : Level) (before : Pending) (event : Event) → Leads (open_names before) (shown_parts build level before event) (open_names (after_shown build level before event))
   shown_leads level before (Requested name opening) = item_leads before true (request_nests name)
   shown_leads level before (Mentioned depth pid how name opening) = item_leads before true (mention_nests how name opening)
-  shown_leads level before (EntryShown depth (Text line)) = by (is_moved_if build level.place)
+  shown_leads level before (EntryShown depth (Text line)) = by (is_moved_if build level.position)
     where
       by : (moved : Bool) → Leads (open_names before) (if moved then [] else line_parts before line) (open_names (if moved then before else after_line before line))
       by true = record { leads = λ around tags. refl }
@@ -206,7 +206,7 @@ module _ (build : Build) where
   shown_open : (level : Level) (before : Pending) (event : Event) → IsOpen before → IsOpen (after_shown build level before event)
   shown_open level before (Requested name opening) is = tt
   shown_open level before (Mentioned depth pid how name opening) is = tt
-  shown_open level before (EntryShown depth (Text line)) is = by (is_moved_if build level.place)
+  shown_open level before (EntryShown depth (Text line)) is = by (is_moved_if build level.position)
     where
       by : (moved : Bool) → IsOpen (if moved then before else after_line before line)
       by true = is
@@ -217,15 +217,15 @@ module _ (build : Build) where
   shown_open level before (EntryShown depth (Note pid kind text)) is = tt
   shown_open level before (LogEnds depth) is = is
 
-  contents_lead : (level : Level) (place : ℕ) (before : Pending) (contents : Contents) → IsOpen before → Leads (open_names before) (contents_parts build level place before contents) []
-  contents_lead level place before Nothing is = end_leads before
-  contents_lead level place before (Shown event rest) is = then_lead (shown_leads level before event) (contents_lead level place (after_shown build level before event) rest (shown_open level before event is))
-  contents_lead level place before (Opened event number inside rest) is =
-      let left = group_left build level place before in
-      then_lead (log_start_leads level place before event is)
-      (then_lead (lead_in (inside_names level place ++ group_names left) (contents_lead (level_of build level place) (suc place) pending.Nothing inside tt))
-      (then_lead (log_end_leads level place left)
-      (contents_lead level (suc place + log_count inside) (after_log left) rest (after_log_open left))))
+  contents_lead : (level : Level) (position : ℕ) (before : Pending) (contents : Contents) → IsOpen before → Leads (open_names before) (contents_parts build level position before contents) []
+  contents_lead level position before Nothing is = end_leads before
+  contents_lead level position before (Shown event rest) is = then_lead (shown_leads level before event) (contents_lead level position (after_shown build level before event) rest (shown_open level before event is))
+  contents_lead level position before (Opened event number inside rest) is =
+      let left = group_left build level position before in
+      then_lead (log_start_leads level position before event is)
+      (then_lead (lead_in (inside_names level position ++ group_names left) (contents_lead (level_of build level position) (suc position) pending.Nothing inside tt))
+      (then_lead (log_end_leads level position left)
+      (contents_lead level (suc position + log_count inside) (after_log left) rest (after_log_open left))))
 
 pub tree_nests : (logs : List Log) (options : Options) (nodes : List Node) (contents : Contents) → Nest (tree_parts logs options nodes contents)
 tree_nests logs options nodes contents =

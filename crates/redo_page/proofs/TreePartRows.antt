@@ -13,21 +13,21 @@ use Rattle.redo_view.specs.declared.event.Opening.TheVariants.{NotOpened, Opened
 use Rattle.redo_html.specs.declared.markup.Markup.{Markup}
 use Rattle.redo_html.specs.declared.markup.Markup.TheVariants as markup
 use Rattle.redo_html.specs.Style.{plain_style}
-use Rattle.redo_html.specs.Symbols.{first_letter, first_symbol, is_sequence, letter_len, sequence_len, sequence_numbers, symbol_len, symbols_after}
+use Rattle.redo_html.specs.Symbols.{first_code_point, first_symbol, is_sequence, code_point_len, sequence_len, sequence_numbers, symbol_len, symbols_after}
 use Rattle.redo_html.specs.Parts.{Part}
-use Rattle.redo_html.specs.Parts.Part.{MarkupPart, LogPart, NamePart, NumberPart}
+use Rattle.redo_html.specs.Parts.Part.{MarkupPart, LogPart, TextPart, NumberPart}
 use Rattle.redo_outline.specs.declared.node.Node.{Node}
 use Rattle.redo_outline.specs.Contents.Contents.{Nothing, Shown, Opened}
 use Rattle.redo_page.specs.declared.block.Pending.{Pending}
 use Rattle.redo_page.specs.declared.block.Pending.TheVariants as pending
 use Rattle.redo_page.specs.declared.level.Level.{Level}
-use Rattle.redo_page.specs.Tree.{Build, after_item, after_log, after_shown, after_text, closing_parts, contents_parts, depth_parts, details_markup, done_parts, empty_start, end_cmp, entry_parts, failed_first, failure_cmp, first_failures, flat_end, flat_start, group_end, group_left, group_parts, group_size, group_start, has_article, has_failed, has_one_child, heading_parts, is_empty, is_expanded, is_moved, is_moved_if, is_same_place, is_seen, is_silent, item_parts, level_of, log_end, log_start, mention_parts, moved_parts, nested_start, node_at, node_if, note_parts, opening_parts, opening_place, place_of, place_of_name, request_parts, section_end, section_start, seen_parts, shown_parts, is_in_level, text_parts, top_level, tree_parts}
+use Rattle.redo_page.specs.Tree.{Build, after_item, after_log, after_shown, after_text, closing_parts, contents_parts, depth_parts, details_markup, done_parts, empty_start, end_cmp, entry_parts, failure_cmp, flat_end, flat_start, group_end, group_left, group_parts, group_size, group_start, has_article, has_failed, has_one_child, heading_parts, is_empty, is_expanded, is_in_level, is_moved, is_moved_if, is_root_failure, is_same_position, is_seen, is_silent, item_parts, level_of, log_end, log_start, mention_parts, moved_parts, nested_start, no_node, node_at, node_if, note_parts, opening_parts, opening_position, position_of, position_of_name, request_parts, root_failures, section_end, section_start, seen_parts, shown_parts, text_parts, top_level, tree_parts}
 
 abbrev tag : Markup → Part
 tag markup = MarkupPart markup
 
 abbrev words : List ℕ → Part
-words text = NamePart text
+words text = TextPart text
 
 abbrev number : ℕ → Part
 number value = NumberPart value
@@ -44,7 +44,7 @@ abbrev logs : List Log
 logs = log (codes "a") ∷ log (codes "b") ∷ log (codes "c") ∷ []
 
 abbrev node : ℕ → Option ℕ → Option ℤ → ℕ → ℕ → Bool → Node
-node number parent status lines children others = record { number = number; parent = parent; status = status; lines = lines; bytes = lines; warnings = 0; below = 0; children = children; others = others; warnings_below = 0; fails_below = false; silent = 0; took = None; ended = None }
+node number parent status lines children others = record no_node { number = number; parent = parent; status = status; lines = lines; bytes = lines; children = children; others = others }
 
 -- `c` is requested, and has two logs in it and something else. Of these `a` failed, and printed one line, and `b` has nothing in it.
 abbrev c : Node
@@ -69,7 +69,7 @@ abbrev build : Build
 build = build_of false nodes (1 ∷ [])
 
 abbrev level : Option ℕ → Bool → ℕ → Level
-level place expanded depth = record { place = place; expanded = expanded; depth = depth }
+level position expanded depth = record { position = position; expanded = expanded; depth = depth }
 
 abbrev block : Pending
 block = pending.Text (record { lines = 1; bytes = 2; style = plain_style })
@@ -80,8 +80,8 @@ mention = Mentioned 1 9 Made (codes "a") (OpensHere 0)
 -- ---- what a target is
 
 failed_are :
-    (has_failed a ≡ true) × (has_failed b ≡ false) × (has_failed (node 0 None None 0 0 false) ≡ false) × (failed_first a ≡ true) × (failed_first b ≡ false)
-    × (has_failed (record b { fails_below = true }) ≡ false) × (failed_first (record a { fails_below = true }) ≡ false) × (first_failures (a ∷ b ∷ a ∷ []) ≡ 0 ∷ 2 ∷ [])
+    (has_failed a ≡ true) × (has_failed b ≡ false) × (has_failed (node 0 None None 0 0 false) ≡ false) × (is_root_failure a ≡ true) × (is_root_failure b ≡ false)
+    × (has_failed (record b { fails_below = true }) ≡ false) × (is_root_failure (record a { fails_below = true }) ≡ false) × (root_failures (a ∷ b ∷ a ∷ []) ≡ 0 ∷ 2 ∷ [])
 failed_are = (refl, refl, refl, refl, refl, refl, refl, refl)
 
 -- A target that failed, and one that didn't.
@@ -93,8 +93,8 @@ made_at time = record b { ended = time }
 
 -- Targets that ended first are first, and targets with an unknown end are last. Others are in the order of the tree.
 order_is :
-    (first_failures (failed_at (Some 30) ∷ failed_at (Some 10) ∷ failed_at None ∷ made_at (Some 5) ∷ failed_at (Some 20) ∷ failed_at None ∷ failed_at (Some 10) ∷ []) ≡ 1 ∷ 6 ∷ 4 ∷ 0 ∷ 2 ∷ 5 ∷ [])
-    × (first_failures (failed_at None ∷ made_at None ∷ failed_at (Some 0) ∷ []) ≡ 2 ∷ 0 ∷ [])
+    (root_failures (failed_at (Some 30) ∷ failed_at (Some 10) ∷ failed_at None ∷ made_at (Some 5) ∷ failed_at (Some 20) ∷ failed_at None ∷ failed_at (Some 10) ∷ []) ≡ 1 ∷ 6 ∷ 4 ∷ 0 ∷ 2 ∷ 5 ∷ [])
+    × (root_failures (failed_at None ∷ made_at None ∷ failed_at (Some 0) ∷ []) ≡ 2 ∷ 0 ∷ [])
 order_is = (refl, refl)
 
 ends_compared :
@@ -102,7 +102,7 @@ ends_compared :
     × (end_cmp None (Some 2) ≡ Greater) × (end_cmp None None ≡ Equal)
 ends_compared = (refl, refl, refl, refl, refl, refl)
 
--- Equal ends, and unknown ones, are compared by their places.
+-- Equal ends, and unknown ones, are compared by their positions.
 failures_compared :
     (failure_cmp (failed_at (Some 8) ∷ failed_at (Some 8) ∷ []) 0 1 ≡ Less) × (failure_cmp (failed_at None ∷ failed_at None ∷ []) 1 0 ≡ Greater)
     × (failure_cmp (failed_at None ∷ failed_at (Some 8) ∷ []) 1 0 ≡ Less)
@@ -119,25 +119,25 @@ one_child_are = (refl, refl, refl, refl, refl)
 silent_are : (is_silent None ≡ false) × (is_silent (Some b) ≡ false) × (is_silent (Some (record b { silent = 3 })) ≡ true)
 silent_are = (refl, refl, refl)
 
--- ---- places
+-- ---- positions
 
-places_are : (place_of nodes 1 ≡ Some 2) × (place_of nodes 7 ≡ None) × (node_at nodes 1 ≡ a) × (node_if nodes None ≡ None) × (node_if nodes (Some 1) ≡ Some a)
-places_are = (refl, refl, refl, refl, refl)
+positions_are : (position_of nodes 1 ≡ Some 2) × (position_of nodes 7 ≡ None) × (node_at nodes 1 ≡ a) × (node_if nodes None ≡ None) × (node_if nodes (Some 1) ≡ Some a)
+positions_are = (refl, refl, refl, refl, refl)
 
 same_are :
-    (is_same_place None None ≡ true) × (is_same_place None (Some 0) ≡ false) × (is_same_place (Some 0) None ≡ false) × (is_same_place (Some 1) (Some 1) ≡ true)
-    × (is_same_place (Some 1) (Some 2) ≡ false)
+    (is_same_position None None ≡ true) × (is_same_position None (Some 0) ≡ false) × (is_same_position (Some 0) None ≡ false) × (is_same_position (Some 1) (Some 1) ≡ true)
+    × (is_same_position (Some 1) (Some 2) ≡ false)
 same_are = (refl, refl, refl, refl, refl)
 
 openings_are :
-    (opening_place build NotOpened ≡ None) × (opening_place build (OpenedBefore 1) ≡ Some 2) × (opening_place build (OpensHere 2) ≡ Some 0)
-    × (place_of_name build (codes "b") ≡ Some 2) × (place_of_name build (codes "x") ≡ None) × (place_of_name (build_of false (c ∷ []) []) (codes "b") ≡ None)
+    (opening_position build NotOpened ≡ None) × (opening_position build (OpenedBefore 1) ≡ Some 2) × (opening_position build (OpensHere 2) ≡ Some 0)
+    × (position_of_name build (codes "b") ≡ Some 2) × (position_of_name build (codes "x") ≡ None) × (position_of_name (build_of false (c ∷ []) []) (codes "b") ≡ None)
 openings_are = (refl, refl, refl, refl, refl, refl)
 
-places_in_level_are :
+positions_in_level_are :
     (is_in_level build top_level None ≡ false) × (is_in_level build top_level (Some 0) ≡ true) × (is_in_level build (level (Some 0) true 1) (Some 2) ≡ true)
     × (is_in_level build (level (Some 2) true 1) (Some 2) ≡ false)
-places_in_level_are = (refl, refl, refl, refl)
+positions_in_level_are = (refl, refl, refl, refl)
 
 -- ---- articles and levels
 
@@ -282,7 +282,7 @@ notes_are :
 notes_are = (refl, refl, refl)
 
 abbrev link : ℕ → List ℕ → List Part → List Part
-link place target rest = tag (markup.TargetLink place) ∷ name target (tag markup.EndLink ∷ rest)
+link position target rest = tag (markup.TargetLink position) ∷ name target (tag markup.EndLink ∷ rest)
 
 done_are :
     (done_parts build (negsuc 0) (codes "b") ≡ tag markup.NoteItem ∷ words (codes "needs ") ∷ link 2 (codes "b") (words (codes " ") ∷ tag markup.ExitBadge ∷ words (codes "exit ") ∷ words (codes "-") ∷ number 1 ∷ tag markup.EndBadge ∷ tag markup.EndItem ∷ []))
@@ -323,7 +323,7 @@ line text = LogPart plain_style text
 texts_are :
     (text_parts build in_a pending.Nothing (codes "x") ≡ []) × (text_parts build in_c pending.Nothing (codes "x") ≡ tag markup.Item ∷ tag markup.Pre ∷ line (codes "x\n") ∷ [])
     × (after_text build in_a pending.Nothing (codes "x") ≡ pending.Nothing) × (after_text build in_c pending.Nothing (codes "x") ≡ block)
-unfolding symbols_after first_symbol symbol_len is_sequence sequence_len sequence_numbers first_letter letter_len
+unfolding symbols_after first_symbol symbol_len is_sequence sequence_len sequence_numbers first_code_point code_point_len
 texts_are = (refl, refl, refl, refl)
 
 shown_are :
@@ -332,7 +332,7 @@ shown_are :
     × (shown_parts build in_c block (EntryShown 1 (Closing 9 (pos 2))) ≡ [])
     × (after_shown build in_c pending.Nothing (EntryShown 1 (Text (codes "x"))) ≡ block) × (after_shown build in_c block (EntryShown 1 (Note 9 (codes "n") (codes "t"))) ≡ pending.Nothing)
     × (after_shown build in_c block (EntryShown 1 (Closing 9 (pos 2))) ≡ block)
-unfolding symbols_after first_symbol symbol_len is_sequence sequence_len sequence_numbers first_letter letter_len
+unfolding symbols_after first_symbol symbol_len is_sequence sequence_len sequence_numbers first_code_point code_point_len
 shown_are = (refl, refl, refl, refl, refl, refl)
 
 -- ---- contents

@@ -12,7 +12,7 @@ use Rattle.redo_view.specs.Event.{Event}
 use Rattle.redo_view.specs.Event.Event.{Requested, Mentioned, EntryShown, LogEnds}
 use Rattle.redo_html.specs.declared.markup.Markup.TheVariants as markup
 use Rattle.redo_html.specs.Parts.{Part}
-use Rattle.redo_html.specs.Parts.Part.{MarkupPart, NamePart}
+use Rattle.redo_html.specs.Parts.Part.{MarkupPart, TextPart}
 use Rattle.redo_html.specs.Style.{plain_style}
 use Rattle.redo_outline.specs.declared.node.Node.{Node}
 use Rattle.redo_outline.specs.Contents.{Contents}
@@ -26,7 +26,7 @@ use Rattle.redo_page.specs.declared.level.Level.{Level}
 use Rattle.redo_page.specs.Blocks.{after_line, block_for, end_parts, fits, line_part, line_parts, line_size, line_start, nested_end, new_block}
 use Rattle.redo_page.specs.Laws.{HaveSameLogs, blank_event, blank_line, blanked, markup_of, markups}
 use Rattle.redo_page.specs.Targets.{exit_parts, how_parts, linked_parts}
-use Rattle.redo_page.specs.Tree.{Build, after_item, after_log, after_shown, articles, closing_parts, contents_parts, depth_parts, done_parts, empty_start, flat_end, flat_start, group_end, group_left, group_start, heading_parts, is_empty, is_expanded, is_moved_if, is_seen_done, item_parts, level_of, log_end, log_start, max_depth, mention_parts, moved_parts, nested_start, node_at, note_parts, note_prefix, opening_parts, opening_place, place_of, place_of_name, request_parts, section_end, section_start, shown_parts, is_in_level, top_level, tree_parts}
+use Rattle.redo_page.specs.Tree.{Build, after_item, after_log, after_shown, articles, closing_parts, contents_parts, depth_parts, done_parts, empty_start, flat_end, flat_start, group_end, group_left, group_start, heading_parts, is_empty, is_expanded, is_moved_if, is_seen_done, item_parts, level_of, log_end, log_start, max_depth, mention_parts, moved_parts, nested_start, node_at, note_parts, note_prefix, opening_parts, opening_position, position_of, position_of_name, request_parts, section_end, section_start, shown_parts, is_in_level, top_level, tree_parts}
 
 -- ---- what isn't ended
 
@@ -87,13 +87,13 @@ after_line_same before other line same =
 note_same : (kind text : List ℕ) → markups (note_parts kind text) ≡ markups (note_parts [] [])
 note_same kind text = by (bytes_eq kind (codes "check"))
   where
-    by : (check : Bool) → markups (if check then note_parts (codes "check") text else MarkupPart markup.NoteItem ∷ NamePart (note_prefix kind) ∷ NamePart text ∷ MarkupPart markup.EndItem ∷ []) ≡ markups (note_parts [] [])
+    by : (check : Bool) → markups (if check then note_parts (codes "check") text else MarkupPart markup.NoteItem ∷ TextPart (note_prefix kind) ∷ TextPart text ∷ MarkupPart markup.EndItem ∷ []) ≡ markups (note_parts [] [])
     by true = refl
     by false = refl
 
-linked_same : (place : Option ℕ) (name other : List ℕ) → markups (linked_parts place name) ≡ markups (linked_parts place other)
+linked_same : (position : Option ℕ) (name other : List ℕ) → markups (linked_parts position name) ≡ markups (linked_parts position other)
 linked_same None name other = refl
-linked_same (Some place) name other = refl
+linked_same (Some position) name other = refl
 
 -- The two builds differ in their logs alone.
 module _ (rename : List ℕ → List ℕ) (logs others : List Log) (options : Options) (nodes : List Node) (shown : List ℕ) (numbers : HaveSameLogs rename logs others) where
@@ -103,17 +103,17 @@ module _ (rename : List ℕ → List ℕ) (logs others : List Log) (options : Op
   abbrev renamed : Build
   renamed = record { logs = others; options = options; nodes = nodes; articles = shown }
 
-  named_same : (name : List ℕ) → place_of_name build name ≡ place_of_name renamed (rename name)
-  named_same name = ap (option_and_then (place_of nodes)) (sym (numbers name))
+  named_same : (name : List ℕ) → position_of_name build name ≡ position_of_name renamed (rename name)
+  named_same name = ap (option_and_then (position_of nodes)) (sym (numbers name))
 
   seen_same : (level : Level) (status : ℤ) (name : List ℕ) → is_seen_done build level status name ≡ is_seen_done renamed level status (rename name)
-  seen_same level status name = ap (λ place. is_failure (Some status) && not (is_in_level build level place)) (named_same name)
+  seen_same level status name = ap (λ position. is_failure (Some status) && not (is_in_level build level position)) (named_same name)
 
   done_same : (status : ℤ) (name : List ℕ) → markups (done_parts build status name) ≡ markups (done_parts renamed status (rename name))
   done_same status name =
       let end = exit_parts status ++ (MarkupPart markup.EndItem ∷ []) in
-      ap (λ t. markup.NoteItem ∷ t) (both_same (linked_parts (place_of_name build name) name) end (linked_parts (place_of_name renamed (rename name)) (rename name)) end
-      (linked_same (place_of_name build name) name (rename name) ∙ ap (λ place. markups (linked_parts place (rename name))) (named_same name)) refl)
+      ap (λ t. markup.NoteItem ∷ t) (both_same (linked_parts (position_of_name build name) name) end (linked_parts (position_of_name renamed (rename name)) (rename name)) end
+      (linked_same (position_of_name build name) name (rename name) ∙ ap (λ position. markups (linked_parts position (rename name))) (named_same name)) refl)
 
   item_same : (before other : Pending) (seen : Bool) (parts others : List Part) → unstyled before ≡ unstyled other → markups parts ≡ markups others → markups (item_parts before seen parts) ≡ markups (item_parts other seen others)
   item_same before other true parts others same is = both_same (end_parts before) parts (end_parts other) others (ap markups (same_by end_parts end_plain before other same)) is
@@ -126,12 +126,12 @@ module _ (rename : List ℕ → List ℕ) (logs others : List Log) (options : Op
   mention_same : (how : How) (name : List ℕ) (opening : Opening) → markups (mention_parts build how name opening) ≡ markups (mention_parts renamed how (rename name) opening)
   mention_same how name opening =
       let end = how_parts build.options.debug_locks how ++ (MarkupPart markup.EndItem ∷ []) in
-      ap (λ t. markup.Item ∷ t) (both_same (linked_parts (opening_place build opening) name) end (linked_parts (opening_place build opening) (rename name)) end (linked_same (opening_place build opening) name (rename name)) refl)
+      ap (λ t. markup.Item ∷ t) (both_same (linked_parts (opening_position build opening) name) end (linked_parts (opening_position build opening) (rename name)) end (linked_same (opening_position build opening) name (rename name)) refl)
 
   shown_same : (level : Level) (before other : Pending) (event : Event) → unstyled before ≡ unstyled other → markups (shown_parts build level before event) ≡ markups (shown_parts renamed level other (blank_event rename event))
   shown_same level before other (Requested name opening) same = item_same before other true (request_parts name) (request_parts (rename name)) same refl
   shown_same level before other (Mentioned depth pid how name opening) same = item_same before other true (mention_parts build how name opening) (mention_parts renamed how (rename name) opening) same (mention_same how name opening)
-  shown_same level before other (EntryShown depth (Text line)) same = by (is_moved_if build level.place)
+  shown_same level before other (EntryShown depth (Text line)) same = by (is_moved_if build level.position)
     where
       by : (moved : Bool) → markups (if moved then [] else line_parts before line) ≡ markups (if moved then [] else line_parts other (blank_line line))
       by true = refl
@@ -147,7 +147,7 @@ module _ (rename : List ℕ → List ℕ) (logs others : List Log) (options : Op
   after_shown_same : (level : Level) (before other : Pending) (event : Event) → unstyled before ≡ unstyled other → unstyled (after_shown build level before event) ≡ unstyled (after_shown renamed level other (blank_event rename event))
   after_shown_same level before other (Requested name opening) same = refl
   after_shown_same level before other (Mentioned depth pid how name opening) same = refl
-  after_shown_same level before other (EntryShown depth (Text line)) same = by (is_moved_if build level.place)
+  after_shown_same level before other (EntryShown depth (Text line)) same = by (is_moved_if build level.position)
     where
       by : (moved : Bool) → unstyled (if moved then before else after_line before line) ≡ unstyled (if moved then other else after_line other (blank_line line))
       by true = same
@@ -161,83 +161,83 @@ module _ (rename : List ℕ → List ℕ) (logs others : List Log) (options : Op
 
   -- ---- logs
 
-  heading_same : (event : Event) (place : ℕ) → markups (heading_parts build event place) ≡ markups (heading_parts renamed (blank_event rename event) place)
-  heading_same (Requested name opening) place = refl
-  heading_same (Mentioned depth pid how name opening) place = refl
-  heading_same (EntryShown depth (Text line)) place = refl
-  heading_same (EntryShown depth (Mention pid how name)) place = refl
-  heading_same (EntryShown depth (Done pid status name)) place = refl
-  heading_same (EntryShown depth (Closing pid status)) place = refl
-  heading_same (EntryShown depth (Note pid kind text)) place = refl
-  heading_same (LogEnds depth) place = refl
+  heading_same : (event : Event) (position : ℕ) → markups (heading_parts build event position) ≡ markups (heading_parts renamed (blank_event rename event) position)
+  heading_same (Requested name opening) position = refl
+  heading_same (Mentioned depth pid how name opening) position = refl
+  heading_same (EntryShown depth (Text line)) position = refl
+  heading_same (EntryShown depth (Mention pid how name)) position = refl
+  heading_same (EntryShown depth (Done pid status name)) position = refl
+  heading_same (EntryShown depth (Closing pid status)) position = refl
+  heading_same (EntryShown depth (Note pid kind text)) position = refl
+  heading_same (LogEnds depth) position = refl
 
-  opening_same : (level : Level) (place : ℕ) (heading other : List Part) → markups heading ≡ markups other → markups (opening_parts build level place heading) ≡ markups (opening_parts build level place other)
-  opening_same level place heading other same = by (is_empty (node_at build.nodes place)) (nat_le max_depth level.depth) (is_expanded build level (node_at build.nodes place))
+  opening_same : (level : Level) (position : ℕ) (heading other : List Part) → markups heading ≡ markups other → markups (opening_parts build level position heading) ≡ markups (opening_parts build level position other)
+  opening_same level position heading other same = by (is_empty (node_at build.nodes position)) (nat_le max_depth level.depth) (is_expanded build level (node_at build.nodes position))
     where
-      by : (empty deep expanded : Bool) → markups (if empty then empty_start place heading else if deep then flat_start build place level.depth heading else nested_start build expanded place heading)
-          ≡ markups (if empty then empty_start place other else if deep then flat_start build place level.depth other else nested_start build expanded place other)
-      by true deep expanded = ap (λ t. markup.TargetItem place ∷ t) same
-      by false true expanded = ap (λ t. markup.TargetItem place ∷ t) (both_same heading (depth_parts level.depth ++ moved_parts build place) other (depth_parts level.depth ++ moved_parts build place) same refl)
+      by : (empty deep expanded : Bool) → markups (if empty then empty_start position heading else if deep then flat_start build position level.depth heading else nested_start build expanded position heading)
+          ≡ markups (if empty then empty_start position other else if deep then flat_start build position level.depth other else nested_start build expanded position other)
+      by true deep expanded = ap (λ t. markup.TargetItem position ∷ t) same
+      by false true expanded = ap (λ t. markup.TargetItem position ∷ t) (both_same heading (depth_parts level.depth ++ moved_parts build position) other (depth_parts level.depth ++ moved_parts build position) same refl)
       by false false true =
-          let end = (MarkupPart markup.EndSummary ∷ MarkupPart markup.Unordered ∷ []) ++ moved_parts build place in
-          ap (λ t. markup.Item ∷ markup.OpenDetails place ∷ markup.Summary ∷ t) (both_same heading end other end same refl)
+          let end = (MarkupPart markup.EndSummary ∷ MarkupPart markup.Unordered ∷ []) ++ moved_parts build position in
+          ap (λ t. markup.Item ∷ markup.OpenDetails position ∷ markup.Summary ∷ t) (both_same heading end other end same refl)
       by false false false =
-          let end = (MarkupPart markup.EndSummary ∷ MarkupPart markup.Unordered ∷ []) ++ moved_parts build place in
-          ap (λ t. markup.Item ∷ markup.Details place ∷ markup.Summary ∷ t) (both_same heading end other end same refl)
+          let end = (MarkupPart markup.EndSummary ∷ MarkupPart markup.Unordered ∷ []) ++ moved_parts build position in
+          ap (λ t. markup.Item ∷ markup.Details position ∷ markup.Summary ∷ t) (both_same heading end other end same refl)
 
-  group_start_plain : (level : Level) (place : ℕ) (before : Pending) → group_start build level place before ≡ group_start build level place (unstyled before)
-  group_start_plain level place pending.Nothing = refl
-  group_start_plain level place (pending.Group left) = refl
-  group_start_plain level place (pending.Text block) = refl
+  group_start_plain : (level : Level) (position : ℕ) (before : Pending) → group_start build level position before ≡ group_start build level position (unstyled before)
+  group_start_plain level position pending.Nothing = refl
+  group_start_plain level position (pending.Group left) = refl
+  group_start_plain level position (pending.Text block) = refl
 
-  group_left_plain : (level : Level) (place : ℕ) (before : Pending) → group_left build level place before ≡ group_left build level place (unstyled before)
-  group_left_plain level place pending.Nothing = refl
-  group_left_plain level place (pending.Group left) = refl
-  group_left_plain level place (pending.Text block) = refl
+  group_left_plain : (level : Level) (position : ℕ) (before : Pending) → group_left build level position before ≡ group_left build level position (unstyled before)
+  group_left_plain level position pending.Nothing = refl
+  group_left_plain level position (pending.Group left) = refl
+  group_left_plain level position (pending.Text block) = refl
 
-  log_start_same : (level : Level) (place : ℕ) (before other : Pending) (event : Event) → unstyled before ≡ unstyled other → markups (log_start build level place before event) ≡ markups (log_start renamed level place other (blank_event rename event))
-  log_start_same level place before other event same =
-      both_same (group_start build level place before) (opening_parts build level place (heading_parts build event place)) (group_start renamed level place other) (opening_parts renamed level place (heading_parts renamed (blank_event rename event) place))
-      (ap markups (same_by (group_start build level place) (group_start_plain level place) before other same))
-      (opening_same level place (heading_parts build event place) (heading_parts renamed (blank_event rename event) place) (heading_same event place))
+  log_start_same : (level : Level) (position : ℕ) (before other : Pending) (event : Event) → unstyled before ≡ unstyled other → markups (log_start build level position before event) ≡ markups (log_start renamed level position other (blank_event rename event))
+  log_start_same level position before other event same =
+      both_same (group_start build level position before) (opening_parts build level position (heading_parts build event position)) (group_start renamed level position other) (opening_parts renamed level position (heading_parts renamed (blank_event rename event) position))
+      (ap markups (same_by (group_start build level position) (group_start_plain level position) before other same))
+      (opening_same level position (heading_parts build event position) (heading_parts renamed (blank_event rename event) position) (heading_same event position))
 
-  closing_same : (level : Level) (place : ℕ) → markups (closing_parts build level place) ≡ markups (closing_parts renamed level place)
-  closing_same level place = by (is_empty (node_at nodes place)) (nat_le max_depth level.depth)
+  closing_same : (level : Level) (position : ℕ) → markups (closing_parts build level position) ≡ markups (closing_parts renamed level position)
+  closing_same level position = by (is_empty (node_at nodes position)) (nat_le max_depth level.depth)
     where
-      by : (empty deep : Bool) → markups (if empty then MarkupPart markup.EndItem ∷ [] else if deep then flat_end build place else nested_end) ≡ markups (if empty then MarkupPart markup.EndItem ∷ [] else if deep then flat_end renamed place else nested_end)
+      by : (empty deep : Bool) → markups (if empty then MarkupPart markup.EndItem ∷ [] else if deep then flat_end build position else nested_end) ≡ markups (if empty then MarkupPart markup.EndItem ∷ [] else if deep then flat_end renamed position else nested_end)
       by true deep = refl
       by false true = refl
       by false false = refl
 
-  log_end_same : (level : Level) (place left : ℕ) → markups (log_end build level place left) ≡ markups (log_end renamed level place left)
-  log_end_same level place left = both_same (closing_parts build level place) (group_end left) (closing_parts renamed level place) (group_end left) (closing_same level place) refl
+  log_end_same : (level : Level) (position left : ℕ) → markups (log_end build level position left) ≡ markups (log_end renamed level position left)
+  log_end_same level position left = both_same (closing_parts build level position) (group_end left) (closing_parts renamed level position) (group_end left) (closing_same level position) refl
 
   count_same : (contents : Contents) → log_count contents ≡ log_count (blanked rename contents)
   count_same Nothing = refl
   count_same (Shown event rest) = count_same rest
   count_same (Opened event number inside rest) = ap (λ n. suc (n + log_count rest)) (count_same inside) ∙ ap (λ n. suc (log_count (blanked rename inside) + n)) (count_same rest)
 
-  contents_same : (level : Level) (place : ℕ) (before other : Pending) (contents : Contents) → unstyled before ≡ unstyled other → markups (contents_parts build level place before contents) ≡ markups (contents_parts renamed level place other (blanked rename contents))
-  contents_same level place before other Nothing same = ap markups (same_by end_parts end_plain before other same)
-  contents_same level place before other (Shown event rest) same =
-      both_same (shown_parts build level before event) (contents_parts build level place (after_shown build level before event) rest) (shown_parts renamed level other (blank_event rename event)) (contents_parts renamed level place (after_shown renamed level other (blank_event rename event)) (blanked rename rest))
+  contents_same : (level : Level) (position : ℕ) (before other : Pending) (contents : Contents) → unstyled before ≡ unstyled other → markups (contents_parts build level position before contents) ≡ markups (contents_parts renamed level position other (blanked rename contents))
+  contents_same level position before other Nothing same = ap markups (same_by end_parts end_plain before other same)
+  contents_same level position before other (Shown event rest) same =
+      both_same (shown_parts build level before event) (contents_parts build level position (after_shown build level before event) rest) (shown_parts renamed level other (blank_event rename event)) (contents_parts renamed level position (after_shown renamed level other (blank_event rename event)) (blanked rename rest))
       (shown_same level before other event same)
-      (contents_same level place (after_shown build level before event) (after_shown renamed level other (blank_event rename event)) rest (after_shown_same level before other event same))
-  contents_same level place before other (Opened event number inside rest) same =
-      let left = group_left build level place before in
-      let left_other = group_left build level place other in
-      let left_same : left ≡ left_other = same_by (group_left build level place) (group_left_plain level place) before other same in
-      let in_log = contents_parts build (level_of build level place) (suc place) pending.Nothing inside in
-      let in_other = contents_parts renamed (level_of renamed level place) (suc place) pending.Nothing (blanked rename inside) in
-      let later = contents_parts build level (suc place + log_count inside) (after_log left) rest in
-      let later_other = contents_parts renamed level (suc place + log_count (blanked rename inside)) (after_log left_other) (blanked rename rest) in
-      both_same (log_start build level place before event) (in_log ++ (log_end build level place left ++ later)) (log_start renamed level place other (blank_event rename event)) (in_other ++ (log_end renamed level place left_other ++ later_other))
-      (log_start_same level place before other event same)
-      (both_same in_log (log_end build level place left ++ later) in_other (log_end renamed level place left_other ++ later_other)
-      (contents_same (level_of build level place) (suc place) pending.Nothing pending.Nothing inside refl)
-      (both_same (log_end build level place left) later (log_end renamed level place left_other) later_other (ap (λ n. markups (log_end build level place n)) left_same ∙ log_end_same level place left_other)
-      (contents_same level (suc place + log_count inside) (after_log left) (after_log left_other) rest (ap (λ n. unstyled (after_log n)) left_same)
-      ∙ ap (λ n. markups (contents_parts renamed level (suc place + n) (after_log left_other) (blanked rename rest))) (count_same inside))))
+      (contents_same level position (after_shown build level before event) (after_shown renamed level other (blank_event rename event)) rest (after_shown_same level before other event same))
+  contents_same level position before other (Opened event number inside rest) same =
+      let left = group_left build level position before in
+      let left_other = group_left build level position other in
+      let left_same : left ≡ left_other = same_by (group_left build level position) (group_left_plain level position) before other same in
+      let in_log = contents_parts build (level_of build level position) (suc position) pending.Nothing inside in
+      let in_other = contents_parts renamed (level_of renamed level position) (suc position) pending.Nothing (blanked rename inside) in
+      let later = contents_parts build level (suc position + log_count inside) (after_log left) rest in
+      let later_other = contents_parts renamed level (suc position + log_count (blanked rename inside)) (after_log left_other) (blanked rename rest) in
+      both_same (log_start build level position before event) (in_log ++ (log_end build level position left ++ later)) (log_start renamed level position other (blank_event rename event)) (in_other ++ (log_end renamed level position left_other ++ later_other))
+      (log_start_same level position before other event same)
+      (both_same in_log (log_end build level position left ++ later) in_other (log_end renamed level position left_other ++ later_other)
+      (contents_same (level_of build level position) (suc position) pending.Nothing pending.Nothing inside refl)
+      (both_same (log_end build level position left) later (log_end renamed level position left_other) later_other (ap (λ n. markups (log_end build level position n)) left_same ∙ log_end_same level position left_other)
+      (contents_same level (suc position + log_count inside) (after_log left) (after_log left_other) rest (ap (λ n. unstyled (after_log n)) left_same)
+      ∙ ap (λ n. markups (contents_parts renamed level (suc position + n) (after_log left_other) (blanked rename rest))) (count_same inside))))
 
 pub tree_same : (logs others : List Log) (rename : List ℕ → List ℕ) → HaveSameLogs rename logs others
     → (options : Options) (nodes : List Node) (contents : Contents) → markups (tree_parts others options nodes (blanked rename contents)) ≡ markups (tree_parts logs options nodes contents)

@@ -1,16 +1,11 @@
 -- Texts that are written in parts.
-use Rattle.std.proofs.Common.{◌≡◌, ℕ, List, [], ◌++◌, Option, None, Some, Result, Ok, Err, refl, sym, ◌∙◌, ap, subst, arith}
+use Rattle.std.proofs.Common.{◌≡◌, ℕ, List, [], ◌++◌, Option, Result, Ok, Err, refl, sym, ◌∙◌, ap, subst}
 use Rattle.std.specs.Result.{IsErr}
 use Rattle.std.proofs.lemmas.List.{append_assoc, append-nil}
 use Rattle.redo_device.specs.declared.feed.Broken.{Broken}
 use Rattle.redo_device.specs.Sink.{Output, append_output, Writes}
-use Rattle.redo_device.proofs.WritesLemmas.{then, stops}
+use Rattle.redo_device.proofs.WritesLemmas.{then, stops, append_nothing}
 use Rattle.redo_page.specs.Private.Texts.{WroteUpTo}
-
-append_nothing : (taken : Option Output) → taken ≡ append_output taken [] 0
-append_nothing None = refl
-append_nothing (Some taken) =
-    ap (λ (b : List ℕ). Some (record { bytes = b; failures = taken.failures })) (sym (append-nil taken.bytes)) ∙ ap (λ (n : ℕ). Some (record { bytes = taken.bytes ++ []; failures = n })) (omega arith)
 
 pub wrote_none : (before : Option Output) (text : List ℕ) → WroteUpTo before before text text
 wrote_none before text = record { prefix = []; wrote = append_nothing before; splits = refl }

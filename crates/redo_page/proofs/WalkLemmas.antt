@@ -23,7 +23,7 @@ use Rattle.redo_page.specs.declared.step.Step.{Step}
 use Rattle.redo_page.specs.declared.step.Step.TheVariants.{Opens, Shows}
 use Rattle.redo_page.specs.Blocks.{end_parts}
 use Rattle.redo_page.specs.Tree.{Build, after_log, after_shown, contents_parts, group_left, level_of, log_end, log_start, shown_parts}
-use Rattle.redo_page.specs.Private.Walking.{Walk, after_event, after_step, level_in, next_place, opened_log, step_of, step_parts, tree_bytes, walk_parts}
+use Rattle.redo_page.specs.Private.Walking.{Walk, after_event, after_step, level_in, next_position, opened_log, step_of, step_parts, tree_bytes, walk_parts}
 
 -- ---- events, one after the other
 
@@ -92,13 +92,13 @@ pub proper : (events : List Event) → IsProper (contents_of events)
 proper events = first_proper (contents_from events) (proper_from events)
 
 -- An outline has a node for each log.
-pub node_count : (logs : List Log) (status : ℕ → Option ℤ) (parent : Option ℕ) (place : ℕ) (contents : Contents) → length (nodes_of logs status parent place contents) ≡ log_count contents
-node_count logs status parent place Nothing = refl
-node_count logs status parent place (Shown event rest) = node_count logs status parent place rest
-node_count logs status parent place (Opened event number inside rest) =
-    ap suc (length-append (nodes_of logs status (Some place) (suc place) inside) (nodes_of logs status parent (suc place + log_count inside) rest)
-    ∙ ap (λ (n : ℕ). n + length (nodes_of logs status parent (suc place + log_count inside) rest)) (node_count logs status (Some place) (suc place) inside)
-    ∙ ap (λ (n : ℕ). log_count inside + n) (node_count logs status parent (suc place + log_count inside) rest))
+pub node_count : (logs : List Log) (status : ℕ → Option ℤ) (parent : Option ℕ) (position : ℕ) (contents : Contents) → length (nodes_of logs status parent position contents) ≡ log_count contents
+node_count logs status parent position Nothing = refl
+node_count logs status parent position (Shown event rest) = node_count logs status parent position rest
+node_count logs status parent position (Opened event number inside rest) =
+    ap suc (length-append (nodes_of logs status (Some position) (suc position) inside) (nodes_of logs status parent (suc position + log_count inside) rest)
+    ∙ ap (λ (n : ℕ). n + length (nodes_of logs status parent (suc position + log_count inside) rest)) (node_count logs status (Some position) (suc position) inside)
+    ∙ ap (λ (n : ℕ). log_count inside + n) (node_count logs status parent (suc position + log_count inside) rest))
 
 -- ---- walking over some contents
 
@@ -112,15 +112,15 @@ module _ (build : Build) where
 
   -- What isn't ended at the end of some contents.
   abbrev pub pending_after : Level → ℕ → Pending → Contents → Pending
-  pending_after level place before Nothing = before
-  pending_after level place before (Shown event rest) = pending_after level place (after_shown build level before event) rest
-  pending_after level place before (Opened event number inside rest) = pending_after level (suc place + log_count inside) (after_log (group_left build level place before)) rest
+  pending_after level position before Nothing = before
+  pending_after level position before (Shown event rest) = pending_after level position (after_shown build level before event) rest
+  pending_after level position before (Opened event number inside rest) = pending_after level (suc position + log_count inside) (after_log (group_left build level position before)) rest
 
-  next_is : (next count : ℕ) → next + suc count ≤ length build.nodes → next_place build.nodes next ≡ suc next
+  next_is : (next count : ℕ) → next + suc count ≤ length build.nodes → next_position build.nodes next ≡ suc next
   next_is next count within = cond-true (nat_lt next (length build.nodes)) (suc next) next (lt-ltb next (length build.nodes) (omega (arith, within)))
 
   level_is : (logs : List OpenLog) (next : ℕ) (before : Pending) → level_in (opened_log build (level_in logs) next before ∷ logs) ≡ level_of build (level_in logs) next
-  level_is logs next before = ap (λ (n : ℕ). record { place = Some next; expanded = (opened_log build (level_in logs) next before).expanded; depth = suc n }) (sym (level_depth logs))
+  level_is logs next before = ap (λ (n : ℕ). record { position = Some next; expanded = (opened_log build (level_in logs) next before).expanded; depth = suc n }) (sym (level_depth logs))
 
   opened_walk : (event : Event) (logs : List OpenLog) (next : ℕ) (before : Pending) (count : ℕ) → step_of event ≡ Opens → next + suc count ≤ length build.nodes
       → after_event (walk_at logs next before) event ≡ walk_at (opened_log build (level_in logs) next before ∷ logs) (suc next) pending.Nothing

@@ -3,7 +3,7 @@ use Rattle.std.specs.Prelude.{ℕ, zero, suc, ◌-◌, ◌||◌, ◌&&◌, not, 
 use Rattle.std.specs.List.{flat_map, position_or_len}
 use Rattle.redo_html.specs.declared.markup.Markup.TheVariants as markup
 use Rattle.redo_html.specs.Parts.{Part}
-use Rattle.redo_html.specs.Parts.Part.{MarkupPart, LogPart, NamePart, NumberPart}
+use Rattle.redo_html.specs.Parts.Part.{MarkupPart, LogPart, TextPart, NumberPart}
 use Rattle.redo_html.specs.Style.{plain_style}
 use Rattle.redo_page.specs.declared.labels.TheConstants.{IN_ITS_LOG, MORE_LINE, MORE_LINES}
 use Rattle.redo_page.specs.declared.cause.WordState.{WordState}
@@ -42,7 +42,7 @@ unfoldable pub excerpt_line_end : List ℕ → List ℕ
 excerpt_line_end line = if nat_le (length line) max_excerpt_line then codes "\n" else codes " ...\n"
 
 unfoldable pub excerpt_line_parts : List ℕ → List Part
-excerpt_line_parts line = LogPart plain_style (cut_to max_excerpt_line line) ∷ NamePart (excerpt_line_end line) ∷ []
+excerpt_line_parts line = LogPart plain_style (cut_to max_excerpt_line line) ∷ TextPart (excerpt_line_end line) ∷ []
 
 -- ---- stretches
 
@@ -75,22 +75,22 @@ stretches_from kept at (line ∷ lines) =
 -- ---- parts
 
 unfoldable pub in_tree_parts : ℕ → List ℕ → List Part
-in_tree_parts place text = MarkupPart (markup.TargetLink place) ∷ NamePart text ∷ MarkupPart markup.EndLink ∷ []
+in_tree_parts position text = MarkupPart (markup.TargetLink position) ∷ TextPart text ∷ MarkupPart markup.EndLink ∷ []
 
 -- How many lines are left out. They are in the log of the target, which may be cut in the tree.
 unfoldable pub left_out_parts : ℕ → ℕ → List Part
-left_out_parts place count =
-    MarkupPart markup.CutParagraph ∷ NumberPart count ∷ NamePart (plural count MORE_LINE.now MORE_LINES.now)
-    ∷ (in_tree_parts place IN_ITS_LOG.now ++ MarkupPart markup.EndParagraph ∷ [])
+left_out_parts position count =
+    MarkupPart markup.CutParagraph ∷ NumberPart count ∷ TextPart (plural count MORE_LINE.now MORE_LINES.now)
+    ∷ (in_tree_parts position IN_ITS_LOG.now ++ MarkupPart markup.EndParagraph ∷ [])
 
 abbrev pub stretch_parts : ℕ → Stretch → List Part
-stretch_parts place (Shown lines) = MarkupPart markup.Pre ∷ (flat_map excerpt_line_parts lines ++ MarkupPart markup.EndPre ∷ [])
-stretch_parts place (LeftOut count) = left_out_parts place count
+stretch_parts position (Shown lines) = MarkupPart markup.Pre ∷ (flat_map excerpt_line_parts lines ++ MarkupPart markup.EndPre ∷ [])
+stretch_parts position (LeftOut count) = left_out_parts position count
 
 -- The position of the first line that reports an error; the number of lines if there is none.
 abbrev pub error_position : List (List ℕ) → ℕ
 error_position lines = position_or_len is_error lines
 
--- The excerpt of the output of the target at a place.
+-- The excerpt of the output of the target at a position.
 unfoldable pub excerpt_parts : ℕ → List (List ℕ) → List Part
-excerpt_parts place lines = flat_map (stretch_parts place) (stretches_from (is_kept (length lines) (error_position lines)) 0 lines)
+excerpt_parts position lines = flat_map (stretch_parts position) (stretches_from (is_kept (length lines) (error_position lines)) 0 lines)

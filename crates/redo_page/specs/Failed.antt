@@ -6,7 +6,7 @@ use Rattle.redo_html.specs.declared.markup.Markup.{Markup}
 use Rattle.redo_html.specs.declared.markup.Markup.TheVariants as markup
 use Rattle.redo_html.specs.Lines.{line_parts}
 use Rattle.redo_html.specs.Parts.{Part}
-use Rattle.redo_html.specs.Parts.Part.{MarkupPart, LogPart, NamePart, NumberPart}
+use Rattle.redo_html.specs.Parts.Part.{MarkupPart, LogPart, TextPart, NumberPart}
 use Rattle.redo_html.specs.Style.{plain_style}
 use Rattle.redo_outline.specs.declared.node.Node.{Node}
 use Rattle.redo_outline.specs.Facts.{entries_at, texts_of}
@@ -18,28 +18,28 @@ use Rattle.redo_page.specs.Targets.{parts_if, name_parts, badge_parts}
 use Rattle.redo_outline.specs.Facts.{target_at}
 use Rattle.redo_page.specs.Words.{words_parts}
 use Rattle.redo_units.specs.Durations.{duration_words}
-use Rattle.redo_page.specs.Tree.{first_failures, has_failed, is_short, max_articles, node_at}
+use Rattle.redo_page.specs.Tree.{root_failures, has_failed, is_short, max_articles, node_at}
 
 -- ---- which targets failed
 
--- The places of the nodes for which this holds. The first node has the place `place`.
-abbrev pub places_where : (Node → Bool) → ℕ → List Node → List ℕ
-places_where holds place [] = []
-places_where holds place (node ∷ nodes) = if holds node then place ∷ places_where holds (suc place) nodes else places_where holds (suc place) nodes
+-- The positions of the nodes for which this holds. The first node has the position `position`.
+abbrev pub positions_where : (Node → Bool) → ℕ → List Node → List ℕ
+positions_where holds position [] = []
+positions_where holds position (node ∷ nodes) = if holds node then position ∷ positions_where holds (suc position) nodes else positions_where holds (suc position) nodes
 
 -- Whether a target failed, and one below it.
-abbrev pub failed_above : Node → Bool
-failed_above node = has_failed node && node.fails_below
+abbrev pub is_dependent_failure : Node → Bool
+is_dependent_failure node = has_failed node && node.fails_below
 
 -- Whether no record says how a target ended, though it is at the end of a path.
 abbrev pub is_unclosed : Node → Bool
 is_unclosed node = is_none node.status && (node.below == 0 && is_some node.parent)
 
--- Whether these are the places of the targets that the section names.
+-- Whether these are the positions of the targets that the section names.
 pub record AreFailures (nodes : List Node) (failures : Failures) : Type 0 where
-  pub first : failures.first.items ≡ first_failures nodes
-  pub above : failures.above.items ≡ places_where failed_above 0 nodes
-  pub unclosed : failures.unclosed.items ≡ places_where is_unclosed 0 nodes
+  pub roots : failures.roots.items ≡ root_failures nodes
+  pub dependents : failures.dependents.items ≡ positions_where is_dependent_failure 0 nodes
+  pub unclosed : failures.unclosed.items ≡ positions_where is_unclosed 0 nodes
 
 -- ---- outputs
 
@@ -53,7 +53,7 @@ no_failure_below below = if below == 0 then [] else NO_FAILURE_BELOW.now
 -- Instead of the output of a target that printed nothing.
 unfoldable pub nothing_parts : Node → List Part
 nothing_parts node =
-    MarkupPart markup.QuietParagraph ∷ NamePart NOTHING_CAPTURED.now ∷ NamePart (no_failure_below node.below) ∷ MarkupPart markup.EndParagraph ∷ []
+    MarkupPart markup.QuietParagraph ∷ TextPart NOTHING_CAPTURED.now ∷ TextPart (no_failure_below node.below) ∷ MarkupPart markup.EndParagraph ∷ []
 
 -- ---- causes
 
@@ -63,7 +63,7 @@ max_cause = 160
 -- Why a target failed, in one line.
 unfoldable pub cause_parts : Option (List ℕ) → List Part
 cause_parts None = []
-cause_parts (Some line) = NamePart (codes " ") ∷ MarkupPart markup.Code ∷ LogPart plain_style (cut_to max_cause line) ∷ MarkupPart markup.EndCode ∷ []
+cause_parts (Some line) = TextPart (codes " ") ∷ MarkupPart markup.Code ∷ LogPart plain_style (cut_to max_cause line) ∷ MarkupPart markup.EndCode ∷ []
 
 -- ---- lists
 
@@ -74,7 +74,7 @@ max_rows = 200
 unfoldable pub unlisted_parts : ℕ → List Part
 unlisted_parts count =
     parts_if (nat_lt max_rows count)
-    (MarkupPart markup.QuietParagraph ∷ NamePart AND.now ∷ NumberPart (count - max_rows) ∷ NamePart MORE_IN_TREE.now ∷ MarkupPart markup.EndParagraph ∷ [])
+    (MarkupPart markup.QuietParagraph ∷ TextPart AND.now ∷ NumberPart (count - max_rows) ∷ TextPart MORE_IN_TREE.now ∷ MarkupPart markup.EndParagraph ∷ [])
 
 module _ (logs : List Log) where
   -- What a target printed.
@@ -85,10 +85,10 @@ module _ (logs : List Log) where
   name_of node = target_at logs node.number
 
   unfoldable pub output_parts : ℕ → Node → List Part
-  output_parts place node =
+  output_parts position node =
       if node.lines == 0 then nothing_parts node
       else if is_short node then whole_parts (printed_by node)
-      else excerpt_parts place (printed_by node)
+      else excerpt_parts position (printed_by node)
 
   unfoldable pub cause_of_node : Node → List Part
   cause_of_node node = cause_parts (cause_of (printed_by node))
@@ -105,7 +105,7 @@ module _ (logs : List Log) where
 -- How long a target took, before its path.
 abbrev pub article_took : Option ℕ → List Part
 article_took None = []
-article_took (Some ms) = words_parts (duration_words ms) ++ (NamePart MIDDLE_DOT.now ∷ [])
+article_took (Some ms) = words_parts (duration_words ms) ++ (TextPart MIDDLE_DOT.now ∷ [])
 
 module _ (logs : List Log) (nodes : List Node) where
   -- ---- articles
@@ -113,60 +113,60 @@ module _ (logs : List Log) (nodes : List Node) where
   -- The logs around a target, at most `levels` of them, the outermost first, with `›` (U+203A) after each; `…` (U+2026) if there are more.
   unfoldable pub path_parts : ℕ → Option ℕ → List Part
   path_parts levels None = []
-  path_parts zero (Some place) = NamePart MORE_ABOVE.now ∷ []
-  path_parts (suc levels) (Some place) =
-      path_parts levels (node_at nodes place).parent ++ (name_parts (name_of logs (node_at nodes place)) ++ NamePart PATH_SEPARATOR.now ∷ [])
+  path_parts zero (Some position) = TextPart MORE_ABOVE.now ∷ []
+  path_parts (suc levels) (Some position) =
+      path_parts levels (node_at nodes position).parent ++ (name_parts (name_of logs (node_at nodes position)) ++ TextPart PATH_SEPARATOR.now ∷ [])
 
   abbrev pub max_path : ℕ
   max_path = 4
 
   unfoldable pub article_of : ℕ → Node → List Part
-  article_of place node =
-      MarkupPart (markup.Article place) ∷ MarkupPart markup.Title3
+  article_of position node =
+      MarkupPart (markup.Article position) ∷ MarkupPart markup.Title3
       ∷ (name_parts (name_of logs node)
       ++ (badge_parts node.status
       ++ (MarkupPart markup.EndTitle3 ∷ MarkupPart markup.MetaParagraph
       ∷ (article_took node.took
       ++ (path_parts max_path node.parent
-      ++ (in_tree_parts place PLACE_IN_TREE.now
-      ++ (MarkupPart markup.EndParagraph ∷ (output_parts logs place node ++ MarkupPart markup.EndArticle ∷ []))))))))
+      ++ (in_tree_parts position PLACE_IN_TREE.now
+      ++ (MarkupPart markup.EndParagraph ∷ (output_parts logs position node ++ MarkupPart markup.EndArticle ∷ []))))))))
 
   -- Where a target that failed is, and what it printed.
   unfoldable pub article_parts : ℕ → List Part
-  article_parts place = article_of place (node_at nodes place)
+  article_parts position = article_of position (node_at nodes position)
 
   -- ---- lists
 
   -- The articles in short, if there is more than one.
   unfoldable pub article_row : ℕ → List Part
-  article_row place = row_parts logs (markup.OutputLink place) true (node_at nodes place)
+  article_row position = row_parts logs (markup.OutputLink position) true (node_at nodes position)
 
   unfoldable pub list_parts : List ℕ → List Part
-  list_parts places = parts_if (nat_lt 1 (length places)) (MarkupPart markup.Ordered ∷ (flat_map article_row places ++ MarkupPart markup.EndOrdered ∷ []))
+  list_parts positions = parts_if (nat_lt 1 (length positions)) (MarkupPart markup.Ordered ∷ (flat_map article_row positions ++ MarkupPart markup.EndOrdered ∷ []))
 
   unfoldable pub target_row : Bool → ℕ → List Part
-  target_row causes place = row_parts logs (markup.TargetLink place) causes (node_at nodes place)
+  target_row causes position = row_parts logs (markup.TargetLink position) causes (node_at nodes position)
 
   -- More targets, closed.
   unfoldable pub more_parts : Markup → Bool → List ℕ → List ℕ → List Part
-  more_parts list causes heading places =
-      parts_if (nat_lt 0 (length places))
-      (MarkupPart markup.MoreDetails ∷ MarkupPart markup.Summary ∷ NumberPart (length places) ∷ NamePart heading ∷ MarkupPart markup.EndSummary ∷ MarkupPart list
-      ∷ (flat_map (target_row causes) (take max_rows places) ++ (MarkupPart markup.EndOrdered ∷ (unlisted_parts (length places) ++ MarkupPart markup.EndDetails ∷ []))))
+  more_parts list causes heading positions =
+      parts_if (nat_lt 0 (length positions))
+      (MarkupPart markup.MoreDetails ∷ MarkupPart markup.Summary ∷ NumberPart (length positions) ∷ TextPart heading ∷ MarkupPart markup.EndSummary ∷ MarkupPart list
+      ∷ (flat_map (target_row causes) (take max_rows positions) ++ (MarkupPart markup.EndOrdered ∷ (unlisted_parts (length positions) ++ MarkupPart markup.EndDetails ∷ []))))
 
   -- ---- the section
 
   unfoldable pub section_parts : List ℕ → List ℕ → List ℕ → List ℕ → List Part
-  section_parts articles others above unclosed =
-      MarkupPart markup.FailedSection ∷ MarkupPart markup.FailedHeading ∷ NamePart WHAT_FAILED.now ∷ MarkupPart markup.EndHeading
+  section_parts articles others dependents unclosed =
+      MarkupPart markup.FailedSection ∷ MarkupPart markup.FailedHeading ∷ TextPart WHAT_FAILED.now ∷ MarkupPart markup.EndHeading
       ∷ (list_parts articles
       ++ (flat_map article_parts articles
       ++ (more_parts (markup.OrderedFrom (suc max_articles)) true MORE_FAILED.now others
-      ++ (more_parts markup.Ordered false FAILED_WITH_THESE.now above
+      ++ (more_parts markup.Ordered false FAILED_WITH_THESE.now dependents
       ++ (more_parts markup.Ordered false COUNT_NOT_CLOSED.now unclosed ++ MarkupPart markup.EndSection ∷ [])))))
 
   -- If no target failed, there is no such section.
   unfoldable pub failed_parts : List Part
   failed_parts =
-      parts_if (nat_lt 0 (length (first_failures nodes)))
-      (section_parts (take max_articles (first_failures nodes)) (drop max_articles (first_failures nodes)) (places_where failed_above 0 nodes) (places_where is_unclosed 0 nodes))
+      parts_if (nat_lt 0 (length (root_failures nodes)))
+      (section_parts (take max_articles (root_failures nodes)) (drop max_articles (root_failures nodes)) (positions_where is_dependent_failure 0 nodes) (positions_where is_unclosed 0 nodes))

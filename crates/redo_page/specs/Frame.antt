@@ -6,7 +6,7 @@ use Rattle.redo_options.specs.declared.options.Options.{Options}
 use Rattle.redo_html.specs.declared.markup.Markup.{Markup}
 use Rattle.redo_html.specs.declared.markup.Markup.TheVariants as markup
 use Rattle.redo_html.specs.Parts.{Part}
-use Rattle.redo_html.specs.Parts.Part.{MarkupPart, NamePart, NumberPart, TitlePart, StylePart}
+use Rattle.redo_html.specs.Parts.Part.{MarkupPart, TextPart, NumberPart, TitlePart, StylePart}
 use Rattle.redo_html.specs.Shown.{number_text}
 use Rattle.redo_outline.specs.declared.node.Node.{Node}
 use Rattle.redo_page.specs.declared.labels.TheConstants.{ALL_LOGS, AS_ONE_TEXT, BUILD_TOOK, FAILED_SIGN, LOGS_IN, LOG_IN, MADE_BY, MADE_SIGN, MIDDLE_DOT, OF, PROGRAM, SUMMARY, TARGETS_BEGUN, TARGETS_FAILED, TARGETS_MADE, TARGET_BEGUN, TARGET_FAILED, TARGET_MADE, TIMELINE, UNFINISHED_SIGN, WHAT_FAILED}
@@ -14,7 +14,7 @@ use Rattle.redo_page.specs.declared.frame.Verdict.{Verdict}
 use Rattle.redo_page.specs.declared.frame.Verdict.TheVariants.{Failed, Unfinished, Made}
 use Rattle.redo_page.specs.Targets.{parts_if, badge_parts, name_parts, plural}
 use Rattle.redo_outline.specs.Facts.{target_at}
-use Rattle.redo_page.specs.Tree.{first_failures}
+use Rattle.redo_page.specs.Tree.{root_failures}
 use Rattle.redo_page.specs.Words.{words_parts}
 use Rattle.redo_summary.specs.Summary.{Facts}
 use Rattle.redo_page.specs.Timeline.{has_timeline}
@@ -36,10 +36,10 @@ abbrev pub failed_text : ℕ → ℕ → List ℕ
 failed_text failures targets = number_text failures ++ (OF.now ++ counted_text targets TARGET_FAILED.now TARGETS_FAILED.now)
 
 abbrev pub verdict_of : List Node → Verdict
-verdict_of nodes = if nat_lt 0 (length (first_failures nodes)) then Failed else if list_any is_unfinished nodes then Unfinished else Made
+verdict_of nodes = if nat_lt 0 (length (root_failures nodes)) then Failed else if list_any is_unfinished nodes then Unfinished else Made
 
 abbrev pub verdict_text : Verdict → List Node → List ℕ
-verdict_text Failed nodes = failed_text (length (first_failures nodes)) (length nodes)
+verdict_text Failed nodes = failed_text (length (root_failures nodes)) (length nodes)
 verdict_text Unfinished nodes = counted_text (length nodes) TARGET_BEGUN.now TARGETS_BEGUN.now
 verdict_text Made nodes = counted_text (length nodes) TARGET_MADE.now TARGETS_MADE.now
 
@@ -75,21 +75,21 @@ abbrev pub root_parts : List Log → Node → List Part
 root_parts logs node = parts_if (is_none node.parent) (requested_parts (target_at logs node.number) node.status)
 
 abbrev pub title_parts : List ℕ → List Part
-title_parts title = parts_if (not (length title == 0)) (MarkupPart markup.Paragraph ∷ NamePart title ∷ MarkupPart markup.EndParagraph ∷ [])
+title_parts title = parts_if (not (length title == 0)) (MarkupPart markup.Paragraph ∷ TextPart title ∷ MarkupPart markup.EndParagraph ∷ [])
 
 -- When a build began, if this has a date.
 abbrev pub date_parts : Option (List ℕ) → List Part
 date_parts None = []
-date_parts (Some date) = NamePart date ∷ NamePart MIDDLE_DOT.now ∷ []
+date_parts (Some date) = TextPart date ∷ TextPart MIDDLE_DOT.now ∷ []
 
 -- When a build began, and how long it took, if any time is known.
 abbrev pub began_parts : Option Window → ℕ → List Part
 began_parts None took = []
 began_parts (Some window) took =
-    MarkupPart markup.MetaParagraph ∷ (date_parts (date_text_of (window.began / 1000)) ++ (NamePart BUILD_TOOK.now ∷ (words_parts (duration_words took) ++ MarkupPart markup.EndParagraph ∷ [])))
+    MarkupPart markup.MetaParagraph ∷ (date_parts (date_text_of (window.began / 1000)) ++ (TextPart BUILD_TOOK.now ∷ (words_parts (duration_words took) ++ MarkupPart markup.EndParagraph ∷ [])))
 
 abbrev pub nav_item : Markup → List ℕ → List Part
-nav_item link text = MarkupPart markup.Item ∷ MarkupPart link ∷ NamePart text ∷ MarkupPart markup.EndLink ∷ MarkupPart markup.EndItem ∷ []
+nav_item link text = MarkupPart markup.Item ∷ MarkupPart link ∷ TextPart text ∷ MarkupPart markup.EndLink ∷ MarkupPart markup.EndItem ∷ []
 
 abbrev pub failed_nav : Verdict → List Part
 failed_nav Failed = nav_item markup.FailedLink WHAT_FAILED.now
@@ -110,7 +110,7 @@ nav_parts verdict timed =
 
 abbrev pub top_heading_parts : Verdict → List ℕ → List Part
 top_heading_parts verdict heading =
-    MarkupPart markup.Header ∷ MarkupPart markup.Title1 ∷ MarkupPart markup.Sign ∷ NamePart (sign_text verdict) ∷ MarkupPart markup.EndSign ∷ NamePart (codes " ") ∷ NamePart heading ∷ MarkupPart markup.EndTitle1 ∷ []
+    MarkupPart markup.Header ∷ MarkupPart markup.Title1 ∷ MarkupPart markup.Sign ∷ TextPart (sign_text verdict) ∷ MarkupPart markup.EndSign ∷ TextPart (codes " ") ∷ TextPart heading ∷ MarkupPart markup.EndTitle1 ∷ []
 
 abbrev pub header_parts : List ℕ → List Log → Verdict → List ℕ → List Node → Facts → List Part
 header_parts title logs verdict heading nodes facts =
@@ -141,20 +141,20 @@ quoted word = if is_safe_word word then word else in_quotes word
 abbrev pub argument : List ℕ → List ℕ
 argument name = codes " " ++ ((if starts_with nat_eq name (codes "-") then codes "./" else []) ++ quoted name)
 
-abbrev pub flag : Bool → List ℕ → List ℕ
-flag given word = if given then word else []
+abbrev pub text_if : Bool → List ℕ → List ℕ
+text_if condition text = if condition then text else []
 
 -- The command that writes the same as one text.
 abbrev pub command : List ℕ → Options → List (List ℕ) → List ℕ
 command dir options requested =
-    codes "redo-log -r" ++ (flag options.unchanged (codes " -u") ++ (flag options.debug_locks (codes " --debug-locks") ++ (codes " --dir=" ++ (quoted dir ++ flat_map argument requested))))
+    codes "redo-log -r" ++ (text_if options.unchanged (codes " -u") ++ (text_if options.debug_locks (codes " --debug-locks") ++ (codes " --dir=" ++ (quoted dir ++ flat_map argument requested))))
 
 abbrev pub log_count_parts : ℕ → List Part
-log_count_parts logs = NumberPart logs ∷ NamePart (plural logs LOG_IN.now LOGS_IN.now) ∷ []
+log_count_parts logs = NumberPart logs ∷ TextPart (plural logs LOG_IN.now LOGS_IN.now) ∷ []
 
 unfoldable pub footer_parts : List ℕ → List ℕ → ℕ → List Part
 footer_parts dir command logs =
-    MarkupPart markup.EndMain ∷ MarkupPart markup.Footer ∷ MarkupPart markup.Paragraph ∷ NamePart MADE_BY.now ∷ MarkupPart markup.Code ∷ NamePart PROGRAM.now ∷ MarkupPart markup.EndCode ∷ NamePart OF.now
+    MarkupPart markup.EndMain ∷ MarkupPart markup.Footer ∷ MarkupPart markup.Paragraph ∷ TextPart MADE_BY.now ∷ MarkupPart markup.Code ∷ TextPart PROGRAM.now ∷ MarkupPart markup.EndCode ∷ TextPart OF.now
     ∷ (log_count_parts logs
-    ++ (MarkupPart markup.Code ∷ NamePart dir ∷ MarkupPart markup.EndCode ∷ NamePart AS_ONE_TEXT.now ∷ MarkupPart markup.Code ∷ NamePart command ∷ MarkupPart markup.EndCode
-    ∷ MarkupPart markup.EndParagraph ∷ MarkupPart markup.EndFooter ∷ MarkupPart markup.EndBody ∷ MarkupPart markup.EndHtml ∷ NamePart (codes "\n") ∷ []))
+    ++ (MarkupPart markup.Code ∷ TextPart dir ∷ MarkupPart markup.EndCode ∷ TextPart AS_ONE_TEXT.now ∷ MarkupPart markup.Code ∷ TextPart command ∷ MarkupPart markup.EndCode
+    ∷ MarkupPart markup.EndParagraph ∷ MarkupPart markup.EndFooter ∷ MarkupPart markup.EndBody ∷ MarkupPart markup.EndHtml ∷ TextPart (codes "\n") ∷ []))

@@ -11,7 +11,7 @@ use Rattle.redo_html.specs.declared.markup.Markup.TheVariants.{FailedSection, Su
 use Rattle.redo_html.specs.declared.chart.GroupKind.{GroupKind}
 use Rattle.redo_html.specs.Chart.{Drawing, drawing_links}
 use Rattle.redo_html.specs.Html.{is_one_of}
-use Rattle.redo_html.specs.Laws.{IsChartTag, is_mark}
+use Rattle.redo_html.specs.Laws.{IsChartTag, is_highlight}
 use Rattle.redo_html.specs.Parts.{Part}
 use Rattle.redo_html.specs.Parts.Part.{MarkupPart, LogPart, ChartPart}
 use Rattle.redo_html.specs.Tags.{markup_text}
@@ -26,7 +26,7 @@ use Rattle.redo_chart.specs.Laws.{DrawsAll, shapes_of}
 use Rattle.redo_summary.specs.Summary.{is_timed}
 use Rattle.redo_timeline.specs.declared.span.Span.{Span}
 use Rattle.redo_timeline.specs.declared.span.Window.{Window}
-use Rattle.redo_page.specs.Tree.{Build, articles, is_moved_if, is_same_place, node_at, tree_parts}
+use Rattle.redo_page.specs.Tree.{Build, is_moved_if, is_same_position, node_at, tree_parts}
 use Rattle.redo_page.specs.Limits.{tree_limits}
 use Rattle.redo_trim.specs.declared.limit.Limit.{Limit}
 use Rattle.redo_trim.specs.Trim.{limit_of}
@@ -107,14 +107,14 @@ EndsBefore None other = ⊥
 
 -- A target ended before another one; or their ends are equal, or both unknown, and it is before the other one in the tree.
 abbrev pub IsListedBefore : List Node → ℕ → ℕ → Type 0
-IsListedBefore nodes place other =
-    EndsBefore (node_at nodes place).ended (node_at nodes other).ended
-    ⊎ (((node_at nodes place).ended ≡ (node_at nodes other).ended) × (place < other))
+IsListedBefore nodes position other =
+    EndsBefore (node_at nodes position).ended (node_at nodes other).ended
+    ⊎ (((node_at nodes position).ended ≡ (node_at nodes other).ended) × (position < other))
 
 -- Each target is listed before all those that follow.
 abbrev pub AreInOrderOfEnd : List Node → List ℕ → Type 0
 AreInOrderOfEnd nodes [] = Unit {0}
-AreInOrderOfEnd nodes (place ∷ places) = AllByRecursion (IsListedBefore nodes place) places × AreInOrderOfEnd nodes places
+AreInOrderOfEnd nodes (position ∷ positions) = AllByRecursion (IsListedBefore nodes position) positions × AreInOrderOfEnd nodes positions
 
 -- ---- charts
 
@@ -141,54 +141,54 @@ abbrev pub event_lines : Event → List (List ℕ)
 event_lines (EntryShown depth (Text line)) = line ∷ []
 event_lines event = []
 
--- A text line, and the place of the log that contains it.
-pub record PlacedLine : Type 0 where
-  pub place : Option ℕ
+-- A text line, and the position of the log that contains it.
+pub record PositionedLine : Type 0 where
+  pub position : Option ℕ
   pub line : List ℕ
 
-abbrev pub placed_at : Option ℕ → Event → List PlacedLine
-placed_at place event = map (λ (line : List ℕ). record { place = place; line = line }) (event_lines event)
+abbrev pub positioned_at : Option ℕ → Event → List PositionedLine
+positioned_at position event = map (λ (line : List ℕ). record { position = position; line = line }) (event_lines event)
 
--- The text lines of some contents, in order. `around` is the place of the log that contains them, and `place` is the place of the next log.
-abbrev pub placed_lines : Option ℕ → ℕ → Contents → List PlacedLine
-placed_lines around place Nothing = []
-placed_lines around place (Shown event rest) = placed_at around event ++ placed_lines around place rest
-placed_lines around place (Opened event number inside rest) =
-    placed_lines (Some place) (suc place) inside ++ placed_lines around (suc place + log_count inside) rest
+-- The text lines of some contents, in order. `around` is the position of the log that contains them, and `position` that of the next log.
+abbrev pub positioned_lines : Option ℕ → ℕ → Contents → List PositionedLine
+positioned_lines around position Nothing = []
+positioned_lines around position (Shown event rest) = positioned_at around event ++ positioned_lines around position rest
+positioned_lines around position (Opened event number inside rest) =
+    positioned_lines (Some position) (suc position) inside ++ positioned_lines around (suc position + log_count inside) rest
 
-abbrev pub texts_of : List PlacedLine → List (List ℕ)
-texts_of lines = map (λ (placed : PlacedLine). placed.line) lines
+abbrev pub texts_of : List PositionedLine → List (List ℕ)
+texts_of lines = map (λ (positioned : PositionedLine). positioned.line) lines
 
 -- Lines with their line feeds.
-abbrev pub placed_bytes : List PlacedLine → List ℕ
-placed_bytes lines = flat_map with_line_feed (texts_of lines)
+abbrev pub positioned_bytes : List PositionedLine → List ℕ
+positioned_bytes lines = flat_map with_line_feed (texts_of lines)
 
--- The lines of the log at a place.
-abbrev pub lines_at : ℕ → List PlacedLine → List PlacedLine
-lines_at place lines = filter (λ (placed : PlacedLine). is_same_place placed.place (Some place)) lines
+-- The lines of the log at a position.
+abbrev pub lines_at : ℕ → List PositionedLine → List PositionedLine
+lines_at position lines = filter (λ (positioned : PositionedLine). is_same_position positioned.position (Some position)) lines
 
 -- The lines of the logs whose output isn't in an article.
-abbrev pub unmoved_lines : Build → List PlacedLine → List PlacedLine
-unmoved_lines build lines = filter (λ (placed : PlacedLine). not (is_moved_if build placed.place)) lines
+abbrev pub unmoved_lines : Build → List PositionedLine → List PositionedLine
+unmoved_lines build lines = filter (λ (positioned : PositionedLine). not (is_moved_if build positioned.position)) lines
 
 module _ (request : Request) (logs : List Log) (requested : List (List ℕ)) where
-  abbrev pub page_lines : List PlacedLine
-  page_lines = placed_lines None 0 (contents_of (page_events request logs requested))
+  abbrev pub page_lines : List PositionedLine
+  page_lines = positioned_lines None 0 (contents_of (page_events request logs requested))
 
   -- Those that are left in the tree.
-  abbrev pub kept_lines : List PlacedLine
-  kept_lines = placed_lines None 0 (page_contents request logs requested)
+  abbrev pub kept_lines : List PositionedLine
+  kept_lines = positioned_lines None 0 (page_contents request logs requested)
 
-  -- The limit of the log at a place.
+  -- The limit of the log at a position.
   abbrev pub page_limit : ℕ → Limit
-  page_limit place =
-      limit_of (tree_limits logs (options_of request) (page_outline request logs requested) request.max_bytes) (node_at (page_outline request logs requested) place).number
+  page_limit position =
+      limit_of (tree_limits logs (options_of request) (page_outline request logs requested) request.max_bytes) (node_at (page_outline request logs requested) position).number
 
   abbrev pub page_tree : List Part
   page_tree = tree_parts logs (options_of request) (page_outline request logs requested) (page_contents request logs requested)
 
   abbrev pub page_article : ℕ → List Part
-  page_article place = article_parts logs (page_outline request logs requested) place
+  page_article position = article_parts logs (page_outline request logs requested) position
 
   -- The chart of a page with this window.
   abbrev pub page_chart : Window → Drawing
@@ -210,17 +210,17 @@ pub record IsPartOf (inner whole : List Part) : Type 0 where
 
 -- ---- tags
 
--- Whether a tag is a page's own: the text of a `Markup`, a mark in a text, a tag of the title or of the style sheet, or a tag of a chart.
+-- Whether a tag is a page's own: the text of a `Markup`, a highlight, a tag of the title or of the style sheet, or a tag of a chart.
 abbrev pub IsOwnTag : List ℕ → Type 0
 IsOwnTag tag =
     ((markup : Markup) × (tag ≡ markup_text markup))
-    ⊎ (((is_mark tag || is_one_of tag (codes "title" ∷ codes "/title" ∷ codes "style" ∷ codes "/style" ∷ [])) ≡ true) ⊎ IsChartTag tag)
+    ⊎ (((is_highlight tag || is_one_of tag (codes "title" ∷ codes "/title" ∷ codes "style" ∷ codes "/style" ∷ [])) ≡ true) ⊎ IsChartTag tag)
 
 abbrev pub markup_of : Part → List Markup
 markup_of (MarkupPart markup) = markup ∷ []
 markup_of part = []
 
--- The tags of parts, without marks.
+-- The tags of parts, without highlights.
 abbrev pub markups : List Part → List Markup
 markups parts = flat_map markup_of parts
 

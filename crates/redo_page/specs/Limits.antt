@@ -4,62 +4,62 @@ use Rattle.redo_outline.specs.declared.node.Node.{Node}
 use Rattle.redo_page.specs.Excerpt.{last_where}
 use Rattle.redo_logs.specs.Logs.{Log}
 use Rattle.redo_options.specs.declared.options.Options.{Options}
-use Rattle.redo_page.specs.Tree.{Build, articles, is_moved, node_at, place_of}
+use Rattle.redo_page.specs.Tree.{Build, articles, is_moved, node_at, position_of}
 use Rattle.redo_trim.specs.declared.limit.Limit.{Limit}
 use Rattle.redo_trim.specs.Trim.{no_limit}
 
--- ---- the level
+-- ---- the cap
 
 abbrev pub at_most : Option ℕ → ℕ → ℕ
 at_most None bytes = bytes
-at_most (Some level) bytes = min bytes level
+at_most (Some cap) bytes = min bytes cap
 
--- The number of bytes that all logs show if each one shows at most `level` bytes, or all of them.
+-- The number of bytes that all logs show if each one shows at most `cap` bytes, or all of them.
 abbrev pub bytes_shown : Option ℕ → List Node → ℕ
-bytes_shown level nodes = sum_by (λ (node : Node). at_most level node.bytes) nodes
+bytes_shown cap nodes = sum_by (λ (node : Node). at_most cap node.bytes) nodes
 
 abbrev pub fit_in : Option ℕ → ℕ → List Node → Bool
-fit_in level budget nodes = nat_le (bytes_shown level nodes) budget
+fit_in cap budget nodes = nat_le (bytes_shown cap nodes) budget
 
--- The lowest level. A log that shows whole lines only may show fewer bytes.
-abbrev pub min_level : ℕ
-min_level = 4096
+-- The lowest cap. A log that shows whole lines only may show fewer bytes.
+abbrev pub min_cap : ℕ
+min_cap = 4096
 
--- The highest level at which all logs together show at most `budget` bytes.
-abbrev pub highest_level : ℕ → List Node → ℕ
-highest_level budget nodes = last_where (λ level. fit_in (Some level) budget nodes) budget
+-- The highest cap at which all logs together show at most `budget` bytes.
+abbrev pub highest_cap : ℕ → List Node → ℕ
+highest_cap budget nodes = last_where (λ cap. fit_in (Some cap) budget nodes) budget
 
 -- The number of bytes that a log may show. There is no limit if everything fits into the budget, or if the budget is 0.
-abbrev pub level_for : ℕ → List Node → Option ℕ
-level_for budget nodes = if budget == 0 || fit_in None budget nodes then None else Some (max min_level (highest_level budget nodes))
+abbrev pub cap_for : ℕ → List Node → Option ℕ
+cap_for budget nodes = if budget == 0 || fit_in None budget nodes then None else Some (max min_cap (highest_cap budget nodes))
 
 -- ---- limits
 
 -- A quarter of what a log shows is its head, and the rest is its tail.
 abbrev pub limit_at : ℕ → ℕ → Limit
-limit_at level bytes = record { head = level / 4; tail = bytes - (level - level / 4) }
+limit_at cap bytes = record { head = cap / 4; tail = bytes - (cap - cap / 4) }
 
 module _ (build : Build) where
-  -- The limit of the log at a place. An output that is in an article isn't cut.
-  abbrev pub place_limit : ℕ → ℕ → Limit
-  place_limit level place =
-      if nat_lt level (node_at build.nodes place).bytes && not (is_moved build place) then limit_at level (node_at build.nodes place).bytes else no_limit
+  -- The limit of the log at a position. An output that is in an article isn't cut.
+  abbrev pub position_limit : ℕ → ℕ → Limit
+  position_limit cap position =
+      if nat_lt cap (node_at build.nodes position).bytes && not (is_moved build position) then limit_at cap (node_at build.nodes position).bytes else no_limit
 
   abbrev pub limit_if : ℕ → Option ℕ → Limit
-  limit_if level None = no_limit
-  limit_if level (Some place) = place_limit level place
+  limit_if cap None = no_limit
+  limit_if cap (Some position) = position_limit cap position
 
   -- The limits of `count` logs, of which the first one has the number `number`.
   abbrev pub limits_from : ℕ → ℕ → ℕ → List Limit
-  limits_from level number zero = []
-  limits_from level number (suc count) = limit_if level (place_of build.nodes number) ∷ limits_from level (suc number) count
+  limits_from cap number zero = []
+  limits_from cap number (suc count) = limit_if cap (position_of build.nodes number) ∷ limits_from cap (suc number) count
 
   -- The limits of all logs, by their numbers.
   abbrev pub limits_of : Option ℕ → ℕ → List Limit
   limits_of None count = []
-  limits_of (Some level) count = limits_from level 0 count
+  limits_of (Some cap) count = limits_from cap 0 count
 
 -- The limits of all logs of a tree that shows at most `budget` bytes.
 abbrev pub tree_limits : List Log → Options → List Node → ℕ → List Limit
 tree_limits logs options nodes budget =
-    limits_of (record { logs = logs; options = options; nodes = nodes; articles = articles nodes }) (level_for budget nodes) (length logs)
+    limits_of (record { logs = logs; options = options; nodes = nodes; articles = articles nodes }) (cap_for budget nodes) (length logs)

@@ -4,7 +4,7 @@ use Rattle.redo_line.specs.declared.entry.How.{How}
 use Rattle.redo_line.specs.declared.entry.How.TheVariants.{Made, Waiting, Locked, Unlocked, Unchanged}
 use Rattle.redo_html.specs.declared.markup.Markup.TheVariants.{Bdi, EndBdi, ExitBadge, OpenBadge, EndBadge, Small, EndSmall, Warnings, EndWarnings, TargetLink, EndLink}
 use Rattle.redo_html.specs.Parts.{Part}
-use Rattle.redo_html.specs.Parts.Part.{MarkupPart, NamePart, NumberPart}
+use Rattle.redo_html.specs.Parts.Part.{MarkupPart, TextPart, NumberPart}
 use Rattle.redo_outline.specs.declared.node.Node.{Node}
 use Rattle.redo_outline.specs.Facts.{is_failure}
 use Rattle.redo_page.specs.declared.labels.TheConstants.{BELOW, EXIT, LINE, LINES, LOCKED, MADE, NOT_CLOSED, UNCHANGED, UNLOCKED, WAITING, WARNING, WARNINGS, WITH}
@@ -15,7 +15,7 @@ abbrev pub parts_if : Bool → List Part → List Part
 parts_if condition parts = if condition then parts else []
 
 abbrev pub name_parts : List ℕ → List Part
-name_parts name = MarkupPart Bdi ∷ NamePart name ∷ MarkupPart EndBdi ∷ []
+name_parts name = MarkupPart Bdi ∷ TextPart name ∷ MarkupPart EndBdi ∷ []
 
 -- A status in decimal is its sign, if it is negative, and its magnitude.
 abbrev pub sign : ℤ → List ℕ
@@ -28,10 +28,10 @@ magnitude (negsuc value) = suc value
 
 -- The badge of a target that failed, or of which no record says how it ended.
 abbrev pub exit_parts : ℤ → List Part
-exit_parts status = NamePart (codes " ") ∷ MarkupPart ExitBadge ∷ NamePart EXIT.now ∷ NamePart (sign status) ∷ NumberPart (magnitude status) ∷ MarkupPart EndBadge ∷ []
+exit_parts status = TextPart (codes " ") ∷ MarkupPart ExitBadge ∷ TextPart EXIT.now ∷ TextPart (sign status) ∷ NumberPart (magnitude status) ∷ MarkupPart EndBadge ∷ []
 
 abbrev pub badge_parts : Option ℤ → List Part
-badge_parts None = NamePart (codes " ") ∷ MarkupPart OpenBadge ∷ NamePart NOT_CLOSED.now ∷ MarkupPart EndBadge ∷ []
+badge_parts None = TextPart (codes " ") ∷ MarkupPart OpenBadge ∷ TextPart NOT_CLOSED.now ∷ MarkupPart EndBadge ∷ []
 badge_parts (Some status) = parts_if (is_failure (Some status)) (exit_parts status)
 
 -- A word that depends on a number.
@@ -42,25 +42,25 @@ plural number one many = if number == 1 then one else many
 abbrev pub lines_parts : ℕ → List Part
 lines_parts lines =
     parts_if (not (lines == 0))
-    (NamePart (codes " ") ∷ MarkupPart Small ∷ NumberPart lines ∷ NamePart (plural lines LINE.now LINES.now) ∷ MarkupPart EndSmall ∷ [])
+    (TextPart (codes " ") ∷ MarkupPart Small ∷ NumberPart lines ∷ TextPart (plural lines LINE.now LINES.now) ∷ MarkupPart EndSmall ∷ [])
 
 abbrev pub warnings_parts : ℕ → List Part
 warnings_parts warnings =
     parts_if (not (warnings == 0))
-    (NamePart (codes " ") ∷ MarkupPart Small ∷ MarkupPart Warnings ∷ NumberPart warnings ∷ NamePart (plural warnings WARNING.now WARNINGS.now) ∷ MarkupPart EndWarnings ∷ MarkupPart EndSmall ∷ [])
+    (TextPart (codes " ") ∷ MarkupPart Small ∷ MarkupPart Warnings ∷ NumberPart warnings ∷ TextPart (plural warnings WARNING.now WARNINGS.now) ∷ MarkupPart EndWarnings ∷ MarkupPart EndSmall ∷ [])
 
 abbrev pub below_parts : ℕ → List Part
-below_parts below = parts_if (not (below == 0)) (NamePart (codes " ") ∷ MarkupPart Small ∷ NumberPart below ∷ NamePart BELOW.now ∷ MarkupPart EndSmall ∷ [])
+below_parts below = parts_if (not (below == 0)) (TextPart (codes " ") ∷ MarkupPart Small ∷ NumberPart below ∷ TextPart BELOW.now ∷ MarkupPart EndSmall ∷ [])
 
 abbrev pub warnings_below_parts : ℕ → List Part
 warnings_below_parts warnings =
     parts_if (not (warnings == 0))
-    (NamePart (codes " ") ∷ MarkupPart Small ∷ NamePart WITH.now ∷ MarkupPart Warnings ∷ NumberPart warnings ∷ NamePart (plural warnings WARNING.now WARNINGS.now) ∷ MarkupPart EndWarnings ∷ MarkupPart EndSmall ∷ [])
+    (TextPart (codes " ") ∷ MarkupPart Small ∷ TextPart WITH.now ∷ MarkupPart Warnings ∷ NumberPart warnings ∷ TextPart (plural warnings WARNING.now WARNINGS.now) ∷ MarkupPart EndWarnings ∷ MarkupPart EndSmall ∷ [])
 
 -- How long a target took, if this is known.
 abbrev pub took_parts : Option ℕ → List Part
 took_parts None = []
-took_parts (Some ms) = NamePart (codes " ") ∷ MarkupPart Small ∷ (words_parts (duration_words ms) ++ MarkupPart EndSmall ∷ [])
+took_parts (Some ms) = TextPart (codes " ") ∷ MarkupPart Small ∷ (words_parts (duration_words ms) ++ MarkupPart EndSmall ∷ [])
 
 -- The facts that follow the name of a target.
 abbrev pub facts_parts : Node → List Part
@@ -77,9 +77,9 @@ how_word Unlocked = UNLOCKED.now
 how_word Unchanged = UNCHANGED.now
 
 abbrev pub how_parts : Bool → How → List Part
-how_parts shown how = parts_if shown (NamePart (codes " ") ∷ MarkupPart Small ∷ NamePart (how_word how) ∷ MarkupPart EndSmall ∷ [])
+how_parts shown how = parts_if shown (TextPart (codes " ") ∷ MarkupPart Small ∷ TextPart (how_word how) ∷ MarkupPart EndSmall ∷ [])
 
--- A name that leads to the place of a target in the tree, if it is there.
+-- A name that leads to the position of a target in the tree, if it is there.
 abbrev pub linked_parts : Option ℕ → List ℕ → List Part
 linked_parts None name = name_parts name
-linked_parts (Some place) name = MarkupPart (TargetLink place) ∷ (name_parts name ++ MarkupPart EndLink ∷ [])
+linked_parts (Some position) name = MarkupPart (TargetLink position) ∷ (name_parts name ++ MarkupPart EndLink ∷ [])

@@ -5,7 +5,7 @@ use Rattle.redo_chart.specs.Timeline.{timeline_drawing}
 use Rattle.redo_html.specs.Chart.{Drawing}
 use Rattle.redo_html.specs.declared.markup.Markup.TheVariants as markup
 use Rattle.redo_html.specs.Parts.{Part}
-use Rattle.redo_html.specs.Parts.Part.{ChartPart, MarkupPart, NamePart, NumberPart}
+use Rattle.redo_html.specs.Parts.Part.{ChartPart, MarkupPart, TextPart, NumberPart}
 use Rattle.redo_outline.specs.declared.node.Node.{Node}
 use Rattle.redo_page.specs.declared.labels.TheConstants.{BARS_LEAD, MARKS_OF, MARKS_UNKNOWN, OF, PALE_BARS, TIMELINE}
 use Rattle.redo_page.specs.Summary.{known_count}
@@ -21,12 +21,12 @@ has_timeline facts = is_some facts.window && is_timed facts
 abbrev pub marks_parts : ℕ → ℕ → List Part
 marks_parts marks known =
     parts_if (not (marks == 0))
-    (MarkupPart markup.QuietParagraph ∷ NamePart MARKS_OF.now ∷ NumberPart marks ∷ NamePart OF.now ∷ NumberPart known
-    ∷ NamePart MARKS_UNKNOWN.now ∷ MarkupPart markup.EndParagraph ∷ [])
+    (MarkupPart markup.QuietParagraph ∷ TextPart MARKS_OF.now ∷ NumberPart marks ∷ TextPart OF.now ∷ NumberPart known
+    ∷ TextPart MARKS_UNKNOWN.now ∷ MarkupPart markup.EndParagraph ∷ [])
 
 abbrev pub timeline_start : Facts → List Part
 timeline_start facts =
-    (MarkupPart markup.TimelineSection ∷ MarkupPart markup.TimelineHeading ∷ NamePart TIMELINE.now ∷ MarkupPart markup.EndHeading ∷ [])
+    (MarkupPart markup.TimelineSection ∷ MarkupPart markup.TimelineHeading ∷ TextPart TIMELINE.now ∷ MarkupPart markup.EndHeading ∷ [])
     ++ (marks_parts (length facts.marks) (known_count facts) ++ (MarkupPart markup.TimelineScroll ∷ []))
 
 -- What pale bars are, if there are any.
@@ -35,12 +35,12 @@ pale_text pale = if pale then PALE_BARS.now else []
 
 abbrev pub timeline_end : Facts → List Part
 timeline_end facts =
-    MarkupPart markup.EndDiv ∷ MarkupPart markup.QuietParagraph ∷ NamePart BARS_LEAD.now ∷ NamePart (pale_text (not (length facts.parents == 0)))
+    MarkupPart markup.EndDiv ∷ MarkupPart markup.QuietParagraph ∷ TextPart BARS_LEAD.now ∷ TextPart (pale_text (not (length facts.callers == 0)))
     ∷ MarkupPart markup.EndParagraph ∷ MarkupPart markup.EndSection ∷ []
 
 module _ (logs : List Log) (nodes : List Node) (facts : Facts) where
   abbrev pub facts_drawing : Window → Drawing
-  facts_drawing window = timeline_drawing logs nodes window facts.parents facts.recipes facts.marks
+  facts_drawing window = timeline_drawing logs nodes window facts.callers facts.recipes facts.marks
 
   abbrev pub timeline_section : Window → List Part
   timeline_section window = timeline_start facts ++ (ChartPart (facts_drawing window) ∷ timeline_end facts)

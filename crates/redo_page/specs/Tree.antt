@@ -16,7 +16,7 @@ use Rattle.redo_view.specs.Event.Event.{Requested, Mentioned, EntryShown, LogEnd
 use Rattle.redo_html.specs.declared.markup.Markup.{Markup}
 use Rattle.redo_html.specs.declared.markup.Markup.TheVariants as markup
 use Rattle.redo_html.specs.Parts.{Part}
-use Rattle.redo_html.specs.Parts.Part.{MarkupPart, NamePart, NumberPart}
+use Rattle.redo_html.specs.Parts.Part.{MarkupPart, TextPart, NumberPart}
 use Rattle.redo_outline.specs.declared.node.Node.{Node}
 use Rattle.redo_outline.specs.Contents.{Contents}
 use Rattle.redo_outline.specs.Contents.Contents.{Nothing, Shown, Opened}
@@ -35,11 +35,11 @@ abbrev pub no_node : Node
 no_node = record { number = 0; parent = None; status = None; lines = 0; bytes = 0; warnings = 0; below = 0; children = 0; others = false; warnings_below = 0; fails_below = false; silent = 0; took = None; ended = None }
 
 abbrev pub node_at : List Node → ℕ → Node
-node_at nodes place = slice_index_or nodes place no_node
+node_at nodes position = slice_index_or nodes position no_node
 
--- The place of the log with this number, if it is opened.
-abbrev pub place_of : List Node → ℕ → Option ℕ
-place_of nodes number = position (λ (node : Node). node.number == number) nodes
+-- The position of the log with this number, if it is opened.
+abbrev pub position_of : List Node → ℕ → Option ℕ
+position_of nodes number = position (λ (node : Node). node.number == number) nodes
 
 -- ---- what a target is
 
@@ -47,13 +47,13 @@ abbrev pub has_failed : Node → Bool
 has_failed node = is_failure node.status
 
 -- Whether a target failed, and none below it.
-abbrev pub failed_first : Node → Bool
-failed_first node = has_failed node && not node.fails_below
+abbrev pub is_root_failure : Node → Bool
+is_root_failure node = has_failed node && not node.fails_below
 
--- The places of the targets that failed with none below them, in the order of the tree.
-abbrev pub first_failures_from : ℕ → List Node → List ℕ
-first_failures_from place [] = []
-first_failures_from place (node ∷ nodes) = (if failed_first node then place ∷ [] else []) ++ first_failures_from (suc place) nodes
+-- The positions of the targets that failed with none below them, in the order of the tree.
+abbrev pub root_failures_from : ℕ → List Node → List ℕ
+root_failures_from position [] = []
+root_failures_from position (node ∷ nodes) = (if is_root_failure node then position ∷ [] else []) ++ root_failures_from (suc position) nodes
 
 -- The target that ended first is first. Targets of which it is unknown when they ended are last.
 abbrev pub end_cmp : Option ℕ → Option ℕ → Ordering
@@ -64,20 +64,20 @@ end_cmp None None = Equal
 
 -- Targets by when they ended, and then in the order of the tree.
 abbrev pub failure_cmp : List Node → ℕ → ℕ → Ordering
-failure_cmp nodes place other = ordering_then (end_cmp (node_at nodes place).ended (node_at nodes other).ended) (nat_cmp place other)
+failure_cmp nodes position other = ordering_then (end_cmp (node_at nodes position).ended (node_at nodes other).ended) (nat_cmp position other)
 
--- The same places, in the order in which the targets ended.
-abbrev pub first_failures : List Node → List ℕ
-first_failures nodes = sort (failure_cmp nodes) (first_failures_from 0 nodes)
+-- The same positions, in the order in which the targets ended.
+abbrev pub root_failures : List Node → List ℕ
+root_failures nodes = sort (failure_cmp nodes) (root_failures_from 0 nodes)
 
 -- The targets that have an article at the top of the page.
 abbrev pub max_articles : ℕ
 max_articles = 10
 
 abbrev pub articles : List Node → List ℕ
-articles nodes = take max_articles (first_failures nodes)
+articles nodes = take max_articles (root_failures nodes)
 
--- A build, as the tree of its page shows it: its logs, the options, the outline, and the places of the targets that have an article.
+-- A build, as the tree of its page shows it: its logs, the options, the outline, and the positions of the targets that have an article.
 pub record Build : Type 0 where
   pub logs : List Log
   pub options : Options
@@ -103,12 +103,12 @@ min_group = 5
 
 -- The level of the requested targets: no log is around them.
 abbrev pub top_level : Level
-top_level = record { place = None; expanded = true; depth = 0 }
+top_level = record { position = None; expanded = true; depth = 0 }
 
--- What the log at a place is, if there is one.
+-- What the log at a position is, if there is one.
 abbrev pub node_if : List Node → Option ℕ → Option Node
 node_if nodes None = None
-node_if nodes (Some place) = Some (node_at nodes place)
+node_if nodes (Some position) = Some (node_at nodes position)
 
 -- Whether there is only one log, and nothing else, directly in the log around.
 abbrev pub has_one_child : Option Node → Bool
@@ -119,18 +119,18 @@ abbrev pub is_silent : Option Node → Bool
 is_silent None = false
 is_silent (Some node) = not (node.silent == 0)
 
-abbrev pub is_same_place : Option ℕ → Option ℕ → Bool
-is_same_place None None = true
-is_same_place None (Some other) = false
-is_same_place (Some one) None = false
-is_same_place (Some one) (Some other) = one == other
+abbrev pub is_same_position : Option ℕ → Option ℕ → Bool
+is_same_position None None = true
+is_same_position None (Some other) = false
+is_same_position (Some one) None = false
+is_same_position (Some one) (Some other) = one == other
 
 -- ---- groups of silent logs
 
 abbrev pub group_parts : ℕ → List Part
 group_parts size =
     parts_if (not (size == 0))
-    (MarkupPart markup.Item ∷ MarkupPart markup.QuietDetails ∷ MarkupPart markup.Summary ∷ NumberPart size ∷ NamePart SILENT_TARGETS.now ∷ MarkupPart markup.EndSummary ∷ MarkupPart markup.Unordered ∷ [])
+    (MarkupPart markup.Item ∷ MarkupPart markup.QuietDetails ∷ MarkupPart markup.Summary ∷ NumberPart size ∷ TextPart SILENT_TARGETS.now ∷ MarkupPart markup.EndSummary ∷ MarkupPart markup.Unordered ∷ [])
 
 -- The end of a group after a log, with which `left` logs were left of the group; 0 if the log is in no group.
 abbrev pub group_end : ℕ → List Part
@@ -144,14 +144,14 @@ after_log left = if nat_lt 1 left then pending.Group (left - 1) else pending.Not
 
 -- A log that contains nothing.
 abbrev pub empty_start : ℕ → List Part → List Part
-empty_start place heading = (MarkupPart (markup.TargetItem place) ∷ []) ++ heading
+empty_start position heading = (MarkupPart (markup.TargetItem position) ∷ []) ++ heading
 
 -- How deep a log is that is not nested.
 abbrev pub depth_parts : ℕ → List Part
-depth_parts depth = NamePart (codes " ") ∷ MarkupPart markup.Small ∷ NamePart LEVEL.now ∷ NumberPart depth ∷ MarkupPart markup.EndSmall ∷ MarkupPart markup.EndItem ∷ []
+depth_parts depth = TextPart (codes " ") ∷ MarkupPart markup.Small ∷ TextPart LEVEL.now ∷ NumberPart depth ∷ MarkupPart markup.EndSmall ∷ MarkupPart markup.EndItem ∷ []
 
 abbrev pub details_markup : Bool → ℕ → Markup
-details_markup expanded place = if expanded then markup.OpenDetails place else markup.Details place
+details_markup expanded position = if expanded then markup.OpenDetails position else markup.Details position
 
 -- ---- what is seen of an event
 
@@ -173,120 +173,120 @@ note_prefix kind = if length kind == 0 then [] else codes "redo: "
 -- A record of a check, or another note.
 abbrev pub note_parts : List ℕ → List ℕ → List Part
 note_parts kind text =
-    if bytes_eq kind (codes "check") then MarkupPart markup.NoteItem ∷ NamePart (codes "(") ∷ NamePart text ∷ NamePart (codes ")") ∷ MarkupPart markup.EndItem ∷ []
-    else MarkupPart markup.NoteItem ∷ NamePart (note_prefix kind) ∷ NamePart text ∷ MarkupPart markup.EndItem ∷ []
+    if bytes_eq kind (codes "check") then MarkupPart markup.NoteItem ∷ TextPart (codes "(") ∷ TextPart text ∷ TextPart (codes ")") ∷ MarkupPart markup.EndItem ∷ []
+    else MarkupPart markup.NoteItem ∷ TextPart (note_prefix kind) ∷ TextPart text ∷ MarkupPart markup.EndItem ∷ []
 
 module _ (build : Build) where
   abbrev pub has_article : ℕ → Bool
-  has_article place = list_any (λ other. place == other) build.articles
+  has_article position = list_any (λ other. position == other) build.articles
 
   -- Whether the output of a target is in its article.
   abbrev pub is_moved : ℕ → Bool
-  is_moved place = has_article place && is_short (node_at build.nodes place)
+  is_moved position = has_article position && is_short (node_at build.nodes position)
 
   abbrev pub is_moved_if : Option ℕ → Bool
   is_moved_if None = false
-  is_moved_if (Some place) = is_moved place
+  is_moved_if (Some position) = is_moved position
 
   -- Whether a log is expanded when the page is opened: requested targets, those that failed, those around them, and the only log in an
   -- expanded one.
   abbrev pub is_expanded : Level → Node → Bool
-  is_expanded level node = has_failed node || (node.fails_below || (level.expanded && has_one_child (node_if build.nodes level.place)))
+  is_expanded level node = has_failed node || (node.fails_below || (level.expanded && has_one_child (node_if build.nodes level.position)))
 
   -- The level in a log.
   abbrev pub level_of : Level → ℕ → Level
-  level_of level place = record { place = Some place; expanded = is_expanded level (node_at build.nodes place); depth = suc level.depth }
+  level_of level position = record { position = Some position; expanded = is_expanded level (node_at build.nodes position); depth = suc level.depth }
 
   -- ---- the start and the end of a log
 
   -- The name of a target whose log is opened, with what is known of it.
   abbrev pub heading_parts : Event → ℕ → List Part
-  heading_parts (Requested name opening) place = name_parts name ++ facts_parts (node_at build.nodes place)
-  heading_parts (Mentioned depth pid how name opening) place = name_parts name ++ (how_parts build.options.debug_locks how ++ facts_parts (node_at build.nodes place))
-  heading_parts (EntryShown depth entry) place = []
-  heading_parts (LogEnds depth) place = []
+  heading_parts (Requested name opening) position = name_parts name ++ facts_parts (node_at build.nodes position)
+  heading_parts (Mentioned depth pid how name opening) position = name_parts name ++ (how_parts build.options.debug_locks how ++ facts_parts (node_at build.nodes position))
+  heading_parts (EntryShown depth entry) position = []
+  heading_parts (LogEnds depth) position = []
 
   abbrev pub moved_parts : ℕ → List Part
-  moved_parts place =
-      parts_if (is_moved place)
-      (MarkupPart markup.NoteItem ∷ MarkupPart (markup.OutputLink place) ∷ NamePart SHOWN_ABOVE.now ∷ MarkupPart markup.EndLink ∷ MarkupPart markup.EndItem ∷ [])
+  moved_parts position =
+      parts_if (is_moved position)
+      (MarkupPart markup.NoteItem ∷ MarkupPart (markup.OutputLink position) ∷ TextPart SHOWN_ABOVE.now ∷ MarkupPart markup.EndLink ∷ MarkupPart markup.EndItem ∷ [])
 
   -- A log that is not nested. What it contains follows it in the same list.
   abbrev pub flat_start : ℕ → ℕ → List Part → List Part
-  flat_start place depth heading = (MarkupPart (markup.TargetItem place) ∷ []) ++ (heading ++ (depth_parts depth ++ moved_parts place))
+  flat_start position depth heading = (MarkupPart (markup.TargetItem position) ∷ []) ++ (heading ++ (depth_parts depth ++ moved_parts position))
 
   abbrev pub flat_end : ℕ → List Part
-  flat_end place =
-      (MarkupPart markup.NoteItem ∷ NamePart END_OF.now ∷ []) ++ (name_parts (target_at build.logs (node_at build.nodes place).number) ++ (MarkupPart markup.EndItem ∷ []))
+  flat_end position =
+      (MarkupPart markup.NoteItem ∷ TextPart END_OF.now ∷ []) ++ (name_parts (target_at build.logs (node_at build.nodes position).number) ++ (MarkupPart markup.EndItem ∷ []))
 
   -- A log that is nested.
   abbrev pub nested_start : Bool → ℕ → List Part → List Part
-  nested_start expanded place heading =
-      (MarkupPart markup.Item ∷ MarkupPart (details_markup expanded place) ∷ MarkupPart markup.Summary ∷ [])
-      ++ (heading ++ ((MarkupPart markup.EndSummary ∷ MarkupPart markup.Unordered ∷ []) ++ moved_parts place))
+  nested_start expanded position heading =
+      (MarkupPart markup.Item ∷ MarkupPart (details_markup expanded position) ∷ MarkupPart markup.Summary ∷ [])
+      ++ (heading ++ ((MarkupPart markup.EndSummary ∷ MarkupPart markup.Unordered ∷ []) ++ moved_parts position))
 
   -- The three forms of a log.
   abbrev pub opening_parts : Level → ℕ → List Part → List Part
-  opening_parts level place heading =
-      if is_empty (node_at build.nodes place) then empty_start place heading
-      else if nat_le max_depth level.depth then flat_start place level.depth heading
-      else nested_start (is_expanded level (node_at build.nodes place)) place heading
+  opening_parts level position heading =
+      if is_empty (node_at build.nodes position) then empty_start position heading
+      else if nat_le max_depth level.depth then flat_start position level.depth heading
+      else nested_start (is_expanded level (node_at build.nodes position)) position heading
 
   abbrev pub closing_parts : Level → ℕ → List Part
-  closing_parts level place =
-      if is_empty (node_at build.nodes place) then MarkupPart markup.EndItem ∷ []
-      else if nat_le max_depth level.depth then flat_end place
+  closing_parts level position =
+      if is_empty (node_at build.nodes position) then MarkupPart markup.EndItem ∷ []
+      else if nat_le max_depth level.depth then flat_end position
       else nested_end
 
-  -- The number of logs of the group that begins with the log at this place; 0 if none begins. There are no groups in a silent log.
+  -- The number of logs of the group that begins with the log at this position; 0 if none begins. There are no groups in a silent log.
   abbrev pub group_size : Level → ℕ → ℕ
-  group_size level place =
-      if nat_le min_group (node_at build.nodes place).silent && not (is_silent (node_if build.nodes level.place)) then (node_at build.nodes place).silent else 0
+  group_size level position =
+      if nat_le min_group (node_at build.nodes position).silent && not (is_silent (node_if build.nodes level.position)) then (node_at build.nodes position).silent else 0
 
   -- The number of logs that are left of a group before a log, with this log; 0 if the log is in no group.
   abbrev pub group_left : Level → ℕ → Pending → ℕ
-  group_left level place (pending.Group left) = left
-  group_left level place before = group_size level place
+  group_left level position (pending.Group left) = left
+  group_left level position before = group_size level position
 
   -- What precedes a log: the start of a group, if one begins here.
   abbrev pub group_start : Level → ℕ → Pending → List Part
-  group_start level place (pending.Group left) = []
-  group_start level place before = end_parts before ++ group_parts (group_size level place)
+  group_start level position (pending.Group left) = []
+  group_start level position before = end_parts before ++ group_parts (group_size level position)
 
   -- A log up to what it contains, and after that.
   abbrev pub log_start : Level → ℕ → Pending → Event → List Part
-  log_start level place before event = group_start level place before ++ opening_parts level place (heading_parts event place)
+  log_start level position before event = group_start level position before ++ opening_parts level position (heading_parts event position)
 
   abbrev pub log_end : Level → ℕ → ℕ → List Part
-  log_end level place left = closing_parts level place ++ group_end left
+  log_end level position left = closing_parts level position ++ group_end left
 
   -- ---- events that open no log
 
-  abbrev pub opening_place : Opening → Option ℕ
-  opening_place NotOpened = None
-  opening_place (OpenedBefore number) = place_of build.nodes number
-  opening_place (OpensHere number) = place_of build.nodes number
+  abbrev pub opening_position : Opening → Option ℕ
+  opening_position NotOpened = None
+  opening_position (OpenedBefore number) = position_of build.nodes number
+  opening_position (OpensHere number) = position_of build.nodes number
 
-  abbrev pub place_of_name : List ℕ → Option ℕ
-  place_of_name name = option_and_then (place_of build.nodes) (log_number name build.logs)
+  abbrev pub position_of_name : List ℕ → Option ℕ
+  position_of_name name = option_and_then (position_of build.nodes) (log_number name build.logs)
 
-  -- Whether the log at a place is directly in this level. Then its badge shows how it ended.
+  -- Whether the log at a position is directly in this level. Then its badge shows how it ended.
   abbrev pub is_in_level : Level → Option ℕ → Bool
   is_in_level level None = false
-  is_in_level level (Some place) = is_same_place (node_at build.nodes place).parent level.place
+  is_in_level level (Some position) = is_same_position (node_at build.nodes position).parent level.position
 
   -- Another target is done: this is seen if it failed and is not in this level.
   abbrev pub is_seen_done : Level → ℤ → List ℕ → Bool
-  is_seen_done level status name = is_failure (Some status) && not (is_in_level level (place_of_name name))
+  is_seen_done level status name = is_failure (Some status) && not (is_in_level level (position_of_name name))
 
   abbrev pub done_parts : ℤ → List ℕ → List Part
   done_parts status name =
-      (MarkupPart markup.NoteItem ∷ NamePart NEEDS.now ∷ []) ++ (linked_parts (place_of_name name) name ++ (exit_parts status ++ (MarkupPart markup.EndItem ∷ [])))
+      (MarkupPart markup.NoteItem ∷ TextPart NEEDS.now ∷ []) ++ (linked_parts (position_of_name name) name ++ (exit_parts status ++ (MarkupPart markup.EndItem ∷ [])))
 
   -- A mention that opens no log.
   abbrev pub mention_parts : How → List ℕ → Opening → List Part
   mention_parts how name opening =
-      (MarkupPart markup.Item ∷ []) ++ (linked_parts (opening_place opening) name ++ (how_parts build.options.debug_locks how ++ (MarkupPart markup.EndItem ∷ [])))
+      (MarkupPart markup.Item ∷ []) ++ (linked_parts (opening_position opening) name ++ (how_parts build.options.debug_locks how ++ (MarkupPart markup.EndItem ∷ [])))
 
   -- Whether anything is seen of an event that opens no log and is no text line, and what is seen.
   abbrev pub is_seen_entry : Level → Entry → Bool
@@ -313,10 +313,10 @@ module _ (build : Build) where
 
   -- A text line, unless it is in an article.
   abbrev pub text_parts : Level → Pending → List ℕ → List Part
-  text_parts level before line = if is_moved_if level.place then [] else line_parts before line
+  text_parts level before line = if is_moved_if level.position then [] else line_parts before line
 
   abbrev pub after_text : Level → Pending → List ℕ → Pending
-  after_text level before line = if is_moved_if level.place then before else after_line before line
+  after_text level before line = if is_moved_if level.position then before else after_line before line
 
   -- An event that opens no log, and what isn't ended after it.
   abbrev pub shown_parts : Level → Pending → Event → List Part
@@ -329,21 +329,21 @@ module _ (build : Build) where
 
   -- ---- contents
 
-  -- The parts of what a log contains. `place` is the place of the next log, and `before` is what isn't ended.
+  -- The parts of what a log contains. `position` is that of the next log, and `before` is what isn't ended.
   abbrev pub contents_parts : Level → ℕ → Pending → Contents → List Part
-  contents_parts level place before Nothing = end_parts before
-  contents_parts level place before (Shown event rest) = shown_parts level before event ++ contents_parts level place (after_shown level before event) rest
-  contents_parts level place before (Opened event number inside rest) =
-      log_start level place before event
-      ++ (contents_parts (level_of level place) (suc place) pending.Nothing inside
-      ++ (log_end level place (group_left level place before)
-      ++ contents_parts level (suc place + log_count inside) (after_log (group_left level place before)) rest))
+  contents_parts level position before Nothing = end_parts before
+  contents_parts level position before (Shown event rest) = shown_parts level before event ++ contents_parts level position (after_shown level before event) rest
+  contents_parts level position before (Opened event number inside rest) =
+      log_start level position before event
+      ++ (contents_parts (level_of level position) (suc position) pending.Nothing inside
+      ++ (log_end level position (group_left level position before)
+      ++ contents_parts level (suc position + log_count inside) (after_log (group_left level position before)) rest))
 
 -- The section with the tree.
 abbrev pub section_start : List Part
 section_start =
-    MarkupPart markup.TreeSection ∷ MarkupPart markup.TreeHeading ∷ NamePart ALL_LOGS.now ∷ MarkupPart markup.EndHeading ∷ MarkupPart markup.QuietParagraph
-    ∷ NamePart TREE_IS.now ∷ MarkupPart markup.EndParagraph ∷ MarkupPart markup.Tree ∷ []
+    MarkupPart markup.TreeSection ∷ MarkupPart markup.TreeHeading ∷ TextPart ALL_LOGS.now ∷ MarkupPart markup.EndHeading ∷ MarkupPart markup.QuietParagraph
+    ∷ TextPart TREE_IS.now ∷ MarkupPart markup.EndParagraph ∷ MarkupPart markup.Tree ∷ []
 
 abbrev pub section_end : List Part
 section_end = MarkupPart markup.EndUnordered ∷ MarkupPart markup.EndSection ∷ []

@@ -66,22 +66,27 @@ fn write_nothing<W: Sink>(node: &Node, page: &mut PageWriter<'_, W>)
 {
     page.put(&[
         Piece::Markup(Markup::QuietParagraph),
-        Piece::Name(NOTHING_CAPTURED),
-        Piece::Name(no_failure_below(node.below)),
+        Piece::Text(NOTHING_CAPTURED),
+        Piece::Text(no_failure_below(node.below)),
         Piece::Markup(Markup::EndParagraph),
     ])
 }
 
 #[tactic(auto, using(crate::proofs::WriterLemmas::wrote_then), unfolding(crate::specs::Failed::output_parts))]
-fn write_output<W: Sink>(table: &LogTable, place: usize, node: &Node, page: &mut PageWriter<'_, W>)
-    ensures { WroteParts W.written page.old page.new (output_parts table.now place node.now) }
+fn write_output<W: Sink>(
+    table: &LogTable,
+    position: usize,
+    node: &Node,
+    page: &mut PageWriter<'_, W>,
+)
+    ensures { WroteParts W.written page.old page.new (output_parts table.now position node.now) }
 {
     if node.lines == 0 {
         write_nothing(node, page)
     } else if is_short(node) {
         write_whole(table, node.number, page)
     } else {
-        write_excerpt(table, node.number, place, page)
+        write_excerpt(table, node.number, position, page)
     }
 }
 
@@ -103,7 +108,7 @@ fn write_cause_line<W: Sink>(cause: Option<&[u8]>, page: &mut PageWriter<'_, W>)
     match cause {
         None => {}
         Some(line) => page.put(&[
-            Piece::Name(b" "),
+            Piece::Text(b" "),
             Piece::Markup(Markup::Code),
             Piece::Log(Style::PLAIN, cut_to(MAX_CAUSE, line)),
             Piece::Markup(Markup::EndCode),
@@ -128,22 +133,22 @@ fn write_path<W: Sink>(
     table: &LogTable,
     nodes: &[Node],
     levels: usize,
-    place: Option<usize>,
+    position: Option<usize>,
     page: &mut PageWriter<'_, W>,
 )
-    ensures { WroteParts W.written page.old page.new (path_parts table.now nodes.now levels place) }
+    ensures { WroteParts W.written page.old page.new (path_parts table.now nodes.now levels position) }
 {
-    let Some(place) = place else {
+    let Some(position) = position else {
         return;
     };
     if levels == 0 {
-        page.put(&[Piece::Name(MORE_ABOVE)]);
+        page.put(&[Piece::Text(MORE_ABOVE)]);
         return;
     }
-    let node = node_at(nodes, place);
+    let node = node_at(nodes, position);
     write_path(table, nodes, levels - 1, node.parent, page);
     write_target(table, node.number, page);
-    page.put(&[Piece::Name(PATH_SEPARATOR)]);
+    page.put(&[Piece::Text(PATH_SEPARATOR)]);
 }
 
 // Writes how long a target took, if this is known.
@@ -154,20 +159,20 @@ fn write_took<W: Sink>(took: Option<u64>, page: &mut PageWriter<'_, W>)
         return;
     };
     write_words(&duration(ms), page);
-    page.put(&[Piece::Name(MIDDLE_DOT)]);
+    page.put(&[Piece::Text(MIDDLE_DOT)]);
 }
 
 fn write_article_of<W: Sink>(
     table: &LogTable,
     nodes: &[Node],
-    place: usize,
+    position: usize,
     node: &Node,
     page: &mut PageWriter<'_, W>,
 )
-    ensures { WroteParts W.written page.old page.new (article_of table.now nodes.now place node.now) }
+    ensures { WroteParts W.written page.old page.new (article_of table.now nodes.now position node.now) }
 {
     page.put(&[
-        Piece::Markup(Markup::Article(place as u64)),
+        Piece::Markup(Markup::Article(position as u64)),
         Piece::Markup(Markup::Title3),
     ]);
     write_target(table, node.number, page);
@@ -178,22 +183,22 @@ fn write_article_of<W: Sink>(
     ]);
     write_took(node.took, page);
     write_path(table, nodes, MAX_PATH, node.parent, page);
-    write_in_tree(place, PLACE_IN_TREE, page);
+    write_in_tree(position, PLACE_IN_TREE, page);
     page.put(&[Piece::Markup(Markup::EndParagraph)]);
-    write_output(table, place, node, page);
+    write_output(table, position, node, page);
     page.put(&[Piece::Markup(Markup::EndArticle)]);
 }
 
-/// Writes where the target at a place is, and what it printed.
+/// Writes where the target at a position is, and what it printed.
 #[tactic(auto, using(crate::proofs::WriterLemmas::wrote_then), unfolding(crate::specs::Failed::article_parts))]
 pub fn write_article<W: Sink>(
     table: &LogTable,
     nodes: &[Node],
-    place: usize,
+    position: usize,
     page: &mut PageWriter<'_, W>,
 )
-    ensures { WroteParts W.written page.old page.new (article_parts table.now nodes.now place) }
+    ensures { WroteParts W.written page.old page.new (article_parts table.now nodes.now position) }
 {
-    let node = node_at(nodes, place);
-    write_article_of(table, nodes, place, &node, page)
+    let node = node_at(nodes, position);
+    write_article_of(table, nodes, position, &node, page)
 }

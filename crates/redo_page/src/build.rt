@@ -2,7 +2,7 @@
 ghost use Rattle.std.specs.Prelude.{◌≡◌};
 ghost use Rattle.redo_page.specs.Private.Referring.{build_value};
 ghost use Rattle.redo_outline.specs.Facts.{target_at};
-ghost use Rattle.redo_page.specs.Tree.{has_article, has_one_child, is_empty, is_expanded, is_moved, is_moved_if, is_same_place, is_silent, node_at, node_if, opening_place, place_of_name, is_in_level};
+ghost use Rattle.redo_page.specs.Tree.{has_article, has_one_child, is_empty, is_expanded, is_moved, is_moved_if, is_same_position, is_silent, node_at, node_if, opening_position, position_of_name, is_in_level};
 
 use crate::level::Level;
 use crate::nodes::{has_failed, is_short, node_at};
@@ -17,24 +17,24 @@ pub struct BuildRef<'a> {
     pub table: &'a LogTable,
     pub options: &'a Options,
     pub outline: &'a Outline,
-    /// The places of the targets that have an article.
+    /// The positions of the targets that have an article.
     pub articles: &'a [usize],
 }
 
 impl<'a> BuildRef<'a> {
-    /// Returns what is known of the log at a place.
-    pub fn node(&self, place: usize) -> Node
-        ensures { result ≡ node_at self.now.outline.now place }
+    /// Returns what is known of the log at a position.
+    pub fn node(&self, position: usize) -> Node
+        ensures { result ≡ node_at self.now.outline.now position }
     {
-        node_at(self.outline.nodes(), place)
+        node_at(self.outline.nodes(), position)
     }
 
-    /// Returns the node at a place, if there is one.
-    pub fn node_if(&self, place: Option<usize>) -> Option<Node>
-        ensures { result ≡ node_if self.now.outline.now place }
+    /// Returns the node at a position, if there is one.
+    pub fn node_if(&self, position: Option<usize>) -> Option<Node>
+        ensures { result ≡ node_if self.now.outline.now position }
     {
-        match place {
-            Some(place) => Some(self.node(place)),
+        match position {
+            Some(position) => Some(self.node(position)),
             None => None,
         }
     }
@@ -46,24 +46,24 @@ impl<'a> BuildRef<'a> {
         target_at(self.table, number)
     }
 
-    fn has_article(&self, place: usize) -> bool
-        ensures { result ≡ has_article (build_value self.now) place }
+    fn has_article(&self, position: usize) -> bool
+        ensures { result ≡ has_article (build_value self.now) position }
     {
-        self.articles.iter().any(|other| place == *other)
+        self.articles.iter().any(|other| position == *other)
     }
 
     /// Returns whether the output of a target is in its article.
-    pub fn is_moved(&self, place: usize) -> bool
-        ensures { result ≡ is_moved (build_value self.now) place }
+    pub fn is_moved(&self, position: usize) -> bool
+        ensures { result ≡ is_moved (build_value self.now) position }
     {
-        self.has_article(place) && is_short(&self.node(place))
+        self.has_article(position) && is_short(&self.node(position))
     }
 
-    pub fn is_moved_if(&self, place: Option<usize>) -> bool
-        ensures { result ≡ is_moved_if (build_value self.now) place }
+    pub fn is_moved_if(&self, position: Option<usize>) -> bool
+        ensures { result ≡ is_moved_if (build_value self.now) position }
     {
-        match place {
-            Some(place) => self.is_moved(place),
+        match position {
+            Some(position) => self.is_moved(position),
             None => false,
         }
     }
@@ -73,43 +73,43 @@ impl<'a> BuildRef<'a> {
         ensures { result ≡ is_expanded (build_value self.now) level node.now }
     {
         has_failed(node)
-            || (node.fails_below || (level.expanded && has_one_child(self.node_if(level.place))))
+            || (node.fails_below || (level.expanded && has_one_child(self.node_if(level.position))))
     }
 
-    /// Returns the place of the log that an event opens, or that was opened before.
-    pub fn opening_place(&self, opening: Opening) -> Option<usize>
-        ensures { result ≡ opening_place (build_value self.now) opening }
+    /// Returns the position of the log that an event opens, or that was opened before.
+    pub fn opening_position(&self, opening: Opening) -> Option<usize>
+        ensures { result ≡ opening_position (build_value self.now) opening }
     {
         match opening {
             Opening::NotOpened => None,
-            Opening::OpenedBefore(number) => self.outline.place_of(number),
-            Opening::OpensHere(number) => self.outline.place_of(number),
+            Opening::OpenedBefore(number) => self.outline.position_of(number),
+            Opening::OpensHere(number) => self.outline.position_of(number),
         }
     }
 
-    /// Returns the place of the log of this target, if it is opened.
-    pub fn place_of_name(&self, name: &TargetName) -> Option<usize>
-        ensures { result ≡ place_of_name (build_value self.now) name.now }
+    /// Returns the position of the log of this target, if it is opened.
+    pub fn position_of_name(&self, name: &TargetName) -> Option<usize>
+        ensures { result ≡ position_of_name (build_value self.now) name.now }
     {
         match self.table.find(name) {
-            Some(number) => self.outline.place_of(number),
+            Some(number) => self.outline.position_of(number),
             None => None,
         }
     }
 
-    /// Returns whether the log at a place is directly in this level.
-    pub fn is_in_level(&self, level: Level, place: Option<usize>) -> bool
-        ensures { result ≡ is_in_level (build_value self.now) level place }
+    /// Returns whether the log at a position is directly in this level.
+    pub fn is_in_level(&self, level: Level, position: Option<usize>) -> bool
+        ensures { result ≡ is_in_level (build_value self.now) level position }
     {
-        match place {
-            Some(place) => is_same_place(self.node(place).parent, level.place),
+        match position {
+            Some(position) => is_same_position(self.node(position).parent, level.position),
             None => false,
         }
     }
 }
 
-fn is_same_place(one: Option<usize>, other: Option<usize>) -> bool
-    ensures { result ≡ is_same_place one other }
+fn is_same_position(one: Option<usize>, other: Option<usize>) -> bool
+    ensures { result ≡ is_same_position one other }
 {
     match (one, other) {
         (None, None) => true,

@@ -78,7 +78,7 @@ fn write_line<W: Sink>(line: &[u8], page: &mut PageWriter<'_, W>)
 {
     page.put(&[
         Piece::Log(Style::PLAIN, cut_to(MAX_EXCERPT_LINE, line)),
-        Piece::Name(line_end(line)),
+        Piece::Text(line_end(line)),
     ])
 }
 
@@ -155,51 +155,51 @@ impl OpenStretch {
     }
 }
 
-/// Writes a link to the place of a target in the tree.
+/// Writes a link to the position of a target in the tree.
 #[tactic(auto, using(crate::proofs::WriterLemmas::wrote_then), unfolding(crate::specs::Excerpt::in_tree_parts))]
-pub fn write_in_tree<W: Sink>(place: usize, text: &[u8], page: &mut PageWriter<'_, W>)
-    ensures { WroteParts W.written page.old page.new (in_tree_parts place text.now) }
+pub fn write_in_tree<W: Sink>(position: usize, text: &[u8], page: &mut PageWriter<'_, W>)
+    ensures { WroteParts W.written page.old page.new (in_tree_parts position text.now) }
 {
     page.put(&[
-        Piece::Markup(Markup::TargetLink(place as u64)),
-        Piece::Name(text),
+        Piece::Markup(Markup::TargetLink(position as u64)),
+        Piece::Text(text),
         Piece::Markup(Markup::EndLink),
     ])
 }
 
 // Writes how many lines are left out.
 #[tactic(auto, using(crate::proofs::WriterLemmas::wrote_then), unfolding(crate::specs::Excerpt::left_out_parts))]
-fn write_left_out<W: Sink>(place: usize, count: usize, page: &mut PageWriter<'_, W>)
-    ensures { WroteParts W.written page.old page.new (left_out_parts place count) }
+fn write_left_out<W: Sink>(position: usize, count: usize, page: &mut PageWriter<'_, W>)
+    ensures { WroteParts W.written page.old page.new (left_out_parts position count) }
 {
     page.put(&[
         Piece::Markup(Markup::CutParagraph),
         Piece::Number(count as u64),
-        Piece::Name(plural(count as u64, MORE_LINE, MORE_LINES)),
+        Piece::Text(plural(count as u64, MORE_LINE, MORE_LINES)),
     ]);
-    write_in_tree(place, IN_ITS_LOG, page);
+    write_in_tree(position, IN_ITS_LOG, page);
     page.put(&[Piece::Markup(Markup::EndParagraph)]);
 }
 
 // Writes the end of the open stretch.
-fn write_end<W: Sink>(place: usize, current: OpenStretch, page: &mut PageWriter<'_, W>)
-    ensures { WroteParts W.written page.old page.new (end_parts place current) }
+fn write_end<W: Sink>(position: usize, current: OpenStretch, page: &mut PageWriter<'_, W>)
+    ensures { WroteParts W.written page.old page.new (end_parts position current) }
 {
     match current {
         OpenStretch::Nothing => {}
         OpenStretch::Shown => page.put(&[Piece::Markup(Markup::EndPre)]),
-        OpenStretch::LeftOut(count) => write_left_out(place, count, page),
+        OpenStretch::LeftOut(count) => write_left_out(position, count, page),
     }
 }
 
 // Writes what precedes a line.
 fn write_change<W: Sink>(
-    place: usize,
+    position: usize,
     current: OpenStretch,
     shown: bool,
     page: &mut PageWriter<'_, W>,
 )
-    ensures { WroteParts W.written page.old page.new (change_parts place current shown) }
+    ensures { WroteParts W.written page.old page.new (change_parts position current shown) }
 {
     match (current, shown) {
         (OpenStretch::Nothing, true) => page.put(&[Piece::Markup(Markup::Pre)]),
@@ -207,7 +207,7 @@ fn write_change<W: Sink>(
         (OpenStretch::Shown, true) => {}
         (OpenStretch::Shown, false) => page.put(&[Piece::Markup(Markup::EndPre)]),
         (OpenStretch::LeftOut(count), true) => {
-            write_left_out(place, count, page);
+            write_left_out(position, count, page);
             page.put(&[Piece::Markup(Markup::Pre)]);
         }
         (OpenStretch::LeftOut(_), false) => {}
@@ -223,26 +223,26 @@ fn write_shown<W: Sink>(shown: bool, line: &[u8], page: &mut PageWriter<'_, W>)
 }
 
 fn write_step<W: Sink>(
-    place: usize,
+    position: usize,
     current: OpenStretch,
     shown: bool,
     line: &[u8],
     page: &mut PageWriter<'_, W>,
 )
-    ensures { WroteParts W.written page.old page.new (step_parts place current shown line.now) }
+    ensures { WroteParts W.written page.old page.new (step_parts position current shown line.now) }
 {
-    write_change(place, current, shown, page);
+    write_change(position, current, shown, page);
     write_shown(shown, line, page);
 }
 
-/// Writes the excerpt of the output of log `number`, whose target has this place.
+/// Writes the excerpt of the output of log `number`, whose target has this position.
 pub fn write_excerpt<W: Sink>(
     table: &LogTable,
     number: u32,
-    place: usize,
+    position: usize,
     page: &mut PageWriter<'_, W>,
 )
-    ensures { WroteParts W.written page.old page.new (excerpt_parts place (texts_of (entries_at number table.now))) }
+    ensures { WroteParts W.written page.old page.new (excerpt_parts position (texts_of (entries_at number table.now))) }
 {
     let extent = Extent::of(table, number);
     let mut printed = Printed::new(table, number);
@@ -250,9 +250,9 @@ pub fn write_excerpt<W: Sink>(
     let mut at = 0;
     'lines: while let Some(line) = printed.next_line() {
         let shown = extent.shows(at);
-        write_step(place, current, shown, line, page);
+        write_step(position, current, shown, line, page);
         current = current.after(shown);
         at += 1;
     }
-    write_end(place, current, page);
+    write_end(position, current, page);
 }

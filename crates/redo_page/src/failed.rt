@@ -3,8 +3,8 @@ ghost use Rattle.std.specs.Prelude.{◌≡◌, ◌∷◌, ◌++◌, true, false,
 ghost use Rattle.std.specs.List.{flat_map};
 ghost use Rattle.redo_html.specs.declared.markup.Markup.TheVariants.{EndDetails, EndOrdered, Ordered, OrderedFrom};
 ghost use Rattle.redo_html.specs.Parts.Part.{MarkupPart};
-ghost use Rattle.redo_page.specs.Failed.{AreFailures, article_parts, article_row, cause_if, failed_above, failed_parts, is_unclosed, list_parts, more_parts, places_where, row_parts, section_parts, target_row, unlisted_parts};
-ghost use Rattle.redo_page.specs.Tree.{end_cmp, failure_cmp, first_failures};
+ghost use Rattle.redo_page.specs.Failed.{AreFailures, article_parts, article_row, cause_if, is_dependent_failure, failed_parts, is_unclosed, list_parts, more_parts, positions_where, row_parts, section_parts, target_row, unlisted_parts};
+ghost use Rattle.redo_page.specs.Tree.{end_cmp, failure_cmp, root_failures};
 ghost use Rattle.redo_timeline.specs.Order.{sort};
 ghost use Rattle.redo_page.specs.Private.Writing.{WroteParts};
 ghost use Rattle.redo_page.specs.declared.labels.TheConstants.{COUNT_NOT_CLOSED, FAILED_WITH_THESE, MORE_FAILED};
@@ -23,18 +23,18 @@ use redo_outline::Node;
 use std::alloc::{AllocError, Global};
 use std::cmp::Ordering;
 
-/// The first failures that have articles, at most.
+/// The root failures that have articles, at most.
 pub const MAX_ARTICLES: usize = 10;
 
 const MAX_ROWS: usize = 200;
 
-/// The places of the targets that the section names.
+/// The positions of the targets that the section names.
 #[derive(Drop)]
 pub struct Failures {
     /// Targets that failed without a failure below them, in the order in which they ended. The first ten have articles.
-    pub first: Vec<usize>,
+    pub roots: Vec<usize>,
     /// Targets that failed with a failure below them.
-    pub above: Vec<usize>,
+    pub dependents: Vec<usize>,
     /// Targets at the ends of paths that have no record of how they ended.
     pub unclosed: Vec<usize>,
 }
@@ -43,42 +43,42 @@ pub struct Failures {
 pub fn find_failures(alloc: Global, nodes: &[Node]) -> Result<Failures, AllocError>
     ensures { IfOk result (AreFailures nodes.now) }
 {
-    let first = first_failures(alloc, nodes)?;
-    let above = failures_above(alloc, nodes)?;
+    let roots = root_failures(alloc, nodes)?;
+    let dependents = dependent_failures(alloc, nodes)?;
     let unclosed = unclosed_targets(alloc, nodes)?;
     Ok(Failures {
-        first,
-        above,
+        roots,
+        dependents,
         unclosed,
     })
 }
 
-fn first_failures(alloc: Global, nodes: &[Node]) -> Result<Vec<usize>, AllocError>
-    ensures { IfOk result (λ places. places.items ≡ first_failures nodes.now) }
+fn root_failures(alloc: Global, nodes: &[Node]) -> Result<Vec<usize>, AllocError>
+    ensures { IfOk result (λ positions. positions.items ≡ root_failures nodes.now) }
 {
-    let mut places = Vec::new(alloc);
-    for place in 0..nodes.len() {
-        let node = nodes[place];
+    let mut positions = Vec::new(alloc);
+    for position in 0..nodes.len() {
+        let node = nodes[position];
         if has_failed(&node) && !node.fails_below {
-            places.push(place)?;
+            positions.push(position)?;
         }
     }
-    sort_by_end(nodes, &mut places);
-    Ok(places)
+    sort_by_end(nodes, &mut positions);
+    Ok(positions)
 }
 
-// Sorts places of targets by when the targets ended.
-fn sort_by_end(nodes: &[Node], places: &mut Vec<usize>)
-    ensures { places.new.items ≡ sort (failure_cmp nodes.now) places.old.items }
+// Sorts positions of targets by when the targets ended.
+fn sort_by_end(nodes: &[Node], positions: &mut Vec<usize>)
+    ensures { positions.new.items ≡ sort (failure_cmp nodes.now) positions.old.items }
 {
-    places.sort_unstable_by(|place, other| failure_cmp(nodes, *place, *other));
+    positions.sort_unstable_by(|position, other| failure_cmp(nodes, *position, *other));
 }
 
-fn failure_cmp(nodes: &[Node], place: usize, other: usize) -> Ordering
-    ensures { result ≡ failure_cmp nodes.now place other }
+fn failure_cmp(nodes: &[Node], position: usize, other: usize) -> Ordering
+    ensures { result ≡ failure_cmp nodes.now position other }
 {
-    let by_end = end_cmp(node_at(nodes, place).ended, node_at(nodes, other).ended);
-    by_end.then(place.cmp(&other))
+    let by_end = end_cmp(node_at(nodes, position).ended, node_at(nodes, other).ended);
+    by_end.then(position.cmp(&other))
 }
 
 fn end_cmp(ended: Option<u64>, other: Option<u64>) -> Ordering
@@ -92,51 +92,51 @@ fn end_cmp(ended: Option<u64>, other: Option<u64>) -> Ordering
     }
 }
 
-fn failures_above(alloc: Global, nodes: &[Node]) -> Result<Vec<usize>, AllocError>
-    ensures { IfOk result (λ places. places.items ≡ places_where failed_above 0 nodes.now) }
+fn dependent_failures(alloc: Global, nodes: &[Node]) -> Result<Vec<usize>, AllocError>
+    ensures { IfOk result (λ positions. positions.items ≡ positions_where is_dependent_failure 0 nodes.now) }
 {
-    let mut places = Vec::new(alloc);
-    for place in 0..nodes.len() {
-        let node = nodes[place];
+    let mut positions = Vec::new(alloc);
+    for position in 0..nodes.len() {
+        let node = nodes[position];
         if has_failed(&node) && node.fails_below {
-            places.push(place)?;
+            positions.push(position)?;
         }
     }
-    Ok(places)
+    Ok(positions)
 }
 
 fn unclosed_targets(alloc: Global, nodes: &[Node]) -> Result<Vec<usize>, AllocError>
-    ensures { IfOk result (λ places. places.items ≡ places_where is_unclosed 0 nodes.now) }
+    ensures { IfOk result (λ positions. positions.items ≡ positions_where is_unclosed 0 nodes.now) }
 {
-    let mut places = Vec::new(alloc);
-    for place in 0..nodes.len() {
-        let node = nodes[place];
+    let mut positions = Vec::new(alloc);
+    for position in 0..nodes.len() {
+        let node = nodes[position];
         if node.status.is_none() && node.below == 0 && node.parent.is_some() {
-            places.push(place)?;
+            positions.push(position)?;
         }
     }
-    Ok(places)
+    Ok(positions)
 }
 
-/// Returns the first places, at most `count` of them.
-pub fn first_of(count: usize, places: &[usize]) -> &[usize]
-    ensures { result.now ≡ take count places.now }
+/// Returns the first positions, at most `count` of them.
+pub fn first_of(count: usize, positions: &[usize]) -> &[usize]
+    ensures { result.now ≡ take count positions.now }
 {
-    if places.len() <= count {
-        places
+    if positions.len() <= count {
+        positions
     } else {
-        &places[..count]
+        &positions[..count]
     }
 }
 
-// Returns the places after the first `count` ones.
-fn others_of(count: usize, places: &[usize]) -> &[usize]
-    ensures { result.now ≡ drop count places.now }
+// Returns the positions after the first `count` ones.
+fn others_of(count: usize, positions: &[usize]) -> &[usize]
+    ensures { result.now ≡ drop count positions.now }
 {
-    if places.len() <= count {
+    if positions.len() <= count {
         &[]
     } else {
-        &places[count..]
+        &positions[count..]
     }
 }
 
@@ -179,25 +179,31 @@ fn write_row<W: Sink>(
 fn write_article_row<W: Sink>(
     table: &LogTable,
     nodes: &[Node],
-    place: usize,
+    position: usize,
     page: &mut PageWriter<'_, W>,
 )
-    ensures { WroteParts W.written page.old page.new (article_row table.now nodes.now place) }
+    ensures { WroteParts W.written page.old page.new (article_row table.now nodes.now position) }
 {
-    let node = node_at(nodes, place);
-    write_row(table, Markup::OutputLink(place as u64), true, &node, page)
+    let node = node_at(nodes, position);
+    write_row(
+        table,
+        Markup::OutputLink(position as u64),
+        true,
+        &node,
+        page,
+    )
 }
 
 fn write_article_rows<W: Sink>(
     table: &LogTable,
     nodes: &[Node],
-    places: &[usize],
+    positions: &[usize],
     page: &mut PageWriter<'_, W>,
 )
-    ensures { WroteParts W.written page.old page.new (flat_map (article_row table.now nodes.now) places.now) }
+    ensures { WroteParts W.written page.old page.new (flat_map (article_row table.now nodes.now) positions.now) }
 {
-    for place in places {
-        write_article_row(table, nodes, *place, page);
+    for position in positions {
+        write_article_row(table, nodes, *position, page);
     }
 }
 
@@ -206,16 +212,16 @@ fn write_article_rows<W: Sink>(
 fn write_list<W: Sink>(
     table: &LogTable,
     nodes: &[Node],
-    places: &[usize],
+    positions: &[usize],
     page: &mut PageWriter<'_, W>,
 )
-    ensures { WroteParts W.written page.old page.new (list_parts table.now nodes.now places.now) }
+    ensures { WroteParts W.written page.old page.new (list_parts table.now nodes.now positions.now) }
 {
-    if places.len() <= 1 {
+    if positions.len() <= 1 {
         return;
     }
     page.put(&[Piece::Markup(Markup::Ordered)]);
-    write_article_rows(table, nodes, places, page);
+    write_article_rows(table, nodes, positions, page);
     page.put(&[Piece::Markup(Markup::EndOrdered)]);
 }
 
@@ -225,26 +231,32 @@ fn write_target_row<W: Sink>(
     table: &LogTable,
     nodes: &[Node],
     causes: bool,
-    place: usize,
+    position: usize,
     page: &mut PageWriter<'_, W>,
 )
-    ensures { WroteParts W.written page.old page.new (target_row table.now nodes.now causes place) }
+    ensures { WroteParts W.written page.old page.new (target_row table.now nodes.now causes position) }
 {
-    let node = node_at(nodes, place);
-    write_row(table, Markup::TargetLink(place as u64), causes, &node, page)
+    let node = node_at(nodes, position);
+    write_row(
+        table,
+        Markup::TargetLink(position as u64),
+        causes,
+        &node,
+        page,
+    )
 }
 
 fn write_target_rows<W: Sink>(
     table: &LogTable,
     nodes: &[Node],
     causes: bool,
-    places: &[usize],
+    positions: &[usize],
     page: &mut PageWriter<'_, W>,
 )
-    ensures { WroteParts W.written page.old page.new (flat_map (target_row table.now nodes.now causes) places.now) }
+    ensures { WroteParts W.written page.old page.new (flat_map (target_row table.now nodes.now causes) positions.now) }
 {
-    for place in places {
-        write_target_row(table, nodes, causes, *place, page);
+    for position in positions {
+        write_target_row(table, nodes, causes, *position, page);
     }
 }
 
@@ -258,9 +270,9 @@ fn write_unlisted<W: Sink>(count: usize, page: &mut PageWriter<'_, W>)
     }
     page.put(&[
         Piece::Markup(Markup::QuietParagraph),
-        Piece::Name(AND),
+        Piece::Text(AND),
         Piece::Number((count - MAX_ROWS) as u64),
-        Piece::Name(MORE_IN_TREE),
+        Piece::Text(MORE_IN_TREE),
         Piece::Markup(Markup::EndParagraph),
     ])
 }
@@ -273,24 +285,24 @@ fn write_more<W: Sink>(
     list: Markup,
     causes: bool,
     heading: &[u8],
-    places: &[usize],
+    positions: &[usize],
     page: &mut PageWriter<'_, W>,
 )
-    ensures { WroteParts W.written page.old page.new (more_parts table.now nodes.now list causes heading.now places.now) }
+    ensures { WroteParts W.written page.old page.new (more_parts table.now nodes.now list causes heading.now positions.now) }
 {
-    if places.is_empty() {
+    if positions.is_empty() {
         return;
     }
     page.put(&[
         Piece::Markup(Markup::MoreDetails),
         Piece::Markup(Markup::Summary),
-        Piece::Number(places.len() as u64),
-        Piece::Name(heading),
+        Piece::Number(positions.len() as u64),
+        Piece::Text(heading),
         Piece::Markup(Markup::EndSummary),
         Piece::Markup(list),
     ]);
-    write_target_rows(table, nodes, causes, first_of(MAX_ROWS, places), page);
-    write_more_end(places.len(), page);
+    write_target_rows(table, nodes, causes, first_of(MAX_ROWS, positions), page);
+    write_more_end(positions.len(), page);
 }
 
 fn write_more_end<W: Sink>(count: usize, page: &mut PageWriter<'_, W>)
@@ -307,52 +319,60 @@ fn write_more_end<W: Sink>(count: usize, page: &mut PageWriter<'_, W>)
 fn write_articles<W: Sink>(
     table: &LogTable,
     nodes: &[Node],
-    places: &[usize],
+    positions: &[usize],
     page: &mut PageWriter<'_, W>,
 )
-    ensures { WroteParts W.written page.old page.new (flat_map (article_parts table.now nodes.now) places.now) }
+    ensures { WroteParts W.written page.old page.new (flat_map (article_parts table.now nodes.now) positions.now) }
 {
-    for place in places {
-        write_article(table, nodes, *place, page);
+    for position in positions {
+        write_article(table, nodes, *position, page);
     }
 }
 
 fn write_others<W: Sink>(
     table: &LogTable,
     nodes: &[Node],
-    places: &[usize],
+    positions: &[usize],
     page: &mut PageWriter<'_, W>,
 )
     ensures { WroteParts W.written page.old page.new
-        (more_parts table.now nodes.now (OrderedFrom 11) true MORE_FAILED.now places.now) }
+        (more_parts table.now nodes.now (OrderedFrom 11) true MORE_FAILED.now positions.now) }
 {
     let list = Markup::OrderedFrom(11);
-    write_more(table, nodes, list, true, MORE_FAILED, places, page)
+    write_more(table, nodes, list, true, MORE_FAILED, positions, page)
 }
 
-fn write_above<W: Sink>(
+fn write_dependents<W: Sink>(
     table: &LogTable,
     nodes: &[Node],
-    places: &[usize],
+    positions: &[usize],
     page: &mut PageWriter<'_, W>,
 )
     ensures { WroteParts W.written page.old page.new
-        (more_parts table.now nodes.now Ordered false FAILED_WITH_THESE.now places.now) }
+        (more_parts table.now nodes.now Ordered false FAILED_WITH_THESE.now positions.now) }
 {
     let heading = FAILED_WITH_THESE;
-    write_more(table, nodes, Markup::Ordered, false, heading, places, page)
+    write_more(
+        table,
+        nodes,
+        Markup::Ordered,
+        false,
+        heading,
+        positions,
+        page,
+    )
 }
 
 fn write_unclosed<W: Sink>(
     table: &LogTable,
     nodes: &[Node],
-    places: &[usize],
+    positions: &[usize],
     page: &mut PageWriter<'_, W>,
 )
-    ensures { WroteParts W.written page.old page.new (more_parts table.now nodes.now Ordered false COUNT_NOT_CLOSED.now places.now) }
+    ensures { WroteParts W.written page.old page.new (more_parts table.now nodes.now Ordered false COUNT_NOT_CLOSED.now positions.now) }
 {
     let list = Markup::Ordered;
-    write_more(table, nodes, list, false, COUNT_NOT_CLOSED, places, page)
+    write_more(table, nodes, list, false, COUNT_NOT_CLOSED, positions, page)
 }
 
 fn write_section<W: Sink>(
@@ -360,22 +380,23 @@ fn write_section<W: Sink>(
     nodes: &[Node],
     articles: &[usize],
     others: &[usize],
-    above: &[usize],
+    dependents: &[usize],
     unclosed: &[usize],
     page: &mut PageWriter<'_, W>,
 )
-    ensures { WroteParts W.written page.old page.new (section_parts table.now nodes.now articles.now others.now above.now unclosed.now) }
+    ensures { WroteParts W.written page.old page.new
+        (section_parts table.now nodes.now articles.now others.now dependents.now unclosed.now) }
 {
     page.put(&[
         Piece::Markup(Markup::FailedSection),
         Piece::Markup(Markup::FailedHeading),
-        Piece::Name(WHAT_FAILED),
+        Piece::Text(WHAT_FAILED),
         Piece::Markup(Markup::EndHeading),
     ]);
     write_list(table, nodes, articles, page);
     write_articles(table, nodes, articles, page);
     write_others(table, nodes, others, page);
-    write_above(table, nodes, above, page);
+    write_dependents(table, nodes, dependents, page);
     write_unclosed(table, nodes, unclosed, page);
     page.put(&[Piece::Markup(Markup::EndSection)]);
 }
@@ -390,13 +411,13 @@ pub fn write_failed<W: Sink>(
     requires { AreFailures nodes.now failures.now }
     ensures { WroteParts W.written page.old page.new (failed_parts table.now nodes.now) }
 {
-    let first = failures.first.as_slice();
-    if first.is_empty() {
+    let roots = failures.roots.as_slice();
+    if roots.is_empty() {
         return;
     }
-    let articles = first_of(MAX_ARTICLES, first);
-    let others = others_of(MAX_ARTICLES, first);
-    let above = failures.above.as_slice();
+    let articles = first_of(MAX_ARTICLES, roots);
+    let others = others_of(MAX_ARTICLES, roots);
+    let dependents = failures.dependents.as_slice();
     let unclosed = failures.unclosed.as_slice();
-    write_section(table, nodes, articles, others, above, unclosed, page)
+    write_section(table, nodes, articles, others, dependents, unclosed, page)
 }

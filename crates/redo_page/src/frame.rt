@@ -3,8 +3,8 @@ ghost use Rattle.std.specs.Prelude.{◌≡◌, ◌++◌, IfOk, OnOk, length};
 ghost use Rattle.std.specs.List.{flat_map, list_all, list_any};
 ghost use Rattle.redo_html.specs.Shown.{number_text};
 ghost use Rattle.redo_page.specs.Private.Writing.{WroteParts};
-ghost use Rattle.redo_page.specs.Frame.{argument, began_parts, body_markup, command, counted_text, date_parts, failed_nav, failed_text, flag, footer_parts, head_parts, header_parts, in_quotes, is_safe, is_safe_word, is_unfinished, log_count_parts, nav_item, nav_parts, quoted, quoted_byte, requested_parts, root_parts, sign_text, timeline_nav, title_parts, title_text, titled, top_heading_parts, verdict_of, verdict_text};
-ghost use Rattle.redo_page.specs.Tree.{first_failures};
+ghost use Rattle.redo_page.specs.Frame.{argument, began_parts, body_markup, command, counted_text, date_parts, failed_nav, failed_text, text_if, footer_parts, head_parts, header_parts, in_quotes, is_safe, is_safe_word, is_unfinished, log_count_parts, nav_item, nav_parts, quoted, quoted_byte, requested_parts, root_parts, sign_text, timeline_nav, title_parts, title_text, titled, top_heading_parts, verdict_of, verdict_text};
+ghost use Rattle.redo_page.specs.Tree.{root_failures};
 ghost use Rattle.redo_units.specs.Dates.{date_text_of};
 
 use crate::labels::{
@@ -42,7 +42,7 @@ pub enum Verdict {
 impl Verdict {
     /// Returns the verdict on a build. `failures` is the number of targets that failed without a failure below them.
     pub fn of(nodes: &[Node], failures: usize) -> Verdict
-        requires { failures ≡ length (first_failures nodes.now) }
+        requires { failures ≡ length (root_failures nodes.now) }
         ensures { result ≡ verdict_of nodes.now }
     {
         if failures > 0 {
@@ -76,7 +76,7 @@ impl Verdict {
 
     /// Returns the heading of the page.
     pub fn text(self, alloc: Global, nodes: &[Node], failures: usize) -> Result<Vec<u8>, AllocError>
-        requires { failures ≡ length (first_failures nodes.now) }
+        requires { failures ≡ length (root_failures nodes.now) }
         ensures { IfOk result (λ text. text.items ≡ verdict_text self nodes.now) }
     {
         let targets = nodes.len() as u64;
@@ -174,7 +174,7 @@ fn write_title<W: Sink>(title: &[u8], page: &mut PageWriter<'_, W>)
     }
     page.put(&[
         Piece::Markup(Markup::Paragraph),
-        Piece::Name(title),
+        Piece::Text(title),
         Piece::Markup(Markup::EndParagraph),
     ])
 }
@@ -212,7 +212,7 @@ fn write_nav_item<W: Sink>(link: Markup, text: &[u8], page: &mut PageWriter<'_, 
     page.put(&[
         Piece::Markup(Markup::Item),
         Piece::Markup(link),
-        Piece::Name(text),
+        Piece::Text(text),
         Piece::Markup(Markup::EndLink),
         Piece::Markup(Markup::EndItem),
     ])
@@ -222,7 +222,7 @@ fn write_date<W: Sink>(secs: u64, page: &mut PageWriter<'_, W>)
     ensures { WroteParts W.written page.old page.new (date_parts (date_text_of secs)) }
 {
     if let Some(text) = date(secs) {
-        page.put(&[Piece::Name(&text), Piece::Name(MIDDLE_DOT)]);
+        page.put(&[Piece::Text(&text), Piece::Text(MIDDLE_DOT)]);
     }
 }
 
@@ -235,7 +235,7 @@ fn write_began<W: Sink>(window: Option<Window>, took: u64, page: &mut PageWriter
     };
     page.put(&[Piece::Markup(Markup::MetaParagraph)]);
     write_date(window.began / 1000, page);
-    page.put(&[Piece::Name(BUILD_TOOK)]);
+    page.put(&[Piece::Text(BUILD_TOOK)]);
     write_words(&duration(took), page);
     page.put(&[Piece::Markup(Markup::EndParagraph)]);
 }
@@ -281,10 +281,10 @@ fn write_heading<W: Sink>(verdict: Verdict, heading: &[u8], page: &mut PageWrite
         Piece::Markup(Markup::Header),
         Piece::Markup(Markup::Title1),
         Piece::Markup(Markup::Sign),
-        Piece::Name(verdict.sign()),
+        Piece::Text(verdict.sign()),
         Piece::Markup(Markup::EndSign),
-        Piece::Name(b" "),
-        Piece::Name(heading),
+        Piece::Text(b" "),
+        Piece::Text(heading),
         Piece::Markup(Markup::EndTitle1),
     ])
 }
@@ -315,7 +315,7 @@ fn write_log_count<W: Sink>(logs: usize, page: &mut PageWriter<'_, W>)
     let logs = logs as u64;
     page.put(&[
         Piece::Number(logs),
-        Piece::Name(plural(logs, LOG_IN, LOGS_IN)),
+        Piece::Text(plural(logs, LOG_IN, LOGS_IN)),
     ])
 }
 
@@ -332,26 +332,26 @@ pub fn write_footer<'a, W: Sink>(
         Piece::Markup(Markup::EndMain),
         Piece::Markup(Markup::Footer),
         Piece::Markup(Markup::Paragraph),
-        Piece::Name(MADE_BY),
+        Piece::Text(MADE_BY),
         Piece::Markup(Markup::Code),
-        Piece::Name(PROGRAM),
+        Piece::Text(PROGRAM),
         Piece::Markup(Markup::EndCode),
-        Piece::Name(OF),
+        Piece::Text(OF),
     ]);
     write_log_count(logs, page);
     page.put(&[
         Piece::Markup(Markup::Code),
-        Piece::Name(dir),
+        Piece::Text(dir),
         Piece::Markup(Markup::EndCode),
-        Piece::Name(AS_ONE_TEXT),
+        Piece::Text(AS_ONE_TEXT),
         Piece::Markup(Markup::Code),
-        Piece::Name(command),
+        Piece::Text(command),
         Piece::Markup(Markup::EndCode),
         Piece::Markup(Markup::EndParagraph),
         Piece::Markup(Markup::EndFooter),
         Piece::Markup(Markup::EndBody),
         Piece::Markup(Markup::EndHtml),
-        Piece::Name(b"\n"),
+        Piece::Text(b"\n"),
     ])
 }
 
@@ -365,19 +365,19 @@ pub fn command(
     ensures { IfOk result (λ text. text.items ≡ command dir.now options.now requested.now) }
 {
     let mut command = b"redo-log -r".to_vec(alloc)?;
-    push_flag(&mut command, options.unchanged, b" -u")?;
-    push_flag(&mut command, options.debug_locks, b" --debug-locks")?;
-    push_flag(&mut command, true, b" --dir=")?;
+    push_if(&mut command, options.unchanged, b" -u")?;
+    push_if(&mut command, options.debug_locks, b" --debug-locks")?;
+    push_if(&mut command, true, b" --dir=")?;
     push_quoted(&mut command, dir)?;
     push_arguments(&mut command, requested)?;
     Ok(command)
 }
 
-fn push_flag(command: &mut Vec<u8>, given: bool, word: &[u8]) -> Result<(), AllocError>
-    ensures { OnOk result (command.new.items ≡ command.old.items ++ flag given word.now) }
+fn push_if(command: &mut Vec<u8>, condition: bool, text: &[u8]) -> Result<(), AllocError>
+    ensures { OnOk result (command.new.items ≡ command.old.items ++ text_if condition text.now) }
 {
-    if given {
-        command.extend_from_slice(word)?;
+    if condition {
+        command.extend_from_slice(text)?;
     }
     Ok(())
 }
@@ -395,8 +395,8 @@ fn push_arguments(command: &mut Vec<u8>, names: &[TargetName]) -> Result<(), All
 fn push_argument(command: &mut Vec<u8>, name: &[u8]) -> Result<(), AllocError>
     ensures { OnOk result (command.new.items ≡ command.old.items ++ argument name.now) }
 {
-    push_flag(command, true, b" ")?;
-    push_flag(command, name.starts_with(b"-"), b"./")?;
+    push_if(command, true, b" ")?;
+    push_if(command, name.starts_with(b"-"), b"./")?;
     push_quoted(command, name)
 }
 
@@ -415,9 +415,9 @@ fn push_quoted(command: &mut Vec<u8>, word: &[u8]) -> Result<(), AllocError>
 fn push_in_quotes(command: &mut Vec<u8>, word: &[u8]) -> Result<(), AllocError>
     ensures { OnOk result (command.new.items ≡ command.old.items ++ in_quotes word.now) }
 {
-    push_flag(command, true, b"'")?;
+    push_if(command, true, b"'")?;
     push_bytes(command, word)?;
-    push_flag(command, true, b"'")
+    push_if(command, true, b"'")
 }
 
 fn push_bytes(command: &mut Vec<u8>, word: &[u8]) -> Result<(), AllocError>

@@ -55,7 +55,7 @@ fn write_mention<W: Sink>(
     ensures { WroteParts W.written page.old page.new (mention_parts (build_value build.now) how name.now opening) }
 {
     page.put(&[Piece::Markup(Markup::Item)]);
-    write_linked(build.opening_place(opening), name, page);
+    write_linked(build.opening_position(opening), name, page);
     write_how(build.options.debug_locks, how, page);
     page.put(&[Piece::Markup(Markup::EndItem)])
 }
@@ -68,8 +68,8 @@ fn write_done<W: Sink>(
 )
     ensures { WroteParts W.written page.old page.new (done_parts (build_value build.now) status name.now) }
 {
-    page.put(&[Piece::Markup(Markup::NoteItem), Piece::Name(NEEDS)]);
-    write_linked(build.place_of_name(name), name.bytes(), page);
+    page.put(&[Piece::Markup(Markup::NoteItem), Piece::Text(NEEDS)]);
+    write_linked(build.position_of_name(name), name.bytes(), page);
     write_exit(status, page);
     page.put(&[Piece::Markup(Markup::EndItem)])
 }
@@ -87,16 +87,16 @@ fn write_note<W: Sink>(kind: &[u8], text: &[u8], page: &mut PageWriter<'_, W>)
     if kind == b"check".as_slice() {
         page.put(&[
             Piece::Markup(Markup::NoteItem),
-            Piece::Name(b"("),
-            Piece::Name(text),
-            Piece::Name(b")"),
+            Piece::Text(b"("),
+            Piece::Text(text),
+            Piece::Text(b")"),
             Piece::Markup(Markup::EndItem),
         ])
     } else {
         page.put(&[
             Piece::Markup(Markup::NoteItem),
-            Piece::Name(note_prefix(kind)),
-            Piece::Name(text),
+            Piece::Text(note_prefix(kind)),
+            Piece::Text(text),
             Piece::Markup(Markup::EndItem),
         ])
     }
@@ -106,7 +106,7 @@ fn write_note<W: Sink>(kind: &[u8], text: &[u8], page: &mut PageWriter<'_, W>)
 fn is_seen_done(build: &BuildRef<'_>, level: Level, status: i32, name: &TargetName) -> bool
     ensures { result ≡ is_seen_done (build_value build.now) level status name.now }
 {
-    status != 0 && !build.is_in_level(level, build.place_of_name(name))
+    status != 0 && !build.is_in_level(level, build.position_of_name(name))
 }
 
 fn is_seen_entry(build: &BuildRef<'_>, level: Level, entry: EntryRef<'_>) -> bool

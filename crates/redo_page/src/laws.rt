@@ -9,26 +9,26 @@ ghost use Rattle.redo_options.specs.declared.options.Options.{Options};
 ghost use Rattle.redo_view.specs.View.{find_unknown};
 ghost use Rattle.redo_outline.specs.declared.node.Node.{Node};
 ghost use Rattle.redo_outline.specs.Contents.{Contents};
-ghost use Rattle.redo_page.specs.Laws.{AreInOrderOfEnd, HaveSameLogs, IsOwnTag, IsPartOf, article_ids, article_links, blanked, event_lines, is_among, kept_lines, lines_at, log_bytes, markups, numbers_from, page_article, page_chart, page_lines, page_tree, placed_bytes, section_ids, section_links, target_ids, target_links, texts_of, unmoved_lines, charts, ChartDraws, HasTimeline, page_limit};
-ghost use Rattle.redo_page.specs.Failed.{failed_above, places_where};
-ghost use Rattle.redo_page.specs.Limits.{bytes_shown, highest_level};
+ghost use Rattle.redo_page.specs.Laws.{AreInOrderOfEnd, HaveSameLogs, IsOwnTag, IsPartOf, article_ids, article_links, blanked, event_lines, is_among, kept_lines, lines_at, log_bytes, markups, numbers_from, page_article, page_chart, page_lines, page_tree, positioned_bytes, section_ids, section_links, target_ids, target_links, texts_of, unmoved_lines, charts, ChartDraws, HasTimeline, page_limit};
+ghost use Rattle.redo_page.specs.Failed.{is_dependent_failure, positions_where};
+ghost use Rattle.redo_page.specs.Limits.{bytes_shown, highest_cap};
 ghost use Rattle.redo_page.specs.Page.{Request, page_build, page_events, page_facts, page_html, page_outline, page_parts};
-ghost use Rattle.redo_page.specs.Tree.{articles, first_failures, has_failed, is_moved, tree_parts};
-ghost use Rattle.redo_chart.specs.Bands.{max_parent_lanes, max_recipe_lanes, max_mark_lanes};
+ghost use Rattle.redo_page.specs.Tree.{articles, root_failures, has_failed, is_moved, tree_parts};
+ghost use Rattle.redo_chart.specs.Bands.{max_caller_lanes, max_recipe_lanes, max_mark_lanes};
 ghost use Rattle.redo_chart.specs.Laws.{DrawsAll, shapes_of};
-ghost use Rattle.redo_html.specs.declared.chart.GroupKind.TheVariants.{Parents, Recipes, Untimed};
+ghost use Rattle.redo_html.specs.declared.chart.GroupKind.TheVariants.{Callers, Recipes, Untimed};
 ghost use Rattle.redo_trim.specs.Laws.{head_and_tail};
 ghost use Rattle.redo_summary.specs.Laws.{AreSplit};
 ghost use Rattle.redo_timeline.specs.declared.span.Window.{Window};
 ghost use Rattle.redo_page.specs.Timeline.{facts_drawing, has_timeline};
 
-use redo_chart::{bars_lead_to_places, bars_say_when_targets_ran};
+use redo_chart::{bars_lead_to_positions, bars_say_when_targets_ran};
 use redo_html::{
     charts_have_no_text_in_tags, only_markup_decides_nesting, parts_are_read,
     parts_show_their_text, passages_are_read_as_shown,
 };
 use redo_outline::events_are_in_contents;
-use redo_summary::{places_are_of_nodes, spans_are_parents_or_recipes};
+use redo_summary::{positions_are_of_nodes, spans_are_callers_or_recipes};
 use redo_trim::{head_and_tail_are_kept, trimmed_events_are_in_tree, unlimited_logs_are_whole};
 use redo_view::logs_show_their_lines;
 
@@ -67,17 +67,17 @@ pub fn links_lead_to_ids()
     ensures section_links { (request : Request) (logs : List Log) (requested : List (List ℕ)) →
         section_links (page_parts request logs requested) ≡ section_ids (page_parts request logs requested) }
 {
-    places_are_of_nodes();
-    bars_lead_to_places();
+    positions_are_of_nodes();
+    bars_lead_to_positions();
     trimmed_events_are_in_tree();
 }
 
-/// Each target that failed is exactly once among the first failures or among those above them. The first failures are in the order in
+/// Each target that failed is exactly once among the root failures or among the dependent ones. The root failures are in the order in
 /// which the targets ended. Targets with an unknown end follow all others. Equal ends, and unknown ones, are in the order of the tree.
 pub fn failures_are_listed()
     ensures listed { (nodes : List Node) →
-        IsPermutation (places_where has_failed 0 nodes) (first_failures nodes ++ places_where failed_above 0 nodes) }
-    ensures in_order { (nodes : List Node) → AreInOrderOfEnd nodes (first_failures nodes) }
+        IsPermutation (positions_where has_failed 0 nodes) (root_failures nodes ++ positions_where is_dependent_failure 0 nodes) }
+    ensures in_order { (nodes : List Node) → AreInOrderOfEnd nodes (root_failures nodes) }
 {}
 
 /// The contents of a page have the text lines of the events, each once and in order, if each requested target has a log. The tree shows
@@ -89,24 +89,25 @@ pub fn lines_are_shown()
         texts_of (page_lines request logs requested) ≡ flat_map event_lines (page_events request logs requested) }
     ensures tree { (request : Request) (logs : List Log) (requested : List (List ℕ)) →
         log_bytes (page_tree request logs requested)
-        ≡ placed_bytes (unmoved_lines (page_build request logs requested) (kept_lines request logs requested)) }
+        ≡ positioned_bytes (unmoved_lines (page_build request logs requested) (kept_lines request logs requested)) }
     ensures whole { (request : Request) (logs : List Log) (requested : List (List ℕ)) → request.max_bytes ≡ 0 →
         find_unknown logs requested ≡ None → kept_lines request logs requested ≡ page_lines request logs requested }
     ensures fitting { (request : Request) (logs : List Log) (requested : List (List ℕ)) →
         bytes_shown None (page_outline request logs requested) ≤ request.max_bytes → find_unknown logs requested ≡ None →
         kept_lines request logs requested ≡ page_lines request logs requested }
     ensures cut { (request : Request) (logs : List Log) (requested : List (List ℕ)) → request.max_bytes < 2 ^ 64 →
-        find_unknown logs requested ≡ None → (place : ℕ) → place < length (page_outline request logs requested) →
-        texts_of (lines_at place (kept_lines request logs requested))
-        ≡ head_and_tail (page_limit request logs requested place) (texts_of (lines_at place (page_lines request logs requested))) }
+        find_unknown logs requested ≡ None → (position : ℕ) → position < length (page_outline request logs requested) →
+        texts_of (lines_at position (kept_lines request logs requested))
+        ≡ head_and_tail (page_limit request logs requested position) (texts_of (lines_at position (page_lines request logs requested))) }
     ensures has_tree { (request : Request) (logs : List Log) (requested : List (List ℕ)) →
         IsPartOf (page_tree request logs requested) (page_parts request logs requested) }
     ensures articles { (request : Request) (logs : List Log) (requested : List (List ℕ)) → find_unknown logs requested ≡ None →
-        (place : ℕ) → is_moved (page_build request logs requested) place ≡ true →
-        log_bytes (page_article request logs requested place) ≡ placed_bytes (lines_at place (page_lines request logs requested)) }
+        (position : ℕ) → is_moved (page_build request logs requested) position ≡ true →
+        log_bytes (page_article request logs requested position)
+        ≡ positioned_bytes (lines_at position (page_lines request logs requested)) }
     ensures has_articles { (request : Request) (logs : List Log) (requested : List (List ℕ)) →
-        (place : ℕ) → is_moved (page_build request logs requested) place ≡ true →
-        IsPartOf (page_article request logs requested place) (page_parts request logs requested) }
+        (position : ℕ) → is_moved (page_build request logs requested) position ≡ true →
+        IsPartOf (page_article request logs requested position) (page_parts request logs requested) }
 {
     events_are_in_contents();
     logs_show_their_lines();
@@ -115,11 +116,11 @@ pub fn lines_are_shown()
     head_and_tail_are_kept();
 }
 
-/// Logs that have too many bytes together are cut at the highest level at which they show at most `budget` bytes.
-pub fn level_is_highest()
-    ensures fits { (budget : ℕ) (nodes : List Node) → bytes_shown (Some (highest_level budget nodes)) nodes ≤ budget }
-    ensures highest { (budget level : ℕ) (nodes : List Node) → highest_level budget nodes < level → level ≤ budget →
-        budget < bytes_shown (Some level) nodes }
+/// Logs that have too many bytes together are cut at the highest cap at which they show at most `budget` bytes.
+pub fn cap_is_highest()
+    ensures fits { (budget : ℕ) (nodes : List Node) → bytes_shown (Some (highest_cap budget nodes)) nodes ≤ budget }
+    ensures highest { (budget cap : ℕ) (nodes : List Node) → highest_cap budget nodes < cap → cap ≤ budget →
+        budget < bytes_shown (Some cap) nodes }
 {}
 
 /// Each tag of a page is its own: none comes from a log or a name. The tags of the tree depend only on the outline, on which kind each event
@@ -148,16 +149,16 @@ pub fn times_are_shown()
         has_timeline (page_facts request logs requested) ≡ false → charts (page_parts request logs requested) ≡ [] }
     ensures spans { (request : Request) (logs : List Log) (requested : List (List ℕ)) →
         AreSplit (page_outline request logs requested) request.times (page_facts request logs requested) }
-    ensures parents { (request : Request) (logs : List Log) (requested : List (List ℕ)) (window : Window) →
-        ChartDraws request logs requested window Parents max_parent_lanes (page_facts request logs requested).parents }
+    ensures callers { (request : Request) (logs : List Log) (requested : List (List ℕ)) (window : Window) →
+        ChartDraws request logs requested window Callers max_caller_lanes (page_facts request logs requested).callers }
     ensures recipes { (request : Request) (logs : List Log) (requested : List (List ℕ)) (window : Window) →
         ChartDraws request logs requested window Recipes max_recipe_lanes (page_facts request logs requested).recipes }
     ensures marks { (request : Request) (logs : List Log) (requested : List (List ℕ)) (window : Window) →
         ChartDraws request logs requested window Untimed max_mark_lanes (page_facts request logs requested).marks }
 {
-    spans_are_parents_or_recipes();
+    spans_are_callers_or_recipes();
     bars_say_when_targets_ran();
-    places_are_of_nodes();
-    bars_lead_to_places();
+    positions_are_of_nodes();
+    bars_lead_to_positions();
     trimmed_events_are_in_tree();
 }

@@ -3,8 +3,8 @@
 /// What is around logs that are directly in one log, or around the logs of the requested targets.
 #[derive(Clone, Copy)]
 pub struct Level {
-    /// The place of the log around, if there is one.
-    pub place: Option<usize>,
+    /// The position of the log around, if there is one.
+    pub position: Option<usize>,
     /// Whether this log is expanded when the page is opened.
     pub expanded: bool,
     /// The number of logs around.
@@ -14,7 +14,7 @@ pub struct Level {
 /// A log that is open: it hasn't ended yet.
 #[derive(Clone, Copy)]
 pub struct OpenLog {
-    pub place: usize,
+    pub position: usize,
     pub expanded: bool,
     /// The number of logs that are left of the group that the log is in, with this log. It is 0 if the log is in no group.
     pub left: usize,

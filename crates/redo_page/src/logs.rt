@@ -25,36 +25,36 @@ const MIN_GROUP: usize = 5;
 fn write_heading<W: Sink>(
     build: &BuildRef<'_>,
     event: EventRef<'_>,
-    place: usize,
+    position: usize,
     page: &mut PageWriter<'_, W>,
 )
-    ensures { WroteParts W.written page.old page.new (heading_parts (build_value build.now) (event_value event.entry) place) }
+    ensures { WroteParts W.written page.old page.new (heading_parts (build_value build.now) (event_value event.entry) position) }
 {
     match event {
         EventRef::Requested { name, .. } => {
             write_name(name.bytes(), page);
-            write_facts(&build.node(place), page)
+            write_facts(&build.node(position), page)
         }
         EventRef::Mentioned { how, name, .. } => {
             write_name(name.bytes(), page);
             write_how(build.options.debug_locks, how, page);
-            write_facts(&build.node(place), page)
+            write_facts(&build.node(position), page)
         }
         EventRef::EntryShown { .. } | EventRef::LogEnds { .. } => {}
     }
 }
 
 // Writes the link to the output of a target, if it is in an article.
-fn write_moved<W: Sink>(build: &BuildRef<'_>, place: usize, page: &mut PageWriter<'_, W>)
-    ensures { WroteParts W.written page.old page.new (moved_parts (build_value build.now) place) }
+fn write_moved<W: Sink>(build: &BuildRef<'_>, position: usize, page: &mut PageWriter<'_, W>)
+    ensures { WroteParts W.written page.old page.new (moved_parts (build_value build.now) position) }
 {
-    if !build.is_moved(place) {
+    if !build.is_moved(position) {
         return;
     }
     page.put(&[
         Piece::Markup(Markup::NoteItem),
-        Piece::Markup(Markup::OutputLink(place as u64)),
-        Piece::Name(SHOWN_ABOVE),
+        Piece::Markup(Markup::OutputLink(position as u64)),
+        Piece::Text(SHOWN_ABOVE),
         Piece::Markup(Markup::EndLink),
         Piece::Markup(Markup::EndItem),
     ])
@@ -62,24 +62,24 @@ fn write_moved<W: Sink>(build: &BuildRef<'_>, place: usize, page: &mut PageWrite
 
 fn write_empty_start<W: Sink>(
     build: &BuildRef<'_>,
-    place: usize,
+    position: usize,
     event: EventRef<'_>,
     page: &mut PageWriter<'_, W>,
 )
     ensures { WroteParts W.written page.old page.new
-        (empty_start place (heading_parts (build_value build.now) (event_value event.entry) place)) }
+        (empty_start position (heading_parts (build_value build.now) (event_value event.entry) position)) }
 {
-    page.put(&[Piece::Markup(Markup::TargetItem(place as u64))]);
-    write_heading(build, event, place, page)
+    page.put(&[Piece::Markup(Markup::TargetItem(position as u64))]);
+    write_heading(build, event, position, page)
 }
 
 fn write_depth<W: Sink>(depth: usize, page: &mut PageWriter<'_, W>)
     ensures { WroteParts W.written page.old page.new (depth_parts depth) }
 {
     page.put(&[
-        Piece::Name(b" "),
+        Piece::Text(b" "),
         Piece::Markup(Markup::Small),
-        Piece::Name(LEVEL),
+        Piece::Text(LEVEL),
         Piece::Number(depth as u64),
         Piece::Markup(Markup::EndSmall),
         Piece::Markup(Markup::EndItem),
@@ -88,104 +88,111 @@ fn write_depth<W: Sink>(depth: usize, page: &mut PageWriter<'_, W>)
 
 fn write_flat_start<W: Sink>(
     build: &BuildRef<'_>,
-    place: usize,
+    position: usize,
     depth: usize,
     event: EventRef<'_>,
     page: &mut PageWriter<'_, W>,
 )
     ensures { WroteParts W.written page.old page.new
-        (flat_start (build_value build.now) place depth (heading_parts (build_value build.now) (event_value event.entry) place)) }
+        (flat_start (build_value build.now) position depth (heading_parts (build_value build.now) (event_value event.entry) position)) }
 {
-    page.put(&[Piece::Markup(Markup::TargetItem(place as u64))]);
-    write_heading(build, event, place, page);
+    page.put(&[Piece::Markup(Markup::TargetItem(position as u64))]);
+    write_heading(build, event, position, page);
     write_depth(depth, page);
-    write_moved(build, place, page)
+    write_moved(build, position, page)
 }
 
-fn write_flat_end<W: Sink>(build: &BuildRef<'_>, place: usize, page: &mut PageWriter<'_, W>)
-    ensures { WroteParts W.written page.old page.new (flat_end (build_value build.now) place) }
+fn write_flat_end<W: Sink>(build: &BuildRef<'_>, position: usize, page: &mut PageWriter<'_, W>)
+    ensures { WroteParts W.written page.old page.new (flat_end (build_value build.now) position) }
 {
-    page.put(&[Piece::Markup(Markup::NoteItem), Piece::Name(END_OF)]);
-    write_name(build.target(build.node(place).number), page);
+    page.put(&[Piece::Markup(Markup::NoteItem), Piece::Text(END_OF)]);
+    write_name(build.target(build.node(position).number), page);
     page.put(&[Piece::Markup(Markup::EndItem)])
 }
 
-fn details_markup(expanded: bool, place: usize) -> Markup
-    ensures { result ≡ details_markup expanded place }
+fn details_markup(expanded: bool, position: usize) -> Markup
+    ensures { result ≡ details_markup expanded position }
 {
     if expanded {
-        Markup::OpenDetails(place as u64)
+        Markup::OpenDetails(position as u64)
     } else {
-        Markup::Details(place as u64)
+        Markup::Details(position as u64)
     }
 }
 
 fn write_nested_start<W: Sink>(
     build: &BuildRef<'_>,
     expanded: bool,
-    place: usize,
+    position: usize,
     event: EventRef<'_>,
     page: &mut PageWriter<'_, W>,
 )
     ensures { WroteParts W.written page.old page.new
-        (nested_start (build_value build.now) expanded place (heading_parts (build_value build.now) (event_value event.entry) place)) }
+        (nested_start (build_value build.now) expanded position
+        (heading_parts (build_value build.now) (event_value event.entry) position)) }
 {
     page.put(&[
         Piece::Markup(Markup::Item),
-        Piece::Markup(details_markup(expanded, place)),
+        Piece::Markup(details_markup(expanded, position)),
         Piece::Markup(Markup::Summary),
     ]);
-    write_heading(build, event, place, page);
+    write_heading(build, event, position, page);
     page.put(&[
         Piece::Markup(Markup::EndSummary),
         Piece::Markup(Markup::Unordered),
     ]);
-    write_moved(build, place, page)
+    write_moved(build, position, page)
 }
 
 fn write_opening<W: Sink>(
     build: &BuildRef<'_>,
     level: Level,
-    place: usize,
+    position: usize,
     event: EventRef<'_>,
     page: &mut PageWriter<'_, W>,
 )
     ensures { WroteParts W.written page.old page.new
-        (opening_parts (build_value build.now) level place (heading_parts (build_value build.now) (event_value event.entry) place)) }
+        (opening_parts (build_value build.now) level position (heading_parts (build_value build.now) (event_value event.entry) position)) }
 {
-    let node = build.node(place);
+    let node = build.node(position);
     if is_empty(&node) {
-        write_empty_start(build, place, event, page)
+        write_empty_start(build, position, event, page)
     } else if level.depth >= MAX_DEPTH {
-        write_flat_start(build, place, level.depth, event, page)
+        write_flat_start(build, position, level.depth, event, page)
     } else {
-        write_nested_start(build, build.is_expanded(level, &node), place, event, page)
+        write_nested_start(
+            build,
+            build.is_expanded(level, &node),
+            position,
+            event,
+            page,
+        )
     }
 }
 
 fn write_closing<W: Sink>(
     build: &BuildRef<'_>,
     level: Level,
-    place: usize,
+    position: usize,
     page: &mut PageWriter<'_, W>,
 )
-    ensures { WroteParts W.written page.old page.new (closing_parts (build_value build.now) level place) }
+    ensures { WroteParts W.written page.old page.new (closing_parts (build_value build.now) level position) }
 {
-    if is_empty(&build.node(place)) {
+    if is_empty(&build.node(position)) {
         page.put(&[Piece::Markup(Markup::EndItem)])
     } else if level.depth >= MAX_DEPTH {
-        write_flat_end(build, place, page)
+        write_flat_end(build, position, page)
     } else {
         write_end(Pending::Group(0), page)
     }
 }
 
 // Returns the number of logs of the group that begins with a log, or 0.
-fn group_size(build: &BuildRef<'_>, level: Level, place: usize) -> usize
-    ensures { result ≡ group_size (build_value build.now) level place }
+fn group_size(build: &BuildRef<'_>, level: Level, position: usize) -> usize
+    ensures { result ≡ group_size (build_value build.now) level position }
 {
-    let silent = build.node(place).silent;
-    if silent >= MIN_GROUP && !is_silent(build.node_if(level.place)) {
+    let silent = build.node(position).silent;
+    if silent >= MIN_GROUP && !is_silent(build.node_if(level.position)) {
         silent
     } else {
         0
@@ -193,12 +200,12 @@ fn group_size(build: &BuildRef<'_>, level: Level, place: usize) -> usize
 }
 
 /// Returns the number of logs that are left of a group before a log, with this log, or 0 if it is in no group.
-pub fn group_left(build: &BuildRef<'_>, level: Level, place: usize, pending: Pending) -> usize
-    ensures { result ≡ group_left (build_value build.now) level place pending }
+pub fn group_left(build: &BuildRef<'_>, level: Level, position: usize, pending: Pending) -> usize
+    ensures { result ≡ group_left (build_value build.now) level position pending }
 {
     match pending {
         Pending::Group(left) => left,
-        _ => group_size(build, level, place),
+        _ => group_size(build, level, position),
     }
 }
 
@@ -213,7 +220,7 @@ fn write_group<W: Sink>(size: usize, page: &mut PageWriter<'_, W>)
         Piece::Markup(Markup::QuietDetails),
         Piece::Markup(Markup::Summary),
         Piece::Number(size as u64),
-        Piece::Name(SILENT_TARGETS),
+        Piece::Text(SILENT_TARGETS),
         Piece::Markup(Markup::EndSummary),
         Piece::Markup(Markup::Unordered),
     ])
@@ -222,18 +229,18 @@ fn write_group<W: Sink>(size: usize, page: &mut PageWriter<'_, W>)
 fn write_group_start<W: Sink>(
     build: &BuildRef<'_>,
     level: Level,
-    place: usize,
+    position: usize,
     pending: Pending,
     page: &mut PageWriter<'_, W>,
 )
-    ensures { WroteParts W.written page.old page.new (group_start (build_value build.now) level place pending) }
+    ensures { WroteParts W.written page.old page.new (group_start (build_value build.now) level position pending) }
 {
     match pending {
         Pending::Group(_) => {}
-        Pending::Nothing => write_group(group_size(build, level, place), page),
+        Pending::Nothing => write_group(group_size(build, level, position), page),
         Pending::Text(_) => {
             write_end(pending, page);
-            write_group(group_size(build, level, place), page)
+            write_group(group_size(build, level, position), page)
         }
     }
 }
@@ -262,27 +269,27 @@ pub fn after_log(left: usize) -> Pending
 pub fn write_log_start<W: Sink>(
     build: &BuildRef<'_>,
     level: Level,
-    place: usize,
+    position: usize,
     pending: Pending,
     event: EventRef<'_>,
     page: &mut PageWriter<'_, W>,
 )
-    ensures { WroteParts W.written page.old page.new (log_start (build_value build.now) level place pending (event_value event.entry)) }
+    ensures { WroteParts W.written page.old page.new (log_start (build_value build.now) level position pending (event_value event.entry)) }
 {
-    write_group_start(build, level, place, pending, page);
-    write_opening(build, level, place, event, page)
+    write_group_start(build, level, position, pending, page);
+    write_opening(build, level, position, event, page)
 }
 
 /// Writes a log after what it contains, and the end of its group if it is the last one of the group.
 pub fn write_log_end<W: Sink>(
     build: &BuildRef<'_>,
     level: Level,
-    place: usize,
+    position: usize,
     left: usize,
     page: &mut PageWriter<'_, W>,
 )
-    ensures { WroteParts W.written page.old page.new (log_end (build_value build.now) level place left) }
+    ensures { WroteParts W.written page.old page.new (log_end (build_value build.now) level position left) }
 {
-    write_closing(build, level, place, page);
+    write_closing(build, level, position, page);
     write_group_end(left, page)
 }

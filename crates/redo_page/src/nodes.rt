@@ -1,4 +1,4 @@
-//! What is known of targets, by their places.
+//! What is known of targets, by their positions.
 ghost use Rattle.std.specs.Prelude.{◌≡◌};
 ghost use Rattle.redo_page.specs.Tree.{has_failed, is_short, node_at};
 
@@ -21,11 +21,11 @@ const NO_NODE: Node = Node {
     ended: None,
 };
 
-/// Returns what is known of the log at a place.
-pub fn node_at(nodes: &[Node], place: usize) -> Node
-    ensures { result ≡ node_at nodes.now place }
+/// Returns what is known of the log at a position.
+pub fn node_at(nodes: &[Node], position: usize) -> Node
+    ensures { result ≡ node_at nodes.now position }
 {
-    match nodes.get(place) {
+    match nodes.get(position) {
         Some(node) => *node,
         None => NO_NODE,
     }

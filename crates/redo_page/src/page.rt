@@ -148,7 +148,7 @@ fn write_outlined<W: Sink>(
     let texts = Texts::new(alloc, request, options, requested, nodes, &failures)?;
     let summary = Summary::new(alloc, nodes, request.times)?;
     write_top(table, request, &texts, nodes, &failures, &summary, out)?;
-    let articles = first_of(MAX_ARTICLES, failures.first.as_slice());
+    let articles = first_of(MAX_ARTICLES, failures.roots.as_slice());
     write_body(
         alloc, table, request, options, requested, outline, articles, &summary, out,
     )?;
@@ -164,14 +164,14 @@ fn write_body<W: Sink>(
     options: &Options,
     requested: &[TargetName],
     outline: &Outline,
-    places: &[usize],
+    positions: &[usize],
     summary: &Summary,
     out: &mut W,
 ) -> Result<(), FormFault>
     requires ended { list_all has_ended table.now ≡ true }
     requires known { find_unknown table.now requested.now ≡ None }
     requires outline { length outline.now ≡ log_count (contents_of (shown_events table.now options.now requested.now)) }
-    requires articles { places.now ≡ articles outline.now }
+    requires articles { positions.now ≡ articles outline.now }
     ensures { FormWrites (W.written out.old) (W.written out.new) (flat_map part_html (body_parts table.now options.now
         request.now.max_bytes requested.now outline.now summary.now)) result }
 {
@@ -182,7 +182,7 @@ fn write_body<W: Sink>(
         options,
         requested,
         outline,
-        places,
+        positions,
         request.max_bytes,
         out,
     )
@@ -209,7 +209,7 @@ impl Texts {
         requires { AreFailures nodes.now failures.now }
         ensures { IfOk result (AreTexts (request_of request.now) options.now requested.now nodes.now) }
     {
-        let failures = failures.first.len();
+        let failures = failures.roots.len();
         let verdict = Verdict::of(nodes, failures);
         let heading = verdict.text(alloc, nodes, failures)?;
         let title = title_text(alloc, request.title, verdict, &heading)?;

@@ -3,7 +3,7 @@ ghost use Rattle.std.specs.Prelude.{◌≡◌, ◌∷◌, [], map};
 ghost use Rattle.std.specs.List.{flat_map};
 ghost use Rattle.redo_page.specs.Failed.{AreFailures};
 ghost use Rattle.redo_html.specs.Parts.Part.{NumberPart};
-ghost use Rattle.redo_page.specs.Summary.{above_parts, at_once_parts, failed_counts, known_count, largest_of, measure_parts, meter_width, rank_parts, shown_longest, summary_parts, table_parts, table_start, tables_parts, tile, tile_end, tile_start, tiles, timed_tiles, took_tile, unknown_parts, why_parts};
+ghost use Rattle.redo_page.specs.Summary.{dependents_parts, at_once_parts, failed_counts, known_count, largest_of, measure_parts, meter_width, rank_parts, shown_longest, summary_parts, table_parts, table_start, tables_parts, tile, tile_end, tile_start, tiles, timed_tiles, took_tile, unknown_parts, why_parts};
 ghost use Rattle.redo_page.specs.Words.{words_parts};
 ghost use Rattle.redo_units.specs.Words.{word_of};
 ghost use Rattle.redo_page.specs.Private.Writing.{WroteParts};
@@ -42,7 +42,7 @@ fn write_tile_start<W: Sink>(term: &[u8], page: &mut PageWriter<'_, W>)
     page.put(&[
         Piece::Markup(Markup::Div),
         Piece::Markup(Markup::Term),
-        Piece::Name(term),
+        Piece::Text(term),
         Piece::Markup(Markup::EndTerm),
         Piece::Markup(Markup::Description),
     ]);
@@ -74,25 +74,25 @@ fn write_words_tile<W: Sink>(term: &[u8], words: &[Word], page: &mut PageWriter<
 }
 
 // Writes how many targets failed, and how many of those above them.
-fn write_failed_tile<W: Sink>(first: usize, above: usize, page: &mut PageWriter<'_, W>)
-    ensures { WroteParts W.written page.old page.new (tile FAILED.now (failed_counts first above)) }
+fn write_failed_tile<W: Sink>(roots: usize, dependents: usize, page: &mut PageWriter<'_, W>)
+    ensures { WroteParts W.written page.old page.new (tile FAILED.now (failed_counts roots dependents)) }
 {
     write_tile_start(FAILED, page);
-    page.put(&[Piece::Number(first as u64)]);
-    write_above(above, page);
+    page.put(&[Piece::Number(roots as u64)]);
+    write_dependents(dependents, page);
     write_tile_end(page);
 }
 
-fn write_above<W: Sink>(above: usize, page: &mut PageWriter<'_, W>)
-    ensures { WroteParts W.written page.old page.new (above_parts above) }
+fn write_dependents<W: Sink>(dependents: usize, page: &mut PageWriter<'_, W>)
+    ensures { WroteParts W.written page.old page.new (dependents_parts dependents) }
 {
-    if above == 0 {
+    if dependents == 0 {
         return;
     }
     page.put(&[
-        Piece::Name(AND_COUNT),
-        Piece::Number(above as u64),
-        Piece::Name(ABOVE),
+        Piece::Text(AND_COUNT),
+        Piece::Number(dependents as u64),
+        Piece::Text(ABOVE),
     ]);
 }
 
@@ -110,7 +110,7 @@ fn write_at_once_tile<W: Sink>(summary: &Summary, page: &mut PageWriter<'_, W>)
 {
     write_tile_start(AT_ONCE, page);
     write_words(&tenths(summary.sum(), summary.took()), page);
-    page.put(&[Piece::Name(AT_MOST), Piece::Number(summary.most() as u64)]);
+    page.put(&[Piece::Text(AT_MOST), Piece::Number(summary.most() as u64)]);
     write_tile_end(page);
 }
 
@@ -126,14 +126,14 @@ fn write_timed_tiles<W: Sink>(summary: &Summary, page: &mut PageWriter<'_, W>)
 fn write_tiles<W: Sink>(
     summary: &Summary,
     targets: usize,
-    first: usize,
-    above: usize,
+    roots: usize,
+    dependents: usize,
     page: &mut PageWriter<'_, W>,
 )
-    ensures { WroteParts W.written page.old page.new (tiles summary.now targets first above) }
+    ensures { WroteParts W.written page.old page.new (tiles summary.now targets roots dependents) }
 {
     write_number_tile(TARGETS, targets as u64, page);
-    write_failed_tile(first, above, page);
+    write_failed_tile(roots, dependents, page);
     write_number_tile(WARNED_LINES, summary.warnings(), page);
     write_words_tile(LOGS, &size(summary.bytes()), page);
     write_took_tile(summary, page);
@@ -170,12 +170,12 @@ fn write_row<W: Sink>(
 )
     ensures { WroteParts W.written page.old page.new (rank_parts table.now nodes.now measure largest rank) }
 {
-    let node = node_at(nodes, rank.place);
+    let node = node_at(nodes, rank.position);
     page.put(&[
         Piece::Markup(Markup::TableRow),
         Piece::Markup(Markup::RowHeading),
     ]);
-    write_linked(Some(rank.place), target_at(table, node.number), page);
+    write_linked(Some(rank.position), target_at(table, node.number), page);
     write_badge(node.status, page);
     page.put(&[
         Piece::Markup(Markup::EndRowHeading),
@@ -245,7 +245,7 @@ fn write_table_start<W: Sink>(heading: &[u8], page: &mut PageWriter<'_, W>)
     page.put(&[
         Piece::Markup(Markup::Div),
         Piece::Markup(Markup::Title3),
-        Piece::Name(heading),
+        Piece::Text(heading),
         Piece::Markup(Markup::EndTitle3),
         Piece::Markup(Markup::Table),
         Piece::Markup(Markup::TableBody),
@@ -288,24 +288,24 @@ fn shown_longest(summary: &Summary) -> &[Rank]
 pub fn known_count(summary: &Summary) -> u64
     ensures { result ≡ known_count summary.now }
 {
-    let parents = summary.parents().len() as u64;
+    let callers = summary.callers().len() as u64;
     let recipes = summary.recipes().len() as u64;
     let marks = summary.marks().len() as u64;
-    parents.saturating_add(recipes).saturating_add(marks)
+    callers.saturating_add(recipes).saturating_add(marks)
 }
 
 fn write_unknown<W: Sink>(unknown: u64, targets: u64, page: &mut PageWriter<'_, W>)
     ensures { WroteParts W.written page.old page.new (unknown_parts unknown targets) }
 {
     if targets == 0 {
-        page.put(&[Piece::Name(NO_TIMES)]);
+        page.put(&[Piece::Text(NO_TIMES)]);
     } else {
         page.put(&[
-            Piece::Name(FEW_TIMES_OF),
+            Piece::Text(FEW_TIMES_OF),
             Piece::Number(unknown),
-            Piece::Name(OF),
+            Piece::Text(OF),
             Piece::Number(targets),
-            Piece::Name(TIMES_UNKNOWN),
+            Piece::Text(TIMES_UNKNOWN),
         ]);
     }
 }
@@ -335,16 +335,16 @@ pub fn write_summary<W: Sink>(
     requires { AreFailures nodes.now failures.now }
     ensures { WroteParts W.written page.old page.new (summary_parts table.now nodes.now summary.now) }
 {
-    let first = failures.first.as_slice();
-    let above = failures.above.as_slice();
+    let roots = failures.roots.as_slice();
+    let dependents = failures.dependents.as_slice();
     page.put(&[
         Piece::Markup(Markup::SummarySection),
         Piece::Markup(Markup::SummaryHeading),
-        Piece::Name(SUMMARY),
+        Piece::Text(SUMMARY),
         Piece::Markup(Markup::EndHeading),
         Piece::Markup(Markup::DescriptionList),
     ]);
-    write_tiles(summary, nodes.len(), first.len(), above.len(), page);
+    write_tiles(summary, nodes.len(), roots.len(), dependents.len(), page);
     page.put(&[Piece::Markup(Markup::EndDescriptionList)]);
     write_tables(table, nodes, shown_longest(summary), summary.warned(), page);
     write_why(summary, page);

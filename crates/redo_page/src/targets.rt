@@ -21,21 +21,21 @@ pub fn write_name<W: Sink>(name: &[u8], page: &mut PageWriter<'_, W>)
 {
     page.put(&[
         Piece::Markup(Markup::Bdi),
-        Piece::Name(name),
+        Piece::Text(name),
         Piece::Markup(Markup::EndBdi),
     ])
 }
 
-/// Writes a name that leads to the place of a target in the tree, if it is there.
-pub fn write_linked<W: Sink>(place: Option<usize>, name: &[u8], page: &mut PageWriter<'_, W>)
-    ensures { WroteParts W.written page.old page.new (linked_parts place name.now) }
+/// Writes a name that leads to the position of a target in the tree, if it is there.
+pub fn write_linked<W: Sink>(position: Option<usize>, name: &[u8], page: &mut PageWriter<'_, W>)
+    ensures { WroteParts W.written page.old page.new (linked_parts position name.now) }
 {
-    match place {
+    match position {
         None => write_name(name, page),
-        Some(place) => page.put(&[
-            Piece::Markup(Markup::TargetLink(place as u64)),
+        Some(position) => page.put(&[
+            Piece::Markup(Markup::TargetLink(position as u64)),
             Piece::Markup(Markup::Bdi),
-            Piece::Name(name),
+            Piece::Text(name),
             Piece::Markup(Markup::EndBdi),
             Piece::Markup(Markup::EndLink),
         ]),
@@ -61,10 +61,10 @@ pub fn write_exit<W: Sink>(status: i32, page: &mut PageWriter<'_, W>)
     ensures { WroteParts W.written page.old page.new (exit_parts status) }
 {
     page.put(&[
-        Piece::Name(b" "),
+        Piece::Text(b" "),
         Piece::Markup(Markup::ExitBadge),
-        Piece::Name(EXIT),
-        Piece::Name(sign_of(status)),
+        Piece::Text(EXIT),
+        Piece::Text(sign_of(status)),
         Piece::Number(magnitude_of(status)),
         Piece::Markup(Markup::EndBadge),
     ])
@@ -76,9 +76,9 @@ pub fn write_badge<W: Sink>(status: Option<i32>, page: &mut PageWriter<'_, W>)
 {
     match status {
         None => page.put(&[
-            Piece::Name(b" "),
+            Piece::Text(b" "),
             Piece::Markup(Markup::OpenBadge),
-            Piece::Name(NOT_CLOSED),
+            Piece::Text(NOT_CLOSED),
             Piece::Markup(Markup::EndBadge),
         ]),
         Some(0) => {}
@@ -100,10 +100,10 @@ fn write_lines<W: Sink>(lines: u64, page: &mut PageWriter<'_, W>)
         return;
     }
     page.put(&[
-        Piece::Name(b" "),
+        Piece::Text(b" "),
         Piece::Markup(Markup::Small),
         Piece::Number(lines),
-        Piece::Name(plural(lines, LINE, LINES)),
+        Piece::Text(plural(lines, LINE, LINES)),
         Piece::Markup(Markup::EndSmall),
     ])
 }
@@ -115,11 +115,11 @@ fn write_warnings<W: Sink>(warnings: u64, page: &mut PageWriter<'_, W>)
         return;
     }
     page.put(&[
-        Piece::Name(b" "),
+        Piece::Text(b" "),
         Piece::Markup(Markup::Small),
         Piece::Markup(Markup::Warnings),
         Piece::Number(warnings),
-        Piece::Name(plural(warnings, WARNING, WARNINGS)),
+        Piece::Text(plural(warnings, WARNING, WARNINGS)),
         Piece::Markup(Markup::EndWarnings),
         Piece::Markup(Markup::EndSmall),
     ])
@@ -132,10 +132,10 @@ fn write_below<W: Sink>(below: usize, page: &mut PageWriter<'_, W>)
         return;
     }
     page.put(&[
-        Piece::Name(b" "),
+        Piece::Text(b" "),
         Piece::Markup(Markup::Small),
         Piece::Number(below as u64),
-        Piece::Name(BELOW),
+        Piece::Text(BELOW),
         Piece::Markup(Markup::EndSmall),
     ])
 }
@@ -147,12 +147,12 @@ fn write_warnings_below<W: Sink>(warnings: u64, page: &mut PageWriter<'_, W>)
         return;
     }
     page.put(&[
-        Piece::Name(b" "),
+        Piece::Text(b" "),
         Piece::Markup(Markup::Small),
-        Piece::Name(WITH),
+        Piece::Text(WITH),
         Piece::Markup(Markup::Warnings),
         Piece::Number(warnings),
-        Piece::Name(plural(warnings, WARNING, WARNINGS)),
+        Piece::Text(plural(warnings, WARNING, WARNINGS)),
         Piece::Markup(Markup::EndWarnings),
         Piece::Markup(Markup::EndSmall),
     ])
@@ -164,7 +164,7 @@ fn write_took<W: Sink>(took: Option<u64>, page: &mut PageWriter<'_, W>)
     let Some(ms) = took else {
         return;
     };
-    page.put(&[Piece::Name(b" "), Piece::Markup(Markup::Small)]);
+    page.put(&[Piece::Text(b" "), Piece::Markup(Markup::Small)]);
     write_words(&duration(ms), page);
     page.put(&[Piece::Markup(Markup::EndSmall)]);
 }
@@ -201,9 +201,9 @@ pub fn write_how<W: Sink>(shown: bool, how: How, page: &mut PageWriter<'_, W>)
         return;
     }
     page.put(&[
-        Piece::Name(b" "),
+        Piece::Text(b" "),
         Piece::Markup(Markup::Small),
-        Piece::Name(word_of(how)),
+        Piece::Text(word_of(how)),
         Piece::Markup(Markup::EndSmall),
     ])
 }

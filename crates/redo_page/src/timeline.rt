@@ -37,11 +37,11 @@ fn write_marks<W: Sink>(marks: u64, known: u64, page: &mut PageWriter<'_, W>)
     }
     page.put(&[
         Piece::Markup(Markup::QuietParagraph),
-        Piece::Name(MARKS_OF),
+        Piece::Text(MARKS_OF),
         Piece::Number(marks),
-        Piece::Name(OF),
+        Piece::Text(OF),
         Piece::Number(known),
-        Piece::Name(MARKS_UNKNOWN),
+        Piece::Text(MARKS_UNKNOWN),
         Piece::Markup(Markup::EndParagraph),
     ]);
 }
@@ -52,7 +52,7 @@ fn put_start<W: Sink>(summary: &Summary, page: &mut PageWriter<'_, W>)
     page.put(&[
         Piece::Markup(Markup::TimelineSection),
         Piece::Markup(Markup::TimelineHeading),
-        Piece::Name(TIMELINE),
+        Piece::Text(TIMELINE),
         Piece::Markup(Markup::EndHeading),
     ]);
     write_marks(summary.marks().len() as u64, known_count(summary), page);
@@ -82,8 +82,8 @@ fn write_end<W: Sink>(summary: &Summary, out: &mut W) -> Result<(), Broken>
         &[
             Piece::Markup(Markup::EndDiv),
             Piece::Markup(Markup::QuietParagraph),
-            Piece::Name(BARS_LEAD),
-            Piece::Name(pale_text(!summary.parents().is_empty())),
+            Piece::Text(BARS_LEAD),
+            Piece::Text(pale_text(!summary.callers().is_empty())),
             Piece::Markup(Markup::EndParagraph),
             Piece::Markup(Markup::EndSection),
         ],
@@ -108,7 +108,7 @@ fn write_chart<W: Sink>(
         table,
         nodes,
         window,
-        summary.parents(),
+        summary.callers(),
         summary.recipes(),
         summary.marks(),
         out,

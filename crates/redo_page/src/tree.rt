@@ -12,7 +12,7 @@ ghost use Rattle.redo_view.specs.Form.{FormWrites, bytes_of, state_after};
 ghost use Rattle.redo_view.specs.View.{find_unknown};
 ghost use Rattle.redo_view.specs.EventRef.{IsWrittenAlone, event_value};
 ghost use Rattle.redo_page.specs.Private.Referring.{build_value};
-ghost use Rattle.redo_page.specs.Private.Walking.{after_ending, after_event, after_opening, after_texts, ending_parts, level_in, next_place, opened_log, start_of, texts_parts, tree_bytes, tree_text, walk_parts};
+ghost use Rattle.redo_page.specs.Private.Walking.{after_ending, after_event, after_opening, after_texts, ending_parts, level_in, next_position, opened_log, start_of, texts_parts, tree_bytes, tree_text, walk_parts};
 ghost use Rattle.redo_page.specs.Limits.{tree_limits};
 ghost use Rattle.redo_trim.specs.Trim.{trim, trimmed};
 ghost use Rattle.redo_page.specs.Private.Writing.{WroteParts};
@@ -24,7 +24,7 @@ use crate::build::BuildRef;
 use crate::items::{after_shown, write_end, write_shown};
 use crate::labels::{ALL_LOGS, TREE_IS};
 use crate::level::{Level, OpenLog};
-use crate::limits::{level_for, limits_of};
+use crate::limits::{cap_for, limits_of};
 use crate::logs::{after_log, group_left, write_log_end, write_log_start};
 use crate::step::{Step, step_of};
 use crate::texts::write_lines;
@@ -45,7 +45,7 @@ pub struct TreeForm<'a> {
     build: BuildRef<'a>,
     // The logs that are open, the outermost first.
     logs: Vec<OpenLog>,
-    // The place of the next log.
+    // The position of the next log.
     next: usize,
     pending: Pending,
 }
@@ -66,7 +66,7 @@ impl<'a> Model for TreeForm<'a> {
 }
 
 const TOP_LEVEL: Level = Level {
-    place: None,
+    position: None,
     expanded: true,
     depth: 0,
 };
@@ -77,7 +77,7 @@ fn level_in(logs: &[OpenLog]) -> Level
 {
     match logs.last() {
         Some(log) => Level {
-            place: Some(log.place),
+            position: Some(log.position),
             expanded: log.expanded,
             depth: logs.len(),
         },
@@ -85,25 +85,25 @@ fn level_in(logs: &[OpenLog]) -> Level
     }
 }
 
-// Returns the place after a place.
-fn next_place(nodes: &[Node], place: usize) -> usize
-    ensures { result ≡ next_place nodes.now place }
+// Returns the position after a position.
+fn next_position(nodes: &[Node], position: usize) -> usize
+    ensures { result ≡ next_position nodes.now position }
 {
-    if place < nodes.len() {
-        place + 1
+    if position < nodes.len() {
+        position + 1
     } else {
-        place
+        position
     }
 }
 
-// Returns the log that is opened at a place.
-fn opened_log(build: &BuildRef<'_>, level: Level, place: usize, pending: Pending) -> OpenLog
-    ensures { result ≡ opened_log (build_value build.now) level place pending }
+// Returns the log that is opened at a position.
+fn opened_log(build: &BuildRef<'_>, level: Level, position: usize, pending: Pending) -> OpenLog
+    ensures { result ≡ opened_log (build_value build.now) level position pending }
 {
     OpenLog {
-        place,
-        expanded: build.is_expanded(level, &build.node(place)),
-        left: group_left(build, level, place, pending),
+        position,
+        expanded: build.is_expanded(level, &build.node(position)),
+        left: group_left(build, level, position, pending),
     }
 }
 
@@ -134,7 +134,7 @@ impl<'a> TreeForm<'a> {
         write_log_start(&self.build, level, self.next, self.pending, event, page);
         self.logs
             .push(opened_log(&self.build, level, self.next, self.pending))?;
-        self.next = next_place(self.build.outline.nodes(), self.next);
+        self.next = next_position(self.build.outline.nodes(), self.next);
         self.pending = Pending::Nothing;
         Ok(())
     }
@@ -146,7 +146,13 @@ impl<'a> TreeForm<'a> {
     {
         if let Some(log) = self.logs.pop() {
             write_end(self.pending, page);
-            write_log_end(&self.build, level_in(&self.logs), log.place, log.left, page);
+            write_log_end(
+                &self.build,
+                level_in(&self.logs),
+                log.position,
+                log.left,
+                page,
+            );
             self.pending = after_log(log.left);
         }
     }
@@ -216,7 +222,7 @@ impl<'a> TreeForm<'a> {
             (flat_map part_html (texts_parts self.old (ended lines.now))) result }
         ensures state { OnOk result (self.new ≡ after_texts self.old (ended lines.now)) }
     {
-        if self.build.is_moved_if(level_in(&self.logs).place) {
+        if self.build.is_moved_if(level_in(&self.logs).position) {
             return Ok(());
         }
         write_lines(&mut self.pending, lines, out)
@@ -253,10 +259,10 @@ fn write_section_start<W: Sink>(out: &mut W) -> Result<(), Broken>
         &[
             Piece::Markup(Markup::TreeSection),
             Piece::Markup(Markup::TreeHeading),
-            Piece::Name(ALL_LOGS),
+            Piece::Text(ALL_LOGS),
             Piece::Markup(Markup::EndHeading),
             Piece::Markup(Markup::QuietParagraph),
-            Piece::Name(TREE_IS),
+            Piece::Text(TREE_IS),
             Piece::Markup(Markup::EndParagraph),
             Piece::Markup(Markup::Tree),
         ],
@@ -329,7 +335,7 @@ fn write_all<W: Sink>(
 }
 
 /// Writes the tree of everything that is shown. Each requested target must have a log, all logs must have ended, the outline must
-/// have a node for each log that is opened, and `places` must be the places of the targets that have an article. Long logs are cut, so
+/// have a node for each log that is opened, and `positions` must be those of the targets that have an article. Long logs are cut, so
 /// that the tree has about `budget` bytes of text lines; 0 doesn't limit them.
 pub fn write_tree<W: Sink>(
     alloc: Global,
@@ -337,14 +343,14 @@ pub fn write_tree<W: Sink>(
     options: &Options,
     requested: &[TargetName],
     outline: &Outline,
-    places: &[usize],
+    positions: &[usize],
     budget: u64,
     out: &mut W,
 ) -> Result<(), FormFault>
     requires ended { list_all has_ended table.now ≡ true }
     requires known { find_unknown table.now requested.now ≡ None }
     requires outline { length outline.now ≡ log_count (contents_of (shown_events table.now options.now requested.now)) }
-    requires articles { places.now ≡ articles outline.now }
+    requires articles { positions.now ≡ articles outline.now }
     ensures { FormWrites (W.written out.old) (W.written out.new) (flat_map part_html
         (tree_parts table.now options.now outline.now (trim (tree_limits table.now options.now outline.now budget) []
         (contents_of (shown_events table.now options.now requested.now))))) result }
@@ -355,9 +361,9 @@ pub fn write_tree<W: Sink>(
         table,
         options,
         outline,
-        articles: places,
+        articles: positions,
     };
-    let limits = limits_of(alloc, &build, level_for(outline.nodes(), budget))?;
+    let limits = limits_of(alloc, &build, cap_for(outline.nodes(), budget))?;
     write_section_start(out)?;
     write_all(alloc, build, &limits, requested, out)
 }

@@ -15,7 +15,7 @@ fn piece_of(word: Word) -> Piece<'static>
 {
     match word {
         Word::Number(number) => Piece::Number(number),
-        Word::Text(text) => Piece::Name(text),
+        Word::Text(text) => Piece::Text(text),
     }
 }
 

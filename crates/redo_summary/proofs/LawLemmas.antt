@@ -11,8 +11,8 @@ use Rattle.redo_times.specs.declared.times.Times.{Times}
 use Rattle.redo_outline.specs.declared.node.Node.{Node}
 use Rattle.redo_summary.specs.declared.rank.Rank.{Rank}
 use Rattle.redo_summary.specs.declared.target.Target.{Target}
-use Rattle.redo_summary.specs.Laws.{AreInOrderOfPlace, AreOfNodes, AreRisingFrom, AreSplit}
-use Rattle.redo_summary.specs.Parents.{ran_others, spans_of}
+use Rattle.redo_summary.specs.Laws.{AreInOrderOfPosition, AreOfNodes, AreRisingFrom, AreSplit}
+use Rattle.redo_summary.specs.Callers.{ran_others, spans_of}
 use Rattle.redo_summary.specs.Ranks.{first_ranks, rank_cmp, rank_of, warnings_from}
 use Rattle.redo_summary.specs.Summary.{summary_of}
 use Rattle.redo_summary.specs.Targets.{mark_of, only_time, span_between, span_if, span_of, target_of, targets_from, targets_of}
@@ -54,57 +54,57 @@ all_chosen {X = X} {Y = Y} P Q choose kept (x ∷ xs) all = by (choose x) (kept 
     by None here more = more
     by (Some y) here more = (here, more)
 
--- ---- places
+-- ---- positions
 
 module _ (count : ℕ) where
-  targets_below : (times : List Times) (place : ℕ) (nodes : List Node) → place + length nodes ≤ count → AllByRecursion (λ (target : Target). target.place < count) (targets_from times place nodes)
-  targets_below times place [] within = tt
-  targets_below times place (node ∷ nodes) within = (omega (arith, within), targets_below times (place + 1) nodes (omega (arith, within)))
+  targets_below : (times : List Times) (position : ℕ) (nodes : List Node) → position + length nodes ≤ count → AllByRecursion (λ (target : Target). target.position < count) (targets_from times position nodes)
+  targets_below times position [] within = tt
+  targets_below times position (node ∷ nodes) within = (omega (arith, within), targets_below times (position + 1) nodes (omega (arith, within)))
 
-  warnings_below : (place : ℕ) (nodes : List Node) → place + length nodes ≤ count → AllByRecursion (λ (rank : Rank). rank.place < count) (warnings_from place nodes)
-  warnings_below place [] within = tt
-  warnings_below place (node ∷ nodes) within = (omega (arith, within), warnings_below (place + 1) nodes (omega (arith, within)))
+  warnings_below : (position : ℕ) (nodes : List Node) → position + length nodes ≤ count → AllByRecursion (λ (rank : Rank). rank.position < count) (warnings_from position nodes)
+  warnings_below position [] within = tt
+  warnings_below position (node ∷ nodes) within = (omega (arith, within), warnings_below (position + 1) nodes (omega (arith, within)))
 
-  span_below : (target : Target) → target.place < count → IfSome (span_of target) (λ (span : Span). span.place < count)
+  span_below : (target : Target) → target.position < count → IfSome (span_of target) (λ (span : Span). span.position < count)
   span_below target below = by target.times.began target.times.ended
     where
-      by : (began ended : Option ℕ) → IfSome (span_if target began ended) (λ (span : Span). span.place < count)
+      by : (began ended : Option ℕ) → IfSome (span_if target began ended) (λ (span : Span). span.position < count)
       by None None = tt
       by None (Some ended) = tt
       by (Some began) None = tt
       by (Some began) (Some ended) = below
 
-  mark_below : (target : Target) → target.place < count → IfSome (mark_of target) (λ (span : Span). span.place < count)
+  mark_below : (target : Target) → target.position < count → IfSome (mark_of target) (λ (span : Span). span.position < count)
   mark_below target below = by (only_time target.parent target.times.began target.times.ended)
     where
-      by : (time : Option ℕ) → IfSome (option_map (λ (time : ℕ). span_between target time time) time) (λ (span : Span). span.place < count)
+      by : (time : Option ℕ) → IfSome (option_map (λ (time : ℕ). span_between target time time) time) (λ (span : Span). span.position < count)
       by None = tt
       by (Some time) = below
 
-  ranks_below : (spans : List Span) → AllByRecursion (λ (span : Span). span.place < count) spans → AllByRecursion (λ (rank : Rank). rank.place < count) (map rank_of spans)
+  ranks_below : (spans : List Span) → AllByRecursion (λ (span : Span). span.position < count) spans → AllByRecursion (λ (rank : Rank). rank.position < count) (map rank_of spans)
   ranks_below [] all = tt
   ranks_below (span ∷ spans) all = (all.0, ranks_below spans all.1)
 
-  first_below : (ranks : List Rank) → AllByRecursion (λ (rank : Rank). rank.place < count) ranks → AllByRecursion (λ (rank : Rank). rank.place < count) (first_ranks ranks)
+  first_below : (ranks : List Rank) → AllByRecursion (λ (rank : Rank). rank.position < count) ranks → AllByRecursion (λ (rank : Rank). rank.position < count) (first_ranks ranks)
   first_below ranks all =
-      all_taken (λ (rank : Rank). rank.place < count) 10 (sort rank_cmp ranks) (all_sorted (λ (rank : Rank). rank.place < count) rank_cmp ranks all)
+      all_taken (λ (rank : Rank). rank.position < count) 10 (sort rank_cmp ranks) (all_sorted (λ (rank : Rank). rank.position < count) rank_cmp ranks all)
 
 pub are_of_nodes : (nodes : List Node) (times : List Times) → AreOfNodes nodes (summary_of nodes times)
 are_of_nodes nodes times =
     let count = length nodes in
     let targets = targets_of nodes times in
     let below = targets_below count times 0 nodes (omega arith) in
-    let spans = all_chosen (λ (target : Target). target.place < count) (λ (span : Span). span.place < count) span_of (span_below count) targets below in
-    let recipes = all_passed (λ (span : Span). span.place < count) (λ (span : Span). not (ran_others targets span)) (spans_of targets) spans in
+    let spans = all_chosen (λ (target : Target). target.position < count) (λ (span : Span). span.position < count) span_of (span_below count) targets below in
+    let recipes = all_passed (λ (span : Span). span.position < count) (λ (span : Span). not (ran_others targets span)) (spans_of targets) spans in
     record {
-      parents = all_passed (λ (span : Span). span.place < count) (ran_others targets) (spans_of targets) spans;
+      callers = all_passed (λ (span : Span). span.position < count) (ran_others targets) (spans_of targets) spans;
       recipes = recipes;
-      marks = all_chosen (λ (target : Target). target.place < count) (λ (span : Span). span.place < count) mark_of (mark_below count) targets below;
+      marks = all_chosen (λ (target : Target). target.position < count) (λ (span : Span). span.position < count) mark_of (mark_below count) targets below;
       longest = first_below count _ (ranks_below count _ recipes);
-      warned = first_below count _ (all_passed (λ (rank : Rank). rank.place < count) (λ (rank : Rank). ltb 0 rank.value) (warnings_from 0 nodes) (warnings_below count 0 nodes (omega arith)));
+      warned = first_below count _ (all_passed (λ (rank : Rank). rank.position < count) (λ (rank : Rank). ltb 0 rank.value) (warnings_from 0 nodes) (warnings_below count 0 nodes (omega arith)));
     }
 
--- ---- the order of places
+-- ---- the order of positions
 
 rising_less : (least other : ℕ) (spans : List Span) → other ≤ least → AreRisingFrom least spans → AreRisingFrom other spans
 rising_less least other [] less rising = tt
@@ -112,46 +112,46 @@ rising_less least other (span ∷ spans) less rising = (let le = rising.0 in ome
 
 rising_passed : (test : Span → Bool) (least : ℕ) (spans : List Span) → AreRisingFrom least spans → AreRisingFrom least (filter test spans)
 rising_passed test least [] rising = tt
-rising_passed test least (span ∷ spans) rising = by (test span) (rising_passed test (span.place + 1) spans rising.1)
+rising_passed test least (span ∷ spans) rising = by (test span) (rising_passed test (span.position + 1) spans rising.1)
   where
-    by : (b : Bool) → AreRisingFrom (span.place + 1) (filter test spans) → AreRisingFrom least (cond b (span ∷ filter test spans) (filter test spans))
+    by : (b : Bool) → AreRisingFrom (span.position + 1) (filter test spans) → AreRisingFrom least (cond b (span ∷ filter test spans) (filter test spans))
     by true more = (rising.0, more)
-    by false more = rising_less (span.place + 1) least (filter test spans) (let le = rising.0 in omega (arith, le)) more
+    by false more = rising_less (span.position + 1) least (filter test spans) (let le = rising.0 in omega (arith, le)) more
 
-rising_chosen : (choose : Target → Option Span) → ((target : Target) → IfSome (choose target) (λ (span : Span). span.place ≡ target.place)) → (times : List Times) (place : ℕ) (nodes : List Node)
-    → AreRisingFrom place (filter_map choose (targets_from times place nodes))
-rising_chosen choose kept times place [] = tt
-rising_chosen choose kept times place (node ∷ nodes) = by (choose (target_of times place node)) (kept (target_of times place node)) (rising_chosen choose kept times (place + 1) nodes)
+rising_chosen : (choose : Target → Option Span) → ((target : Target) → IfSome (choose target) (λ (span : Span). span.position ≡ target.position)) → (times : List Times) (position : ℕ) (nodes : List Node)
+    → AreRisingFrom position (filter_map choose (targets_from times position nodes))
+rising_chosen choose kept times position [] = tt
+rising_chosen choose kept times position (node ∷ nodes) = by (choose (target_of times position node)) (kept (target_of times position node)) (rising_chosen choose kept times (position + 1) nodes)
   where
-    by : (chosen : Option Span) → IfSome chosen (λ (span : Span). span.place ≡ place) → AreRisingFrom (place + 1) (filter_map choose (targets_from times (place + 1) nodes))
-        → AreRisingFrom place (cons_option chosen (filter_map choose (targets_from times (place + 1) nodes)))
-    by None here more = rising_less (place + 1) place (filter_map choose (targets_from times (place + 1) nodes)) (omega arith) more
-    by (Some span) here more = (omega (arith, here), rising_less (place + 1) (span.place + 1) (filter_map choose (targets_from times (place + 1) nodes)) (omega (arith, here)) more)
+    by : (chosen : Option Span) → IfSome chosen (λ (span : Span). span.position ≡ position) → AreRisingFrom (position + 1) (filter_map choose (targets_from times (position + 1) nodes))
+        → AreRisingFrom position (cons_option chosen (filter_map choose (targets_from times (position + 1) nodes)))
+    by None here more = rising_less (position + 1) position (filter_map choose (targets_from times (position + 1) nodes)) (omega arith) more
+    by (Some span) here more = (omega (arith, here), rising_less (position + 1) (span.position + 1) (filter_map choose (targets_from times (position + 1) nodes)) (omega (arith, here)) more)
 
-span_place : (target : Target) → IfSome (span_of target) (λ (span : Span). span.place ≡ target.place)
-span_place target = by target.times.began target.times.ended
+span_position : (target : Target) → IfSome (span_of target) (λ (span : Span). span.position ≡ target.position)
+span_position target = by target.times.began target.times.ended
   where
-    by : (began ended : Option ℕ) → IfSome (span_if target began ended) (λ (span : Span). span.place ≡ target.place)
+    by : (began ended : Option ℕ) → IfSome (span_if target began ended) (λ (span : Span). span.position ≡ target.position)
     by None None = tt
     by None (Some ended) = tt
     by (Some began) None = tt
     by (Some began) (Some ended) = refl
 
-mark_place : (target : Target) → IfSome (mark_of target) (λ (span : Span). span.place ≡ target.place)
-mark_place target = by (only_time target.parent target.times.began target.times.ended)
+mark_position : (target : Target) → IfSome (mark_of target) (λ (span : Span). span.position ≡ target.position)
+mark_position target = by (only_time target.parent target.times.began target.times.ended)
   where
-    by : (time : Option ℕ) → IfSome (option_map (λ (time : ℕ). span_between target time time) time) (λ (span : Span). span.place ≡ target.place)
+    by : (time : Option ℕ) → IfSome (option_map (λ (time : ℕ). span_between target time time) time) (λ (span : Span). span.position ≡ target.position)
     by None = tt
     by (Some time) = refl
 
-pub are_in_order_of_place : (nodes : List Node) (times : List Times) → AreInOrderOfPlace (summary_of nodes times)
-are_in_order_of_place nodes times =
+pub are_in_order_of_position : (nodes : List Node) (times : List Times) → AreInOrderOfPosition (summary_of nodes times)
+are_in_order_of_position nodes times =
     let targets = targets_of nodes times in
-    let spans = rising_chosen span_of span_place times 0 nodes in
+    let spans = rising_chosen span_of span_position times 0 nodes in
     record {
-      parents = rising_passed (ran_others targets) 0 (spans_of targets) spans;
+      callers = rising_passed (ran_others targets) 0 (spans_of targets) spans;
       recipes = rising_passed (λ (span : Span). not (ran_others targets span)) 0 (spans_of targets) spans;
-      marks = rising_chosen mark_of mark_place times 0 nodes;
+      marks = rising_chosen mark_of mark_position times 0 nodes;
     }
 
 pub are_split : (nodes : List Node) (times : List Times) → AreSplit nodes times (summary_of nodes times)

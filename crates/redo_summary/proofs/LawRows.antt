@@ -7,13 +7,13 @@ use Rattle.redo_timeline.proofs.OrderLemmas.{sum_of as added}
 use Rattle.redo_times.specs.declared.times.Times.{Times}
 use Rattle.redo_outline.specs.declared.node.Node.{Node}
 use Rattle.redo_summary.specs.declared.rank.Rank.{Rank}
-use Rattle.redo_summary.specs.Laws.{AllRanOthers, AreDuring, AreInOrder, AreInOrderOfPlace, AreOfNodes, AreSplit, HasFirstTen, IsBefore, IsTable, NoneRanOthers, Ran, RanOthers, warning_ranks}
+use Rattle.redo_summary.specs.Laws.{AllRanOthers, AreDuring, AreInOrder, AreInOrderOfPosition, AreOfNodes, AreSplit, HasFirstTen, IsBefore, IsTable, NoneRanOthers, Ran, RanOthers, warning_ranks}
 use Rattle.redo_summary.specs.Summary.{Facts}
 use Rattle.redo_summary.proofs.SummaryRows.{node, ran, rank, span}
 
 -- ---- tables
 
--- A larger value comes later; then a lower place with an equal value; then eleven ranks.
+-- A larger value comes later; then a lower position with an equal value; then eleven ranks.
 rejected_tables :
     ¬ AreInOrder (rank 5 0 ∷ rank 6 1 ∷ []) × ¬ AreInOrder (rank 9 0 ∷ rank 5 2 ∷ rank 5 1 ∷ [])
     × ¬ IsTable (rank 0 0 ∷ rank 0 1 ∷ rank 0 2 ∷ rank 0 3 ∷ rank 0 4 ∷ rank 0 5 ∷ rank 0 6 ∷ rank 0 7 ∷ rank 0 8 ∷ rank 0 9 ∷ rank 0 10 ∷ []) × ¬ IsTable (rank 5 0 ∷ rank 6 1 ∷ [])
@@ -46,14 +46,14 @@ rejected_firsts = (
     by (other ∷ []) count sum before = elim before.0 [ inl less ↦ omega (arith, sum, less) | inr same ↦ let equal = same.0 in omega (arith, sum, equal) ]
     by (other ∷ next ∷ rest) count sum before = omega (arith, count)
 
--- ---- places
+-- ---- positions
 
 -- Facts of no targets.
 abbrev no_facts : Facts
 no_facts = record {
   window = None;
   took = 0;
-  parents = [];
+  callers = [];
   recipes = [];
   marks = [];
   sum = 0;
@@ -67,35 +67,35 @@ no_facts = record {
 abbrev one_node : List Node
 one_node = node 0 None None 0 0 ∷ []
 
--- A place in each list is not below the number of nodes.
-rejected_places :
-    ¬ AreOfNodes one_node (record no_facts { parents = span 1 3 4 ∷ [] }) × ¬ AreOfNodes one_node (record no_facts { recipes = span 1 3 4 ∷ [] })
+-- A position in each list is not below the number of nodes.
+rejected_positions :
+    ¬ AreOfNodes one_node (record no_facts { callers = span 1 3 4 ∷ [] }) × ¬ AreOfNodes one_node (record no_facts { recipes = span 1 3 4 ∷ [] })
     × ¬ AreOfNodes one_node (record no_facts { marks = span 1 3 3 ∷ [] }) × ¬ AreOfNodes one_node (record no_facts { longest = rank 7 1 ∷ [] })
     × ¬ AreOfNodes one_node (record no_facts { warned = rank 7 1 ∷ [] })
-rejected_places = (
-  λ of_nodes. let below : 1 < 1 = of_nodes.parents.0 in omega (arith, below),
+rejected_positions = (
+  λ of_nodes. let below : 1 < 1 = of_nodes.callers.0 in omega (arith, below),
   λ of_nodes. let below : 1 < 1 = of_nodes.recipes.0 in omega (arith, below),
   λ of_nodes. let below : 1 < 1 = of_nodes.marks.0 in omega (arith, below),
   λ of_nodes. let below : 1 < 1 = of_nodes.longest.0 in omega (arith, below),
   λ of_nodes. let below : 1 < 1 = of_nodes.warned.0 in omega (arith, below),
 )
 
--- The places fall in each list; then a place occurs twice.
+-- The positions fall in each list; then a position occurs twice.
 rejected_orders :
-    ¬ AreInOrderOfPlace (record no_facts { parents = span 2 1 9 ∷ span 1 3 4 ∷ [] }) × ¬ AreInOrderOfPlace (record no_facts { recipes = span 2 1 9 ∷ span 1 3 4 ∷ [] })
-    × ¬ AreInOrderOfPlace (record no_facts { marks = span 2 5 5 ∷ span 1 7 7 ∷ [] }) × ¬ AreInOrderOfPlace (record no_facts { marks = span 3 5 5 ∷ span 3 7 7 ∷ [] })
+    ¬ AreInOrderOfPosition (record no_facts { callers = span 2 1 9 ∷ span 1 3 4 ∷ [] }) × ¬ AreInOrderOfPosition (record no_facts { recipes = span 2 1 9 ∷ span 1 3 4 ∷ [] })
+    × ¬ AreInOrderOfPosition (record no_facts { marks = span 2 5 5 ∷ span 1 7 7 ∷ [] }) × ¬ AreInOrderOfPosition (record no_facts { marks = span 3 5 5 ∷ span 3 7 7 ∷ [] })
 rejected_orders = (
-  λ order. let above : 3 ≤ 1 = order.parents.1.0 in omega (arith, above),
+  λ order. let above : 3 ≤ 1 = order.callers.1.0 in omega (arith, above),
   λ order. let above : 3 ≤ 1 = order.recipes.1.0 in omega (arith, above),
   λ order. let above : 3 ≤ 1 = order.marks.1.0 in omega (arith, above),
   λ order. let above : 4 ≤ 3 = order.marks.1.0 in omega (arith, above),
 )
 
--- ---- parents and recipes
+-- ---- callers and recipes
 
 -- A span is in no list, or in both.
 rejected_split :
-    ¬ AreSplit one_node (ran 1 9 ∷ []) no_facts × ¬ AreSplit one_node (ran 1 9 ∷ []) (record no_facts { parents = span 0 1 9 ∷ []; recipes = span 0 1 9 ∷ [] })
+    ¬ AreSplit one_node (ran 1 9 ∷ []) no_facts × ¬ AreSplit one_node (ran 1 9 ∷ []) (record no_facts { callers = span 0 1 9 ∷ []; recipes = span 0 1 9 ∷ [] })
 rejected_split = (
   λ split. let same : 0 ≡ 1 = length_permutation (span 0 1 9 ∷ []) [] split in omega (arith, same),
   λ split. let same : 2 ≡ 1 = length_permutation (span 0 1 9 ∷ []) (span 0 1 9 ∷ span 0 1 9 ∷ []) split in omega (arith, same),
@@ -124,8 +124,8 @@ two_times = ran 10 90 ∷ ran 20 80 ∷ []
 rejected_runs :
     ¬ Ran two_times (span 0 10 90) (node 1 None None 0 0) × ¬ Ran two_times (span 0 10 90) (node 1 (Some 1) None 0 0) × ¬ Ran (ran 10 90 ∷ ran 5 80 ∷ []) (span 0 10 90) (node 1 (Some 0) None 0 0)
 rejected_runs = (
-  λ run. let around : 7 ≡ 0 = ap (λ (place : Option ℕ). unwrap_or place 7) run.contains in omega (arith, around),
-  λ run. let around : 1 ≡ 0 = ap (λ (place : Option ℕ). unwrap_or place 7) run.contains in omega (arith, around),
+  λ run. let around : 7 ≡ 0 = ap (λ (position : Option ℕ). unwrap_or position 7) run.contains in omega (arith, around),
+  λ run. let around : 1 ≡ 0 = ap (λ (position : Option ℕ). unwrap_or position 7) run.contains in omega (arith, around),
   λ run. let low : 10 ≤ 5 = run.during.0 in omega (arith, low),
 )
 
@@ -137,9 +137,9 @@ ran_hidden_target : ¬ RanOthers one_node two_times (span 0 10 90)
 ran_hidden_target run = by run.1.0 run.1.1 run.1.2
   where
     by : (k : ℕ) → k < 1 → get_or one_node k run.0 ≡ run.0 → ⊥
-    by zero below same = let around : 7 ≡ 0 = ap (λ (node : Node). unwrap_or node.parent 7) same ∙ ap (λ (place : Option ℕ). unwrap_or place 7) run.2.contains in omega (arith, around)
+    by zero below same = let around : 7 ≡ 0 = ap (λ (node : Node). unwrap_or node.parent 7) same ∙ ap (λ (position : Option ℕ). unwrap_or position 7) run.2.contains in omega (arith, around)
     by (suc k) below same = omega (arith, below)
 
--- A recipe is among the parents, and a parent among the recipes.
+-- A recipe is among the callers, and a caller among the recipes.
 rejected_lists : ¬ AllRanOthers one_node two_times (span 0 10 90 ∷ []) × ¬ NoneRanOthers two_nodes two_times (span 0 10 90 ∷ [])
 rejected_lists = (λ all. ran_hidden_target all.0, λ lists. lists.0 accepted_run)

@@ -1,6 +1,6 @@
 mod LawLemmas
 mod LawRows
-mod ParentLemmas
+mod CallerLemmas
 mod RanOthersLemmas
 mod RankLemmas
 mod SummaryRows

@@ -1,4 +1,4 @@
--- Parents ran others, and recipes ran none.
+-- Callers ran others, and recipes ran none.
 use Rattle.std.proofs.Common.{◌≡◌, ℕ, zero, suc, ◌+◌, ◌<◌, ◌⊎◌, Bool, true, false, cond, not, leb, ltb, List, [], ◌∷◌, Option, None, Some, filter, get_or, length, inl, inr, refl, sym, ap, ◌∙◌, subst, arith}
 use Rattle.std.specs.Prelude.{◌&&◌}
 use Rattle.std.specs.List.{AllByRecursion, list_any}
@@ -8,18 +8,18 @@ use Rattle.redo_times.specs.declared.times.Times.{Times}
 use Rattle.redo_outline.specs.declared.node.Node.{Node}
 use Rattle.redo_summary.specs.declared.target.Target.{Target}
 use Rattle.redo_summary.specs.Laws.{AllRanOthers, AreDuring, NoneRanOthers, Ran, RanOthers}
-use Rattle.redo_summary.specs.Parents.{is_in_if_known, is_place, is_run_by, ran_others, spans_of}
+use Rattle.redo_summary.specs.Callers.{is_in_if_known, is_position, is_run_by, ran_others, spans_of}
 use Rattle.redo_summary.specs.Summary.{summary_of}
 use Rattle.redo_summary.specs.Targets.{span_if, span_of, target_of, targets_from, targets_of, times_of}
 
 -- ---- one target
 
-place_is : (place : ℕ) (parent : Option ℕ) → is_place place parent ≡ true → parent ≡ Some place
-place_is place None is = absurd (cc)
-place_is place (Some other) is = ap Some (sym (eqb-true place other is))
+position_is : (position : ℕ) (parent : Option ℕ) → is_position position parent ≡ true → parent ≡ Some position
+position_is position None is = absurd (cc)
+position_is position (Some other) is = ap Some (sym (eqb-true position other is))
 
-is_that_place : (place : ℕ) (parent : Option ℕ) → parent ≡ Some place → is_place place parent ≡ true
-is_that_place place parent is = ap (is_place place) is ∙ eq-eqb place place refl
+is_that_position : (position : ℕ) (parent : Option ℕ) → parent ≡ Some position → is_position position parent ≡ true
+is_that_position position parent is = ap (is_position position) is ∙ eq-eqb position position refl
 
 during : (span : Span) (target : Target) (began ended : Option ℕ) → is_in_if_known span (span_if target began ended) ≡ true → AreDuring span began ended
 during span target None None is = absurd (cc)
@@ -39,43 +39,43 @@ is_during span target (Some began) (Some ended) are =
     (and_from (leb span.began began) (leb ended span.ended) (le-leb span.began began are.0) (le-leb ended span.ended are.1)) (lt-ltb span.began ended are.2)
 
 module _ (times : List Times) (span : Span) where
-  ran : (place : ℕ) (node : Node) → is_run_by span (target_of times place node) ≡ true → Ran times span node
-  ran place node is =
+  ran : (position : ℕ) (node : Node) → is_run_by span (target_of times position node) ≡ true → Ran times span node
+  ran position node is =
       let known = times_of times node.number in
-      let target = target_of times place node in
-      let both = and_parts (is_place span.place node.parent) (is_in_if_known span (span_of target)) is in
-      record { contains = place_is span.place node.parent both.0; during = during span target known.began known.ended both.1 }
+      let target = target_of times position node in
+      let both = and_parts (is_position span.position node.parent) (is_in_if_known span (span_of target)) is in
+      record { contains = position_is span.position node.parent both.0; during = during span target known.began known.ended both.1 }
 
-  is_ran : (place : ℕ) (node : Node) → Ran times span node → is_run_by span (target_of times place node) ≡ true
-  is_ran place node run =
+  is_ran : (position : ℕ) (node : Node) → Ran times span node → is_run_by span (target_of times position node) ≡ true
+  is_ran position node run =
       let known = times_of times node.number in
-      let target = target_of times place node in
-      and_from (is_place span.place node.parent) (is_in_if_known span (span_of target)) (is_that_place span.place node.parent run.contains) (is_during span target known.began known.ended run.during)
+      let target = target_of times position node in
+      and_from (is_position span.position node.parent) (is_in_if_known span (span_of target)) (is_that_position span.position node.parent run.contains) (is_during span target known.began known.ended run.during)
 
   -- ---- all targets
 
-  ran_others_of : (place : ℕ) (nodes : List Node) → list_any (is_run_by span) (targets_from times place nodes) ≡ true → RanOthers nodes times span
-  ran_others_of place [] is = absurd (cc)
-  ran_others_of place (node ∷ nodes) is =
-      by (or_cases (is_run_by span (target_of times place node)) (list_any (is_run_by span) (targets_from times (place + 1) nodes)) is)
-      (ran_others_of (place + 1) nodes)
+  ran_others_of : (position : ℕ) (nodes : List Node) → list_any (is_run_by span) (targets_from times position nodes) ≡ true → RanOthers nodes times span
+  ran_others_of position [] is = absurd (cc)
+  ran_others_of position (node ∷ nodes) is =
+      by (or_cases (is_run_by span (target_of times position node)) (list_any (is_run_by span) (targets_from times (position + 1) nodes)) is)
+      (ran_others_of (position + 1) nodes)
     where
-      by : (is_run_by span (target_of times place node) ≡ true) ⊎ (list_any (is_run_by span) (targets_from times (place + 1) nodes) ≡ true)
-          → (list_any (is_run_by span) (targets_from times (place + 1) nodes) ≡ true → RanOthers nodes times span) → RanOthers (node ∷ nodes) times span
-      by (inl here) rest = (node, (0, omega arith, refl), ran place node here)
+      by : (is_run_by span (target_of times position node) ≡ true) ⊎ (list_any (is_run_by span) (targets_from times (position + 1) nodes) ≡ true)
+          → (list_any (is_run_by span) (targets_from times (position + 1) nodes) ≡ true → RanOthers nodes times span) → RanOthers (node ∷ nodes) times span
+      by (inl here) rest = (node, (0, omega arith, refl), ran position node here)
       by (inr later) rest =
           let more = rest later in
           let k = more.1.0 in
           let below : k < length nodes = more.1.1 in
           (more.0, (suc k, omega (arith, below), more.1.2), more.2)
 
-  is_ran_others : (place : ℕ) (nodes : List Node) (other : Node) (k : ℕ) → k < length nodes → get_or nodes k other ≡ other → Ran times span other → list_any (is_run_by span) (targets_from times place nodes) ≡ true
-  is_ran_others place [] other k below is run = absurd (omega (arith, below))
-  is_ran_others place (node ∷ nodes) other zero below is run =
-      or_left (is_run_by span (target_of times place node)) (list_any (is_run_by span) (targets_from times (place + 1) nodes)) (is_ran place node (subst (Ran times span) (sym is) run))
-  is_ran_others place (node ∷ nodes) other (suc k) below is run =
-      or_right (is_run_by span (target_of times place node)) (list_any (is_run_by span) (targets_from times (place + 1) nodes))
-      (is_ran_others (place + 1) nodes other k (omega (arith, below)) is run)
+  is_ran_others : (position : ℕ) (nodes : List Node) (other : Node) (k : ℕ) → k < length nodes → get_or nodes k other ≡ other → Ran times span other → list_any (is_run_by span) (targets_from times position nodes) ≡ true
+  is_ran_others position [] other k below is run = absurd (omega (arith, below))
+  is_ran_others position (node ∷ nodes) other zero below is run =
+      or_left (is_run_by span (target_of times position node)) (list_any (is_run_by span) (targets_from times (position + 1) nodes)) (is_ran position node (subst (Ran times span) (sym is) run))
+  is_ran_others position (node ∷ nodes) other (suc k) below is run =
+      or_right (is_run_by span (target_of times position node)) (list_any (is_run_by span) (targets_from times (position + 1) nodes))
+      (is_ran_others (position + 1) nodes other k (omega (arith, below)) is run)
 
 all_that_passed : (test : Span → Bool) (P : Span → Type 0) → ((span : Span) → test span ≡ true → P span) → (spans : List Span) → AllByRecursion P (filter test spans)
 all_that_passed test P holds [] = tt
@@ -85,8 +85,8 @@ all_that_passed test P holds (span ∷ spans) = by (test span) refl (all_that_pa
     by true is more = (holds span is, more)
     by false is more = more
 
-pub all_parents_ran : (nodes : List Node) (times : List Times) → AllRanOthers nodes times (summary_of nodes times).parents
-all_parents_ran nodes times =
+pub all_callers_ran : (nodes : List Node) (times : List Times) → AllRanOthers nodes times (summary_of nodes times).callers
+all_callers_ran nodes times =
     let targets = targets_of nodes times in
     all_that_passed (ran_others targets) (RanOthers nodes times) (λ span is. ran_others_of times span 0 nodes is) (spans_of targets)
 

@@ -11,7 +11,7 @@ use Rattle.redo_timeline.specs.Order.{insert_sorted, sort}
 use Rattle.redo_outline.specs.declared.node.Node.{Node}
 use Rattle.redo_summary.specs.declared.rank.Rank.{Rank}
 use Rattle.redo_summary.specs.Laws.{AreInOrder, IsBefore, IsBeforeFirst, IsTable}
-use Rattle.redo_summary.proofs.TargetLemmas.{no_node}
+use Rattle.redo_outline.proofs.Nodes.{no_node}
 use Rattle.redo_summary.specs.Ranks.{duration, first_ranks, longest_of, rank_cmp, rank_of, warnings_from}
 
 module _ {K : Type 0} (cmp : K → K → Ordering) where
@@ -49,27 +49,27 @@ longest_more recipes i d below = first_more (rank_of (get_or recipes i d)) (map 
 
 -- What a position past the end has.
 abbrev no_span : Span
-no_span = record { began = 0; place = 0; ended = 0; failed = false }
+no_span = record { began = 0; position = 0; ended = 0; failed = false }
 
 -- The step of a loop that goes down.
 pub longest_next : (recipes : List Span) (i value : ℕ) (old new : List Rank) → 0 < i → i ≤ length recipes → value ≡ duration (get_or recipes (i - 1) no_span) → old ≡ longest_of (drop i recipes)
-    → new ≡ take 10 (insert_sorted rank_cmp (record { value = value; place = (get_or recipes (i - 1) no_span).place }) old) → new ≡ longest_of (drop (i - 1) recipes)
+    → new ≡ take 10 (insert_sorted rank_cmp (record { value = value; position = (get_or recipes (i - 1) no_span).position }) old) → new ≡ longest_of (drop (i - 1) recipes)
 longest_next recipes i value old new some within took so_far inserted =
     let i_is : i ≡ i - 1 + 1 = omega arith in
-    inserted ∙ ap (λ (v : ℕ). take 10 (insert_sorted rank_cmp (record { value = v; place = (get_or recipes (i - 1) no_span).place }) old)) took
+    inserted ∙ ap (λ (v : ℕ). take 10 (insert_sorted rank_cmp (record { value = v; position = (get_or recipes (i - 1) no_span).position }) old)) took
     ∙ ap (λ ranks. take 10 (insert_sorted rank_cmp (rank_of (get_or recipes (i - 1) no_span)) ranks)) (so_far ∙ ap (λ (k : ℕ). longest_of (drop k recipes)) i_is)
     ∙ longest_more recipes (i - 1) no_span (omega arith)
 
--- The targets of some nodes with the most warnings, of which the first one has this place.
+-- The targets of some nodes with the most warnings, of which the first one has this position.
 abbrev pub warned_from : ℕ → List Node → List Rank
-warned_from place nodes = first_ranks (filter (λ (rank : Rank). ltb 0 rank.value) (warnings_from place nodes))
+warned_from position nodes = first_ranks (filter (λ (rank : Rank). ltb 0 rank.value) (warnings_from position nodes))
 
 abbrev rank_at : ℕ → Node → Rank
-rank_at place node = record { value = node.warnings; place = place }
+rank_at position node = record { value = node.warnings; position = position }
 
-warned_next : (place : ℕ) (node : Node) (nodes : List Node) (b : Bool) → ltb 0 node.warnings ≡ b
-    → warned_from place (node ∷ nodes) ≡ first_ranks (cond b (rank_at place node ∷ filter (λ (rank : Rank). ltb 0 rank.value) (warnings_from (place + 1) nodes)) (filter (λ (rank : Rank). ltb 0 rank.value) (warnings_from (place + 1) nodes)))
-warned_next place node nodes b is = ap (λ (b : Bool). first_ranks (cond b (rank_at place node ∷ filter (λ (rank : Rank). ltb 0 rank.value) (warnings_from (place + 1) nodes)) (filter (λ (rank : Rank). ltb 0 rank.value) (warnings_from (place + 1) nodes)))) is
+warned_next : (position : ℕ) (node : Node) (nodes : List Node) (b : Bool) → ltb 0 node.warnings ≡ b
+    → warned_from position (node ∷ nodes) ≡ first_ranks (cond b (rank_at position node ∷ filter (λ (rank : Rank). ltb 0 rank.value) (warnings_from (position + 1) nodes)) (filter (λ (rank : Rank). ltb 0 rank.value) (warnings_from (position + 1) nodes)))
+warned_next position node nodes b is = ap (λ (b : Bool). first_ranks (cond b (rank_at position node ∷ filter (λ (rank : Rank). ltb 0 rank.value) (warnings_from (position + 1) nodes)) (filter (λ (rank : Rank). ltb 0 rank.value) (warnings_from (position + 1) nodes)))) is
 
 -- A target with warnings, and one without.
 pub warned_more : (nodes : List Node) (i : ℕ) (d : Node) → i < length nodes → 0 < (get_or nodes i d).warnings
@@ -100,24 +100,24 @@ warned_same_down nodes i ranks some within none so_far =
 
 -- A rank that is after another one, and one that isn't.
 before_if_after : (a b : Rank) → is_gt (rank_cmp a b) ≡ true → IsBefore b a
-before_if_after a b after = by (nat_cmp b.value a.value) (ranks b.value a.value) (nat_cmp a.place b.place) (ranks a.place b.place) after
+before_if_after a b after = by (nat_cmp b.value a.value) (ranks b.value a.value) (nat_cmp a.position b.position) (ranks a.position b.position) after
   where
-    by : (o : Ordering) → MatchOrdering o (b.value < a.value) (b.value ≡ a.value) (a.value < b.value) → (p : Ordering) → MatchOrdering p (a.place < b.place) (a.place ≡ b.place) (b.place < a.place) → is_gt (ordering_then o p) ≡ true → IsBefore b a
-    by Less values p places gt = absurd (cc)
-    by Equal values Less places gt = absurd (cc)
-    by Equal values Equal places gt = absurd (cc)
-    by Equal values Greater places gt = inr (values, omega (arith, places))
-    by Greater values p places gt = inl values
+    by : (o : Ordering) → MatchOrdering o (b.value < a.value) (b.value ≡ a.value) (a.value < b.value) → (p : Ordering) → MatchOrdering p (a.position < b.position) (a.position ≡ b.position) (b.position < a.position) → is_gt (ordering_then o p) ≡ true → IsBefore b a
+    by Less values p positions gt = absurd (cc)
+    by Equal values Less positions gt = absurd (cc)
+    by Equal values Equal positions gt = absurd (cc)
+    by Equal values Greater positions gt = inr (values, omega (arith, positions))
+    by Greater values p positions gt = inl values
 
 before_if_not_after : (a b : Rank) → is_gt (rank_cmp a b) ≡ false → IsBefore a b
-before_if_not_after a b not_after = by (nat_cmp b.value a.value) (ranks b.value a.value) (nat_cmp a.place b.place) (ranks a.place b.place) not_after
+before_if_not_after a b not_after = by (nat_cmp b.value a.value) (ranks b.value a.value) (nat_cmp a.position b.position) (ranks a.position b.position) not_after
   where
-    by : (o : Ordering) → MatchOrdering o (b.value < a.value) (b.value ≡ a.value) (a.value < b.value) → (p : Ordering) → MatchOrdering p (a.place < b.place) (a.place ≡ b.place) (b.place < a.place) → is_gt (ordering_then o p) ≡ false → IsBefore a b
-    by Less values p places gt = inl values
-    by Equal values Less places gt = inr (sym values, omega (arith, places))
-    by Equal values Equal places gt = inr (sym values, omega (arith, places))
-    by Equal values Greater places gt = absurd (cc)
-    by Greater values p places gt = absurd (cc)
+    by : (o : Ordering) → MatchOrdering o (b.value < a.value) (b.value ≡ a.value) (a.value < b.value) → (p : Ordering) → MatchOrdering p (a.position < b.position) (a.position ≡ b.position) (b.position < a.position) → is_gt (ordering_then o p) ≡ false → IsBefore a b
+    by Less values p positions gt = inl values
+    by Equal values Less positions gt = inr (sym values, omega (arith, positions))
+    by Equal values Equal positions gt = inr (sym values, omega (arith, positions))
+    by Equal values Greater positions gt = absurd (cc)
+    by Greater values p positions gt = absurd (cc)
 
 before_inserted : (rank new : Rank) (ranks : List Rank) → IsBefore rank new → IsBeforeFirst rank ranks → IsBeforeFirst rank (insert_sorted rank_cmp new ranks)
 before_inserted rank new [] before first = before

@@ -5,7 +5,7 @@ use Rattle.redo_times.specs.declared.times.Times.{Times}
 use Rattle.redo_outline.specs.declared.node.Node.{Node}
 use Rattle.redo_summary.specs.declared.rank.Rank.{Rank}
 use Rattle.redo_summary.specs.declared.target.Target.{Target}
-use Rattle.redo_summary.specs.Parents.{is_in, marks_of, parents_of, recipes_of}
+use Rattle.redo_summary.specs.Callers.{is_in, marks_of, callers_of, recipes_of}
 use Rattle.redo_summary.specs.Ranks.{duration, first_ranks, longest_of, most_warned}
 use Rattle.redo_summary.specs.Summary.{Facts, bytes_of, is_timed, sum_of, summary_of, total, warnings_of}
 use Rattle.redo_summary.specs.Targets.{duration_of, mark_of, no_times, span_of, targets_of}
@@ -22,7 +22,7 @@ began_at time = record { began = Some time; ended = None }
 abbrev pub ended_at : ℕ → Times
 ended_at time = record { began = None; ended = Some time }
 
--- A node, by the number of its log, the place of its parent, its status, its number of bytes and its number of warnings.
+-- A node, by the number of its log, the position of its parent, its status, its number of bytes and its number of warnings.
 abbrev pub node : ℕ → Option ℕ → Option ℤ → ℕ → ℕ → Node
 node number parent status bytes warnings = record {
   number = number;
@@ -42,19 +42,19 @@ node number parent status bytes warnings = record {
 }
 
 abbrev pub target : ℕ → Option ℕ → Times → Target
-target place parent times = record { place = place; parent = parent; failed = false; times = times }
+target position parent times = record { position = position; parent = parent; failed = false; times = times }
 
 abbrev pub failed_target : ℕ → Option ℕ → Times → Target
-failed_target place parent times = record { place = place; parent = parent; failed = true; times = times }
+failed_target position parent times = record { position = position; parent = parent; failed = true; times = times }
 
 abbrev pub span : ℕ → ℕ → ℕ → Span
-span place began ended = record { began = began; place = place; ended = ended; failed = false }
+span position began ended = record { began = began; position = position; ended = ended; failed = false }
 
 abbrev pub failed : ℕ → ℕ → ℕ → Span
-failed place began ended = record { began = began; place = place; ended = ended; failed = true }
+failed position began ended = record { began = began; position = position; ended = ended; failed = true }
 
 abbrev pub rank : ℕ → ℕ → Rank
-rank value place = record { value = value; place = place }
+rank value position = record { value = value; position = position }
 
 -- ---- targets
 
@@ -88,7 +88,7 @@ these_marks = (refl, refl, refl, refl, refl, refl, refl, refl)
 marks_in_order : marks_of (target 0 None (ran 1 2) ∷ target 1 (Some 0) (ended_at 9) ∷ target 2 (Some 0) no_times ∷ target 3 (Some 0) (began_at 4) ∷ []) ≡ span 1 9 9 ∷ span 3 4 4 ∷ []
 marks_in_order = refl
 
--- ---- parents
+-- ---- callers
 
 -- A span may touch both ends of the span around it. A span that ended when the span around it began isn't in it.
 inner_spans :
@@ -100,28 +100,28 @@ inner_spans = (refl, refl, refl, refl, refl, refl, refl)
 abbrev family : List Target
 family = target 0 None (ran 10 20) ∷ failed_target 1 (Some 0) (ran 5 15) ∷ failed_target 2 (Some 0) (ran 12 18) ∷ target 3 (Some 2) (ran 13 19) ∷ []
 
-split_family : (parents_of family ≡ span 0 10 20 ∷ []) × (recipes_of family ≡ failed 1 5 15 ∷ failed 2 12 18 ∷ span 3 13 19 ∷ [])
+split_family : (callers_of family ≡ span 0 10 20 ∷ []) × (recipes_of family ≡ failed 1 5 15 ∷ failed 2 12 18 ∷ span 3 13 19 ∷ [])
 split_family = (refl, refl)
 
--- The target at place 1 ran the one at place 3, and is in the span of the one at place 0, which ran it.
+-- The target at position 1 ran the one at position 3, and is in the span of the one at position 0, which ran it.
 abbrev nested : List Target
 nested = target 0 None (ran 10 90) ∷ failed_target 1 (Some 0) (ran 20 80) ∷ target 2 (Some 0) (began_at 30) ∷ target 3 (Some 1) (ran 30 40) ∷ []
 
-split_nested : (parents_of nested ≡ span 0 10 90 ∷ failed 1 20 80 ∷ []) × (recipes_of nested ≡ span 3 30 40 ∷ [])
+split_nested : (callers_of nested ≡ span 0 10 90 ∷ failed 1 20 80 ∷ []) × (recipes_of nested ≡ span 3 30 40 ∷ [])
 split_nested = (refl, refl)
 
 -- Nothing is known of the target between two others, so neither ran another.
 abbrev gap : List Target
 gap = target 0 None (ran 0 100) ∷ target 1 (Some 0) no_times ∷ target 2 (Some 1) (ran 10 20) ∷ []
 
-split_gap : (parents_of gap ≡ []) × (recipes_of gap ≡ span 0 0 100 ∷ span 2 10 20 ∷ [])
+split_gap : (callers_of gap ≡ []) × (recipes_of gap ≡ span 0 0 100 ∷ span 2 10 20 ∷ [])
 split_gap = (refl, refl)
 
 -- Two requested targets: the log of none contains the log of the other.
 abbrev requested : List Target
 requested = target 0 None (ran 0 100) ∷ target 1 None (ran 10 20) ∷ []
 
-split_requested : (parents_of requested ≡ []) × (recipes_of requested ≡ span 0 0 100 ∷ span 1 10 20 ∷ [])
+split_requested : (callers_of requested ≡ []) × (recipes_of requested ≡ span 0 0 100 ∷ span 1 10 20 ∷ [])
 split_requested = (refl, refl)
 
 -- ---- the window
@@ -146,7 +146,7 @@ all_times = refl
 spans_are_cut : (duration (span 0 3 9) ≡ 6) × (duration (span 0 9 3) ≡ 0) × (duration (span 0 0 17592186044415) ≡ 17592186044415) × (duration (span 0 0 17592186044416) ≡ 17592186044415)
 spans_are_cut = (refl, refl, refl, refl)
 
--- Larger values are first, and of equal values lower places.
+-- Larger values are first, and of equal values lower positions.
 ranks_in_order :
     (first_ranks (rank 5 0 ∷ rank 9 1 ∷ rank 7 2 ∷ []) ≡ rank 9 1 ∷ rank 7 2 ∷ rank 5 0 ∷ []) × (first_ranks (rank 5 0 ∷ rank 5 1 ∷ rank 9 2 ∷ rank 5 3 ∷ []) ≡ rank 9 2 ∷ rank 5 0 ∷ rank 5 1 ∷ rank 5 3 ∷ [])
     × (first_ranks (rank 5 3 ∷ rank 5 1 ∷ []) ≡ rank 5 1 ∷ rank 5 3 ∷ []) × (first_ranks [] ≡ [])
@@ -184,7 +184,7 @@ abbrev pub small_build : Facts
 small_build = record {
   window = Some (record { began = 1010; width = 90 });
   took = 90;
-  parents = span 0 1010 1100 ∷ [];
+  callers = span 0 1010 1100 ∷ [];
   recipes = failed 1 1020 1050 ∷ failed 2 1050 1090 ∷ [];
   marks = span 3 1095 1095 ∷ [];
   sum = 70;
@@ -199,7 +199,7 @@ whole :
     (summary_of (node 3 None (Some (pos 1)) 10 0 ∷ []) [] ≡ record {
       window = None;
       took = 0;
-      parents = [];
+      callers = [];
       recipes = [];
       marks = [];
       sum = 0;
@@ -212,12 +212,12 @@ whole :
     × (summary_of (node 3 None (Some (pos 0)) 10 0 ∷ node 0 (Some 0) (Some (pos 1)) 20 0 ∷ node 2 (Some 0) (Some (pos 2)) 30 4 ∷ node 1 (Some 0) None 40 2 ∷ []) (ran 1020 1050 ∷ ended_at 1095 ∷ ran 1050 1090 ∷ ran 1010 1100 ∷ ran 1 9999 ∷ []) ≡ small_build)
 whole = (refl, refl)
 
--- A requested target ran two others at once: recipes count in `sum` and `most`, and their parent doesn't.
+-- A requested target ran two others at once: recipes count in `sum` and `most`, and their caller doesn't.
 overlap :
     summary_of (node 0 None (Some (pos 0)) 10 0 ∷ node 1 (Some 0) (Some (pos 0)) 20 0 ∷ node 2 (Some 0) (Some (pos 0)) 30 0 ∷ []) (ran 1000 1100 ∷ ran 1010 1050 ∷ ran 1040 1090 ∷ []) ≡ record {
       window = Some (record { began = 1000; width = 100 });
       took = 100;
-      parents = span 0 1000 1100 ∷ [];
+      callers = span 0 1000 1100 ∷ [];
       recipes = span 1 1010 1050 ∷ span 2 1040 1090 ∷ [];
       marks = [];
       sum = 90;
@@ -230,7 +230,7 @@ overlap :
 overlap = refl
 
 abbrev counted : ℕ → ℕ → ℕ → Facts
-counted parents recipes marks = record small_build { parents = replicate parents (span 0 1 9); recipes = replicate recipes (span 0 1 9); marks = replicate marks (span 0 1 1) }
+counted callers recipes marks = record small_build { callers = replicate callers (span 0 1 9); recipes = replicate recipes (span 0 1 9); marks = replicate marks (span 0 1 1) }
 
 -- One of ten may be a mark. There must be a span.
 timed :

@@ -4,36 +4,18 @@ use Rattle.std.proofs.lemmas.List.{length-take-le, take_more}
 use Rattle.redo_times.specs.declared.times.Times.{Times}
 use Rattle.redo_outline.specs.declared.node.Node.{Node}
 use Rattle.redo_summary.specs.declared.target.Target.{Target}
-use Rattle.redo_summary.specs.Private.Marking.{ArePlaced}
+use Rattle.redo_summary.specs.Private.Marking.{ArePositioned}
 use Rattle.redo_summary.specs.Targets.{no_times, target_of, targets_from, targets_of}
 
 -- What a position past the end has.
 abbrev pub no_target : Target
-no_target = record { place = 0; parent = None; failed = false; times = no_times }
+no_target = record { position = 0; parent = None; failed = false; times = no_times }
 
-abbrev pub no_node : Node
-no_node = record {
-  number = 0;
-  parent = None;
-  status = None;
-  lines = 0;
-  bytes = 0;
-  warnings = 0;
-  below = 0;
-  children = 0;
-  others = false;
-  warnings_below = 0;
-  fails_below = false;
-  silent = 0;
-  took = None;
-  ended = None;
-}
-
-targets-last : (times : List Times) (place : ℕ) (nodes : List Node) (node : Node) → targets_from times place (nodes ++ node ∷ []) ≡ targets_from times place nodes ++ target_of times (place + length nodes) node ∷ []
-targets-last times place [] node = ap (λ (n : ℕ). target_of times n node ∷ []) (omega arith)
-targets-last times place (first ∷ nodes) node =
-    ap (λ targets. target_of times place first ∷ targets)
-    (targets-last times (place + 1) nodes node ∙ ap (λ (n : ℕ). targets_from times (place + 1) nodes ++ target_of times n node ∷ []) (omega arith))
+targets-last : (times : List Times) (position : ℕ) (nodes : List Node) (node : Node) → targets_from times position (nodes ++ node ∷ []) ≡ targets_from times position nodes ++ target_of times (position + length nodes) node ∷ []
+targets-last times position [] node = ap (λ (n : ℕ). target_of times n node ∷ []) (omega arith)
+targets-last times position (first ∷ nodes) node =
+    ap (λ targets. target_of times position first ∷ targets)
+    (targets-last times (position + 1) nodes node ∙ ap (λ (n : ℕ). targets_from times (position + 1) nodes ++ target_of times n node ∷ []) (omega arith))
 
 pub targets_more : (times : List Times) (nodes : List Node) (i : ℕ) (d : Node) → i < length nodes → targets_of (take i nodes) times ++ target_of times i (get_or nodes i d) ∷ [] ≡ targets_of (take (i + 1) nodes) times
 targets_more times nodes i d below =
@@ -42,14 +24,14 @@ targets_more times nodes i d below =
     (ap (targets_from times 0) (take_more nodes i d below) ∙ targets-last times 0 (take i nodes) node
     ∙ ap (λ (n : ℕ). targets_from times 0 (take i nodes) ++ target_of times n node ∷ []) (let all = length-take-le i nodes (omega (arith, below)) in omega (arith, all)))
 
-pub length-targets : (times : List Times) (place : ℕ) (nodes : List Node) → length (targets_from times place nodes) ≡ length nodes
-length-targets times place [] = refl
-length-targets times place (node ∷ nodes) = ap suc (length-targets times (place + 1) nodes)
+pub length-targets : (times : List Times) (position : ℕ) (nodes : List Node) → length (targets_from times position nodes) ≡ length nodes
+length-targets times position [] = refl
+length-targets times position (node ∷ nodes) = ap suc (length-targets times (position + 1) nodes)
 
-placed_from : (times : List Times) (place : ℕ) (nodes : List Node) (k : ℕ) (d : Target) → k < length (targets_from times place nodes) → (get_or (targets_from times place nodes) k d).place ≡ place + k
-placed_from times place [] k d below = absurd (omega (arith, below))
-placed_from times place (node ∷ nodes) zero d below = omega arith
-placed_from times place (node ∷ nodes) (suc k) d below = let more = placed_from times (place + 1) nodes k d (omega (arith, below)) in omega (arith, more)
+positioned_from : (times : List Times) (position : ℕ) (nodes : List Node) (k : ℕ) (d : Target) → k < length (targets_from times position nodes) → (get_or (targets_from times position nodes) k d).position ≡ position + k
+positioned_from times position [] k d below = absurd (omega (arith, below))
+positioned_from times position (node ∷ nodes) zero d below = omega arith
+positioned_from times position (node ∷ nodes) (suc k) d below = let more = positioned_from times (position + 1) nodes k d (omega (arith, below)) in omega (arith, more)
 
-pub placed : (nodes : List Node) (times : List Times) → ArePlaced (targets_of nodes times)
-placed nodes times k d below = let is = placed_from times 0 nodes k d below in omega (arith, is)
+pub positioned : (nodes : List Node) (times : List Times) → ArePositioned (targets_of nodes times)
+positioned nodes times k d below = let is = positioned_from times 0 nodes k d below in omega (arith, is)

@@ -6,40 +6,40 @@ use Rattle.redo_timeline.specs.declared.span.Span.{Span}
 use Rattle.redo_times.specs.declared.times.Times.{Times}
 use Rattle.redo_outline.specs.declared.node.Node.{Node}
 use Rattle.redo_summary.specs.declared.rank.Rank.{Rank}
-use Rattle.redo_summary.specs.Parents.{spans_of}
+use Rattle.redo_summary.specs.Callers.{spans_of}
 use Rattle.redo_summary.specs.Ranks.{warnings_from}
 use Rattle.redo_summary.specs.Summary.{Facts}
 use Rattle.redo_summary.specs.Targets.{targets_of, times_of}
 
--- The places of spans, or of ranks, are below a number.
+-- The positions of spans, or of ranks, are below a number.
 abbrev pub AreSpansBelow : ℕ → List Span → Type 0
-AreSpansBelow count spans = AllByRecursion (λ (span : Span). span.place < count) spans
+AreSpansBelow count spans = AllByRecursion (λ (span : Span). span.position < count) spans
 
 abbrev pub AreRanksBelow : ℕ → List Rank → Type 0
-AreRanksBelow count ranks = AllByRecursion (λ (rank : Rank). rank.place < count) ranks
+AreRanksBelow count ranks = AllByRecursion (λ (rank : Rank). rank.position < count) ranks
 
--- Each place is the place of a node.
+-- Each position is the position of a node.
 pub record AreOfNodes (nodes : List Node) (facts : Facts) : Type 0 where
-  pub parents : AreSpansBelow (length nodes) facts.parents
+  pub callers : AreSpansBelow (length nodes) facts.callers
   pub recipes : AreSpansBelow (length nodes) facts.recipes
   pub marks : AreSpansBelow (length nodes) facts.marks
   pub longest : AreRanksBelow (length nodes) facts.longest
   pub warned : AreRanksBelow (length nodes) facts.warned
 
--- The places of spans rise, and none is below a number.
+-- The positions of spans rise, and none is below a number.
 abbrev pub AreRisingFrom : ℕ → List Span → Type 0
 AreRisingFrom least [] = Unit {0}
-AreRisingFrom least (span ∷ spans) = (least ≤ span.place) × AreRisingFrom (span.place + 1) spans
+AreRisingFrom least (span ∷ spans) = (least ≤ span.position) × AreRisingFrom (span.position + 1) spans
 
--- Each list of spans is in order of place, and has no place twice.
-pub record AreInOrderOfPlace (facts : Facts) : Type 0 where
-  pub parents : AreRisingFrom 0 facts.parents
+-- Each list of spans is in order of position, and has no position twice.
+pub record AreInOrderOfPosition (facts : Facts) : Type 0 where
+  pub callers : AreRisingFrom 0 facts.callers
   pub recipes : AreRisingFrom 0 facts.recipes
   pub marks : AreRisingFrom 0 facts.marks
 
 -- Each span of a shown target is in exactly one of the lists.
 abbrev pub AreSplit : List Node → List Times → Facts → Type 0
-AreSplit nodes times facts = IsPermutation (spans_of (targets_of nodes times)) (facts.parents ++ facts.recipes)
+AreSplit nodes times facts = IsPermutation (spans_of (targets_of nodes times)) (facts.callers ++ facts.recipes)
 
 -- A beginning and an end are known. They are in a span, and the end is after the beginning of the span.
 abbrev pub AreDuring : Span → Option ℕ → Option ℕ → Type 0
@@ -48,7 +48,7 @@ AreDuring span began ended = ⊥
 
 -- The target of a span ran the target of a node: its log directly contains the log of the node, whose target began and ended in the span.
 pub record Ran (times : List Times) (span : Span) (node : Node) : Type 0 where
-  pub contains : node.parent ≡ Some span.place
+  pub contains : node.parent ≡ Some span.position
   pub during : AreDuring span (times_of times node.number).began (times_of times node.number).ended
 
 -- The target of a span ran the target of one of these nodes.
@@ -62,9 +62,9 @@ AllRanOthers nodes times spans = AllByRecursion (RanOthers nodes times) spans
 abbrev pub NoneRanOthers : List Node → List Times → List Span → Type 0
 NoneRanOthers nodes times spans = AllByRecursion (λ (span : Span). ¬ RanOthers nodes times span) spans
 
--- A rank is before another: its value is larger, or it is equal and its place isn't higher.
+-- A rank is before another: its value is larger, or it is equal and its position isn't higher.
 abbrev pub IsBefore : Rank → Rank → Type 0
-IsBefore rank next = (next.value < rank.value) ⊎ ((rank.value ≡ next.value) × (rank.place ≤ next.place))
+IsBefore rank next = (next.value < rank.value) ⊎ ((rank.value ≡ next.value) × (rank.position ≤ next.position))
 
 abbrev pub IsBeforeFirst : Rank → List Rank → Type 0
 IsBeforeFirst rank [] = Unit {0}

@@ -1,5 +1,5 @@
 pub mod Laws
-pub mod Parents
+pub mod Callers
 pub mod Private
 pub mod Ranks
 pub mod Summary

@@ -8,9 +8,9 @@ use Rattle.redo_outline.specs.declared.node.Node.{Node}
 use Rattle.redo_summary.specs.declared.rank.Rank.{Rank}
 use Rattle.redo_summary.specs.Window.{cut}
 
--- The largest value is first. Of equal values, the lowest place is first.
+-- The largest value is first. Of equal values, the lowest position is first.
 abbrev pub rank_cmp : Rank → Rank → Ordering
-rank_cmp a b = ordering_then (nat_cmp b.value a.value) (nat_cmp a.place b.place)
+rank_cmp a b = ordering_then (nat_cmp b.value a.value) (nat_cmp a.position b.position)
 
 -- The first ten of some ranks.
 abbrev pub first_ranks : List Rank → List Rank
@@ -22,16 +22,16 @@ duration span = cut (span.ended - span.began)
 
 -- A recipe as a row of a table.
 abbrev pub rank_of : Span → Rank
-rank_of span = record { value = duration span; place = span.place }
+rank_of span = record { value = duration span; position = span.position }
 
 -- The ten longest of some recipes.
 abbrev pub longest_of : List Span → List Rank
 longest_of recipes = first_ranks (map rank_of recipes)
 
--- The number of warnings of each of some nodes, of which the first one has this place.
+-- The number of warnings of each of some nodes, of which the first one has this position.
 abbrev pub warnings_from : ℕ → List Node → List Rank
-warnings_from place [] = []
-warnings_from place (node ∷ nodes) = record { value = node.warnings; place = place } ∷ warnings_from (place + 1) nodes
+warnings_from position [] = []
+warnings_from position (node ∷ nodes) = record { value = node.warnings; position = position } ∷ warnings_from (position + 1) nodes
 
 -- The ten targets with the most warnings. Targets without warnings are not among them.
 abbrev pub most_warned : List Node → List Rank

@@ -8,7 +8,7 @@ use Rattle.redo_outline.specs.declared.node.Node.{Node}
 use Rattle.redo_outline.specs.Facts.{saturated}
 use Rattle.redo_summary.specs.declared.rank.Rank.{Rank}
 use Rattle.redo_summary.specs.declared.target.Target.{Target}
-use Rattle.redo_summary.specs.Parents.{marks_of, parents_of, recipes_of}
+use Rattle.redo_summary.specs.Callers.{marks_of, callers_of, recipes_of}
 use Rattle.redo_summary.specs.Ranks.{duration, longest_of, most_warned}
 use Rattle.redo_summary.specs.Targets.{targets_of}
 use Rattle.redo_summary.specs.Window.{known_times, time_over, window_over}
@@ -18,7 +18,7 @@ pub record Facts : Type 0 where
   pub window : Option Window
   pub took : ℕ
   -- The spans of the targets that ran others, all other spans, and the marks.
-  pub parents : List Span
+  pub callers : List Span
   pub recipes : List Span
   pub marks : List Span
   -- How long all recipes took, one after another, and how many ran at once, at most.
@@ -51,7 +51,7 @@ abbrev pub facts_of : List Node → List Target → Facts
 facts_of nodes targets = record {
   window = window_over (known_times targets);
   took = time_over (known_times targets);
-  parents = parents_of targets;
+  callers = callers_of targets;
   recipes = recipes_of targets;
   marks = marks_of targets;
   sum = sum_of (recipes_of targets);
@@ -68,5 +68,5 @@ summary_of nodes times = facts_of nodes (targets_of nodes times)
 -- Whether there is a timeline: there is a span, and at most a tenth of the spans and marks are marks.
 abbrev pub is_timed : Facts → Bool
 is_timed facts =
-    ltb 0 (length facts.parents + length facts.recipes)
-    && leb (length facts.marks * 10) (length facts.parents + length facts.recipes + length facts.marks)
+    ltb 0 (length facts.callers + length facts.recipes)
+    && leb (length facts.marks * 10) (length facts.callers + length facts.recipes + length facts.marks)

@@ -23,19 +23,19 @@ time_between began ended = None
 abbrev pub duration_of : List Times → ℕ → Option ℕ
 duration_of times number = time_between (times_of times number).began (times_of times number).ended
 
--- The target of a node at this place.
+-- The target of a node at this position.
 abbrev pub target_of : List Times → ℕ → Node → Target
-target_of times place node = record {
-  place = place;
+target_of times position node = record {
+  position = position;
   parent = node.parent;
   failed = is_failure node.status;
   times = times_of times node.number;
 }
 
--- The targets of some nodes, of which the first one has this place.
+-- The targets of some nodes, of which the first one has this position.
 abbrev pub targets_from : List Times → ℕ → List Node → List Target
-targets_from times place [] = []
-targets_from times place (node ∷ nodes) = target_of times place node ∷ targets_from times (place + 1) nodes
+targets_from times position [] = []
+targets_from times position (node ∷ nodes) = target_of times position node ∷ targets_from times (position + 1) nodes
 
 -- The shown targets.
 abbrev pub targets_of : List Node → List Times → List Target
@@ -43,7 +43,7 @@ targets_of nodes times = targets_from times 0 nodes
 
 -- The span of a target from one time to another.
 abbrev pub span_between : Target → ℕ → ℕ → Span
-span_between target began ended = record { began = began; place = target.place; ended = ended; failed = target.failed }
+span_between target began ended = record { began = began; position = target.position; ended = ended; failed = target.failed }
 
 -- The span of a target, by both times.
 abbrev pub span_if : Target → Option ℕ → Option ℕ → Option Span
@@ -54,7 +54,7 @@ span_if target began ended = None
 abbrev pub span_of : Target → Option Span
 span_of target = span_if target target.times.began target.times.ended
 
--- The one time that is known of a target, by the place of its parent and both times. A requested target has no parent. If only its end
+-- The one time that is known of a target, by the position of its parent and both times. A requested target has no parent. If only its end
 -- is known, there is no such time: the log of a run by make says no more.
 abbrev pub only_time : Option ℕ → Option ℕ → Option ℕ → Option ℕ
 only_time parent (Some began) None = Some began

@@ -2,33 +2,33 @@
 ghost use Rattle.std.specs.Prelude.{List, map};
 ghost use Rattle.redo_outline.specs.declared.node.Node.{Node};
 ghost use Rattle.redo_times.specs.declared.times.Times.{Times};
-ghost use Rattle.redo_summary.specs.Laws.{AllRanOthers, AreInOrderOfPlace, AreOfNodes, AreSplit, HasFirstTen, IsTable, NoneRanOthers, warning_ranks};
+ghost use Rattle.redo_summary.specs.Laws.{AllRanOthers, AreInOrderOfPosition, AreOfNodes, AreSplit, HasFirstTen, IsTable, NoneRanOthers, warning_ranks};
 ghost use Rattle.redo_summary.specs.Ranks.{rank_of};
 ghost use Rattle.redo_summary.specs.Summary.{summary_of};
 
-/// Each place is the place of a node.
-pub fn places_are_of_nodes()
+/// Each position is the position of a node.
+pub fn positions_are_of_nodes()
     ensures { (nodes : List Node) (times : List Times) → AreOfNodes nodes (summary_of nodes times) }
 {}
 
-/// Parents, recipes and marks are in order of place. No place occurs twice in one of these lists.
-pub fn spans_are_in_order_of_place()
-    ensures { (nodes : List Node) (times : List Times) → AreInOrderOfPlace (summary_of nodes times) }
+/// Callers, recipes and marks are in order of position. No position occurs twice in one of these lists.
+pub fn spans_are_in_order_of_position()
+    ensures { (nodes : List Node) (times : List Times) → AreInOrderOfPosition (summary_of nodes times) }
 {}
 
-/// The span of each shown target whose times are known is in exactly one of the lists of parents and recipes.
-pub fn spans_are_parents_or_recipes()
+/// The span of each shown target whose times are known is in exactly one of the lists of callers and recipes.
+pub fn spans_are_callers_or_recipes()
     ensures { (nodes : List Node) (times : List Times) → AreSplit nodes times (summary_of nodes times) }
 {}
 
-/// Each parent ran others, and no recipe ran others: its log directly contains the log of another target, which began and ended while it
+/// Each caller ran others, and no recipe ran others: its log directly contains the log of another target, which began and ended while it
 /// ran.
-pub fn parents_ran_others()
-    ensures parents { (nodes : List Node) (times : List Times) → AllRanOthers nodes times (summary_of nodes times).parents }
+pub fn callers_ran_others()
+    ensures callers { (nodes : List Node) (times : List Times) → AllRanOthers nodes times (summary_of nodes times).callers }
     ensures recipes { (nodes : List Node) (times : List Times) → NoneRanOthers nodes times (summary_of nodes times).recipes }
 {}
 
-/// A table has at most ten ranks. Their values fall, and ranks with equal values are in order of place.
+/// A table has at most ten ranks. Their values fall, and ranks with equal values are in order of position.
 pub fn ranks_are_in_order()
     ensures longest { (nodes : List Node) (times : List Times) → IsTable (summary_of nodes times).longest }
     ensures warned { (nodes : List Node) (times : List Times) → IsTable (summary_of nodes times).warned }

@@ -4,14 +4,14 @@
 //!
 //! # Terms
 //!
-//! - *Shown target*: the target of a node. Its *place* is the position of the node.
+//! - *Shown target*: the target of a node. Its *position* is that of the node.
 //! - *Span*: the time from when a target began to when it ended, if both are known.
 //! - *Mark*: the one time that is known of a target, as a span without length.
-//! - *Parent*: a span in which the span of a target lies that its target ran. All other spans are *recipes*.
+//! - *Caller*: a span in which the span of a target lies that its target ran. All other spans are *recipes*.
 #![tactic(auto)]
 
+mod callers;
 mod laws;
-mod parents;
 mod rank;
 mod ranking;
 mod spans;
@@ -22,8 +22,8 @@ mod totals;
 mod window;
 
 pub use laws::{
-    parents_ran_others, places_are_of_nodes, ranks_are_in_order, spans_are_in_order_of_place,
-    spans_are_parents_or_recipes, tables_have_first_ranks,
+    callers_ran_others, positions_are_of_nodes, ranks_are_in_order, spans_are_callers_or_recipes,
+    spans_are_in_order_of_position, tables_have_first_ranks,
 };
 pub use rank::Rank;
 pub use summary::Summary;

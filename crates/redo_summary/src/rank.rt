@@ -5,6 +5,6 @@
 pub struct Rank {
     /// How long it took, in milliseconds, or its number of warnings.
     pub value: u64,
-    /// The place of its target.
-    pub place: usize,
+    /// The position of its target.
+    pub position: usize,
 }

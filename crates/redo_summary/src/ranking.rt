@@ -20,8 +20,8 @@ pub fn longest_of(alloc: Global, recipes: &[Span]) -> Result<Vec<Rank>, AllocErr
     let mut ranks = Vec::new(alloc);
     for i in (0..recipes.len()).rev() {
         let value = duration(&recipes[i]);
-        let place = recipes[i].place;
-        insert_rank(&mut ranks, Rank { value, place })?;
+        let position = recipes[i].position;
+        insert_rank(&mut ranks, Rank { value, position })?;
     }
     Ok(ranks)
 }
@@ -31,12 +31,12 @@ pub fn most_warned(alloc: Global, nodes: &[Node]) -> Result<Vec<Rank>, AllocErro
     ensures { IfOk result (λ ranks. ranks.items ≡ most_warned nodes.now) }
 {
     let mut ranks = Vec::new(alloc);
-    for place in (0..nodes.len()).rev() {
-        let value = nodes[place].warnings;
+    for position in (0..nodes.len()).rev() {
+        let value = nodes[position].warnings;
         if value == 0 {
             continue;
         }
-        insert_rank(&mut ranks, Rank { value, place })?;
+        insert_rank(&mut ranks, Rank { value, position })?;
     }
     Ok(ranks)
 }
@@ -58,5 +58,5 @@ fn insert_rank(ranks: &mut Vec<Rank>, rank: Rank) -> Result<(), AllocError>
 fn is_after(rank: &Rank, other: &Rank) -> bool
     ensures { result ≡ is_gt (rank_cmp rank.now other.now) }
 {
-    rank.value < other.value || rank.value == other.value && rank.place > other.place
+    rank.value < other.value || rank.value == other.value && rank.position > other.position
 }

@@ -20,7 +20,7 @@ use std::marker::Model;
 pub struct Summary {
     window: Option<Window>,
     took: u64,
-    parents: Vec<Span>,
+    callers: Vec<Span>,
     recipes: Vec<Span>,
     marks: Vec<Span>,
     total: u64,
@@ -41,7 +41,7 @@ impl Model for Summary {
     ghost view = { λ summary. record {
       window = summary.window;
       took = summary.took;
-      parents = summary.parents.items;
+      callers = summary.callers.items;
       recipes = summary.recipes.items;
       marks = summary.marks.items;
       sum = summary.total;
@@ -64,7 +64,7 @@ impl Summary {
         ensures { IfOk result (λ summary. summary ≡ summary_of nodes.now times.now) }
     {
         let targets = list_targets(alloc, nodes, times)?;
-        let Spans { parents, recipes } = split_spans(alloc, &targets)?;
+        let Spans { callers, recipes } = split_spans(alloc, &targets)?;
         let marks = list_marks(alloc, &targets)?;
         let most = most_at_once(alloc, &recipes)?;
         let longest = longest_of(alloc, &recipes)?;
@@ -73,7 +73,7 @@ impl Summary {
         Ok(Summary {
             window: window_over(&targets),
             took: time_over(&targets),
-            parents,
+            callers,
             recipes,
             marks,
             total,
@@ -101,22 +101,22 @@ impl Summary {
         self.took
     }
 
-    /// Returns the spans of the targets that ran others, in order of place. A target ran others if its log contains the log of another
+    /// Returns the spans of the targets that ran others, in order of position. A target ran others if its log contains the log of another
     /// one, and if its span contains the span of that one, which ended after it began.
-    pub fn parents(&self) -> &[Span]
-        ensures { result.now ≡ self.now.parents }
+    pub fn callers(&self) -> &[Span]
+        ensures { result.now ≡ self.now.callers }
     {
-        self.parents.as_slice()
+        self.callers.as_slice()
     }
 
-    /// Returns the spans of all other targets whose times are known, in order of place.
+    /// Returns the spans of all other targets whose times are known, in order of position.
     pub fn recipes(&self) -> &[Span]
         ensures { result.now ≡ self.now.recipes }
     {
         self.recipes.as_slice()
     }
 
-    /// Returns the marks of the targets of which one time is known, in order of place. A requested target of which only the end is
+    /// Returns the marks of the targets of which one time is known, in order of position. A requested target of which only the end is
     /// known has no mark, because the log of a run by make says no more.
     pub fn marks(&self) -> &[Span]
         ensures { result.now ≡ self.now.marks }
@@ -154,7 +154,7 @@ impl Summary {
     }
 
     /// Returns the ten recipes that took longest, the longest one first. Of recipes that took equally long, the one with the lowest
-    /// place is first. A duration is at most 2^44 - 1 milliseconds.
+    /// position is first. A duration is at most 2^44 - 1 milliseconds.
     pub fn longest(&self) -> &[Rank]
         ensures { result.now ≡ self.now.longest }
     {
@@ -162,7 +162,7 @@ impl Summary {
     }
 
     /// Returns the ten targets with the most warnings, the one with the most first, and only those with a warning. Of targets with
-    /// equally many, the one with the lowest place is first.
+    /// equally many, the one with the lowest position is first.
     pub fn warned(&self) -> &[Rank]
         ensures { result.now ≡ self.now.warned }
     {
@@ -173,7 +173,7 @@ impl Summary {
     pub fn is_timed(&self) -> bool
         ensures { result ≡ is_timed self.now }
     {
-        let spans = self.parents.len() as u128 + self.recipes.len() as u128;
+        let spans = self.callers.len() as u128 + self.recipes.len() as u128;
         let marks = self.marks.len() as u128;
         spans > 0 && marks * 10 <= spans + marks
     }

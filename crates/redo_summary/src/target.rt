@@ -8,8 +8,8 @@ use redo_times::Times;
 /// What is known of when a shown target ran.
 #[derive(Clone, Copy)]
 pub struct Target {
-    pub place: usize,
-    /// The place of the target whose log contains its log. A requested target has none.
+    pub position: usize,
+    /// The position of the target whose log contains its log. A requested target has none.
     pub parent: Option<usize>,
     pub failed: bool,
     pub times: Times,
@@ -44,7 +44,7 @@ impl Target {
     {
         Span {
             began,
-            place: self.place,
+            position: self.position,
             ended,
             failed: self.failed,
         }

@@ -2,7 +2,7 @@
 ghost use Rattle.std.specs.Prelude.{◌≡◌, IfOk};
 ghost use Rattle.redo_outline.specs.Facts.{is_failure};
 ghost use Rattle.redo_summary.specs.Targets.{duration_of, target_of, targets_of, times_of};
-ghost use Rattle.redo_summary.specs.Private.Marking.{ArePlaced};
+ghost use Rattle.redo_summary.specs.Private.Marking.{ArePositioned};
 
 use crate::target::Target;
 use redo_outline::Node;
@@ -28,21 +28,21 @@ pub fn list_targets(
     times: &[Times],
 ) -> Result<Vec<Target>, AllocError>
     ensures targets { IfOk result (λ targets. targets.items ≡ targets_of nodes.now times.now) }
-    ensures placed { IfOk result (λ targets. ArePlaced targets.items) }
+    ensures positioned { IfOk result (λ targets. ArePositioned targets.items) }
 {
     let mut targets = Vec::new(alloc);
-    for (place, node) in nodes.iter().enumerate() {
-        targets.push(target_of(times, place, node))?;
+    for (position, node) in nodes.iter().enumerate() {
+        targets.push(target_of(times, position, node))?;
     }
     Ok(targets)
 }
 
-// Returns the target of the node at this place.
-fn target_of(times: &[Times], place: usize, node: &Node) -> Target
-    ensures { result ≡ target_of times.now place node.now }
+// Returns the target of the node at this position.
+fn target_of(times: &[Times], position: usize, node: &Node) -> Target
+    ensures { result ≡ target_of times.now position node.now }
 {
     Target {
-        place,
+        position,
         parent: node.parent,
         failed: is_failure(node.status),
         times: times_of(times, node.number),

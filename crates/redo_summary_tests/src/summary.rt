@@ -11,7 +11,7 @@ fn summary_of_nothing(rt: HostRuntime) -> Result<(), Fail> {
     let summary = Summary::new(rt.alloc(), &[], &[])?;
     assert_eq!(rt; summary.window(), None);
     assert_eq!(rt; summary.took(), 0);
-    assert_eq!(rt; summary.parents(), [].as_slice());
+    assert_eq!(rt; summary.callers(), [].as_slice());
     assert_eq!(rt; summary.recipes(), [].as_slice());
     assert_eq!(rt; summary.marks(), [].as_slice());
     assert_eq!(rt; summary.sum(), 0);
@@ -25,7 +25,7 @@ fn summary_of_nothing(rt: HostRuntime) -> Result<(), Fail> {
 }
 
 // A requested target ran two others at the same time, of which one failed. Of a third one only the end is known, and of a fourth one
-// nothing. Their logs are not numbered in order of place.
+// nothing. Their logs are not numbered in order of position.
 #[test]
 fn summary_of_small_build(rt: HostRuntime) -> Result<(), Fail> {
     let nodes = [
@@ -49,7 +49,7 @@ fn summary_of_small_build(rt: HostRuntime) -> Result<(), Fail> {
     };
     assert_eq!(rt; summary.window(), Some(window));
     assert_eq!(rt; summary.took(), 90);
-    assert_eq!(rt; summary.parents(), [span(0, 1010, 1100, true)].as_slice());
+    assert_eq!(rt; summary.callers(), [span(0, 1010, 1100, true)].as_slice());
     let recipes = [span(1, 1020, 1070, false), span(2, 1050, 1090, true)];
     assert_eq!(rt; summary.recipes(), recipes.as_slice());
     assert_eq!(rt; summary.marks(), [span(3, 1095, 1095, false)].as_slice());
@@ -64,7 +64,7 @@ fn summary_of_small_build(rt: HostRuntime) -> Result<(), Fail> {
     Ok(())
 }
 
-// A requested target, of which only the end is known, and 30 others one after another: the one at place i took 100 + i milliseconds, and
+// A requested target, of which only the end is known, and 30 others one after another: the one at position i took 100 + i milliseconds, and
 // has i % 3 warnings.
 #[test]
 fn summary_of_larger_build(rt: HostRuntime) -> Result<(), Fail> {
@@ -83,7 +83,7 @@ fn summary_of_larger_build(rt: HostRuntime) -> Result<(), Fail> {
         width: 98_000,
     };
     assert_eq!(rt; summary.window(), Some(window));
-    assert_eq!(rt; summary.parents(), [].as_slice());
+    assert_eq!(rt; summary.callers(), [].as_slice());
     assert_eq!(rt; summary.recipes().len(), 30);
     assert_eq!(rt; summary.marks(), [].as_slice());
     assert_eq!(rt; summary.sum(), 3465);
@@ -119,12 +119,12 @@ fn durations_of_targets(rt: HostRuntime) {
     assert_eq!(rt; duration_of(&times, 2), None);
 }
 
-// Returns ten ranks, each with a value and a place that are lower by one than in the rank before.
-fn falling_ranks(alloc: Global, value: u64, place: usize) -> Result<Vec<Rank>, AllocError> {
+// Returns ten ranks, each with a value and a position that are lower by one than in the rank before.
+fn falling_ranks(alloc: Global, value: u64, position: usize) -> Result<Vec<Rank>, AllocError> {
     let mut ranks = Vec::new(alloc);
     for i in 0u32..10 {
         let value = value.saturating_sub(u64::from(i));
-        ranks.push(rank(value, place.saturating_sub(i as usize)))?;
+        ranks.push(rank(value, position.saturating_sub(i as usize)))?;
     }
     Ok(ranks)
 }
@@ -168,15 +168,15 @@ fn ended(time: u64) -> Times {
     }
 }
 
-fn span(place: usize, began: u64, ended: u64, failed: bool) -> Span {
+fn span(position: usize, began: u64, ended: u64, failed: bool) -> Span {
     Span {
         began,
-        place,
+        position,
         ended,
         failed,
     }
 }
 
-fn rank(value: u64, place: usize) -> Rank {
-    Rank { value, place }
+fn rank(value: u64, position: usize) -> Rank {
+    Rank { value, position }
 }

@@ -49,7 +49,7 @@ module _ (window : Window) where
   draft-joined (first ∷ rest) span some h =
       let bar : List Span = first ∷ rest in
       let narrow = joins_narrow bar span h in
-      let made : ℕ → ℕ → Bool → Bool → Draft = λ (ended count : ℕ) (narrow failed : Bool). record { began = first.began; ended = ended; place = first.place; count = count; narrow = narrow; failed = failed } in
+      let made : ℕ → ℕ → Bool → Bool → Draft = λ (ended count : ℕ) (narrow failed : Bool). record { began = first.began; ended = ended; position = first.position; count = count; narrow = narrow; failed = failed } in
       let count : length bar + 1 ≡ length (bar ++ span ∷ []) = sym (length-append bar (span ∷ [])) in
       ap (λ (n : ℕ). made n (length bar + 1) (list_all (is_narrow window) bar) (has_failed bar)) (sym (ended-last bar span))
       ∙ ap (λ (n : ℕ). made (ended_of (bar ++ span ∷ [])) n (list_all (is_narrow window) bar) (has_failed bar)) count

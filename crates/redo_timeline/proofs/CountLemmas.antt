@@ -30,13 +30,13 @@ count_none test (x ∷ xs) none =
     let here = ap one_if (none 0 x (omega arith) (omega arith)) in
     let later = count_none test xs (λ k d low high. none (suc k) d (omega arith) (omega (arith, high))) in omega (arith, here, later)
 
--- If the items before this place pass the test, and no others, then they are as many.
-pub count_until_place : {A : Type 0} (test : A → Bool) (xs : List A) (i : ℕ) → i ≤ length xs → AllWithin (λ x. test x ≡ true) xs 0 i → AllWithin (λ x. test x ≡ false) xs i (length xs) → count_of test xs ≡ i
-count_until_place test xs zero le all none = count_none test xs none
-count_until_place test [] (suc i) le all none = absurd (omega (arith, le))
-count_until_place test (x ∷ xs) (suc i) le all none =
+-- If the items before this position pass the test, and no others, then they are as many.
+pub count_until_position : {A : Type 0} (test : A → Bool) (xs : List A) (i : ℕ) → i ≤ length xs → AllWithin (λ x. test x ≡ true) xs 0 i → AllWithin (λ x. test x ≡ false) xs i (length xs) → count_of test xs ≡ i
+count_until_position test xs zero le all none = count_none test xs none
+count_until_position test [] (suc i) le all none = absurd (omega (arith, le))
+count_until_position test (x ∷ xs) (suc i) le all none =
     let here = ap one_if (all 0 x (omega arith) (omega arith)) in
-    let later = count_until_place test xs i (omega (arith, le)) (λ k d low high. all (suc k) d (omega arith) (omega (arith, high))) (λ k d low high. none (suc k) d (omega (arith, low)) (omega (arith, high))) in omega (arith, here, later)
+    let later = count_until_position test xs i (omega (arith, le)) (λ k d low high. all (suc k) d (omega arith) (omega (arith, high))) (λ k d low high. none (suc k) d (omega (arith, low)) (omega (arith, high))) in omega (arith, here, later)
 
 -- ---- times of spans
 

@@ -9,7 +9,7 @@ use Rattle.redo_timeline.specs.Private.Placing.{ends_of, lane_for, put_end, put_
 
 -- What a position past the end has.
 abbrev pub no_span : Span
-no_span = record { began = 0; place = 0; ended = 0; failed = false }
+no_span = record { began = 0; position = 0; ended = 0; failed = false }
 
 -- ---- the lane of a span
 
@@ -132,23 +132,23 @@ none_taken max_lanes began lane ends none all =
 -- ---- all spans
 
 -- The lanes so far, when the last span in each of them ended, and the spans that are left.
-pub record Placed (max_lanes : ℕ) (all rest : List Span) (lanes : List (List Span)) (ends : List ℕ) : Type 0 where
+pub record Positioned (max_lanes : ℕ) (all rest : List Span) (lanes : List (List Span)) (ends : List ℕ) : Type 0 where
   pub lanes_are : take_lanes max_lanes lanes rest ≡ take_lanes max_lanes [] all
   pub ends_are : ends ≡ ends_of lanes
 
-pub placed_next :
-    (max_lanes : ℕ) (all : List Span) (i : ℕ) (d : Span) (lanes new_lanes : List (List Span)) (ends new_ends : List ℕ) (lane : ℕ) → i < length all → Placed max_lanes all (drop i all) lanes ends
-    → lane ≡ lane_for max_lanes (get_or all i d).began ends → new_lanes ≡ put_in_lane lane (get_or all i d) lanes → new_ends ≡ put_end lane (get_or all i d).ended ends → Placed max_lanes all (drop (i + 1) all) new_lanes new_ends
-placed_next max_lanes all i d lanes new_lanes ends new_ends lane below placed lane_found put ended =
+pub positioned_next :
+    (max_lanes : ℕ) (all : List Span) (i : ℕ) (d : Span) (lanes new_lanes : List (List Span)) (ends new_ends : List ℕ) (lane : ℕ) → i < length all → Positioned max_lanes all (drop i all) lanes ends
+    → lane ≡ lane_for max_lanes (get_or all i d).began ends → new_lanes ≡ put_in_lane lane (get_or all i d) lanes → new_ends ≡ put_end lane (get_or all i d).ended ends → Positioned max_lanes all (drop (i + 1) all) new_lanes new_ends
+positioned_next max_lanes all i d lanes new_lanes ends new_ends lane below positioned lane_found put ended =
     let span = get_or all i d in
     let next : suc i ≡ i + 1 = omega arith in
     let left : drop i all ≡ span ∷ drop (i + 1) all = drop-cons all i d below ∙ ap (λ (n : ℕ). span ∷ drop n all) next in
-    let lane_same : lane ≡ lane_for max_lanes span.began (ends_of lanes) = lane_found ∙ ap (lane_for max_lanes span.began) placed.ends_are in
+    let lane_same : lane ≡ lane_for max_lanes span.began (ends_of lanes) = lane_found ∙ ap (lane_for max_lanes span.began) positioned.ends_are in
     let taken : new_lanes ≡ take_lane max_lanes span lanes = put ∙ ap (λ (n : ℕ). put_in_lane n span lanes) lane_same ∙ sym (lane_is max_lanes span lanes) in
     record {
-      lanes_are = ap (λ (lanes : List (List Span)). take_lanes max_lanes lanes (drop (i + 1) all)) taken ∙ sym (ap (take_lanes max_lanes lanes) left) ∙ placed.lanes_are;
-      ends_are = ended ∙ ap (put_end lane span.ended) placed.ends_are ∙ sym (ends-put lane span lanes) ∙ ap ends_of (sym put);
+      lanes_are = ap (λ (lanes : List (List Span)). take_lanes max_lanes lanes (drop (i + 1) all)) taken ∙ sym (ap (take_lanes max_lanes lanes) left) ∙ positioned.lanes_are;
+      ends_are = ended ∙ ap (put_end lane span.ended) positioned.ends_are ∙ sym (ends-put lane span lanes) ∙ ap ends_of (sym put);
     }
 
-pub placed_all : (max_lanes : ℕ) (all : List Span) (i : ℕ) (lanes : List (List Span)) (ends : List ℕ) → length all ≤ i → Placed max_lanes all (drop i all) lanes ends → lanes ≡ take_lanes max_lanes [] all
-placed_all max_lanes all i lanes ends done placed = ap (take_lanes max_lanes lanes) (sym (drop_all i all done)) ∙ placed.lanes_are
+pub positioned_all : (max_lanes : ℕ) (all : List Span) (i : ℕ) (lanes : List (List Span)) (ends : List ℕ) → length all ≤ i → Positioned max_lanes all (drop i all) lanes ends → lanes ≡ take_lanes max_lanes [] all
+positioned_all max_lanes all i lanes ends done positioned = ap (take_lanes max_lanes lanes) (sym (drop_all i all done)) ∙ positioned.lanes_are

@@ -27,7 +27,7 @@ began_le : (a b : Span) → is_gt (span_cmp a b) ≡ false → a.began ≤ b.beg
 began_le a b le = by (nat_cmp a.began b.began) (ranked a.began b.began (nat_cmp a.began b.began) refl) le
   where
     by : (o : Ordering) → MatchOrdering o (a.began < b.began) (a.began ≡ b.began) (b.began < a.began)
-        → is_gt (ordering_then o (ordering_then (nat_cmp a.place b.place) (ordering_then (nat_cmp a.ended b.ended) (bool_cmp a.failed b.failed)))) ≡ false → a.began ≤ b.began
+        → is_gt (ordering_then o (ordering_then (nat_cmp a.position b.position) (ordering_then (nat_cmp a.ended b.ended) (bool_cmp a.failed b.failed)))) ≡ false → a.began ≤ b.began
     by Less is le = omega (arith, is)
     by Equal is le = omega (arith, is)
     by Greater is le = absurd (cc)

@@ -203,7 +203,7 @@ module _ {K : Type 0} (cmp : K → K → Ordering) where
 span_cmp_total : IsTotalOrder span_cmp
 span_cmp_total =
     then_total (on_total (λ (span : Span). span.began) nat_cmp_total)
-    (then_total (on_total (λ (span : Span). span.place) nat_cmp_total) (then_total (on_total (λ (span : Span). span.ended) nat_cmp_total) (on_total (λ (span : Span). span.failed) bool_cmp_total)))
+    (then_total (on_total (λ (span : Span). span.position) nat_cmp_total) (then_total (on_total (λ (span : Span). span.ended) nat_cmp_total) (on_total (λ (span : Span). span.failed) bool_cmp_total)))
 
 exact_bool : CmpEqualImpliesEq bool_cmp
 exact_bool false false e = refl
@@ -212,12 +212,12 @@ exact_bool true false e = absurd (cc)
 exact_bool true true e = refl
 
 abbrev span_of : ℕ × (ℕ × (ℕ × Bool)) → Span
-span_of parts = record { began = parts.0; place = parts.1.0; ended = parts.1.1.0; failed = parts.1.1.1 }
+span_of parts = record { began = parts.0; position = parts.1.0; ended = parts.1.1.0; failed = parts.1.1.1 }
 
 span_cmp_exact : CmpEqualImpliesEq span_cmp
 span_cmp_exact a b e =
     ap span_of
-    (exact_pairs nat_cmp _ exact_unsigned (exact_pairs nat_cmp _ exact_unsigned (exact_pairs nat_cmp bool_cmp exact_unsigned exact_bool)) (a.began, (a.place, (a.ended, a.failed))) (b.began, (b.place, (b.ended, b.failed))) e)
+    (exact_pairs nat_cmp _ exact_unsigned (exact_pairs nat_cmp _ exact_unsigned (exact_pairs nat_cmp bool_cmp exact_unsigned exact_bool)) (a.began, (a.position, (a.ended, a.failed))) (b.began, (b.position, (b.ended, b.failed))) e)
 
 pub are_in_order : (spans sorted : List Span) → IsPermutation spans sorted → IsSorted span_cmp sorted → sorted ≡ in_order spans
 are_in_order spans sorted moved up = sorted_same span_cmp span_cmp_total span_cmp_exact spans sorted moved up

@@ -12,10 +12,10 @@ use Rattle.redo_timeline.specs.Parallelism.{most_of, runs_at}
 use Rattle.redo_timeline.specs.Timeline.{timeline_of}
 
 abbrev span : ℕ → ℕ → ℕ → Span
-span place began ended = record { began = began; place = place; ended = ended; failed = false }
+span position began ended = record { began = began; position = position; ended = ended; failed = false }
 
 abbrev failed : ℕ → ℕ → ℕ → Span
-failed place began ended = record { began = began; place = place; ended = ended; failed = true }
+failed position began ended = record { began = began; position = position; ended = ended; failed = true }
 
 -- A window in which a unit is a millisecond.
 abbrev window : Window
@@ -68,10 +68,10 @@ windows :
 windows = ((lit< tt, lit< tt), (lit< tt, lit< tt), λ valid. omega (arith, valid.0), λ valid. omega (arith, valid.1))
 
 -- Units are rounded down. Times outside the window are at its edges.
-places :
+positions :
     (units (record { began = 1000; width = 2000 }) 1500 ≡ 2500) × (units (record { began = 1000; width = 2000 }) 999 ≡ 0) × (units (record { began = 1000; width = 2000 }) 3000 ≡ 10000)
     × (units (record { began = 1000; width = 2000 }) 3001 ≡ 10000) × (units (record { began = 7; width = 3 }) 8 ≡ 3333) × (units (record { began = 7; width = 3 }) 9 ≡ 6666) × (units (record { began = 7; width = 1 }) 8 ≡ 10000)
-places = (refl, refl, refl, refl, refl, refl, refl)
+positions = (refl, refl, refl, refl, refl, refl, refl)
 
 narrow_spans : (is_narrow window (span 0 30 49) ≡ true) × (is_narrow window (span 0 30 50) ≡ false) × (is_narrow window (failed 0 30 49) ≡ false) × (is_narrow window (span 0 30 30) ≡ true)
 narrow_spans = (refl, refl, refl, refl)
@@ -102,17 +102,17 @@ last_ends = (refl, refl, refl)
 
 -- What is drawn of one span, of a failed one, and of several.
 drawn :
-    (bar_of window 3 (span 8 5 8 ∷ []) ≡ record { lane = 3; x = 5; width = 10; place = 8; count = 1; began = 5; ended = 8; failed = false })
-    × (bar_of window 0 (span 8 5 16 ∷ []) ≡ record { lane = 0; x = 5; width = 11; place = 8; count = 1; began = 5; ended = 16; failed = false })
-    × (bar_of window 0 (failed 8 5 5 ∷ []) ≡ record { lane = 0; x = 5; width = 30; place = 8; count = 1; began = 5; ended = 5; failed = true })
-    × (bar_of window 0 (failed 8 5 36 ∷ []) ≡ record { lane = 0; x = 5; width = 31; place = 8; count = 1; began = 5; ended = 36; failed = true })
-    × (bar_of window 1 (span 8 0 18 ∷ span 4 1 3 ∷ []) ≡ record { lane = 1; x = 0; width = 18; place = 8; count = 2; began = 0; ended = 18; failed = false })
+    (bar_of window 3 (span 8 5 8 ∷ []) ≡ record { lane = 3; x = 5; width = 10; position = 8; count = 1; began = 5; ended = 8; failed = false })
+    × (bar_of window 0 (span 8 5 16 ∷ []) ≡ record { lane = 0; x = 5; width = 11; position = 8; count = 1; began = 5; ended = 16; failed = false })
+    × (bar_of window 0 (failed 8 5 5 ∷ []) ≡ record { lane = 0; x = 5; width = 30; position = 8; count = 1; began = 5; ended = 5; failed = true })
+    × (bar_of window 0 (failed 8 5 36 ∷ []) ≡ record { lane = 0; x = 5; width = 31; position = 8; count = 1; began = 5; ended = 36; failed = true })
+    × (bar_of window 1 (span 8 0 18 ∷ span 4 1 3 ∷ []) ≡ record { lane = 1; x = 0; width = 18; position = 8; count = 2; began = 0; ended = 18; failed = false })
 drawn = (refl, refl, refl, refl, refl)
 
 -- ---- timelines
 
 abbrev bar : ℕ → ℕ → ℕ → ℕ → ℕ → ℕ → ℕ → Bool → Bar
-bar lane x width place count began ended failed = record { lane = lane; x = x; width = width; place = place; count = count; began = began; ended = ended; failed = failed }
+bar lane x width position count began ended failed = record { lane = lane; x = x; width = width; position = position; count = count; began = began; ended = ended; failed = failed }
 
 -- Two narrow spans, and one that failed while the others ran. A unit is 2 milliseconds, and the window begins at 1000.
 timelines :

@@ -14,14 +14,14 @@ IsValidWindow window = (0 < window.width) × (window.width < 2 ^ 44)
 abbrev pub units : Window → ℕ → ℕ
 units window time = min (time - window.began) window.width * 10000 / window.width
 
--- When the first of some spans began, and its place.
+-- When the first of some spans began, and its position.
 abbrev pub began_of : List Span → ℕ
 began_of [] = 0
 began_of (span ∷ rest) = span.began
 
-abbrev pub place_of : List Span → ℕ
-place_of [] = 0
-place_of (span ∷ rest) = span.place
+abbrev pub position_of : List Span → ℕ
+position_of [] = 0
+position_of (span ∷ rest) = span.position
 
 -- Whether a span is narrower than 0.2 %. A span that failed is never narrow.
 abbrev pub is_narrow : Window → Span → Bool
@@ -59,7 +59,7 @@ bar_of window lane bar = record {
   lane = lane;
   x = units window (began_of bar);
   width = max (width_of window bar) (if has_failed bar then 30 else 10);
-  place = place_of bar;
+  position = position_of bar;
   count = length bar;
   began = began_of bar;
   ended = ended_of bar;

@@ -4,12 +4,12 @@ use Rattle.std.specs.declared.cmp.Ordering.{Ordering}
 use Rattle.std.specs.Ordering.{bool_cmp, is_gt, nat_cmp, ordering_then}
 use Rattle.redo_timeline.specs.declared.span.Span.{Span}
 
--- Spans are ordered by when they began, then by place. If two spans have the same place too, the one that ended first is first, and a
+-- Spans are ordered by when they began, then by position. If two spans have the same position too, the one that ended first is first, and a
 -- span that failed is last. So only equal spans compare as equal.
 abbrev pub span_cmp : Span → Span → Ordering
 span_cmp a b =
     ordering_then (nat_cmp a.began b.began)
-    (ordering_then (nat_cmp a.place b.place) (ordering_then (nat_cmp a.ended b.ended) (bool_cmp a.failed b.failed)))
+    (ordering_then (nat_cmp a.position b.position) (ordering_then (nat_cmp a.ended b.ended) (bool_cmp a.failed b.failed)))
 
 module _ {K : Type 0} (cmp : K → K → Ordering) where
   -- Sorted items, with one more.

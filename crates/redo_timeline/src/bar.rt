@@ -9,8 +9,8 @@ pub struct Bar {
     pub x: u64,
     /// How wide it is drawn, in units: at least 10, or 30 if its target failed.
     pub width: u64,
-    /// The place of its first span.
-    pub place: usize,
+    /// The position of its first span.
+    pub position: usize,
     /// The number of its spans.
     pub count: usize,
     /// When its first span began, in milliseconds.

@@ -28,7 +28,7 @@ const MIN_FAILED_WIDTH: u64 = 30;
 pub struct Draft {
     pub began: u64,
     pub ended: u64,
-    pub place: usize,
+    pub position: usize,
     pub count: usize,
     /// Whether each span is narrow.
     pub narrow: bool,
@@ -44,7 +44,7 @@ impl Draft {
         Draft {
             began: span.began,
             ended: span.ended,
-            place: span.place,
+            position: span.position,
             count: 1,
             narrow: is_narrow(window, span),
             failed: span.failed,
@@ -89,7 +89,7 @@ impl Draft {
             lane,
             x,
             width: if width < least { least } else { width },
-            place: self.place,
+            position: self.position,
             count: self.count,
             began: self.began,
             ended: self.ended,

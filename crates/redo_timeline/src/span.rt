@@ -1,12 +1,12 @@
 //! What a timeline is made from.
 
-/// The time from when a target began to when it ended. Spans are ordered by when they began, then by place.
+/// The time from when a target began to when it ended. Spans are ordered by when they began, then by position.
 #[derive(Clone, Copy, Debug, PartialEq, Eq, PartialOrd, Ord)]
 pub struct Span {
     /// When the target began, in milliseconds.
     pub began: u64,
-    /// Which target it is. Two spans may have the same place.
-    pub place: usize,
+    /// Which target it is. Two spans may have the same position.
+    pub position: usize,
     /// When the target ended, in milliseconds.
     pub ended: u64,
     /// Whether the target failed.

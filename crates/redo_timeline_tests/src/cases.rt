@@ -1,9 +1,9 @@
 //! Spans, and their timelines. The values are worked out by hand.
 
-/// When a span began and ended, its place, and whether it failed.
+/// When a span began and ended, its position, and whether it failed.
 pub type SpanCase = (u64, u64, usize, bool);
 
-/// The lane, x and width of a bar, its place and its number of spans, when it began and ended, and whether it failed.
+/// The lane, x and width of a bar, its position and its number of spans, when it began and ended, and whether it failed.
 pub type BarCase = (usize, u64, u64, usize, usize, u64, u64, bool);
 
 /// When a window begins, its width, the maximum number of lanes, the spans, their bars, and the number of lanes.

@@ -80,22 +80,22 @@ fn bars_of(alloc: Global, cases: &[BarCase]) -> Result<Vec<Bar>, AllocError> {
 }
 
 fn span(case: &SpanCase) -> Span {
-    let (began, ended, place, failed) = *case;
+    let (began, ended, position, failed) = *case;
     Span {
         began,
-        place,
+        position,
         ended,
         failed,
     }
 }
 
 fn bar(case: &BarCase) -> Bar {
-    let (lane, x, width, place, count, began, ended, failed) = *case;
+    let (lane, x, width, position, count, began, ended, failed) = *case;
     Bar {
         lane,
         x,
         width,
-        place,
+        position,
         count,
         began,
         ended,

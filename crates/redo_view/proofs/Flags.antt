@@ -81,29 +81,29 @@ module _ (numbering : Numbering) where
   module _ (visited : Visited) (state : ViewState) (is : MatchesFlags numbering visited state) where
     -- The flag of a log states whether its target was opened.
     pub was_opened : (target : List ℕ) (number : ℕ) → log_number target numbering.logs ≡ Some number → is_set visited.opened.items number ≡ is_among target state.opened
-    was_opened target number placed =
-        let first = first_log target numbering.logs number placed in
+    was_opened target number looked_up =
+        let first = first_log target numbering.logs number looked_up in
         ap (λ flags. is_set flags number) is.opened
         ∙ flag_at (targets_of numbering.logs) state.opened number (omega (arith, first.2, count_targets))
         ∙ ap (λ name. is_among name state.opened) (get_or_from_slice_get (targets_of numbering.logs) number target [] first.0)
 
     -- The same for a flag that was read.
     pub flag_is : (target : List ℕ) (number : ℕ) (flag : Bool) → Fits numbering visited → log_number target numbering.logs ≡ Some number → flag ≡ get_or visited.opened.items number flag → flag ≡ is_among target state.opened
-    flag_is target number flag fits placed read =
-        let below = (first_log target numbering.logs number placed).2 in
-        flag_read visited.opened.items number flag (omega (arith, below, fits.logs)) read ∙ was_opened target number placed
+    flag_is target number flag fits looked_up read =
+        let below = (first_log target numbering.logs number looked_up).2 in
+        flag_read visited.opened.items number flag (omega (arith, below, fits.logs)) read ∙ was_opened target number looked_up
 
     module _ (fits : Fits numbering visited) where
       -- A log that wasn't opened is begun.
       pub begins : (after : Visited) (target : List ℕ) (number name : ℕ) → log_number target numbering.logs ≡ Some number → is_set visited.opened.items number ≡ false
           → name < length numbering.names → slice_get (targets_of numbering.logs) number ≡ Some (name_at numbering.names name)
           → after.named.items ≡ set_flag visited.named.items name → after.opened.items ≡ set_flag visited.opened.items number → MatchesFlags numbering after (begin_log target state)
-      begins after target number name placed new below named named_then opened_then =
-          let first = first_log target numbering.logs number placed in
+      begins after target number name looked_up new below named named_then opened_then =
+          let first = first_log target numbering.logs number looked_up in
           let target_is : name_at (targets_of numbering.logs) number ≡ target = get_or_from_slice_get (targets_of numbering.logs) number target [] first.0 in
           let name_is : name_at numbering.names name ≡ target =
           sym (get_or_from_slice_get (targets_of numbering.logs) number (name_at numbering.names name) [] named) ∙ target_is in
-          let absent = sym (was_opened target number placed) ∙ new in
+          let absent = sym (was_opened target number looked_up) ∙ new in
           record {
             named =
                 named_then ∙ ap (λ flags. set_flag flags name) is.named ∙ set_flag-inserts state.named numbering.names name fits.names_differ below
@@ -122,9 +122,9 @@ module _ (numbering : Numbering) where
         opening_is : (target : List ℕ) → opening_by options.recursive visited.opened.items (log_number target numbering.logs) ≡ alone.opening_after numbering.logs options target state.opened
         opening_is target = by (log_number target numbering.logs) refl
           where
-            by : (place : Option ℕ) → log_number target numbering.logs ≡ place → opening_by options.recursive visited.opened.items place ≡ opening_of options.recursive (is_among target state.opened) place
-            by None placed = refl
-            by (Some number) placed = ap (λ opened. opening_of options.recursive opened (Some number)) (was_opened target number placed)
+            by : (found : Option ℕ) → log_number target numbering.logs ≡ found → opening_by options.recursive visited.opened.items found ≡ opening_of options.recursive (is_among target state.opened) found
+            by None looked_up = refl
+            by (Some number) looked_up = ap (λ opened. opening_of options.recursive opened (Some number)) (was_opened target number looked_up)
 
         -- What it shows.
         pub events_are : (depth : ℕ) (entry : NumberedEntry) → IsNumbered numbering.names entry
@@ -172,19 +172,19 @@ module _ (numbering : Numbering) (options : Options) (opened : List Bool) (numbe
   abbrev pub IsNewLog : Type 0
   IsNewLog = (number < length numbering.logs) × (is_set opened number ≡ false)
 
-  new_placed : (target : List ℕ) (place : Option ℕ) → log_number target numbering.logs ≡ place → log_to_open (opening_by options.recursive opened place) ≡ Some number → IsNewLog
-  new_placed target None placed is = absurd (none-some number is)
-  new_placed target (Some other) placed is = by options.recursive (is_set opened other) refl is
+  new_looked_up : (target : List ℕ) (found : Option ℕ) → log_number target numbering.logs ≡ found → log_to_open (opening_by options.recursive opened found) ≡ Some number → IsNewLog
+  new_looked_up target None looked_up is = absurd (none-some number is)
+  new_looked_up target (Some other) looked_up is = by options.recursive (is_set opened other) refl is
     where
       by : (recursive was : Bool) → is_set opened other ≡ was → log_to_open (opening_of recursive was (Some other)) ≡ Some number → IsNewLog
       by recursive true was is = absurd (none-some number is)
       by true false was is =
           let same = same_Some other number is in
-          (subst (λ n. n < length numbering.logs) same (first_log target numbering.logs other placed).2, subst (λ n. is_set opened n ≡ false) same was)
+          (subst (λ n. n < length numbering.logs) same (first_log target numbering.logs other looked_up).2, subst (λ n. is_set opened n ≡ false) same was)
       by false false was is = absurd (none-some number is)
 
   new_mentioned : (target : List ℕ) (counts : Bool) → (if counts then log_to_open (opening_by options.recursive opened (log_number target numbering.logs)) else None) ≡ Some number → IsNewLog
-  new_mentioned target true is = new_placed target (log_number target numbering.logs) refl is
+  new_mentioned target true is = new_looked_up target (log_number target numbering.logs) refl is
   new_mentioned target false is = absurd (none-some number is)
 
   pub nested_log_is_new : (entry : NumberedEntry) → nested_log numbering options opened entry ≡ Some number → IsNewLog

@@ -23,7 +23,7 @@ use Rattle.redo_view.specs.Private.Branches.{show_log_if, show_mention_if, show_
 use Rattle.redo_view.proofs.Equation.{Keeping, entry_keeps, left_after, log_keeps, should_open-left, show_log_equation}
 use Rattle.redo_view.proofs.Growing.{left-le}
 use Rattle.redo_view.proofs.NestingLemmas.{Settled, SettledBut, begin_settles, settled_but, settled_line, shows_line}
-use Rattle.redo_view.proofs.Openings.{placed-listed, should_open}
+use Rattle.redo_view.proofs.Openings.{looked_up-listed, should_open}
 use Rattle.redo_view.proofs.Unopened.{left}
 
 -- ---- the lines of a target
@@ -96,8 +96,8 @@ module _ (logs : List Log) (options : Options) where
   after_none (OpenedBefore number) left none = refl
   after_none (OpensHere number) left none = absurd (cc)
 
-  after_some : (may_open was_opened : Bool) (name : List ℕ) (left : LinesLeft) (place : Option ℕ) → log_number name logs ≡ place → opens_here (opening_of may_open was_opened place) ≡ true
-      → after_opening logs (opening_of may_open was_opened place) left ≡ lines_of name ∷ left
+  after_some : (may_open was_opened : Bool) (name : List ℕ) (left : LinesLeft) (found : Option ℕ) → log_number name logs ≡ found → opens_here (opening_of may_open was_opened found) ≡ true
+      → after_opening logs (opening_of may_open was_opened found) left ≡ lines_of name ∷ left
   after_some may_open was_opened name left None is opens = absurd (cc)
   after_some may_open true name left (Some number) is opens = absurd (cc)
   after_some true false name left (Some number) is opens = ap (λ (lines : List (List ℕ)). lines ∷ left) (sym (numbered name logs number is))
@@ -193,9 +193,9 @@ module _ (logs : List Log) (options : Options) where
   -- ---- requested targets
 
   request_opens : (name : List ℕ) → is_among name (targets_of logs) ≡ true → lines_left logs [] (request_event logs name) ≡ Some (lines_of name ∷ [])
-  request_opens name listed = by (log_number name logs) refl (placed-listed name logs ∙ listed)
+  request_opens name listed = by (log_number name logs) refl (looked_up-listed name logs ∙ listed)
     where
-      by : (place : Option ℕ) → log_number name logs ≡ place → is_some place ≡ true → lines_left logs [] (Requested name (opening_of true false place)) ≡ Some (lines_of name ∷ [])
+      by : (found : Option ℕ) → log_number name logs ≡ found → is_some found ≡ true → lines_left logs [] (Requested name (opening_of true false found)) ≡ Some (lines_of name ∷ [])
       by None found is = absurd (cc)
       by (Some number) found is = ap (λ (lines : List (List ℕ)). Some (lines ∷ [])) (sym (numbered name logs number found))
 

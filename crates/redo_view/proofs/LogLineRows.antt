@@ -1,5 +1,5 @@
 -- Rows of the definitions on the text lines of open logs.
-use Rattle.std.proofs.Common.{◌≡◌, ℕ, List, [], ◌∷◌, Option, None, Some, pos, refl}
+use Rattle.std.proofs.Common.{◌≡◌, ℕ, List, [], ◌∷◌, None, Some, pos, refl}
 use Rattle.std.specs.Prelude.{codes}
 use Rattle.redo_line.specs.declared.entry.Entry.{Entry}
 use Rattle.redo_line.specs.declared.entry.Entry.TheVariants.{Text, Mention, Closing}
@@ -9,7 +9,7 @@ use Rattle.redo_logs.specs.Logs.{Log}
 use Rattle.redo_view.specs.declared.event.Opening.TheVariants.{NotOpened, OpenedBefore, OpensHere}
 use Rattle.redo_view.specs.Event.{Event}
 use Rattle.redo_view.specs.Event.Event.{Requested, Mentioned, EntryShown, LogEnds}
-use Rattle.redo_view.specs.LogLines.{LinesLeft, after_end, after_line, after_opening, lines_left, lines_left_after, lines_of_log, text_lines}
+use Rattle.redo_view.specs.LogLines.{after_end, after_line, after_opening, lines_left_after, lines_of_log, text_lines}
 
 abbrev log : List ℕ → List Entry → Log
 log target entries = record { target = target; entries = entries; state = Ended }

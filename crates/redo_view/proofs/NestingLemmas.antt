@@ -18,7 +18,7 @@ use Rattle.redo_view.specs.Nesting.{AreNested, open_after, open_after_all, with_
 use Rattle.redo_view.specs.Private.Branches.{show_log_if, show_mention_if, show_target_unless}
 use Rattle.redo_view.proofs.Equation.{Keeping, entry_keeps, left_after, log_keeps, should_open-left, show_log_equation}
 use Rattle.redo_view.proofs.Growing.{left-le, more-has, more-keeps, more-only}
-use Rattle.redo_view.proofs.Openings.{placed-listed, should_open, should_open-is, should_open-parts}
+use Rattle.redo_view.proofs.Openings.{looked_up-listed, should_open, should_open-is, should_open-parts}
 use Rattle.redo_view.proofs.Unopened.{left}
 
 -- ---- the number of open logs
@@ -239,9 +239,9 @@ module _ (logs : List Log) (options : Options) where
   -- ---- requested targets
 
   request_opens : (name : List ℕ) → is_among name (targets_of logs) ≡ true → open_after 0 (request_event logs name) ≡ Some 1
-  request_opens name listed = by (log_number name logs) (placed-listed name logs ∙ listed)
+  request_opens name listed = by (log_number name logs) (looked_up-listed name logs ∙ listed)
     where
-      by : (place : Option ℕ) → is_some place ≡ true → open_after 0 (Requested name (opening_of true false place)) ≡ Some 1
+      by : (found : Option ℕ) → is_some found ≡ true → open_after 0 (Requested name (opening_of true false found)) ≡ Some 1
       by None is = absurd (cc)
       by (Some number) is = refl
 

@@ -14,10 +14,10 @@ use Rattle.redo_view.specs.Expansion.{ViewState, is_among, mention_opening}
 use Rattle.redo_view.specs.Private.EntryEffect.{log_to_open}
 
 -- A target has a log exactly if it is listed.
-pub placed-listed : (name : List ℕ) (logs : List Log) → is_some (log_number name logs) ≡ is_among name (targets_of logs)
-placed-listed name logs = some_place (pointwise nat_eq name) (targets_of logs)
+pub looked_up-listed : (name : List ℕ) (logs : List Log) → is_some (log_number name logs) ≡ is_among name (targets_of logs)
+looked_up-listed name logs = some_place (pointwise nat_eq name) (targets_of logs)
 
-opens_if : (may_open was_opened : Bool) (place : Option ℕ) → opens_here (opening_of may_open was_opened place) ≡ (may_open && is_some place && not was_opened)
+opens_if : (may_open was_opened : Bool) (found : Option ℕ) → opens_here (opening_of may_open was_opened found) ≡ (may_open && is_some found && not was_opened)
 opens_if true true None = refl
 opens_if true false None = refl
 opens_if false was_opened None = refl
@@ -33,12 +33,12 @@ none_opens (OpenedBefore number) none = refl
 none_opens (OpensHere number) none = absurd (none-some number (sym none))
 
 -- With a number, the log with this number is opened.
-pub some_opens : (may_open was_opened : Bool) (place : Option ℕ) (number : ℕ) → log_to_open (opening_of may_open was_opened place) ≡ Some number
-    → (place ≡ Some number) × (was_opened ≡ false) × (opens_here (opening_of may_open was_opened place) ≡ true)
+pub some_opens : (may_open was_opened : Bool) (found : Option ℕ) (number : ℕ) → log_to_open (opening_of may_open was_opened found) ≡ Some number
+    → (found ≡ Some number) × (was_opened ≡ false) × (opens_here (opening_of may_open was_opened found) ≡ true)
 some_opens may_open was_opened None number is = absurd (none-some number is)
-some_opens may_open true (Some place) number is = absurd (none-some number is)
-some_opens true false (Some place) number is = (is, refl, refl)
-some_opens false false (Some place) number is = absurd (none-some number is)
+some_opens may_open true (Some found) number is = absurd (none-some number is)
+some_opens true false (Some found) number is = (is, refl, refl)
+some_opens false false (Some found) number is = absurd (none-some number is)
 
 module _ (logs : List Log) (options : Options) where
   abbrev pub should_open : List ℕ → ViewState → Bool
@@ -47,7 +47,7 @@ module _ (logs : List Log) (options : Options) where
   pub should_open-is : (name : List ℕ) (state : ViewState) → should_open name state ≡ (options.recursive && is_among name (targets_of logs) && not (is_among name state.opened))
   should_open-is name state =
       opens_if options.recursive (is_among name state.opened) (log_number name logs)
-      ∙ ap (λ listed. options.recursive && listed && not (is_among name state.opened)) (placed-listed name logs)
+      ∙ ap (λ listed. options.recursive && listed && not (is_among name state.opened)) (looked_up-listed name logs)
 
   -- A log is opened only if logs are opened recursively, the log exists, and it wasn't opened before.
   pub should_open-parts : (name : List ℕ) (state : ViewState) → should_open name state ≡ true

@@ -14,7 +14,7 @@ use Rattle.redo_view.specs.Private.Rendering.{Rendering, rendered, rendering}
 use Rattle.redo_view.specs.Private.WriteResult.{WroteUntilFault}
 use Rattle.redo_view.specs.View.{view_fault}
 use Rattle.redo_view.specs.Written.{WrotePrefix}
-use Rattle.redo_view.proofs.WritingLemmas.{in_middle}
+use Rattle.redo_device.proofs.WritesLemmas.{in_middle}
 
 append_output-nothing : (output : Option Output) → append_output output [] 0 ≡ output
 append_output-nothing None = refl

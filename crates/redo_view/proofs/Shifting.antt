@@ -21,7 +21,7 @@ use Rattle.redo_view.specs.Laws.{TextIsAppendOnly, prepend_events}
 use Rattle.redo_view.specs.Text.{event_text}
 use Rattle.redo_view.specs.Private.EntryEffect.{log_to_open}
 use Rattle.redo_view.proofs.OneEntry.{mid, nested_log, opening_after}
-use Rattle.redo_view.proofs.Openings.{none_opens, placed-listed, should_open, some_opens}
+use Rattle.redo_view.proofs.Openings.{none_opens, looked_up-listed, should_open, some_opens}
 
 -- ---- events before what is shown
 
@@ -163,7 +163,7 @@ module _ (logs : List Log) (options : Options) (inner : ShowLog) (depth : ℕ) w
       by true some =
           let mentioned = show_mention_line options depth pid how name (mention_opening logs options name s) s in
           let parts = some_opens options.recursive (is_among name s.opened) (log_number name logs) number some in
-          let listed : is_among name (targets_of logs) ≡ true = sym (placed-listed name logs) ∙ ap is_some parts.0 in
+          let listed : is_among name (targets_of logs) ≡ true = sym (looked_up-listed name logs) ∙ ap is_some parts.0 in
           (name, parts.0, parts.1, listed, ap (λ opening. show_log_if logs options opening inner name (depth + 1) mentioned) parts.2)
       by false some = absurd (none-some number some)
   entry-should_open (Done pid status name) s number is = absurd (none-some number is)

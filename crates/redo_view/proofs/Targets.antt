@@ -31,14 +31,14 @@ use Rattle.redo_view.proofs.Walking.{context_then}
 
 -- The line of a requested target, by the number of its log.
 request_by : (target : List ℕ) (logs : List Log) (number : ℕ) → log_number target logs ≡ Some number → Requested target (OpensHere number) ≡ request_event logs target
-request_by target logs number placed = ap (λ place. Requested target (opening_of true false place)) (sym placed)
+request_by target logs number looked_up = ap (λ found. Requested target (opening_of true false found)) (sym looked_up)
 
 module _ {F : Type 0} (bytes : F → Event → List ℕ) (form_after : F → Event → F) (numbering : Numbering) (options : Options) (target : List ℕ) (first now : Rendering F) (visited : Visited) (state : ViewState) (has : HasShown bytes form_after numbering first now visited state) where
   -- Its log was opened before.
   pub target_again : is_among target state.opened ≡ true → HasShown bytes form_after numbering first now visited (show_target_unless numbering.logs options (is_among target state.opened) target state)
   target_again old = subst (λ b. HasShown bytes form_after numbering first now visited (show_target_unless numbering.logs options b target state)) (sym old) has
 
-  module _ (number : ℕ) (placed : log_number target numbering.logs ≡ Some number) where
+  module _ (number : ℕ) (looked_up : log_number target numbering.logs ≡ Some number) where
     abbrev line : Event
     line = Requested target (OpensHere number)
 
@@ -50,14 +50,14 @@ module _ {F : Type 0} (bytes : F → Event → List ℕ) (form_after : F → Eve
         let more = log_events-grow numbering.logs options target 1 requested in
         subst (λ b. ShowedOrFailed bytes form_after numbering {A = Unit {0}} first after seen (show_target_unless numbering.logs options b target state) (Err fault)) (sym new)
         (events_stopped bytes form_after first now after.output state.events (request_event numbering.logs target ∷ []) more.0 (show_target_unless numbering.logs options false target state).events fault has.rendering
-        (subst (λ event. WroteUntilFault now.output after.output (bytes_of bytes form_after now.form (event ∷ [])) fault) (request_by target numbering.logs number placed) wrote) (sym more.1))
+        (subst (λ event. WroteUntilFault now.output after.output (bytes_of bytes form_after now.form (event ∷ [])) fault) (request_by target numbering.logs number looked_up) wrote) (sym more.1))
 
     -- Its line was written.
     pub line_written : (after : Rendering F) → after ≡ rendered bytes form_after now (line ∷ []) → HasShown bytes form_after numbering first after visited (append_event (request_event numbering.logs target) state)
     line_written after shown = record {
       flags = record { named = has.flags.named; opened = has.flags.opened };
       rendering =
-          shown ∙ ap (λ event. rendered bytes form_after now (event ∷ [])) (request_by target numbering.logs number placed)
+          shown ∙ ap (λ event. rendered bytes form_after now (event ∷ [])) (request_by target numbering.logs number looked_up)
           ∙ ap (λ (r : Rendering F). rendered bytes form_after r (request_event numbering.logs target ∷ [])) has.rendering
           ∙ rendered-rendered bytes form_after first state.events (request_event numbering.logs target ∷ []);
     }

@@ -62,8 +62,8 @@ same_entries (x ∷ xs) (y ∷ ys) same = λ i. same_Some x y (same 0) i ∷ sam
 
 -- These are the entries of the log's target.
 pub entries_of : (target : List ℕ) (logs : List Log) (number : ℕ) → log_number target logs ≡ Some number → entries_at number logs ≡ entries_of_target target logs
-entries_of target logs number placed =
-    same_entries (entries_at number logs) (entries_of_target target logs) (λ k. sym (entry_in number k logs) ∙ (first_log target logs number placed).1 k)
+entries_of target logs number looked_up =
+    same_entries (entries_at number logs) (entries_of_target target logs) (λ k. sym (entry_in number k logs) ∙ (first_log target logs number looked_up).1 k)
 
 -- An entry, and the entries after it.
 drop_one : (k : ℕ) (entries : List Entry) (entry : Entry) → slice_get entries k ≡ Some entry → drop k entries ≡ entry ∷ drop (k + 1) entries
@@ -318,11 +318,11 @@ module _ {F : Type 0} (bytes : F → Event → List ℕ) (form_after : F → Eve
     events_are_then : walks.state.events ≡ before ++ lines
 
   abbrev put : (now later : Rendering F) (visited : Visited) (k other : ℕ) → later ≡ now → other ≡ k → WalksAt now visited k → WalksAt later visited other
-  put now later visited k other same place walks = record {
+  put now later visited k other same same_entry walks = record {
     state = walks.state;
     has = record { flags = walks.has.flags; rendering = same ∙ walks.has.rendering };
     is =
-        ap (λ (n : ℕ). finished numbering.logs options 1 outer (gone_over numbering.logs options so_deep (at_entry n) walks.state)) place ∙ walks.is;
+        ap (λ (n : ℕ). finished numbering.logs options 1 outer (gone_over numbering.logs options so_deep (at_entry n) walks.state)) same_entry ∙ walks.is;
   }
 
   over_one : (now : Rendering F) (visited : Visited) (k : ℕ) (text : List ℕ) (walks : WalksAt now visited k) → entry_at number k numbering.logs ≡ Some (entry.Text text)
@@ -467,12 +467,12 @@ module _ {F : Type 0} (bytes : F → Event → List ℕ) (form_after : F → Eve
     room =
         let one = count-set_flag before.opened.items number (omega (arith, below, fits.logs)) new in
         omega (arith, ap length none, ap count_new opened, one, count_within before.opened.items, fits.logs);
-    walks = λ target first state placed has. record {
+    walks = λ target first state looked_up has. record {
       state = begin_log target state;
-      has = record { flags = begins target state placed has.flags; rendering = has.rendering };
+      has = record { flags = begins target state looked_up has.flags; rendering = has.rendering };
       is =
           (λ i. finished numbering.logs options 1 (none i) (gone_over numbering.logs options (length (none i) + 1) (record { log = number; next_entry = 0 }) (begin_log target state)))
-          ∙ ap (λ entries. end_log 1 (show_entries numbering.logs options (show_log numbering.logs options) 1 entries (begin_log target state))) (entries_of target numbering.logs number placed)
+          ∙ ap (λ entries. end_log 1 (show_entries numbering.logs options (show_log numbering.logs options) 1 entries (begin_log target state))) (entries_of target numbering.logs number looked_up)
           ∙ sym (show_log_equation numbering.logs options target 1 state);
     };
   }
@@ -497,8 +497,8 @@ module _ {F : Type 0} {bytes : F → Event → List ℕ} {form_after : F → Eve
   goes_out count after before' back around shown last none = record {
     fits = goes.fits;
     room = let room = goes.room in omega (arith, room, ap length last, length-append before' (back ∷ []));
-    walks = λ target first state placed has.
-        goes_back bytes form_after numbering options first (show_log numbering.logs options target 1 state) now visited outer frame (goes.walks target first state placed has) after before' back
+    walks = λ target first state looked_up has.
+        goes_back bytes form_after numbering options first (show_log numbering.logs options target 1 state) now visited outer frame (goes.walks target first state looked_up has) after before' back
         (shown ∙ ap (λ (n : ℕ). shown_after (LogEnds (n + 1) ∷ [])) around) last none;
   }
 
@@ -509,14 +509,14 @@ module _ {F : Type 0} {bytes : F → Event → List ℕ} {form_after : F → Eve
   -- All logs are at their end.
   pub gone_through : (count : ℕ) (after : Rendering F) (done : Unit {0}) → count ≡ length outer → after ≡ shown_after (LogEnds (count + 1) ∷ []) → length outer ≡ 0 → entry_at frame.log frame.next_entry numbering.logs ≡ None
       → ShowedLogOrFailed bytes form_after numbering {A = Unit {0}} options number before visited output after (Ok done)
-  gone_through count after done around shown no_outer none target first state placed has =
-      comes_to_end bytes form_after numbering options first (show_log numbering.logs options target 1 state) now visited outer frame (goes.walks target first state placed has) after
+  gone_through count after done around shown no_outer none target first state looked_up has =
+      comes_to_end bytes form_after numbering options first (show_log numbering.logs options target 1 state) now visited outer frame (goes.walks target first state looked_up has) after
       (shown ∙ ap (λ (n : ℕ). shown_after (LogEnds (n + 1) ∷ [])) around) (no_frames outer no_outer) none
 
   -- The end wasn't written completely.
   pub log_end_stopped : (count : ℕ) (after : Rendering F) (seen : Visited) (fault : ViewFault) → count ≡ length outer → entry_at frame.log frame.next_entry numbering.logs ≡ None → PartStopped after.output (LogEnds (count + 1) ∷ []) fault → LogStopped seen after fault
-  log_end_stopped count after seen fault around none wrote target first state placed has =
-      end_stopped bytes form_after numbering options first (show_log numbering.logs options target 1 state) now visited outer frame (goes.walks target first state placed has) after.output fault none
+  log_end_stopped count after seen fault around none wrote target first state looked_up has =
+      end_stopped bytes form_after numbering options first (show_log numbering.logs options target 1 state) now visited outer frame (goes.walks target first state looked_up has) after.output fault none
       (subst (λ (n : ℕ). PartStopped after.output (LogEnds (n + 1) ∷ []) fault) around wrote)
 
   -- ---- texts
@@ -536,16 +536,16 @@ module _ {F : Type 0} {bytes : F → Event → List ℕ} {form_after : F → Eve
     goes_over count after around shown = record {
       fits = goes.fits;
       room = goes.room;
-      walks = λ target first state placed has.
+      walks = λ target first state looked_up has.
           let whole = show_log numbering.logs options target 1 state in
-          let over = over_all bytes form_after numbering options first whole outer frame.log now visited frame.next_entry are.texts (goes.walks target first state placed has) are.are in
+          let over = over_all bytes form_after numbering options first whole outer frame.log now visited frame.next_entry are.texts (goes.walks target first state looked_up has) are.are in
           put bytes form_after numbering options first whole outer frame.log (shown_after (text_events (length outer + 1) are.texts)) after visited (frame.next_entry + length are.texts) (frame.next_entry + number_of_lines)
           (shown ∙ ap shown_after (texts_are count around)) (ap (λ (n : ℕ). frame.next_entry + n) (sym are.count_is)) over.walks;
     }
 
     pub lines_stopped : (count : ℕ) (after : Rendering F) (seen : Visited) (fault : ViewFault) → count ≡ length outer → PartStopped after.output (lines_shown count) fault → LogStopped seen after fault
-    lines_stopped count after seen fault around wrote target first state placed has =
-        over_stopped bytes form_after numbering options first (show_log numbering.logs options target 1 state) outer frame.log now after.output visited frame.next_entry are.texts fault (goes.walks target first state placed has) are.are
+    lines_stopped count after seen fault around wrote target first state looked_up has =
+        over_stopped bytes form_after numbering options first (show_log numbering.logs options target 1 state) outer frame.log now after.output visited frame.next_entry are.texts fault (goes.walks target first state looked_up has) are.are
         (subst (λ events. PartStopped after.output events fault) (texts_are count around) wrote)
 
     there : (texts : List (List ℕ)) → AreTexts numbering.logs frame.log frame.next_entry texts → length texts ≡ number_of_lines → 0 < number_of_lines → frame.next_entry < length (entries_at frame.log numbering.logs)
@@ -590,8 +590,8 @@ module _ {F : Type 0} {bytes : F → Event → List ℕ} {form_after : F → Eve
     goes_further count after seen around none shown named opened = record {
       fits = fits_then seen named opened;
       room = let room = goes.room in omega (arith, room, ap count_new opened);
-      walks = λ target first state placed has.
-          goes_on bytes form_after numbering options first (show_log numbering.logs options target 1 state) now visited outer frame (goes.walks target first state placed has) entry at numbered goes.fits after seen none
+      walks = λ target first state looked_up has.
+          goes_on bytes form_after numbering options first (show_log numbering.logs options target 1 state) now visited outer frame (goes.walks target first state looked_up has) entry at numbered goes.fits after seen none
           (shown ∙ ap (λ (n : ℕ). shown_after (own_of n)) around) named opened;
     }
 
@@ -608,8 +608,8 @@ module _ {F : Type 0} {bytes : F → Event → List ℕ} {form_after : F → Eve
               let room = goes.room in
               let one = count-set_flag visited.opened.items inner (omega (arith, new.0, goes.fits.logs)) new.1 in
               omega (arith, room, one, ap count_new (opened ∙ ap (λ flags. set_flag flags inner) same), ap length frames_are, length-append outer (further ∷ []));
-          walks = λ target first state placed has.
-              goes_in bytes form_after numbering options first (show_log numbering.logs options target 1 state) now visited outer frame (goes.walks target first state placed has) entry at numbered goes.fits inner opens
+          walks = λ target first state looked_up has.
+              goes_in bytes form_after numbering options first (show_log numbering.logs options target 1 state) now visited outer frame (goes.walks target first state looked_up has) entry at numbered goes.fits inner opens
               after middle seen frames (record { log = inner; next_entry = 0 }) (shown ∙ ap (λ (n : ℕ). shown_after (own_of n)) around) named same begins frames_are refl;
         }
 
@@ -630,14 +630,14 @@ module _ {F : Type 0} {bytes : F → Event → List ℕ} {form_after : F → Eve
 
     -- Its events weren't written completely.
     pub entry_stopped : (count : ℕ) (after : Rendering F) (seen : Visited) (fault : ViewFault) → count ≡ length outer → PartStopped after.output (own_of count) fault → LogStopped seen after fault
-    entry_stopped count after seen fault around wrote target first state placed has =
-        stops bytes form_after numbering options first (show_log numbering.logs options target 1 state) now visited outer frame (goes.walks target first state placed has) entry at numbered goes.fits after.output fault
+    entry_stopped count after seen fault around wrote target first state looked_up has =
+        stops bytes form_after numbering options first (show_log numbering.logs options target 1 state) now visited outer frame (goes.walks target first state looked_up has) entry at numbered goes.fits after.output fault
         (subst (λ (n : ℕ). PartStopped after.output (own_of n) fault) around wrote)
 
     -- Its events were written, but the allocation of another frame failed.
     pub memory_lacked : (count : ℕ) (after : Rendering F) (seen : Visited) → count ≡ length outer → after ≡ shown_after (own_of count) → LogStopped seen after OutOfMemory
-    memory_lacked count after seen around shown target first state placed has =
-        lacks_memory bytes form_after numbering options first (show_log numbering.logs options target 1 state) now visited outer frame (goes.walks target first state placed has) entry at numbered goes.fits after
+    memory_lacked count after seen around shown target first state looked_up has =
+        lacks_memory bytes form_after numbering options first (show_log numbering.logs options target 1 state) now visited outer frame (goes.walks target first state looked_up has) entry at numbered goes.fits after
         (shown ∙ ap (λ (n : ℕ). shown_after (own_of n)) around)
 
 -- ---- a viewer

@@ -21,7 +21,7 @@ prepend_events before state = record { named = state.named; opened = state.opene
 
 -- Whether the entries of each log's target are the entries of this log.
 abbrev pub HaveTheirEntries : List Log → Type 0
-HaveTheirEntries logs = (place : ℕ) (log : Log) → slice_get logs place ≡ Some log → entries_of_target log.target logs ≡ log.entries
+HaveTheirEntries logs = (number : ℕ) (log : Log) → slice_get logs number ≡ Some log → entries_of_target log.target logs ≡ log.entries
 
 module _ (logs : List Log) (options : Options) where
   -- Whether opening a log begins it, shows its entries and ends it, and opens the logs that they mention in the same way.

@@ -4,7 +4,7 @@ use Rattle.std.specs.List.{flat_map}
 use Rattle.redo_html.specs.declared.chart.GroupKind.{GroupKind}
 use Rattle.redo_html.specs.declared.chart.Fragment.{Fragment}
 use Rattle.redo_html.specs.declared.chart.Fragment.TheVariants.{Html, Number, Percent, Words}
-use Rattle.redo_html.specs.declared.form.Form.TheVariants.{Title}
+use Rattle.redo_html.specs.declared.text_kind.TextKind.TheVariants.{Title}
 use Rattle.redo_html.specs.Chart.{Attribute, Layer, Shape, attribute_text, chart_attributes, group_attributes, layer_nodes, nodes_html, percent_text, shape_nodes, tag_text}
 use Rattle.redo_html.specs.Passage.{passage_html}
 use Rattle.redo_html.specs.Shown.{number_text}

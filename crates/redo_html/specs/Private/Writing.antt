@@ -3,18 +3,18 @@ use Rattle.std.specs.Prelude.{◌≡◌, ⊤, ℕ, ◌+◌, fold, ◌<◌, ◌�
 use Rattle.std.specs.List.{flat_map, list_all}
 use Rattle.redo_device.specs.declared.feed.Broken.{Broken}
 use Rattle.redo_device.specs.Sink.{Output, append_output, Writes}
-use Rattle.redo_html.specs.declared.form.Form.{Form}
+use Rattle.redo_html.specs.declared.text_kind.TextKind.{TextKind}
 use Rattle.redo_html.specs.declared.look.Look.{Look}
-use Rattle.redo_html.specs.declared.form.Form.TheVariants.{Log}
+use Rattle.redo_html.specs.declared.text_kind.TextKind.TheVariants.{Log}
 use Rattle.redo_html.specs.declared.style.Style.{Style}
 use Rattle.redo_html.specs.Lines.{style_after_symbol, style_after, style_after_lines, lines_html}
-use Rattle.redo_html.specs.Passage.{has_marks, html_from, passage_html}
+use Rattle.redo_html.specs.Passage.{has_highlights, html_from, passage_html}
 use Rattle.redo_line.specs.Lines.{ended, rest}
 use Rattle.redo_html.specs.declared.style.Setting.{Setting}
-use Rattle.redo_html.specs.Shown.{is_odd}
+use Rattle.redo_html.specs.Shown.{is_unprintable}
 use Rattle.redo_html.specs.Style.{setting_after}
 use Rattle.redo_html.specs.Symbols.{Symbol, symbols, parameter_count, numbers_from}
-use Rattle.redo_html.specs.Symbols.Symbol.{Letter, Sequence}
+use Rattle.redo_html.specs.Symbols.Symbol.{CodePoint, Sequence}
 
 -- Of a text, everything except `rest` was written, and no write failed.
 pub record WroteUpTo (before after : Option Output) (text rest : List ℕ) : Type 0 where
@@ -22,26 +22,26 @@ pub record WroteUpTo (before after : Option Output) (text rest : List ℕ) : Typ
   pub wrote : after ≡ append_output before prefix 0
   pub splits : prefix ++ rest ≡ text
 
--- The style at the end of a text in any form.
-abbrev pub style_in : Form → Style → List ℕ → Style
-style_in form style bytes = fold style_after_symbol style (symbols form bytes)
+-- The style at the end of a text of any kind.
+abbrev pub style_in : TextKind → Style → List ℕ → Style
+style_in kind style bytes = fold style_after_symbol style (symbols kind bytes)
 
 -- The first `count` bytes, at least one, were written as a part of a passage, and then the look is `next`.
-pub record WroteSome (before after : Option Output) (form : Form) (look : Look) (bytes : List ℕ) (next : Look) (count : ℕ) : Type 0 where
+pub record WroteSome (before after : Option Output) (kind : TextKind) (look : Look) (bytes : List ℕ) (next : Look) (count : ℕ) : Type 0 where
   pub some : 0 < count
   pub within : count ≤ length bytes
-  pub wrote : WroteUpTo before after (html_from form look bytes) (html_from form next (drop count bytes))
-  pub style : style_in form next.wanted (drop count bytes) ≡ style_in form look.wanted bytes
+  pub wrote : WroteUpTo before after (html_from kind look bytes) (html_from kind next (drop count bytes))
+  pub style : style_in kind next.wanted (drop count bytes) ≡ style_in kind look.wanted bytes
 
 -- Some of a passage was written, or a write failed.
-abbrev pub WroteSomeOrFailed : Option Output → Option Output → Form → Look → List ℕ → Result (Look × ℕ) Broken → Type 0
-WroteSomeOrFailed before after form look bytes (Ok step) = WroteSome before after form look bytes step.0 step.1
-WroteSomeOrFailed before after form look bytes (Err broken) = Writes before after (html_from form look bytes) (Err broken)
+abbrev pub WroteSomeOrFailed : Option Output → Option Output → TextKind → Look → List ℕ → Result (Look × ℕ) Broken → Type 0
+WroteSomeOrFailed before after kind look bytes (Ok step) = WroteSome before after kind look bytes step.0 step.1
+WroteSomeOrFailed before after kind look bytes (Err broken) = Writes before after (html_from kind look bytes) (Err broken)
 
 -- A passage was written, and at its end the style is `last`, or a write failed.
-abbrev pub WrotePassage : Option Output → Option Output → Form → Style → List ℕ → Result Style Broken → Type 0
-WrotePassage before after form style bytes (Ok last) = (after ≡ append_output before (passage_html form style bytes) 0) × (last ≡ style_in form style bytes)
-WrotePassage before after form style bytes (Err broken) = Writes before after (passage_html form style bytes) (Err broken)
+abbrev pub WrotePassage : Option Output → Option Output → TextKind → Style → List ℕ → Result Style Broken → Type 0
+WrotePassage before after kind style bytes (Ok last) = (after ≡ append_output before (passage_html kind style bytes) 0) × (last ≡ style_in kind style bytes)
+WrotePassage before after kind style bytes (Err broken) = Writes before after (passage_html kind style bytes) (Err broken)
 
 -- The first `len` bytes are one line or more, and are written as one passage.
 pub record BeginsPassage (style : Style) (bytes : List ℕ) (len : ℕ) : Type 0 where
@@ -51,40 +51,40 @@ pub record BeginsPassage (style : Style) (bytes : List ℕ) (len : ℕ) : Type 0
   pub html : passage_html Log style (take len bytes) ++ lines_html (style_after style (take len bytes)) (ended (drop len bytes)) ≡ lines_html style (ended bytes)
   pub style_after_them : style_after_lines (style_after style (take len bytes)) (ended (drop len bytes)) ≡ style_after_lines style (ended bytes)
 
--- Whether a letter is written as it is.
+-- Whether a code point is written as it is.
 abbrev pub is_verbatim : ℕ → Bool
-is_verbatim letter = not (is_odd letter) && (not (letter == 38) && (not (letter == 60) && not (letter == 62)))
+is_verbatim code_point = not (is_unprintable code_point) && (not (code_point == 38) && (not (code_point == 60) && not (code_point == 62)))
 
--- The first `len` bytes are letters that are written as they are.
+-- The first `len` bytes are code points that are written as they are.
 pub record IsVerbatim (bytes : List ℕ) (len : ℕ) : Type 0 where
   pub within : len ≤ length bytes
-  pub letters : List ℕ
-  pub verbatim : list_all is_verbatim letters ≡ true
-  pub bytes_are : take len bytes ≡ flat_map encode_utf8 letters
-  pub symbols_are : (form : Form) → symbols form bytes ≡ map Letter letters ++ symbols form (drop len bytes)
+  pub code_points : List ℕ
+  pub verbatim : list_all is_verbatim code_points ≡ true
+  pub bytes_are : take len bytes ≡ flat_map encode_utf8 code_points
+  pub symbols_are : (kind : TextKind) → symbols kind bytes ≡ map CodePoint code_points ++ symbols kind (drop len bytes)
 
--- The letter that a symbol is, if it is one.
-abbrev pub symbol_letter : Symbol → Option ℕ
-symbol_letter (Letter letter) = Some letter
-symbol_letter (Sequence numbers) = None
+-- The code point that a symbol is, if it is one.
+abbrev pub symbol_code_point : Symbol → Option ℕ
+symbol_code_point (CodePoint code_point) = Some code_point
+symbol_code_point (Sequence numbers) = None
 
--- Whether symbols don't begin with this letter.
+-- Whether symbols don't begin with this code point.
 abbrev pub BeginsOther : ℕ → List Symbol → Type 0
-BeginsOther letter [] = ⊤
-BeginsOther letter (Sequence numbers ∷ symbols) = ⊤
-BeginsOther letter (Letter other ∷ symbols) = (letter == other) ≡ false
+BeginsOther code_point [] = ⊤
+BeginsOther code_point (Sequence numbers ∷ symbols) = ⊤
+BeginsOther code_point (CodePoint other ∷ symbols) = (code_point == other) ≡ false
 
--- The symbols of some bytes begin with a letter that occurs `count` times in a row, and no more often. These are the first `len` bytes.
-pub record IsRepeated (form : Form) (letter : ℕ) (bytes : List ℕ) (count len : ℕ) : Type 0 where
+-- The symbols of some bytes begin with a code point that occurs `count` times in a row, and no more often. These are the first `len` bytes.
+pub record IsRepeated (kind : TextKind) (code_point : ℕ) (bytes : List ℕ) (count len : ℕ) : Type 0 where
   pub some : 0 < count
   pub bytes_taken : 0 < len
   pub within : len ≤ length bytes
-  pub repeated : symbols form bytes ≡ replicate count (Letter letter) ++ symbols form (drop len bytes)
-  pub other : BeginsOther letter (symbols form (drop len bytes))
+  pub repeated : symbols kind bytes ≡ replicate count (CodePoint code_point) ++ symbols kind (drop len bytes)
+  pub other : BeginsOther code_point (symbols kind (drop len bytes))
 
--- A mark, if it is wanted and the form has marks.
-abbrev pub optional_mark : Form → Bool → List ℕ → List ℕ
-optional_mark form wanted html = if wanted && has_marks form then html else []
+-- A highlight, if it is wanted and this kind of text has highlights.
+abbrev pub optional_highlight : TextKind → Bool → List ℕ → List ℕ
+optional_highlight kind wanted html = if wanted && has_highlights kind then html else []
 
 -- A sequence is at the start of some bytes, and has `len` bytes.
 pub record IsSequence (bytes : List ℕ) (len : ℕ) : Type 0 where
@@ -97,5 +97,5 @@ pub record ReadsParameter (before after : Setting) (value byte next : ℕ) : Typ
   pub same : (rest : List ℕ) → fold setting_after after (numbers_from next rest) ≡ fold setting_after before (numbers_from value (byte ∷ rest))
 
 -- 0 if bytes are plain, and 1 otherwise.
-abbrev pub oddness_if : Bool → ℕ
-oddness_if plain = if plain then 0 else 1
+abbrev pub unprintable_bit_if : Bool → ℕ
+unprintable_bit_if plain = if plain then 0 else 1

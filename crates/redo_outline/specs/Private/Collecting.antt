@@ -48,7 +48,7 @@ log_begun number collected = record collected {
 }
 
 abbrev pub parent_of : List OpenedLog → Option ℕ → Option ℕ
-parent_of opened place = option_and_then (λ (log : OpenedLog). log.parent) (option_and_then (slice_get opened) place)
+parent_of opened position = option_and_then (λ (log : OpenedLog). log.parent) (option_and_then (slice_get opened) position)
 
 abbrev pub log_ended : Collected → Collected
 log_ended collected = record collected {

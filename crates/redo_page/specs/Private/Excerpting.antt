@@ -27,28 +27,28 @@ open_after (LeftOut count) false = LeftOut (count + 1)
 
 -- What is written before a line.
 abbrev pub change_parts : ℕ → OpenStretch → Bool → List Part
-change_parts place Nothing true = MarkupPart Pre ∷ []
-change_parts place Nothing false = []
-change_parts place Shown true = []
-change_parts place Shown false = MarkupPart EndPre ∷ []
-change_parts place (LeftOut count) true = left_out_parts place count ++ MarkupPart Pre ∷ []
-change_parts place (LeftOut count) false = []
+change_parts position Nothing true = MarkupPart Pre ∷ []
+change_parts position Nothing false = []
+change_parts position Shown true = []
+change_parts position Shown false = MarkupPart EndPre ∷ []
+change_parts position (LeftOut count) true = left_out_parts position count ++ MarkupPart Pre ∷ []
+change_parts position (LeftOut count) false = []
 
 abbrev pub end_parts : ℕ → OpenStretch → List Part
-end_parts place Nothing = []
-end_parts place Shown = MarkupPart EndPre ∷ []
-end_parts place (LeftOut count) = left_out_parts place count
+end_parts position Nothing = []
+end_parts position Shown = MarkupPart EndPre ∷ []
+end_parts position (LeftOut count) = left_out_parts position count
 
 abbrev pub kept_parts : Bool → List ℕ → List Part
 kept_parts kept line = if kept then excerpt_line_parts line else []
 
 abbrev pub step_parts : ℕ → OpenStretch → Bool → List ℕ → List Part
-step_parts place current kept line = change_parts place current kept ++ kept_parts kept line
+step_parts position current kept line = change_parts position current kept ++ kept_parts kept line
 
 -- The parts from the line at position `at` on.
 abbrev pub parts_from : ℕ → (ℕ → Bool) → OpenStretch → ℕ → List (List ℕ) → List Part
-parts_from place kept current at [] = end_parts place current
-parts_from place kept current at (line ∷ lines) = step_parts place current (kept at) line ++ parts_from place kept (open_after current (kept at)) (suc at) lines
+parts_from position kept current at [] = end_parts position current
+parts_from position kept current at (line ∷ lines) = step_parts position current (kept at) line ++ parts_from position kept (open_after current (kept at)) (suc at) lines
 
 -- The number of lines of an open gap.
 abbrev pub open_count : OpenStretch → ℕ

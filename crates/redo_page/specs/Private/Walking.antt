@@ -17,7 +17,7 @@ use Rattle.redo_page.specs.Blocks.{end_parts}
 use Rattle.redo_page.specs.Private.Texts.{after_lines, lines_parts}
 use Rattle.redo_page.specs.Tree.{Build, after_log, after_shown, group_left, is_expanded, is_moved_if, log_end, log_start, node_at, section_end, shown_parts, top_level}
 
--- What is known before an event: the logs that are open, the innermost first; the place of the next log; and what isn't ended.
+-- What is known before an event: the logs that are open, the innermost first; the position of the next log; and what isn't ended.
 pub record Walk : Type 0 where
   pub build : Build
   pub logs : List OpenLog
@@ -37,18 +37,18 @@ step_of (LogEnds depth) = Ends
 -- The level in the innermost of these logs.
 abbrev pub level_in : List OpenLog → Level
 level_in [] = top_level
-level_in (log ∷ logs) = record { place = Some log.place; expanded = log.expanded; depth = suc (length logs) }
+level_in (log ∷ logs) = record { position = Some log.position; expanded = log.expanded; depth = suc (length logs) }
 
 abbrev pub opened_log : Build → Level → ℕ → Pending → OpenLog
-opened_log build level place before = record { place = place; expanded = is_expanded build level (node_at build.nodes place); left = group_left build level place before }
+opened_log build level position before = record { position = position; expanded = is_expanded build level (node_at build.nodes position); left = group_left build level position before }
 
--- The place after a place. There is none after the last node.
-abbrev pub next_place : List Node → ℕ → ℕ
-next_place nodes place = if nat_lt place (length nodes) then suc place else place
+-- The position after a position. There is none after the last node.
+abbrev pub next_position : List Node → ℕ → ℕ
+next_position nodes position = if nat_lt position (length nodes) then suc position else position
 
 abbrev pub ending_parts : Build → Pending → List OpenLog → List Part
 ending_parts build before [] = []
-ending_parts build before (log ∷ logs) = end_parts before ++ log_end build (level_in logs) log.place log.left
+ending_parts build before (log ∷ logs) = end_parts before ++ log_end build (level_in logs) log.position log.left
 
 abbrev pub after_ending : Walk → List OpenLog → Walk
 after_ending walk [] = walk
@@ -57,7 +57,7 @@ after_ending walk (log ∷ logs) = record walk { logs = logs; before = after_log
 abbrev pub after_opening : Walk → Walk
 after_opening walk = record walk {
   logs = opened_log walk.build (level_in walk.logs) walk.next walk.before ∷ walk.logs;
-  next = next_place walk.build.nodes walk.next;
+  next = next_position walk.build.nodes walk.next;
   before = pending.Nothing;
 }
 
@@ -90,7 +90,7 @@ tree_text build events = bytes_of tree_bytes after_event (start_of build) events
 
 -- Text lines, and what is known after them.
 abbrev pub texts_parts : Walk → List (List ℕ) → List Part
-texts_parts walk lines = if is_moved_if walk.build (level_in walk.logs).place then [] else lines_parts walk.before lines
+texts_parts walk lines = if is_moved_if walk.build (level_in walk.logs).position then [] else lines_parts walk.before lines
 
 abbrev pub after_texts : Walk → List (List ℕ) → Walk
-after_texts walk lines = record walk { before = if is_moved_if walk.build (level_in walk.logs).place then walk.before else after_lines walk.before lines }
+after_texts walk lines = record walk { before = if is_moved_if walk.build (level_in walk.logs).position then walk.before else after_lines walk.before lines }

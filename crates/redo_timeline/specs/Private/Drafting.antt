@@ -5,7 +5,7 @@ use Rattle.redo_timeline.specs.declared.bar.Bar.{Bar}
 use Rattle.redo_timeline.specs.declared.draft.Draft.{Draft}
 use Rattle.redo_timeline.specs.declared.span.Span.{Span}
 use Rattle.redo_timeline.specs.declared.span.Window.{Window}
-use Rattle.redo_timeline.specs.Bars.{began_of, has_failed, is_narrow, place_of, units}
+use Rattle.redo_timeline.specs.Bars.{began_of, has_failed, is_narrow, position_of, units}
 use Rattle.redo_timeline.specs.Lanes.{ended_of}
 
 -- What is kept of the spans of a bar.
@@ -13,7 +13,7 @@ abbrev pub draft_of : Window → List Span → Draft
 draft_of window bar = record {
   began = began_of bar;
   ended = ended_of bar;
-  place = place_of bar;
+  position = position_of bar;
   count = length bar;
   narrow = list_all (is_narrow window) bar;
   failed = has_failed bar;
@@ -32,7 +32,7 @@ drawn_draft window lane draft = record {
   lane = lane;
   x = units window draft.began;
   width = max (units window draft.ended - units window draft.began) (if draft.failed then 30 else 10);
-  place = draft.place;
+  position = draft.position;
   count = draft.count;
   began = draft.began;
   ended = draft.ended;

@@ -9,8 +9,8 @@ use Rattle.redo_view.specs.Form.{FormWrites}
 use Rattle.redo_chart.specs.Timeline.{drawing_of}
 use Rattle.redo_chart.proofs.timeline.write_timeline.Goals as goal
 
-pub write_laid_out-requires-clause-parents : goal.write_laid_out-requires-clause-parents
-write_laid_out-requires-clause-parents g c = subst (λ (t : Timeline). IsInLanes 24 t) (sym c.in_ok-parents.ensures) (in_lanes c.args.window 24 c.args.parents.now)
+pub write_laid_out-requires-clause-callers : goal.write_laid_out-requires-clause-callers
+write_laid_out-requires-clause-callers g c = subst (λ (t : Timeline). IsInLanes 24 t) (sym c.in_ok-callers.ensures) (in_lanes c.args.window 24 c.args.callers.now)
 
 pub write_laid_out-requires-clause-recipes : goal.write_laid_out-requires-clause-recipes
 write_laid_out-requires-clause-recipes g c = subst (λ (t : Timeline). IsInLanes 96 t) (sym c.in_ok-recipes.ensures) (in_lanes c.args.window 96 c.args.recipes.now)
@@ -21,4 +21,4 @@ write_laid_out-requires-clause-marks g c = subst (λ (t : Timeline). IsInLanes 1
 pub returns : goal.returns
 returns g c =
     subst (λ (drawing : Drawing). FormWrites (g.W.Sink.written c.args.out.now) (g.W.Sink.written c.write_laid_out.new.out) (part_html (ChartPart drawing)) c.write_laid_out.result)
-    (λ i. drawing_of c.args.table.now c.args.nodes.now c.args.window.width (c.in_ok-parents.ensures i) (c.in_ok-recipes.ensures i) (c.in_ok-marks.ensures i)) c.write_laid_out.ensures
+    (λ i. drawing_of c.args.table.now c.args.nodes.now c.args.window.width (c.in_ok-callers.ensures i) (c.in_ok-recipes.ensures i) (c.in_ok-marks.ensures i)) c.write_laid_out.ensures

@@ -4,7 +4,7 @@ use Rattle.std.proofs.lemmas.List.{append_assoc}
 use Rattle.redo_html.specs.Chart.{drawing_nodes, drawing_of, nodes_html}
 use Rattle.redo_html.specs.Private.Charting.{chart_start_html}
 use Rattle.redo_html.proofs.ChartWriting.{drawing_parts, layers_html}
-use Rattle.redo_html.proofs.WritingLemmas.{at_first, in_middle, at_last, one_more}
+use Rattle.redo_device.proofs.WritesLemmas.{at_first, in_middle, at_last, one_more}
 use Rattle.redo_html.proofs.chart.write_chart.Goals as goal
 
 pub returns-in_err-write_chart_start : goal.returns-in_err-write_chart_start

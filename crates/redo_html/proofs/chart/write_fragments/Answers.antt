@@ -2,7 +2,7 @@ use Rattle.std.proofs.Common.{suc, take, drop}
 use Rattle.std.specs.List.{flat_map}
 use Rattle.redo_html.specs.Private.Charting.{fragment_html}
 use Rattle.redo_html.proofs.ChartWriting.{one_of}
-use Rattle.redo_html.proofs.WritingLemmas.{in_middle}
+use Rattle.redo_device.proofs.WritesLemmas.{in_middle}
 use Rattle.redo_html.proofs.chart.write_fragments.Goals as goal
 
 pub returns-in_err-write_fragment : goal.returns-in_err-write_fragment

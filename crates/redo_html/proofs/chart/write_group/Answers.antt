@@ -4,7 +4,7 @@ use Rattle.std.proofs.lemmas.List.{append_assoc}
 use Rattle.redo_html.specs.Chart.{layer_of}
 use Rattle.redo_html.specs.Private.Charting.{group_start_html, layer_html}
 use Rattle.redo_html.proofs.ChartWriting.{layer_parts, shapes_html, wrote_as}
-use Rattle.redo_html.proofs.WritingLemmas.{at_first, in_middle, at_last, one_more}
+use Rattle.redo_device.proofs.WritesLemmas.{at_first, in_middle, at_last, one_more}
 use Rattle.redo_html.proofs.chart.write_group.Goals as goal
 
 pub returns-in_err-push_all : goal.returns-in_err-push_all

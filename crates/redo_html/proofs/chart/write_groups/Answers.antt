@@ -2,7 +2,8 @@ use Rattle.std.proofs.Common.{suc, map, take, drop}
 use Rattle.std.specs.List.{flat_map}
 use Rattle.redo_html.specs.Chart.{layer_of}
 use Rattle.redo_html.specs.Private.Charting.{layer_html}
-use Rattle.redo_html.proofs.WritingLemmas.{one_among, in_middle}
+use Rattle.redo_device.proofs.WritesLemmas.{in_middle}
+use Rattle.redo_html.proofs.WritingLemmas.{one_among}
 use Rattle.redo_html.proofs.chart.write_groups.Goals as goal
 
 pub returns-in_err-write_group : goal.returns-in_err-write_group

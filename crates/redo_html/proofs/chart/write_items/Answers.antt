@@ -2,7 +2,8 @@ use Rattle.std.proofs.Common.{suc, map, take, drop}
 use Rattle.std.specs.List.{flat_map}
 use Rattle.redo_html.specs.Chart.{shape_of}
 use Rattle.redo_html.specs.Private.Charting.{shape_html}
-use Rattle.redo_html.proofs.WritingLemmas.{one_among, in_middle}
+use Rattle.redo_device.proofs.WritesLemmas.{in_middle}
+use Rattle.redo_html.proofs.WritingLemmas.{one_among}
 use Rattle.redo_html.proofs.chart.write_items.Goals as goal
 
 pub returns-in_err-write_item : goal.returns-in_err-write_item

@@ -1,7 +1,8 @@
 use Rattle.std.proofs.Common.{◌≡◌, ◌/◌, List, [], ◌∷◌, ℕ, refl}
 use Rattle.redo_html.specs.Chart.{last_digit, percent_text}
 use Rattle.redo_html.specs.Shown.{number_text}
-use Rattle.redo_html.proofs.WritingLemmas.{at_last, writes_as}
+use Rattle.redo_device.proofs.WritesLemmas.{at_last}
+use Rattle.redo_html.proofs.WritingLemmas.{writes_as}
 use Rattle.redo_html.proofs.chart.write_percent.Goals as goal
 
 pub returns : goal.returns

@@ -2,7 +2,7 @@ use Rattle.std.proofs.Common.{ℕ, List, [], Ok, Err, take, drop, sym, ◌∙◌
 use Rattle.std.proofs.lemmas.List.{take_rest, length-drop, drop-drop, drop_all}
 use Rattle.redo_line.specs.Lines.{ended, rest}
 use Rattle.redo_line.proofs.LineLemmas.{ended-free}
-use Rattle.redo_html.specs.declared.form.Form.TheVariants.{Log}
+use Rattle.redo_html.specs.declared.text_kind.TextKind.TheVariants.{Log}
 use Rattle.redo_html.specs.declared.style.Style.{Style}
 use Rattle.redo_html.specs.Lines.{lines_html, style_after_lines}
 use Rattle.redo_html.specs.Private.Writing.{WroteUpTo, WrotePassage, BeginsPassage}

@@ -3,7 +3,7 @@ use Rattle.std.specs.Prelude.{codes}
 use Rattle.redo_html.specs.Shown.{number_text}
 use Rattle.redo_html.specs.Tags.{markup_html}
 use Rattle.redo_html.specs.declared.markup.Markup.TheVariants.{Viewport, ColorScheme, Referrer, Policy, BodyGood, BodyBad, BodyOpen, Sign, Nav, FailedSection, SummarySection, TreeSection, FailedHeading, SummaryHeading, TreeHeading, SummaryLink, MetaParagraph, QuietParagraph, CutParagraph, ProblemParagraph, Tree, NoteItem, TimelineSection, TimelineLink, Columns, RowHeading, NumberCell, MeterCell, TimelineScroll}
-use Rattle.redo_html.proofs.MarkReading.{number_end}
+use Rattle.redo_html.proofs.HighlightReading.{number_end}
 use Rattle.redo_html.proofs.WritingLemmas.{writes_as}
 use Rattle.redo_html.proofs.markup.write_markup.Goals as goal
 

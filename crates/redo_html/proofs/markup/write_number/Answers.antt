@@ -1,6 +1,6 @@
 use Rattle.std.proofs.Common.{◌∙◌, arith}
 use Rattle.redo_html.specs.Shown.{number_text}
-use Rattle.redo_html.proofs.PictureLemmas.{number_is}
+use Rattle.redo_html.proofs.NotationLemmas.{number_is}
 use Rattle.redo_html.proofs.WritingLemmas.{writes_as}
 use Rattle.redo_html.proofs.markup.write_number.Goals as goal
 

@@ -10,8 +10,8 @@ use Rattle.redo_html.proofs.passage.write_passage.Goals as goal
 pub loop-done-init : goal.loop-done-init
 loop-done-init g c = record {
   within = omega arith;
-  wrote = begin_parts _ _ _ (ap (λ look. html_from c.args.form look c.args.bytes.now) c.at_start-look.ensures);
-  style_left = ap (λ look. style_in c.args.form look.wanted c.args.bytes.now) c.at_start-look.ensures;
+  wrote = begin_parts _ _ _ (ap (λ look. html_from c.args.kind look c.args.bytes.now) c.at_start-look.ensures);
+  style_left = ap (λ look. style_in c.args.kind look.wanted c.args.bytes.now) c.at_start-look.ensures;
 }
 
 pub returns-in_err-next : goal.returns-in_err-next
@@ -20,10 +20,10 @@ returns-in_err-next g c =
     let done = c.loop-done.done in
     let middle = g.W.Sink.written c.loop-done.out in
     let after = g.W.Sink.written c.write_some.new.out in
-    let wrote : Writes middle after (html_from c.args.form c.loop-done.look (drop done bytes)) (Err c.in_err-next.field-0.0) =
-    subst (λ (rest : List ℕ). Writes middle after (html_from c.args.form c.loop-done.look rest) (Err c.in_err-next.field-0.0)) (take_rest bytes done) c.in_err-next.ensures in
-    passage_failed _ _ c.args.form c.args.style bytes c.in_err-next.field-0.0 _ c.from_residual.ensures.0
-    (wrote_rest _ middle after (passage_html c.args.form c.args.style bytes) (html_from c.args.form c.loop-done.look (drop done bytes)) (Err c.in_err-next.field-0.0) c.loop-done.invariant.wrote wrote)
+    let wrote : Writes middle after (html_from c.args.kind c.loop-done.look (drop done bytes)) (Err c.in_err-next.field-0.0) =
+    subst (λ (rest : List ℕ). Writes middle after (html_from c.args.kind c.loop-done.look rest) (Err c.in_err-next.field-0.0)) (take_rest bytes done) c.in_err-next.ensures in
+    passage_failed _ _ c.args.kind c.args.style bytes c.in_err-next.field-0.0 _ c.from_residual.ensures.0
+    (wrote_rest _ middle after (passage_html c.args.kind c.args.style bytes) (html_from c.args.kind c.loop-done.look (drop done bytes)) (Err c.in_err-next.field-0.0) c.loop-done.invariant.wrote wrote)
 
 pub loop-done-preserved : goal.loop-done-preserved
 loop-done-preserved g c =
@@ -32,14 +32,14 @@ loop-done-preserved g c =
     let done = c.loop-done.done in
     let middle = g.W.Sink.written c.loop-done.out in
     let after = g.W.Sink.written c.write_some.new.out in
-    let some : WroteSome middle after c.args.form c.loop-done.look (drop done bytes) c.in_ok-next.next c.in_ok-next.len =
-    subst (λ (rest : List ℕ). WroteSome middle after c.args.form c.loop-done.look rest c.in_ok-next.next c.in_ok-next.len) (take_rest bytes done) c.in_ok-next.ensures in
+    let some : WroteSome middle after c.args.kind c.loop-done.look (drop done bytes) c.in_ok-next.next c.in_ok-next.len =
+    subst (λ (rest : List ℕ). WroteSome middle after c.args.kind c.loop-done.look rest c.in_ok-next.next c.in_ok-next.len) (take_rest bytes done) c.in_ok-next.ensures in
     let within = some.within in
     let rest = length-drop done bytes in
     record {
       within = omega arith;
-      wrote = subst (λ (left : List ℕ). WroteUpTo before after (passage_html c.args.form c.args.style bytes) (html_from c.args.form c.in_ok-next.next left)) (drop-drop c.in_ok-next.len done bytes) (wrote_on before middle after _ _ _ c.loop-done.invariant.wrote some.wrote);
-      style_left = ap (style_in c.args.form c.in_ok-next.next.wanted) (sym (drop-drop c.in_ok-next.len done bytes)) ∙ some.style ∙ c.loop-done.invariant.style_left;
+      wrote = subst (λ (left : List ℕ). WroteUpTo before after (passage_html c.args.kind c.args.style bytes) (html_from c.args.kind c.in_ok-next.next left)) (drop-drop c.in_ok-next.len done bytes) (wrote_on before middle after _ _ _ c.loop-done.invariant.wrote some.wrote);
+      style_left = ap (style_in c.args.kind c.in_ok-next.next.wanted) (sym (drop-drop c.in_ok-next.len done bytes)) ∙ some.style ∙ c.loop-done.invariant.style_left;
     }
 
 pub returns-in_err-write_end : goal.returns-in_err-write_end
@@ -48,9 +48,9 @@ returns-in_err-write_end g c =
     let before = g.W.Sink.written c.args.out.now in
     let middle = g.W.Sink.written c.loop-done.out in
     let past : length bytes ≤ c.loop-done.done = c.loop-done-test.false in
-    passage_failed before _ c.args.form c.args.style bytes _ _ c.from_residual-in_err-write_end.ensures.0
-    (wrote_rest before middle _ (passage_html c.args.form c.args.style bytes) (html_from c.args.form c.loop-done.look []) (Err _)
-    (subst (λ (left : List ℕ). WroteUpTo before middle (passage_html c.args.form c.args.style bytes) (html_from c.args.form c.loop-done.look left)) (drop_all c.loop-done.done bytes past) c.loop-done.invariant.wrote) c.in_err-write_end.ensures)
+    passage_failed before _ c.args.kind c.args.style bytes _ _ c.from_residual-in_err-write_end.ensures.0
+    (wrote_rest before middle _ (passage_html c.args.kind c.args.style bytes) (html_from c.args.kind c.loop-done.look []) (Err _)
+    (subst (λ (left : List ℕ). WroteUpTo before middle (passage_html c.args.kind c.args.style bytes) (html_from c.args.kind c.loop-done.look left)) (drop_all c.loop-done.done bytes past) c.loop-done.invariant.wrote) c.in_err-write_end.ensures)
 
 pub returns : goal.returns
 returns g c =
@@ -58,7 +58,7 @@ returns g c =
     let before = g.W.Sink.written c.args.out.now in
     let middle = g.W.Sink.written c.loop-done.out in
     let past : length bytes ≤ c.loop-done.done = c.loop-done-test.false in (
-      wrote_rest before middle _ (passage_html c.args.form c.args.style bytes) (html_from c.args.form c.loop-done.look []) (Ok tt)
-          (subst (λ (left : List ℕ). WroteUpTo before middle (passage_html c.args.form c.args.style bytes) (html_from c.args.form c.loop-done.look left)) (drop_all c.loop-done.done bytes past) c.loop-done.invariant.wrote) c.in_ok-write_end.ensures,
-      ended_style c.args.form c.args.style c.loop-done.look.wanted bytes c.loop-done.done past c.loop-done.invariant.style_left,
+      wrote_rest before middle _ (passage_html c.args.kind c.args.style bytes) (html_from c.args.kind c.loop-done.look []) (Ok tt)
+          (subst (λ (left : List ℕ). WroteUpTo before middle (passage_html c.args.kind c.args.style bytes) (html_from c.args.kind c.loop-done.look left)) (drop_all c.loop-done.done bytes past) c.loop-done.invariant.wrote) c.in_ok-write_end.ensures,
+      ended_style c.args.kind c.args.style c.loop-done.look.wanted bytes c.loop-done.done past c.loop-done.invariant.style_left,
     )

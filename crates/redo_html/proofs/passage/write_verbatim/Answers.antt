@@ -1,30 +1,30 @@
 use Rattle.std.proofs.Common.{false, take}
 use Rattle.std.specs.List.{flat_map}
-use Rattle.redo_html.specs.Passage.{inline_html, marks_between}
-use Rattle.redo_html.proofs.PassageWriting.{marks_failed, part_failed, both_written}
+use Rattle.redo_html.specs.Passage.{inline_html, highlights_between}
+use Rattle.redo_html.proofs.PassageWriting.{highlights_failed, part_failed, both_written}
 use Rattle.redo_html.proofs.VerbatimLemmas.{verbatim_step, verbatim_style}
 use Rattle.redo_html.proofs.passage.write_verbatim.Goals as goal
 
-pub returns-in_err-write_marks : goal.returns-in_err-write_marks
-returns-in_err-write_marks g c =
+pub returns-in_err-write_highlights : goal.returns-in_err-write_highlights
+returns-in_err-write_highlights g c =
     let bytes = c.args.bytes.now in
-    let form = c.args.form in
+    let kind = c.args.kind in
     let look = c.args.look in
-    marks_failed _ form look bytes (flat_map (inline_html form) (marks_between look false)) (take c.args.len bytes) false c.args.len (verbatim_step form look bytes c.args.len c.requires.some c.requires.verbatim)
-    _ _ _ c.from_residual.ensures.0 c.in_err-write_marks.ensures
+    highlights_failed _ kind look bytes (flat_map (inline_html kind) (highlights_between look false)) (take c.args.len bytes) false c.args.len (verbatim_step kind look bytes c.args.len c.requires.some c.requires.verbatim)
+    _ _ _ c.from_residual.ensures.0 c.in_err-write_highlights.ensures
 
 pub returns-in_err-push_all : goal.returns-in_err-push_all
 returns-in_err-push_all g c =
     let bytes = c.args.bytes.now in
-    let form = c.args.form in
+    let kind = c.args.kind in
     let look = c.args.look in
-    part_failed _ form look bytes (flat_map (inline_html form) (marks_between look false)) (take c.args.len bytes) false c.args.len (verbatim_step form look bytes c.args.len c.requires.some c.requires.verbatim)
-    _ _ _ _ c.from_residual-in_err-push_all.ensures.0 c.in_ok-write_marks.ensures c.in_err-push_all.ensures
+    part_failed _ kind look bytes (flat_map (inline_html kind) (highlights_between look false)) (take c.args.len bytes) false c.args.len (verbatim_step kind look bytes c.args.len c.requires.some c.requires.verbatim)
+    _ _ _ _ c.from_residual-in_err-push_all.ensures.0 c.in_ok-write_highlights.ensures c.in_err-push_all.ensures
 
 pub returns : goal.returns
 returns g c =
     let bytes = c.args.bytes.now in
-    let form = c.args.form in
+    let kind = c.args.kind in
     let look = c.args.look in
-    both_written _ form look bytes (flat_map (inline_html form) (marks_between look false)) (take c.args.len bytes) false c.args.len (verbatim_step form look bytes c.args.len c.requires.some c.requires.verbatim)
-    _ _ _ c.with_letter.ensures (verbatim_style form look.wanted bytes c.args.len c.requires.verbatim) c.requires.some c.requires.verbatim.within c.in_ok-write_marks.ensures c.in_ok-push_all.ensures
+    both_written _ kind look bytes (flat_map (inline_html kind) (highlights_between look false)) (take c.args.len bytes) false c.args.len (verbatim_step kind look bytes c.args.len c.requires.some c.requires.verbatim)
+    _ _ _ c.with_code_point.ensures (verbatim_style kind look.wanted bytes c.args.len c.requires.verbatim) c.requires.some c.requires.verbatim.within c.in_ok-write_highlights.ensures c.in_ok-push_all.ensures

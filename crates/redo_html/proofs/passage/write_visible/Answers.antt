@@ -2,49 +2,49 @@ use Rattle.std.proofs.Common.{◌<◌, ◌≤◌, ◌++◌, false, ℕ, length, 
 use Rattle.std.specs.Prelude.{encode_utf8}
 use Rattle.std.specs.List.{flat_map}
 use Rattle.std.proofs.lemmas.List.{length-take-le}
-use Rattle.redo_html.specs.Passage.{inline_html, marks_between, escaped, after_letter, html_from}
+use Rattle.redo_html.specs.Passage.{inline_html, highlights_between, escaped, after_code_point, html_from}
 use Rattle.redo_html.specs.Symbols.{symbol_len}
 use Rattle.redo_html.specs.Private.Writing.{style_in}
 use Rattle.redo_html.proofs.PassageLemmas.{visible_step}
-use Rattle.redo_html.proofs.PassageWriting.{marks_failed, part_failed, both_written}
-use Rattle.redo_html.proofs.StyleLemmas.{letter_style}
+use Rattle.redo_html.proofs.PassageWriting.{highlights_failed, part_failed, both_written}
+use Rattle.redo_html.proofs.StyleLemmas.{code_point_style}
 use Rattle.redo_html.proofs.SymbolLemmas.{symbol_bounds, visible_bytes}
 use Rattle.redo_html.proofs.passage.write_visible.Goals as goal
 
-pub write_letter-requires : goal.write_letter-requires
-write_letter-requires g c =
-    ap (λ (n : ℕ). take n c.args.bytes.now) c.requires.len ∙ visible_bytes c.args.form c.args.bytes.now c.args.letter c.requires.some (omega (arith, c.type_inv.bytes 0)) c.requires.letter c.requires.visible
+pub write_code_point-requires : goal.write_code_point-requires
+write_code_point-requires g c =
+    ap (λ (n : ℕ). take n c.args.bytes.now) c.requires.len ∙ visible_bytes c.args.kind c.args.bytes.now c.args.code_point c.requires.some (omega (arith, c.type_inv.bytes 0)) c.requires.code_point c.requires.visible
 
-pub returns-in_err-write_marks : goal.returns-in_err-write_marks
-returns-in_err-write_marks g c =
+pub returns-in_err-write_highlights : goal.returns-in_err-write_highlights
+returns-in_err-write_highlights g c =
     let bytes = c.args.bytes.now in
-    let form = c.args.form in
+    let kind = c.args.kind in
     let look = c.args.look in
-    marks_failed _ form look bytes (flat_map (inline_html form) (marks_between look false)) (escaped (encode_utf8 c.args.letter)) false (symbol_len form bytes)
-    (visible_step form look bytes c.args.letter c.requires.some c.requires.letter c.requires.visible) _ _ _ c.from_residual.ensures.0 c.in_err-write_marks.ensures
+    highlights_failed _ kind look bytes (flat_map (inline_html kind) (highlights_between look false)) (escaped (encode_utf8 c.args.code_point)) false (symbol_len kind bytes)
+    (visible_step kind look bytes c.args.code_point c.requires.some c.requires.code_point c.requires.visible) _ _ _ c.from_residual.ensures.0 c.in_err-write_highlights.ensures
 
-pub returns-in_err-write_letter : goal.returns-in_err-write_letter
-returns-in_err-write_letter g c =
+pub returns-in_err-write_code_point : goal.returns-in_err-write_code_point
+returns-in_err-write_code_point g c =
     let bytes = c.args.bytes.now in
-    let form = c.args.form in
+    let kind = c.args.kind in
     let look = c.args.look in
-    part_failed _ form look bytes (flat_map (inline_html form) (marks_between look false)) (escaped (encode_utf8 c.args.letter)) false (symbol_len form bytes)
-    (visible_step form look bytes c.args.letter c.requires.some c.requires.letter c.requires.visible) _ _ _ _ c.from_residual-in_err-write_letter.ensures.0 c.in_ok-write_marks.ensures c.in_err-write_letter.ensures
+    part_failed _ kind look bytes (flat_map (inline_html kind) (highlights_between look false)) (escaped (encode_utf8 c.args.code_point)) false (symbol_len kind bytes)
+    (visible_step kind look bytes c.args.code_point c.requires.some c.requires.code_point c.requires.visible) _ _ _ _ c.from_residual-in_err-write_code_point.ensures.0 c.in_ok-write_highlights.ensures c.in_err-write_code_point.ensures
 
 pub returns : goal.returns
 returns g c =
     let bytes = c.args.bytes.now in
-    let form = c.args.form in
+    let kind = c.args.kind in
     let look = c.args.look in
-    let bounds = symbol_bounds form bytes c.requires.some in
+    let bounds = symbol_bounds kind bytes c.requires.some in
     let len_is = sym c.requires.len in
     let some = subst (λ (n : ℕ). 0 < n) len_is bounds.0 in
     let within = subst (λ (n : ℕ). n ≤ length bytes) len_is bounds.1 in
-    both_written _ form look bytes (flat_map (inline_html form) (marks_between look false)) (escaped (encode_utf8 c.args.letter)) false c.args.len
-    (ap (λ (n : ℕ). flat_map (inline_html form) (marks_between look false) ++ (escaped (encode_utf8 c.args.letter) ++ html_from form (after_letter look false) (drop n bytes))) c.requires.len ∙ visible_step form look bytes c.args.letter c.requires.some c.requires.letter c.requires.visible)
-    _ _ _ c.with_letter.ensures (ap (λ (n : ℕ). style_in form look.wanted (drop n bytes)) c.requires.len ∙ letter_style form look.wanted bytes c.requires.some c.args.letter c.requires.letter) some within c.in_ok-write_marks.ensures c.in_ok-write_letter.ensures
+    both_written _ kind look bytes (flat_map (inline_html kind) (highlights_between look false)) (escaped (encode_utf8 c.args.code_point)) false c.args.len
+    (ap (λ (n : ℕ). flat_map (inline_html kind) (highlights_between look false) ++ (escaped (encode_utf8 c.args.code_point) ++ html_from kind (after_code_point look false) (drop n bytes))) c.requires.len ∙ visible_step kind look bytes c.args.code_point c.requires.some c.requires.code_point c.requires.visible)
+    _ _ _ c.with_code_point.ensures (ap (λ (n : ℕ). style_in kind look.wanted (drop n bytes)) c.requires.len ∙ code_point_style kind look.wanted bytes c.requires.some c.args.code_point c.requires.code_point) some within c.in_ok-write_highlights.ensures c.in_ok-write_code_point.ensures
 
-pub slice_bounds-write_letter-end : goal.slice_bounds-write_letter-end
-slice_bounds-write_letter-end g c =
-    let within : c.args.len ≤ length c.args.bytes.now = omega (arith, c.requires.len, (symbol_bounds c.args.form c.args.bytes.now c.requires.some).1) in
+pub slice_bounds-write_code_point-end : goal.slice_bounds-write_code_point-end
+slice_bounds-write_code_point-end g c =
+    let within : c.args.len ≤ length c.args.bytes.now = omega (arith, c.requires.len, (symbol_bounds c.args.kind c.args.bytes.now c.requires.some).1) in
     omega (arith, within, length-take-le c.args.len c.args.bytes.now within)

@@ -3,7 +3,8 @@ use Rattle.std.specs.List.{flat_map}
 use Rattle.redo_html.specs.declared.markup.Markup.TheVariants.{Doctype}
 use Rattle.redo_html.specs.declared.piece.Piece.TheVariants.{Markup}
 use Rattle.redo_html.specs.Parts.{part_html, part_of}
-use Rattle.redo_html.proofs.WritingLemmas.{in_middle, one_among}
+use Rattle.redo_device.proofs.WritesLemmas.{in_middle}
+use Rattle.redo_html.proofs.WritingLemmas.{one_among}
 use Rattle.redo_html.proofs.piece.write_pieces.Goals as goal
 
 pub returns-in_err-write_piece : goal.returns-in_err-write_piece

@@ -2,7 +2,7 @@ use Rattle.std.proofs.Common.{◌++◌, sym, refl}
 use Rattle.std.specs.Prelude.{codes}
 use Rattle.std.proofs.lemmas.List.{append_assoc}
 use Rattle.redo_html.specs.StyleSheet.{style_sheet}
-use Rattle.redo_html.proofs.WritingLemmas.{at_first, in_middle, at_last, one_more}
+use Rattle.redo_device.proofs.WritesLemmas.{at_first, in_middle, at_last, one_more}
 use Rattle.redo_html.proofs.piece.write_style_sheet.Goals as goal
 
 pub returns-in_err-push_all : goal.returns-in_err-push_all

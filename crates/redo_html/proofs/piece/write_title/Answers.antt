@@ -1,10 +1,10 @@
 use Rattle.std.proofs.Common.{◌++◌, sym, refl}
 use Rattle.std.specs.Prelude.{codes}
 use Rattle.std.proofs.lemmas.List.{append_assoc}
-use Rattle.redo_html.specs.declared.form.Form.TheVariants.{Title}
+use Rattle.redo_html.specs.declared.text_kind.TextKind.TheVariants.{Title}
 use Rattle.redo_html.specs.Style.{plain_style}
 use Rattle.redo_html.specs.Passage.{passage_html}
-use Rattle.redo_html.proofs.WritingLemmas.{at_first, in_middle, at_last, one_more}
+use Rattle.redo_device.proofs.WritesLemmas.{at_first, in_middle, at_last, one_more}
 use Rattle.redo_html.proofs.piece.write_title.Goals as goal
 
 pub returns-in_err-push_all : goal.returns-in_err-push_all

@@ -3,6 +3,6 @@ use Rattle.std.specs.List.{list_any}
 use Rattle.redo_html.specs.Shown.{is_between, unseen_ranges}
 use Rattle.redo_html.proofs.symbol.is_unseen.Given as goal
 
--- The letter is in none of the ranges so far.
+-- The code point is in none of the ranges so far.
 abbrev pub invariant-loop-range : goal.invariant-loop-range
-invariant-loop-range l = list_any (is_between l.letter) (take l.range-index unseen_ranges) ≡ false
+invariant-loop-range l = list_any (is_between l.code_point) (take l.range-index unseen_ranges) ≡ false

@@ -3,11 +3,11 @@ use Rattle.std.specs.List.{list_all}
 use Rattle.std.proofs.lemmas.List.{take_rest}
 use Rattle.redo_html.specs.Laws.{is_plain}
 use Rattle.redo_html.specs.Private.Writing.{IsVerbatim}
-use Rattle.redo_html.proofs.VerbatimLemmas.{plain_letters, more_letters}
+use Rattle.redo_html.proofs.VerbatimLemmas.{plain_code_points, more_code_points}
 use Rattle.redo_html.proofs.symbol.verbatim_len.Goals as goal
 
 pub loop-len-init : goal.loop-len-init
-loop-len-init c = plain_letters c.plain_len-len.result c.args.bytes.now c.plain_len-len.ensures.within c.plain_len-len.ensures.plain
+loop-len-init c = plain_code_points c.plain_len-len.result c.args.bytes.now c.plain_len-len.ensures.within c.plain_len-len.ensures.plain
 
 pub loop-len-preserved : goal.loop-len-preserved
 loop-len-preserved c =
@@ -15,7 +15,7 @@ loop-len-preserved c =
     let len = c.loop-len.len in
     let more = c.visible_len-more.result in
     let plain = c.plain_len-len-in-loop-len.result in
-    let one : IsVerbatim bytes (len + more) = more_letters bytes len more c.loop-len.invariant (subst (λ (b : List ℕ). IsVerbatim b more) (take_rest bytes len) c.visible_len-more.ensures) in
+    let one : IsVerbatim bytes (len + more) = more_code_points bytes len more c.loop-len.invariant (subst (λ (b : List ℕ). IsVerbatim b more) (take_rest bytes len) c.visible_len-more.ensures) in
     let within : plain ≤ length (drop (len + more) bytes) = subst (λ (b : List ℕ). plain ≤ length b) (take_rest bytes (len + more)) c.plain_len-len-in-loop-len.ensures.within in
     let all : list_all is_plain (take plain (drop (len + more) bytes)) ≡ true = subst (λ (b : List ℕ). list_all is_plain (take plain b) ≡ true) (take_rest bytes (len + more)) c.plain_len-len-in-loop-len.ensures.plain in
-    more_letters bytes (len + more) plain one (plain_letters plain (drop (len + more) bytes) within all)
+    more_code_points bytes (len + more) plain one (plain_code_points plain (drop (len + more) bytes) within all)

@@ -3,7 +3,7 @@ use Rattle.std.proofs.Math.Seq.{drop-cons, get_or-append_seam, set-append_seam, 
 use Rattle.std.proofs.lemmas.List.{append_assoc, length-map, length-take, map-append}
 use Rattle.redo_outline.specs.declared.node.Node.{Node}
 use Rattle.redo_outline.specs.Outline.{with_times}
-use Rattle.redo_outline.proofs.PlacesLemmas.{no_node}
+use Rattle.redo_outline.proofs.Nodes.{no_node}
 use Rattle.redo_outline.proofs.outline.set_times.Goals as goal
 
 -- Nodes of which the first `i` were changed by a function.
@@ -33,12 +33,12 @@ module _ (f : Node → Node) (nodes done : List Node) (i : ℕ) (below : i < len
       ∙ ap (λ (l : List Node). map f l ++ drop (suc i) nodes) (sym (take-suc nodes i no_node below))
       ∙ (let same : suc i ≡ i + 1 = omega arith in ap (λ (n : ℕ). map f (take n nodes) ++ drop n nodes) same)
 
-pub loop-place-preserved : goal.loop-place-preserved
-loop-place-preserved c =
+pub loop-position-preserved : goal.loop-position-preserved
+loop-position-preserved c =
     let times = c.args.times.now in
     let nodes = c.args.nodes.now in
-    let done = c.loop-place.nodes in
-    let i = c.loop-place.place in
+    let done = c.loop-position.nodes in
+    let i = c.loop-position.position in
     let below : i < length nodes = omega arith in
-    one_more (with_times times) nodes done i below c.loop-place.invariant _
-    (c.with_times.ensures ∙ ap (with_times times) (here (with_times times) nodes done i below c.loop-place.invariant))
+    one_more (with_times times) nodes done i below c.loop-position.invariant _
+    (c.with_times.ensures ∙ ap (with_times times) (here (with_times times) nodes done i below c.loop-position.invariant))

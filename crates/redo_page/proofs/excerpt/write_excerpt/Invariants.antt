@@ -9,8 +9,8 @@ abbrev pub invariant-lines : goal.invariant-lines
 invariant-lines g l = record {
   counted : l.at ≡ l.printed.done;
   small : open_count l.current ≤ l.at;
-  wrote : WrotePartsUpTo g.W.Sink.written l.initial.page l.page (excerpt_parts l.place (texts_of (entries_at l.number l.table)))
-      (parts_from l.place (is_kept l.extent.count l.extent.error) l.current l.at l.printed.left);
+  wrote : WrotePartsUpTo g.W.Sink.written l.initial.page l.page (excerpt_parts l.position (texts_of (entries_at l.number l.table)))
+      (parts_from l.position (is_kept l.extent.count l.extent.error) l.current l.at l.printed.left);
 }
 
 abbrev pub decreases-lines : goal.decreases-lines

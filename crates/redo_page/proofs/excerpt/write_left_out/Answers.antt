@@ -1,7 +1,6 @@
 use Rattle.std.proofs.Common.{ℕ, List, [], ◌∷◌, ◌++◌, subst}
-use Rattle.std.specs.Prelude.{codes}
 use Rattle.redo_html.specs.declared.markup.Markup.TheVariants.{CutParagraph, EndParagraph}
-use Rattle.redo_html.specs.Parts.Part.{MarkupPart, NamePart, NumberPart}
+use Rattle.redo_html.specs.Parts.Part.{MarkupPart, TextPart, NumberPart}
 use Rattle.redo_page.specs.declared.labels.TheConstants.{IN_ITS_LOG}
 use Rattle.redo_page.specs.Excerpt.{in_tree_parts, left_out_parts}
 use Rattle.redo_page.specs.Private.Writing.{WroteParts}
@@ -12,5 +11,5 @@ pub returns : goal.returns
 unfolding left_out_parts
 returns g c =
     subst (λ (text : List ℕ). WroteParts g.W.Sink.written c.args.page.now c.put-2.new.self
-    (MarkupPart CutParagraph ∷ NumberPart c.args.count ∷ NamePart text ∷ (in_tree_parts c.args.place IN_ITS_LOG.now ++ MarkupPart EndParagraph ∷ [])))
+    (MarkupPart CutParagraph ∷ NumberPart c.args.count ∷ TextPart text ∷ (in_tree_parts c.args.position IN_ITS_LOG.now ++ MarkupPart EndParagraph ∷ [])))
     c.plural.ensures (wrote_then c.put.ensures (wrote_then c.write_in_tree.ensures c.put-2.ensures))

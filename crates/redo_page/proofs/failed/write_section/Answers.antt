@@ -6,4 +6,4 @@ pub returns : goal.returns
 unfolding section_parts
 returns g c =
     wrote_then c.put.ensures (wrote_then c.write_list.ensures (wrote_then c.write_articles.ensures
-    (wrote_then c.write_others.ensures (wrote_then c.write_above.ensures (wrote_then c.write_unclosed.ensures c.put-2.ensures)))))
+    (wrote_then c.write_others.ensures (wrote_then c.write_dependents.ensures (wrote_then c.write_unclosed.ensures c.put-2.ensures)))))

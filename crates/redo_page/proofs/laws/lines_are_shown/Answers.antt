@@ -11,7 +11,7 @@ use Rattle.redo_outline.specs.declared.node.RunTimes.{RunTimes}
 use Rattle.redo_outline.specs.Facts.{entries_at, target_status, texts_of}
 use Rattle.redo_view.specs.LogLines.{lines_left_after}
 use Rattle.redo_page.specs.Laws as laws
-use Rattle.redo_page.specs.Laws.{event_lines, lines_at, log_bytes, page_article, page_lines, placed_bytes, placed_lines}
+use Rattle.redo_page.specs.Laws.{event_lines, lines_at, log_bytes, page_article, page_lines, positioned_bytes, positioned_lines}
 use Rattle.redo_page.specs.Page.{Request, options_of, page_build, page_contents, page_events, page_outline, run_times}
 use Rattle.redo_page.specs.Tree.{articles, has_article, is_moved, is_short, node_at}
 use Rattle.redo_page.specs.Limits.{tree_limits}
@@ -25,7 +25,7 @@ use Rattle.redo_page.proofs.FailedIds.{articles_below}
 use Rattle.redo_page.proofs.TreeLines.{tree_text}
 use Rattle.redo_page.proofs.FailedLines.{article_text}
 use Rattle.redo_page.proofs.PagePartLemmas.{page_has_tree, page_has_article}
-use Rattle.redo_page.proofs.PageLines.{all_lines, among_below, contents_have_lines, lines_of_place}
+use Rattle.redo_page.proofs.PageLines.{all_lines, among_below, contents_have_lines, lines_of_position}
 use Rattle.redo_page.proofs.laws.lines_are_shown.Goals as goal
 
 pub returns-clause-complete : goal.returns-clause-complete
@@ -38,35 +38,35 @@ pub returns-clause-tree : goal.returns-clause-tree
 returns-clause-tree c = λ request logs requested. tree_text logs (options_of request) (page_outline request logs requested) (page_contents request logs requested)
 
 -- A node keeps its number.
-same_number : (times : List RunTimes) (nodes : List Node) (place : ℕ) → (node_at (map (with_times times) nodes) place).number ≡ (node_at nodes place).number
-same_number times [] place = refl
+same_number : (times : List RunTimes) (nodes : List Node) (position : ℕ) → (node_at (map (with_times times) nodes) position).number ≡ (node_at nodes position).number
+same_number times [] position = refl
 same_number times (node ∷ nodes) zero = refl
-same_number times (node ∷ nodes) (suc place) = same_number times nodes place
+same_number times (node ∷ nodes) (suc position) = same_number times nodes position
 
 -- An article shows the lines of its log, if these are moved to it.
 moved_text : (request : Request) (logs : List Log) (requested : List (List ℕ)) → lines_left_after logs [] (page_events request logs requested) ≡ Some []
-    → (place : ℕ) → is_moved (page_build request logs requested) place ≡ true → log_bytes (page_article request logs requested place) ≡ placed_bytes (lines_at place (page_lines request logs requested))
-moved_text request logs requested shown place moved =
+    → (position : ℕ) → is_moved (page_build request logs requested) position ≡ true → log_bytes (page_article request logs requested position) ≡ positioned_bytes (lines_at position (page_lines request logs requested))
+moved_text request logs requested shown position moved =
     let events = page_events request logs requested in
     let nodes = page_outline request logs requested in
-    let parts = and_parts (has_article (page_build request logs requested) place) (is_short (node_at nodes place)) moved in
-    article_text logs nodes place parts.1
-    ∙ ap (λ (number : ℕ). flat_map with_line_feed (texts_of (entries_at number logs))) (same_number (map run_times request.times) (outline_of logs events) place)
-    ∙ ap (flat_map with_line_feed) (lines_of_place logs (target_status logs events) (contents_of events) place (contents_have_lines logs events shown) (subst (λ (n : ℕ). place < n) (length-map (outline_of logs events) (with_times (map run_times request.times))) (among_below (length nodes) (articles nodes) place (articles_below nodes) parts.0)))
+    let parts = and_parts (has_article (page_build request logs requested) position) (is_short (node_at nodes position)) moved in
+    article_text logs nodes position parts.1
+    ∙ ap (λ (number : ℕ). flat_map with_line_feed (texts_of (entries_at number logs))) (same_number (map run_times request.times) (outline_of logs events) position)
+    ∙ ap (flat_map with_line_feed) (lines_of_position logs (target_status logs events) (contents_of events) position (contents_have_lines logs events shown) (subst (λ (n : ℕ). position < n) (length-map (outline_of logs events) (with_times (map run_times request.times))) (among_below (length nodes) (articles nodes) position (articles_below nodes) parts.0)))
 
 pub returns-clause-articles : goal.returns-clause-articles
-returns-clause-articles c = λ request logs requested known place moved. moved_text request logs requested (c.logs_show_their_lines.ensures logs (options_of request) requested known) place moved
+returns-clause-articles c = λ request logs requested known position moved. moved_text request logs requested (c.logs_show_their_lines.ensures logs (options_of request) requested known) position moved
 
 pub returns-clause-has_tree : goal.returns-clause-has_tree
 returns-clause-has_tree c = page_has_tree
 
 pub returns-clause-has_articles : goal.returns-clause-has_articles
-returns-clause-has_articles c = λ request logs requested place moved.
-    page_has_article request logs requested place (and_parts (has_article (page_build request logs requested) place) (is_short (node_at (page_outline request logs requested) place)) moved).0
+returns-clause-has_articles c = λ request logs requested position moved.
+    page_has_article request logs requested position (and_parts (has_article (page_build request logs requested) position) (is_short (node_at (page_outline request logs requested) position)) moved).0
 
 -- Nothing is left out without limits.
-unlimited : (logs : List Log) (events : List Event) (limits : List Limit) → limits ≡ [] → trim [] [] (contents_of events) ≡ contents_of events → placed_lines None 0 (trim limits [] (contents_of events)) ≡ placed_lines None 0 (contents_of events)
-unlimited logs events limits none same = ap (λ (l : List Limit). placed_lines None 0 (trim l [] (contents_of events))) none ∙ ap (placed_lines None 0) same
+unlimited : (logs : List Log) (events : List Event) (limits : List Limit) → limits ≡ [] → trim [] [] (contents_of events) ≡ contents_of events → positioned_lines None 0 (trim limits [] (contents_of events)) ≡ positioned_lines None 0 (contents_of events)
+unlimited logs events limits none same = ap (λ (l : List Limit). positioned_lines None 0 (trim l [] (contents_of events))) none ∙ ap (positioned_lines None 0) same
 
 pub returns-clause-whole : goal.returns-clause-whole
 returns-clause-whole c = λ request logs requested no_limit known.
@@ -85,7 +85,7 @@ returns-clause-fitting c = λ request logs requested fit known.
     (sym (c.trimmed_events_are_in_tree.ensures.tree [] events same) ∙ ap contents_of (c.unlimited_logs_are_whole.ensures [] events tt))
 
 pub returns-clause-cut : goal.returns-clause-cut
-returns-clause-cut c = λ request logs requested small known place below.
+returns-clause-cut c = λ request logs requested small known position below.
     let events = page_events request logs requested in
     let nodes = page_outline request logs requested in
     let options = options_of request in
@@ -93,6 +93,6 @@ returns-clause-cut c = λ request logs requested small known place below.
     let limits = tree_limits logs options nodes request.max_bytes in
     let have = contents_have_lines logs events (c.logs_show_their_lines.ensures logs options requested known) in
     let fit = limits_fit logs options nodes request.max_bytes small (bytes_small (map run_times request.times) (outline_of logs events) (nodes_small logs status None 0 (contents_of events))) in
-    lines_left logs limits (c.head_and_tail_are_kept.ensures.kept limits) fit status (contents_of events) have (c.trimmed_events_are_in_tree.ensures.logs limits (contents_of events)) place
-    (subst (λ (n : ℕ). place < n) (outline_counted request logs requested) below)
-    ∙ ap (λ (number : ℕ). head_and_tail (limit_of limits number) (laws.texts_of (lines_at place (page_lines request logs requested)))) (sym (same_number (map run_times request.times) (outline_of logs events) place))
+    lines_left logs limits (c.head_and_tail_are_kept.ensures.kept limits) fit status (contents_of events) have (c.trimmed_events_are_in_tree.ensures.logs limits (contents_of events)) position
+    (subst (λ (n : ℕ). position < n) (outline_counted request logs requested) below)
+    ∙ ap (λ (number : ℕ). head_and_tail (limit_of limits number) (laws.texts_of (lines_at position (page_lines request logs requested)))) (sym (same_number (map run_times request.times) (outline_of logs events) position))

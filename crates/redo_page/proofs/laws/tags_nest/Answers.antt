@@ -5,7 +5,6 @@ use Rattle.std.proofs.lemmas.List.{append-nil}
 use Rattle.redo_logs.specs.Logs.{Log}
 use Rattle.redo_html.specs.Html.{nests_in, tags_of}
 use Rattle.redo_html.specs.Parts.{part_tokens}
-use Rattle.redo_outline.specs.Contents.{contents_of}
 use Rattle.redo_page.specs.Frame.{command, title_text, verdict_of}
 use Rattle.redo_outline.specs.declared.node.Node.{Node}
 use Rattle.redo_page.specs.declared.frame.Verdict.{Verdict}

@@ -4,25 +4,25 @@ use Rattle.redo_page.proofs.laws.times_are_shown.Goals as goal
 
 pub returns-clause-chart : goal.returns-clause-chart
 returns-clause-chart c = λ request logs requested window has.
-    page_has_chart c.places_are_of_nodes.ensures c.bars_lead_to_places.ensures c.trimmed_events_are_in_tree.ensures.logs request logs requested window has.0 has.1
+    page_has_chart c.positions_are_of_nodes.ensures c.bars_lead_to_positions.ensures c.trimmed_events_are_in_tree.ensures.logs request logs requested window has.0 has.1
 
 pub returns-clause-no_chart : goal.returns-clause-no_chart
-returns-clause-no_chart c = page_has_no_chart c.places_are_of_nodes.ensures c.bars_lead_to_places.ensures c.trimmed_events_are_in_tree.ensures.logs
+returns-clause-no_chart c = page_has_no_chart c.positions_are_of_nodes.ensures c.bars_lead_to_positions.ensures c.trimmed_events_are_in_tree.ensures.logs
 
 pub returns-clause-spans : goal.returns-clause-spans
-returns-clause-spans c = λ request logs requested. c.spans_are_parents_or_recipes.ensures (page_outline request logs requested) request.times
+returns-clause-spans c = λ request logs requested. c.spans_are_callers_or_recipes.ensures (page_outline request logs requested) request.times
 
-pub returns-clause-parents : goal.returns-clause-parents
-returns-clause-parents c = λ request logs requested window.
+pub returns-clause-callers : goal.returns-clause-callers
+returns-clause-callers c = λ request logs requested window.
     let facts = page_facts request logs requested in
-    c.bars_say_when_targets_ran.ensures.parents logs (page_outline request logs requested) window facts.parents facts.recipes facts.marks
+    c.bars_say_when_targets_ran.ensures.callers logs (page_outline request logs requested) window facts.callers facts.recipes facts.marks
 
 pub returns-clause-recipes : goal.returns-clause-recipes
 returns-clause-recipes c = λ request logs requested window.
     let facts = page_facts request logs requested in
-    c.bars_say_when_targets_ran.ensures.recipes logs (page_outline request logs requested) window facts.parents facts.recipes facts.marks
+    c.bars_say_when_targets_ran.ensures.recipes logs (page_outline request logs requested) window facts.callers facts.recipes facts.marks
 
 pub returns-clause-marks : goal.returns-clause-marks
 returns-clause-marks c = λ request logs requested window.
     let facts = page_facts request logs requested in
-    c.bars_say_when_targets_ran.ensures.marks logs (page_outline request logs requested) window facts.parents facts.recipes facts.marks
+    c.bars_say_when_targets_ran.ensures.marks logs (page_outline request logs requested) window facts.callers facts.recipes facts.marks

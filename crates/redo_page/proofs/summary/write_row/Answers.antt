@@ -17,7 +17,7 @@ returns g c =
     let target = c.target_at.ensures ∙ ap (λ (n : Node). target_at c.args.table.now n.number) node in
     wrote_as g.W.Sink.written c.args.page.now c.put-3.new.self _ _
     (λ i. MarkupPart markup.TableRow ∷ MarkupPart markup.RowHeading
-    ∷ (linked_parts (Some rank.place) (target i)
+    ∷ (linked_parts (Some rank.position) (target i)
     ++ (badge_parts (node i).status
     ++ (MarkupPart markup.EndRowHeading ∷ MarkupPart markup.NumberCell
     ∷ (measure_parts c.args.measure rank.value

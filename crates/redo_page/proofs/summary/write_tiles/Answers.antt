@@ -1,5 +1,4 @@
 use Rattle.std.proofs.Common.{ap, ◌∷◌, [], ◌++◌, ◌∙◌}
-use Rattle.std.specs.Prelude.{codes}
 use Rattle.redo_html.specs.Parts.Part.{NumberPart}
 use Rattle.redo_units.specs.Sizes.{size_words}
 use Rattle.redo_page.specs.declared.labels.TheConstants.{FAILED, LOGS, TARGETS, WARNED_LINES}
@@ -15,7 +14,7 @@ returns g c =
     let bytes = c.size.ensures ∙ ap size_words c.bytes.ensures in
     wrote_as g.W.Sink.written c.args.page.now c.write_timed_tiles.new.page _ _
     (λ i. tile TARGETS.now (NumberPart c.args.targets ∷ [])
-    ++ (tile FAILED.now (failed_counts c.args.first c.args.above)
+    ++ (tile FAILED.now (failed_counts c.args.roots c.args.dependents)
     ++ (tile WARNED_LINES.now (NumberPart (c.warnings.ensures i) ∷ [])
     ++ (tile LOGS.now (words_parts (bytes i)) ++ (took_tile facts ++ timed_tiles facts)))))
     (wrote_then c.write_number_tile.ensures (wrote_then c.write_failed_tile.ensures (wrote_then c.write_number_tile-2.ensures

@@ -1,5 +1,4 @@
 use Rattle.std.proofs.Common.{ap, sym, ◌++◌, ◌∙◌}
-use Rattle.std.specs.Prelude.{codes}
 use Rattle.redo_units.specs.Durations.{duration_words}
 use Rattle.redo_page.specs.declared.labels.TheConstants.{AT_ONCE, SUM_OF_TIMES}
 use Rattle.redo_page.specs.Summary.{at_once_parts, tile}

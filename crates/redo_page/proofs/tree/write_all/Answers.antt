@@ -1,8 +1,7 @@
-use Rattle.std.proofs.Common.{◌≡◌, List, ◌++◌, [], Err, ap, sym, subst, ◌∙◌}
+use Rattle.std.proofs.Common.{◌++◌, [], Err, ap, subst, ◌∙◌}
 use Rattle.std.specs.List.{flat_map}
 use Rattle.std.proofs.lemmas.Result.{err_from_is_err_and}
 use Rattle.redo_html.specs.Parts.{part_html}
-use Rattle.redo_view.specs.Event.{Event}
 use Rattle.redo_view.specs.Expansion.{shown_events}
 use Rattle.redo_view.specs.Form.{FormWrites, bytes_of, state_after}
 use Rattle.redo_view.specs.Written.{WroteAll}

@@ -1,6 +1,6 @@
 use Rattle.std.proofs.Common.{filter, ltb, map}
 use Rattle.redo_summary.specs.declared.rank.Rank.{Rank}
-use Rattle.redo_summary.specs.Parents.{recipes_of}
+use Rattle.redo_summary.specs.Callers.{recipes_of}
 use Rattle.redo_summary.specs.Ranks.{rank_of, warnings_from}
 use Rattle.redo_summary.specs.Targets.{targets_of}
 use Rattle.redo_summary.proofs.RankLemmas.{first_are_table}

@@ -1,6 +1,6 @@
 use Rattle.std.proofs.Common.{map}
 use Rattle.redo_summary.specs.Laws.{warning_ranks}
-use Rattle.redo_summary.specs.Parents.{recipes_of}
+use Rattle.redo_summary.specs.Callers.{recipes_of}
 use Rattle.redo_summary.specs.Ranks.{rank_of}
 use Rattle.redo_summary.specs.Targets.{targets_of}
 use Rattle.redo_summary.proofs.TableLemmas.{has_first_ten}

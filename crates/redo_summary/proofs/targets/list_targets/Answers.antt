@@ -1,15 +1,16 @@
 use Rattle.std.proofs.Common.{◌++◌, ◌∷◌, [], take, ap, ◌∙◌, subst, sym}
-use Rattle.redo_summary.specs.Private.Marking.{ArePlaced}
+use Rattle.redo_summary.specs.Private.Marking.{ArePositioned}
 use Rattle.redo_summary.specs.Targets.{targets_of}
-use Rattle.redo_summary.proofs.TargetLemmas.{no_node, placed, targets_more}
+use Rattle.redo_outline.proofs.Nodes.{no_node}
+use Rattle.redo_summary.proofs.TargetLemmas.{positioned, targets_more}
 use Rattle.redo_summary.proofs.targets.list_targets.Goals as goal
 
-pub loop-place-preserved : goal.loop-place-preserved
-loop-place-preserved c =
+pub loop-position-preserved : goal.loop-position-preserved
+loop-position-preserved c =
     c.in_ok-push.ensures.items
-    ∙ ap (λ targets. targets ++ c.target_of.result ∷ []) c.loop-place.invariant
-    ∙ ap (λ target. targets_of (take c.loop-place.place c.args.nodes.now) c.args.times.now ++ target ∷ []) c.target_of.ensures
-    ∙ targets_more c.args.times.now c.args.nodes.now c.loop-place.place no_node c.loop-place-test.true
+    ∙ ap (λ targets. targets ++ c.target_of.result ∷ []) c.loop-position.invariant
+    ∙ ap (λ target. targets_of (take c.loop-position.position c.args.nodes.now) c.args.times.now ++ target ∷ []) c.target_of.ensures
+    ∙ targets_more c.args.times.now c.args.nodes.now c.loop-position.position no_node c.loop-position-test.true
 
-pub returns-clause-placed : goal.returns-clause-placed
-returns-clause-placed c = subst ArePlaced (sym c.loop-place.invariant) (placed (take c.loop-place.place c.args.nodes.now) c.args.times.now)
+pub returns-clause-positioned : goal.returns-clause-positioned
+returns-clause-positioned c = subst ArePositioned (sym c.loop-position.invariant) (positioned (take c.loop-position.position c.args.nodes.now) c.args.times.now)

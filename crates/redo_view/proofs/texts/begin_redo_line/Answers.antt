@@ -1,6 +1,6 @@
 use Rattle.std.proofs.Common.{◌++◌, Some, refl}
 use Rattle.redo_view.specs.Text.{indent, pid_column}
-use Rattle.redo_view.proofs.WritingLemmas.{at_first, at_last}
+use Rattle.redo_device.proofs.WritesLemmas.{at_first, at_last}
 use Rattle.redo_view.proofs.texts.begin_redo_line.Goals as goal
 
 pub returns-in_err-write_redo_prefix : goal.returns-in_err-write_redo_prefix

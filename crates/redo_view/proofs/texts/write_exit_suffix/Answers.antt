@@ -6,7 +6,8 @@ use Rattle.std.proofs.lemmas.Int.{to_z-of_z}
 use Rattle.redo_line.specs.Lines.{with_line_feed}
 use Rattle.redo_device.specs.Sink.{Writes, append_output}
 use Rattle.redo_view.specs.Private.EntryParts.{exit_suffix}
-use Rattle.redo_view.proofs.WritingLemmas.{at_first, in_middle, at_last, one_more, exit_parts}
+use Rattle.redo_device.proofs.WritesLemmas.{at_first, in_middle, at_last, one_more}
+use Rattle.redo_view.proofs.WritingLemmas.{exit_parts}
 use Rattle.redo_view.proofs.texts.write_exit_suffix.Goals as goal
 
 pub returns-in_err-push_all : goal.returns-in_err-push_all

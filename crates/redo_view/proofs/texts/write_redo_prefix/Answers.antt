@@ -1,6 +1,6 @@
 use Rattle.std.proofs.Common.{◌++◌, refl}
 use Rattle.redo_view.specs.Text.{indent, pid_column}
-use Rattle.redo_view.proofs.WritingLemmas.{at_first, at_last}
+use Rattle.redo_device.proofs.WritesLemmas.{at_first, at_last}
 use Rattle.redo_view.proofs.texts.write_redo_prefix.Goals as goal
 
 pub returns-in_err-write_pid : goal.returns-in_err-write_pid

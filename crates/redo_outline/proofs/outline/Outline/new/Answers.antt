@@ -9,8 +9,8 @@ use Rattle.redo_outline.proofs.outline.Outline.new.Goals as goal
 
 pub unreachable-requires : goal.unreachable-requires
 unreachable-requires c =
-    let place = c.in-Err-Unknown.field-0-0 in
-    none-some place (sym c.requires.known ∙ (c.view_as.ensures.unknown place).0 (c.in-Err-Unknown.is ∙ ap Err c.in-Err-Unknown.field-0-is))
+    let position = c.in-Err-Unknown.field-0-0 in
+    none-some position (sym c.requires.known ∙ (c.view_as.ensures.unknown position).0 (c.in-Err-Unknown.is ∙ ap Err c.in-Err-Unknown.field-0-is))
 
 pub unreachable-requires-in-Err-Write : goal.unreachable-requires-in-Err-Write
 unreachable-requires-in-Err-Write c =

@@ -28,5 +28,5 @@ invariant_of-self c = λ number.
     let len = c.as_mut_slice.ensures.len in
     let kept = c.set_times.auto.nodes in
     let same : c.self.inside.nodes.len ≡ length new = omega arith in
-    let old : get_or c.self.inside.places.items number None ≡ position (has_number number) nodes = c.self.invariant number in
+    let old : get_or c.self.inside.positions.items number None ≡ position (has_number number) nodes = c.self.invariant number in
     old ∙ sym (ap (λ (n : ℕ). position (has_number number) (take n (new ++ after))) same ∙ ap (position (has_number number)) (take-append_seam new after ∙ are) ∙ same_position c.args.times.now number nodes)

@@ -1,5 +1,0 @@
-use Rattle.redo_chart.proofs.LawLemmas.{links_below}
-use Rattle.redo_chart.proofs.laws.bars_lead_to_places.Goals as goal
-
-pub returns : goal.returns
-returns c = λ logs nodes window parents recipes marks count below. links_below window count logs nodes parents recipes marks below

@@ -1,5 +1,0 @@
-use Rattle.redo_summary.proofs.LawLemmas.{are_of_nodes}
-use Rattle.redo_summary.proofs.laws.places_are_of_nodes.Goals as goal
-
-pub returns : goal.returns
-returns c = are_of_nodes

@@ -1,5 +1,0 @@
-use Rattle.redo_summary.proofs.LawLemmas.{are_in_order_of_place}
-use Rattle.redo_summary.proofs.laws.spans_are_in_order_of_place.Goals as goal
-
-pub returns : goal.returns
-returns c = are_in_order_of_place
