@@ -33,7 +33,7 @@ pub fn read_stream<R: Feed, B: Fn(u64)>(
 ) -> StreamLog
     requires at_least { 1 ≤ max_bytes }
     requires at_most { max_bytes ≤ 2 ^ 40 }
-    requires room { 0 < length buf.old }
+    requires buf_not_empty { 0 < length buf.old }
     requires callable { B.IsAlwaysCallable before_read.now }
     ensures expected { IsExpectedFor max_bytes (source target must_close (R.contents reader.old)) result.entries result.fault }
     ensures buf { length buf.new ≡ length buf.old }
@@ -63,7 +63,7 @@ fn read_entries<R: Feed, B: Fn(u64)>(
     requires at_most { scan.max_bytes ≤ 2 ^ 40 }
     requires begins { scan.bytes ≡ [] }
     requires read { IsRead scan entries.old }
-    requires room { 0 < length buf.old }
+    requires buf_not_empty { 0 < length buf.old }
     requires callable { B.IsAlwaysCallable before_read.now }
     ensures expected { IsExpectedFor scan.max_bytes (source scan.target scan.must_close (R.contents reader.old))
         entries.new (fault_in result) }
@@ -88,17 +88,17 @@ fn read_chunks<R: Feed, B: Fn(u64)>(
     requires at_most { scan.old.max_bytes ≤ 2 ^ 40 }
     requires begins { scan.old.bytes ≡ [] }
     requires read { IsRead scan.old entries.old }
-    requires room { 0 < length buf.old }
+    requires buf_not_empty { 0 < length buf.old }
     requires callable { B.IsAlwaysCallable before_read.now }
     ensures ended { OnOk result (IsReadToEnd (R.contents reader.old) scan.old scan.new entries.new) }
     ensures expected { IfErr result (λ fault.
         IsExpectedFor scan.old.max_bytes (source scan.old.target scan.old.must_close (R.contents reader.old)) entries.new (Some fault)) }
     ensures buf { length buf.new ≡ length buf.old }
 {
-    let mut turn = 0;
+    let mut read_number = 0;
     'reads: loop {
-        turn += 1;
-        before_read(turn);
+        read_number += 1;
+        before_read(read_number);
         match reader.pull(buf) {
             Err(Broken) => return Err(StreamFault::Read),
             Ok(0) => return Ok(()),
@@ -115,9 +115,14 @@ fn read_chunk(entries: &mut Entries, scan: &mut Scan, chunk: &[u8]) -> Result<()
     ensures refused { IfErr result (IsRefused scan.old chunk.now entries.new) }
     ensures never_read_fault { IfErr result (λ fault. fault ≢ Read) }
 {
-    let mut from = 0;
-    'lines: while let Some(upto) = scan.step_into(chunk, from, MAX_LINES_PER_STEP, entries)? {
-        from = upto;
+    let mut offset = 0;
+    'lines: while let Some(end_offset) = scan.step_into(
+        chunk,
+        offset,
+        MAX_LINES_PER_STEP,
+        entries,
+    )? {
+        offset = end_offset;
     }
     Ok(())
 }

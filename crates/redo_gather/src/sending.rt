@@ -3,7 +3,7 @@ ghost use Rattle.redo_line.specs.declared.stream_fault.StreamFault.TheVariants.{
 ghost use Rattle.redo_line.specs.declared.entry.Entry.{Entry as EntryValue};
 ghost use Rattle.redo_line.specs.Scan.{Scanned};
 ghost use Rattle.redo_line.specs.Source.{source};
-ghost use Rattle.redo_gather.specs.Private.Posting.{AreLinesPosted, ArePiecesPosted, HasPosted, IsPosted, IsStreamPosted};
+ghost use Rattle.redo_gather.specs.Private.Posting.{AreEntriesPosted, AreChunksPosted, HasPosted, IsChunkPosted, IsStreamPosted};
 ghost use Rattle.redo_gather.specs.Private.Reading.{IsRead, IsReadTo, IsRefused, fault_in};
 ghost use Rattle.redo_gather.specs.Sending.{AreExpected, AreWellSized, IsWellSized, final_what, entry_item, max_entries, numbered_source, posted_since, singles, singles_in};
 
@@ -56,10 +56,10 @@ pub fn send<T: Wait, R: Feed, G: Gate>(
     ensures well_sized { AreWellSized (posted_since end result) }
 {
     let mut end = end;
-    let mut room = read_buffer(alloc);
-    let buf = room.as_mut_slice();
+    let mut buffer = read_buffer(alloc);
+    let buf = buffer.as_mut_slice();
     for (stream, target, must_close, mut reader) in share {
-        let before_read = |turn| gate.before_read(rt, stream, turn);
+        let before_read = |read_number| gate.before_read(rt, stream, read_number);
         send_stream(
             rt,
             alloc,
@@ -79,7 +79,7 @@ pub fn send<T: Wait, R: Feed, G: Gate>(
 // Returns a buffer for one read; an empty one if there is no memory.
 fn read_buffer(alloc: Global) -> Vec<u8> {
     match vec![in alloc; 0u8; READ_BYTES] {
-        Ok(room) => room,
+        Ok(buffer) => buffer,
         Err(_) => Vec::new(alloc),
     }
 }
@@ -103,15 +103,15 @@ fn send_stream<T: Wait, R: Feed, B: Fn(u64)>(
     ensures { IsStreamPosted max_bytes stream (source target must_close (R.contents reader.old)) end.old end.new }
 {
     let scan = Scan::new(alloc, target, max_bytes, must_close);
-    let answer = send_entries(rt, alloc, end, stream, scan, reader, buf, before_read);
-    post(rt, end, stream, last_item(answer));
+    let outcome = send_entries(rt, alloc, end, stream, scan, reader, buf, before_read);
+    post(rt, end, stream, last_item(outcome));
 }
 
 // Returns what is posted after the entries of a stream.
-fn last_item(answer: Result<(), StreamFault>) -> What
-    ensures { result ≡ final_what (fault_in answer) }
+fn last_item(outcome: Result<(), StreamFault>) -> What
+    ensures { result ≡ final_what (fault_in outcome) }
 {
-    match answer {
+    match outcome {
         Ok(()) => What::End,
         Err(fault) => What::Fail(fault),
     }
@@ -132,7 +132,7 @@ fn send_entries<T: Wait, R: Feed, B: Fn(u64)>(
     requires begins { scan.bytes ≡ [] }
     requires read { IsRead scan [] }
     requires callable { B.IsAlwaysCallable before_read.now }
-    ensures { AreLinesPosted scan.max_bytes stream (source scan.target scan.must_close (R.contents reader.old)) end.old end.new result }
+    ensures { AreEntriesPosted scan.max_bytes stream (source scan.target scan.must_close (R.contents reader.old)) end.old end.new result }
 {
     let mut scan = scan;
     send_chunks(rt, alloc, end, stream, &mut scan, reader, buf, before_read)?;
@@ -157,15 +157,15 @@ fn send_chunks<T: Wait, R: Feed, B: Fn(u64)>(
     requires begins { scan.old.bytes ≡ [] }
     requires read { IsRead scan.old [] }
     requires callable { B.IsAlwaysCallable before_read.now }
-    ensures { ArePiecesPosted stream (R.contents reader.old) scan.old scan.new end.old end.new result }
+    ensures { AreChunksPosted stream (R.contents reader.old) scan.old scan.new end.old end.new result }
 {
     if buf.is_empty() {
         return Err(StreamFault::OutOfMemory);
     }
-    let mut turn = 0;
+    let mut read_number = 0;
     'reads: loop {
-        turn += 1;
-        before_read(turn);
+        read_number += 1;
+        before_read(read_number);
         match reader.pull(buf) {
             Err(Broken) => return Err(StreamFault::Read),
             Ok(0) => return Ok(()),
@@ -183,32 +183,32 @@ fn send_chunk<T: Wait>(
     scan: &mut Scan,
     chunk: &[u8],
 ) -> Result<(), StreamFault>
-    ensures posted { IsPosted stream chunk.now scan.old scan.new end.old end.new result }
+    ensures posted { IsChunkPosted stream chunk.now scan.old scan.new end.old end.new result }
     ensures never_read_fault { IfErr result (λ fault. fault ≢ Read) }
 {
-    let mut from = 0;
-    let mut expected = chunk.len();
-    'batches: while from < chunk.len() {
-        let mut batch = new_batch(alloc, expected.min(chunk.len() - from))?;
-        let answer = read_batch(&mut batch, scan, chunk, from);
+    let mut offset = 0;
+    let mut size_hint = chunk.len();
+    'batches: while offset < chunk.len() {
+        let mut batch = new_batch(alloc, size_hint.min(chunk.len() - offset))?;
+        let outcome = read_batch(&mut batch, scan, chunk, offset);
         post_batch(rt, alloc, end, stream, batch)?;
-        let upto = answer?;
-        expected = upto - from;
-        from = upto;
+        let end_offset = outcome?;
+        size_hint = end_offset - offset;
+        offset = end_offset;
     }
     Ok(())
 }
 
-// Returns an empty list with room for some entries, for `bytes` bytes of text, and for the start of a line from an
-// earlier chunk.
+// Returns an empty list with capacity for some entries, for `bytes` bytes of text, and for the start of a line from
+// an earlier chunk.
 fn new_batch(alloc: Global, bytes: usize) -> Result<Entries, AllocError>
     ensures { IfOk result (λ batch. batch ≡ []) }
 {
     Entries::with_room(alloc, 64, bytes.saturating_add(bytes / 16))
 }
 
-// Reads on in a chunk until the batch has as many entries as an item may have, or enough bytes. Returns the
-// offset in the chunk that it reached.
+// Reads a chunk from the offset `from` on, until the batch has as many entries as an item may have, or enough bytes.
+// Returns the end offset: how far the chunk was read.
 fn read_batch(
     batch: &mut Entries,
     scan: &mut Scan,
@@ -217,25 +217,25 @@ fn read_batch(
 ) -> Result<usize, StreamFault>
     requires empty { batch.old ≡ [] }
     requires from { from < length chunk.now }
-    ensures room { length batch.new ≤ max_entries }
-    ensures range { IfOk result (λ upto. (from < upto) × (upto ≤ length chunk.now)) }
+    ensures size { length batch.new ≤ max_entries }
+    ensures range { IfOk result (λ end_offset. (from < end_offset) × (end_offset ≤ length chunk.now)) }
 
-    // For a chunk that was consumed up to `from`, after the bytes of the scan `begun` and the entries `first`.
-    ensures read { (begun : Scanned) (first : List EntryValue) → IsReadTo begun chunk.now from scan.old first →
-        IfOk result (λ upto. IsReadTo begun chunk.now upto scan.new (first ++ batch.new)) }
-    ensures refused { (begun : Scanned) (first : List EntryValue) → IsReadTo begun chunk.now from scan.old first →
-        IfErr result (IsRefused begun chunk.now (first ++ batch.new)) }
+    // For a chunk that was consumed up to `from`: `initial` is the scan before the chunk, and `earlier` are the entries so far.
+    ensures read { (initial : Scanned) (earlier : List EntryValue) → IsReadTo initial chunk.now from scan.old earlier →
+        IfOk result (λ end_offset. IsReadTo initial chunk.now end_offset scan.new (earlier ++ batch.new)) }
+    ensures refused { (initial : Scanned) (earlier : List EntryValue) → IsReadTo initial chunk.now from scan.old earlier →
+        IfErr result (IsRefused initial chunk.now (earlier ++ batch.new)) }
     ensures never_read_fault { IfErr result (λ fault. fault ≢ Read) }
 {
-    let mut upto = from;
+    let mut offset = from;
     'lines: loop {
-        let room = (MAX_BATCH_ENTRIES - batch.len()) as u16;
-        match scan.step_into(chunk, upto, room, batch)? {
-            Some(behind) => upto = behind,
+        let remaining = (MAX_BATCH_ENTRIES - batch.len()) as u16;
+        match scan.step_into(chunk, offset, remaining, batch)? {
+            Some(end_offset) => offset = end_offset,
             None => return Ok(chunk.len()),
         }
         if batch.len() == MAX_BATCH_ENTRIES || bytes_of(batch) >= MAX_BATCH_BYTES {
-            return Ok(upto);
+            return Ok(offset);
         }
     }
 }
@@ -280,7 +280,7 @@ fn post<T: Wait>(rt: &T, end: &mut PostEnd, stream: u32, what: What)
     for _ in rt.forever() {
         match end.post(rt, item) {
             Ok(()) => return,
-            Err(back) => item = back,
+            Err(returned) => item = returned,
         }
     }
     unreachable!()

@@ -12,9 +12,9 @@ pub record IsRead (scan : Scanned) (entries : List Entry) : Type 0 where
   pub fault_free : IsFaultFree scan
   pub entries_are : entries ≡ entries_in scan
 
--- After the bytes of the scan `begun`, the chunk was consumed up to `place`, and these are the entries of all these bytes.
+-- After the bytes of the scan `initial`, the chunk was consumed up to `offset`, and these are the entries of all these bytes.
 abbrev pub IsReadTo : Scanned → List ℕ → ℕ → Scanned → List Entry → Type 0
-IsReadTo begun chunk place scan entries = (scan ≡ consume (take place chunk) begun) × IsRead scan entries
+IsReadTo initial chunk offset scan entries = (scan ≡ consume (take offset chunk) initial) × IsRead scan entries
 
 -- All bytes of the reader's stream were consumed, no failed read ends them, and these are the entries of its lines.
 pub record IsReadToEnd (known : Option Stream) (old new : Scanned) (entries : List Entry) : Type 0 where
@@ -33,10 +33,10 @@ module _ (scan : Scanned) (chunk : List ℕ) (entries : List Entry) where
   -- These entries are a prefix of the entries of some prefix of these bytes, which has no fault.
   pub record IsCutIn : Type 0 where
     pub bytes : List ℕ
-    pub behind : List ℕ
-    pub bytes_are : scan.bytes ++ chunk ≡ bytes ++ behind
+    pub suffix : List ℕ
+    pub bytes_are : scan.bytes ++ chunk ≡ bytes ++ suffix
     pub no_fault : fault_so_far scan.target scan.max_bytes bytes ≡ None
-    pub front : IsPrefix entries (entries_so_far scan.target scan.max_bytes bytes)
+    pub is_prefix : IsPrefix entries (entries_so_far scan.target scan.max_bytes bytes)
 
   -- The chunk is rejected, for its fault or because memory ran out.
   abbrev pub IsRefused : StreamFault → Type 0

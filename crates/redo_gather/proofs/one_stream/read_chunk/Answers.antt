@@ -1,7 +1,7 @@
 use Rattle.std.proofs.Common.{◌≤◌, arith, sym, subst, zero-le}
 use Rattle.std.proofs.lemmas.Result.{err_from_is_err_and}
 use Rattle.redo_gather.specs.Private.Reading.{IsRead, IsRefused}
-use Rattle.redo_gather.proofs.ReadingLemmas.{if_none, lines_read, no_line, refused_behind, took_nothing, took_rest, took_to}
+use Rattle.redo_gather.proofs.ReadingLemmas.{if_none, lines_read, no_line, refused_after, took_nothing, took_rest, took_to}
 use Rattle.redo_gather.proofs.one_stream.read_chunk.Goals as goal
 
 pub lines-init : goal.lines-init
@@ -10,30 +10,30 @@ lines-init c = (zero-le, took_nothing c.args.scan.now c.args.chunk.now c.require
 pub lines-preserved : goal.lines-preserved
 lines-preserved c =
     let kept = c.lines.invariant in
-    let place = rw c.in-Some.is at c.in_ok-upto.ensures.range in
-    let found = rw c.in-Some.is at c.in_ok-upto.ensures.found in
-    let forward : c.lines.from ≤ c.in-Some.upto = omega (arith, place.0) in (
-      place.1,
-      took_to c.args.scan.now c.args.chunk.now c.lines.scan c.lines.from kept.1 c.step_into.new.self c.in-Some.upto forward found.taken,
+    let range = rw c.in-Some.is at c.in_ok-end_offset.ensures.range in
+    let found = rw c.in-Some.is at c.in_ok-end_offset.ensures.found in
+    let forward : c.lines.offset ≤ c.in-Some.end_offset = omega (arith, range.0) in (
+      range.1,
+      took_to c.args.scan.now c.args.chunk.now c.lines.scan c.lines.offset kept.1 c.step_into.new.self c.in-Some.end_offset forward found.taken,
       lines_read c.lines.scan c.step_into.new.self _ _ _ _ c.lines.entries c.step_into.new.entries found kept.2 found.put,
     )
 
-pub returns-in_err-upto-clause-refused : goal.returns-in_err-upto-clause-refused
-returns-in_err-upto-clause-refused c =
+pub returns-in_err-end_offset-clause-refused : goal.returns-in_err-end_offset-clause-refused
+returns-in_err-end_offset-clause-refused c =
     let kept = c.lines.invariant in
     let given = err_from_is_err_and c.from_residual.result c.from_residual.ensures.1 in
-    let known = c.in_err-upto.ensures in
+    let known = c.in_err-end_offset.ensures in
     rw (given.1, given.2)
-    (subst (λ es. IsRefused c.args.scan.now c.args.chunk.now es c.in_err-upto.field-0.0) (sym known.unchanged_on_err)
-    (refused_behind c.args.scan.now c.args.chunk.now c.lines.scan c.lines.from kept.1 c.lines.entries kept.2 c.in_err-upto.field-0.0 (known.fault kept.2.fault_free.not_failed)))
+    (subst (λ es. IsRefused c.args.scan.now c.args.chunk.now es c.in_err-end_offset.field-0.0) (sym known.unchanged_on_err)
+    (refused_after c.args.scan.now c.args.chunk.now c.lines.scan c.lines.offset kept.1 c.lines.entries kept.2 c.in_err-end_offset.field-0.0 (known.fault kept.2.fault_free.not_failed)))
 
 pub returns-clause-took : goal.returns-clause-took
 returns-clause-took c =
-    let more = if_none c.in_ok-upto.field-0 _ c.in_default.not-Some c.in_ok-upto.ensures.rest_consumed in
-    took_rest c.args.scan.now c.args.chunk.now c.lines.scan c.lines.from c.lines.invariant.1 c.step_into.new.self more.0
+    let more = if_none c.in_ok-end_offset.field-0 _ c.in_default.not-Some c.in_ok-end_offset.ensures.rest_consumed in
+    took_rest c.args.scan.now c.args.chunk.now c.lines.scan c.lines.offset c.lines.invariant.1 c.step_into.new.self more.0
 
 pub returns-clause-read : goal.returns-clause-read
 returns-clause-read c =
-    let more = if_none c.in_ok-upto.field-0 _ c.in_default.not-Some c.in_ok-upto.ensures.rest_consumed in
-    let same = if_none c.in_ok-upto.field-0 _ c.in_default.not-Some c.in_ok-upto.ensures.entries_unchanged in
+    let more = if_none c.in_ok-end_offset.field-0 _ c.in_default.not-Some c.in_ok-end_offset.ensures.rest_consumed in
+    let same = if_none c.in_ok-end_offset.field-0 _ c.in_default.not-Some c.in_ok-end_offset.ensures.entries_unchanged in
     subst (IsRead c.step_into.new.self) (sym same) (no_line c.lines.scan c.step_into.new.self _ c.lines.entries more c.lines.invariant.2)

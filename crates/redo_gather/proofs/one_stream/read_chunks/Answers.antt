@@ -1,7 +1,7 @@
 use Rattle.std.proofs.Common.{◌<◌, length, take, refl, ap, ◌∙◌, arith, zero-le}
 use Rattle.std.proofs.lemmas.List.{length-append, length-take}
 use Rattle.std.proofs.lemmas.Result.{err_from_is_err_and}
-use Rattle.redo_gather.proofs.ReadingLemmas.{all_taken, at_failure, at_refusal, none_read, one_piece, within}
+use Rattle.redo_gather.proofs.ReadingLemmas.{all_taken, at_failure, at_refusal, none_read, one_chunk, within}
 use Rattle.redo_gather.proofs.one_stream.read_chunks.Goals as goal
 
 pub reads-init : goal.reads-init
@@ -71,6 +71,6 @@ reads-preserved g c =
       c.requires.callable,
       c.pull.auto.buf ∙ kept.1,
       record { target_is = ap (λ s. s.target) read.took ∙ kept.2.target_is; limit_is = ap (λ s. s.max_bytes) read.took ∙ kept.2.limit_is; flag_is = ap (λ s. s.must_close) read.took ∙ kept.2.flag_is },
-      one_piece c.args.scan.now.target c.args.scan.now.max_bytes c.args.scan.now.must_close _ _ _ c.reads.scan c.reads.entries kept.3 kept.2 c.in-Ok.n buf some c.in-Ok.ensures.gives c.read_chunk.new.scan c.read_chunk.new.entries read.took read.read,
-      (let turns = kept.4 in let chunk = length-take c.in-Ok.n buf in omega (arith, turns, some, taken, chunk, c.in-Ok.ensures.bound)),
+      one_chunk c.args.scan.now.target c.args.scan.now.max_bytes c.args.scan.now.must_close _ _ _ c.reads.scan c.reads.entries kept.3 kept.2 c.in-Ok.n buf some c.in-Ok.ensures.gives c.read_chunk.new.scan c.read_chunk.new.entries read.took read.read,
+      (let reads = kept.4 in let chunk = length-take c.in-Ok.n buf in omega (arith, reads, some, taken, chunk, c.in-Ok.ensures.bound)),
     )

@@ -2,15 +2,15 @@ use Rattle.std.proofs.Common.{◌≡◌, ◌≤◌, ◌-◌, ◌+◌, length}
 use Rattle.redo_gather.proofs.ReadingLemmas.{IsFor, Reading}
 use Rattle.redo_gather.proofs.one_stream.read_chunks.Given as goal
 
--- Each turn before this one gave at least one byte.
+-- Each read before this one gave at least one byte.
 abbrev pub invariant-reads : goal.invariant-reads
 invariant-reads g l =
     goal.B-IsAlwaysCallable g l.before_read
     × (length l.buf ≡ length l.initial.buf)
     × IsFor l.initial.scan.target l.initial.scan.max_bytes l.initial.scan.must_close l.scan
     × Reading (g.R.Feed.contents l.initial.reader) (g.R.Feed.contents l.reader) l.scan l.entries
-    × (l.turn ≤ length l.scan.bytes)
+    × (l.read_number ≤ length l.scan.bytes)
 
--- Each turn is a read. It takes bytes within the limit, or it is the last one.
+-- Each read gives bytes within the limit, or it is the last one.
 abbrev pub decreases-reads : goal.decreases-reads
 decreases-reads g l = l.initial.scan.max_bytes + 1 - length l.scan.bytes

@@ -4,13 +4,13 @@ use Rattle.std.proofs.lemmas.Result.{err_from_is_err_and}
 use Rattle.redo_logs.specs.Logs.{Log, targets_of}
 use Rattle.redo_gather.specs.Streams.{IsLowestFault, known_input}
 use Rattle.redo_gather.proofs.GatheredLemmas.{Gathered, none_gathered, weaker_fault}
-use Rattle.redo_gather.proofs.TurnLemmas.{below_names, log_runs, one_more_read, fault_read, target_below, all_logs, all_of_names, all_whole}
+use Rattle.redo_gather.proofs.ReaderLoopLemmas.{below_names, log_runs, one_more_read, fault_read, target_below, all_logs, all_of_names, all_whole}
 use Rattle.redo_gather.proofs.plain.gather_into.Goals as goal
 
 pub loop-must_close-init : goal.loop-must_close-init
 loop-must_close-init g c =
     let names = targets_of c.args.table.now in (
-      c.requires.room,
+      c.requires.buf_not_empty,
       record {
         readers_are = sym c.into_iter-must_close-iterator.ensures.into_iter_gives.0;
         number_is = refl;

@@ -1,7 +1,7 @@
 use Rattle.std.proofs.Common.{◌<◌, length}
 use Rattle.redo_logs.specs.Logs.{targets_of}
 use Rattle.redo_gather.specs.Streams.{known_input}
-use Rattle.redo_gather.proofs.TurnLemmas.{Underway}
+use Rattle.redo_gather.proofs.ReaderLoopLemmas.{Underway}
 use Rattle.redo_gather.proofs.plain.gather_into.Given as goal
 
 -- The streams of the first readers were read.

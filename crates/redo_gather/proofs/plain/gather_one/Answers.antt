@@ -51,5 +51,5 @@ returns-clause-completed g c target here =
       entries_are =
           subst (λ (of : List ℕ). SomeStream known (λ stream. source_log max_bytes (source of c.args.must_close stream) ≡ Some log.entries)) same
           (is_log max_bytes (source c.in_ok-target.target c.args.must_close known) log.entries log.fault c.read_stream-log.ensures.expected none);
-      table_is = c.in_ok-store.ensures.stored ∙ ap (λ fault. update_log c.args.number (completed log.entries fault) c.args.table.now) none;
+      after_is = c.in_ok-store.ensures.stored ∙ ap (λ fault. update_log c.args.number (completed log.entries fault) c.args.table.now) none;
     }

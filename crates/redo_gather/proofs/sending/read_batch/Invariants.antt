@@ -5,12 +5,12 @@ use Rattle.redo_gather.specs.Private.Reading.{IsReadTo}
 use Rattle.redo_gather.specs.Sending.{max_entries}
 use Rattle.redo_gather.proofs.sending.read_batch.Given as goal
 
--- The chunk was consumed up to `upto`, and there is room for one more entry.
+-- The chunk was consumed up to `offset`, and one more entry fits into the batch.
 abbrev pub invariant-lines : goal.invariant-lines
 invariant-lines l =
-    (l.fn.from ≤ l.upto) × (l.upto ≤ length l.chunk)
+    (l.fn.from ≤ l.offset) × (l.offset ≤ length l.chunk)
     × (length l.batch < max_entries)
-    × ((begun : Scanned) (first : List Entry) → IsReadTo begun l.chunk l.fn.from l.initial.scan first → IsReadTo begun l.chunk l.upto l.scan (first ++ l.batch))
+    × ((initial : Scanned) (earlier : List Entry) → IsReadTo initial l.chunk l.fn.from l.initial.scan earlier → IsReadTo initial l.chunk l.offset l.scan (earlier ++ l.batch))
 
 abbrev pub decreases-lines : goal.decreases-lines
-decreases-lines l = length l.chunk - l.upto
+decreases-lines l = length l.chunk - l.offset

@@ -5,12 +5,12 @@ use Rattle.redo_gather.specs.Private.Posting.{HasPosted}
 use Rattle.redo_gather.specs.Sending.{entry_item}
 use Rattle.redo_gather.proofs.sending.send_chunk.Given as goal
 
--- The chunk was consumed up to `from`, and its lines so far were posted.
+-- The chunk was consumed up to `offset`, and its lines so far were posted.
 abbrev pub invariant-batches : goal.invariant-batches
 invariant-batches g l =
-    (l.from ≤ length l.chunk)
+    (l.offset ≤ length l.chunk)
     × ((entries : List Entry) × HasPosted l.initial.end l.end (map (entry_item l.initial.end.number l.stream) entries)
-    × ((first : List Entry) → IsRead l.initial.scan first → IsReadTo l.initial.scan l.chunk l.from l.scan (first ++ entries)))
+    × ((earlier : List Entry) → IsRead l.initial.scan earlier → IsReadTo l.initial.scan l.chunk l.offset l.scan (earlier ++ entries)))
 
 abbrev pub decreases-batches : goal.decreases-batches
-decreases-batches g l = length l.chunk - l.from
+decreases-batches g l = length l.chunk - l.offset

@@ -2,7 +2,7 @@ use Rattle.std.proofs.Common.{◌<◌, [], ◌++◌, length, take, arith, refl, 
 use Rattle.std.proofs.lemmas.List.{length-append, length-take}
 use Rattle.std.proofs.lemmas.Result.{err_from_is_err_and}
 use Rattle.redo_gather.proofs.PostedLemmas.{lines_posted, nothing_posted}
-use Rattle.redo_gather.proofs.ReadingLemmas.{all_taken, at_failure, at_refusal, no_memory_left, none_read, one_piece, within}
+use Rattle.redo_gather.proofs.ReadingLemmas.{all_taken, at_failure, at_refusal, no_memory_left, none_read, one_chunk, within}
 use Rattle.redo_gather.proofs.sending.send_chunks.Goals as goal
 
 pub returns-then-is_empty : goal.returns-then-is_empty
@@ -64,11 +64,11 @@ reads-preserved g c =
       c.requires.callable,
       c.pull.auto.buf ∙ kept.1,
       record { target_is = ap (λ s. s.target) now.0 ∙ kept.2.target_is; limit_is = ap (λ s. s.max_bytes) now.0 ∙ kept.2.limit_is; flag_is = ap (λ s. s.must_close) now.0 ∙ kept.2.flag_is },
-      (let turns = kept.3 in let chunk = length-take c.in-Ok.n buf in omega (arith, turns, some, taken, chunk, c.in-Ok.ensures.bound)),
+      (let reads = kept.3 in let chunk = length-take c.in-Ok.n buf in omega (arith, reads, some, taken, chunk, c.in-Ok.ensures.bound)),
       (
         kept.4.0 ++ sent.entries,
         lines_posted c.args.stream c.args.end.now c.reads.end c.send_chunk.new.end kept.4.0 sent.entries kept.4.1 sent.posted,
-        one_piece c.args.scan.now.target c.args.scan.now.max_bytes c.args.scan.now.must_close _ _ _ c.reads.scan kept.4.0 kept.4.2 kept.2 c.in-Ok.n buf some c.in-Ok.ensures.gives c.send_chunk.new.scan (kept.4.0 ++ sent.entries) now.0 now.1,
+        one_chunk c.args.scan.now.target c.args.scan.now.max_bytes c.args.scan.now.must_close _ _ _ c.reads.scan kept.4.0 kept.4.2 kept.2 c.in-Ok.n buf some c.in-Ok.ensures.gives c.send_chunk.new.scan (kept.4.0 ++ sent.entries) now.0 now.1,
       ),
     )
 

@@ -5,16 +5,16 @@ use Rattle.redo_gather.specs.Sending.{entry_item}
 use Rattle.redo_gather.proofs.ReadingLemmas.{IsFor, Reading}
 use Rattle.redo_gather.proofs.sending.send_chunks.Given as goal
 
--- Each turn before this one gave at least one byte.
+-- Each read before this one gave at least one byte.
 abbrev pub invariant-reads : goal.invariant-reads
 invariant-reads g l =
     goal.B-IsAlwaysCallable g l.before_read
     × (length l.buf ≡ length l.initial.buf)
     × IsFor l.initial.scan.target l.initial.scan.max_bytes l.initial.scan.must_close l.scan
-    × (l.turn ≤ length l.scan.bytes)
+    × (l.read_number ≤ length l.scan.bytes)
     × ((entries : List Entry) × HasPosted l.initial.end l.end (map (entry_item l.initial.end.number l.stream) entries)
     × Reading (g.R.Feed.contents l.initial.reader) (g.R.Feed.contents l.reader) l.scan entries)
 
--- Each turn is a read. It takes bytes within the limit, or it is the last one.
+-- Each read gives bytes within the limit, or it is the last one.
 abbrev pub decreases-reads : goal.decreases-reads
 decreases-reads g l = l.initial.scan.max_bytes + 1 - length l.scan.bytes

@@ -1,7 +1,7 @@
 use Rattle.std.proofs.Common.{refl, sym, ap, ◌∙◌, subst}
 use Rattle.redo_wire.specs.Mailbox.{AreAllMet, TakeEndState}
 use Rattle.redo_gather.specs.Private.Collecting.{StoresAllTaken}
-use Rattle.redo_gather.proofs.collector.Collector.take_rest.Goals as goal
+use Rattle.redo_gather.proofs.collector.LogCollector.drain.Goals as goal
 
 pub loop-init : goal.loop-init
 loop-init g c = (tt, tt, c.requires, refl, refl, λ names holds. holds)

@@ -1,6 +1,6 @@
 use Rattle.std.proofs.Common.{◌≡◌, ℕ, List}
 use Rattle.redo_gather.specs.Private.Collecting.{StoresAllTaken}
-use Rattle.redo_gather.proofs.collector.Collector.take.Given as goal
+use Rattle.redo_gather.proofs.collector.LogCollector.take.Given as goal
 
 -- The items taken so far are stored, unless an allocation failed.
 abbrev pub invariant-loop : goal.invariant-loop

@@ -4,7 +4,7 @@ use Rattle.redo_logs.specs.Logs.{Log}
 use Rattle.redo_gather.specs.GatherFault.{IfStreamFault}
 use Rattle.redo_gather.specs.Gathered.{IsGathered}
 use Rattle.redo_gather.proofs.GatheredLemmas.{fault_of_and}
-use Rattle.redo_gather.proofs.collector.Collector.finish.Goals as goal
+use Rattle.redo_gather.proofs.collector.LogCollector.finish.Goals as goal
 
 pub returns : goal.returns
 returns g c = record {

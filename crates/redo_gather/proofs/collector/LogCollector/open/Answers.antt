@@ -1,7 +1,7 @@
 use Rattle.std.proofs.Common.{sym, subst}
 use Rattle.std.proofs.lemmas.Result.{IfOk-from_err}
 use Rattle.redo_wire.specs.Mailbox.{AreEndsOf, TakeEndState, IsOpened}
-use Rattle.redo_gather.proofs.collector.Collector.open.Goals as goal
+use Rattle.redo_gather.proofs.collector.LogCollector.open.Goals as goal
 
 pub returns-in_err-take_end : goal.returns-in_err-take_end
 returns-in_err-take_end c =

@@ -1,6 +1,6 @@
 use Rattle.std.proofs.Common.{rules}
 use Rattle.redo_gather.proofs.CollectedLemmas.{holds_more}
-use Rattle.redo_gather.proofs.collector.Collector.store.Goals as goal
+use Rattle.redo_gather.proofs.collector.LogCollector.store.Goals as goal
 
 pub returns-clause-holds : goal.returns-clause-holds
 returns-clause-holds c names before holds =

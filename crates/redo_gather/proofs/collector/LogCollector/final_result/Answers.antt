@@ -5,7 +5,7 @@ use Rattle.redo_gather.specs.Streams.{IsLowestFault}
 use Rattle.redo_gather.proofs.CollectedLemmas.{settled_table}
 use Rattle.redo_gather.proofs.GatheredLemmas.{of_stream}
 use Rattle.redo_gather.proofs.SettledLemmas.{failed-within, settled-ended, settled-fault, settled-logs, settled-targets}
-use Rattle.redo_gather.proofs.collector.Collector.final_result.Goals as goal
+use Rattle.redo_gather.proofs.collector.LogCollector.final_result.Goals as goal
 
 pub returns-in-None-clause-gathered : goal.returns-in-None-clause-gathered
 returns-in-None-clause-gathered c max_bytes names known taken =

@@ -1,7 +1,7 @@
 use Rattle.std.proofs.Common.{◌≡◌, ℕ, List}
 use Rattle.redo_wire.specs.Mailbox.{AreAllMet}
 use Rattle.redo_gather.specs.Private.Collecting.{StoresAllTaken}
-use Rattle.redo_gather.proofs.collector.Collector.take_rest.Given as goal
+use Rattle.redo_gather.proofs.collector.LogCollector.drain.Given as goal
 
 -- The items taken so far are stored, unless an allocation failed.
 abbrev pub invariant-loop : goal.invariant-loop

@@ -1,7 +1,7 @@
 use Rattle.std.proofs.Common.{rules, sym, ap, ◌∙◌, subst}
 use Rattle.redo_wire.specs.Mailbox.{TakeEndState}
 use Rattle.redo_gather.specs.Private.Collecting.{StoresAllTaken}
-use Rattle.redo_gather.proofs.collector.Collector.take.Goals as goal
+use Rattle.redo_gather.proofs.collector.LogCollector.take.Goals as goal
 
 pub loop-preserved : goal.loop-preserved
 loop-preserved g c =
