@@ -40,40 +40,9 @@ use std::thread::{PromisedHandle, Scope, Threads};
 /// runs out, even for a thread, `OutOfMemory` is returned instead.
 ///
 /// The sender notifies the gate before each read. The calling thread notifies it after it has taken an entry or an
-/// end. If an untrusted party can choose the names that logs mention, it can make this slow: use
-/// [`gather_with_keys`] then.
+/// end. Names are looked up by a hash with these keys. The result doesn't depend on them, but with keys that an
+/// untrusted party knows, it can choose names that make this slow.
 pub fn gather<T: Threads + Wait + Sync, R: Feed + Send, G: Gate>(
-    rt: &T,
-    alloc: Global,
-    names: Vec<TargetName>,
-    flags: Vec<bool>,
-    readers: Vec<R>,
-    plan: &Plan,
-    gate: &G,
-) -> Result<LogTable, GatherFault>
-    requires flags { length flags.items ≡ length names.items }
-    requires readers { length readers.items ≡ length names.items }
-    requires distinct { IsDistinct (pointwise nat_eq) names.items }
-    requires size { length names.items ≤ max_logs }
-
-    // The logs of the streams, or the fault of the lowest-numbered stream that has one, or `OutOfMemory`.
-    ensures gathered { IsGathered plan.now.max_bytes names.items (known_inputs R.contents flags.items readers.items) result }
-    ensures never_out_of_memory { IfStreamFault result (λ number fault. fault ≢ OutOfMemory) }
-{
-    gather_with_keys(
-        rt,
-        alloc,
-        HashKeys::fixed(),
-        names,
-        flags,
-        readers,
-        plan,
-        gate,
-    )
-}
-
-/// Does the same as [`gather`], and looks up names by a hash with these keys. The result doesn't depend on them.
-pub fn gather_with_keys<T: Threads + Wait + Sync, R: Feed + Send, G: Gate>(
     rt: &T,
     alloc: Global,
     keys: HashKeys,

@@ -4,7 +4,7 @@ use Rattle.redo_gather.specs.Streams.{known_input}
 use Rattle.redo_gather.proofs.EnteredLemmas.{begins_empty, gathered_of, has_room, one_for_each}
 use Rattle.redo_gather.proofs.GatheredLemmas.{none_requested}
 use Rattle.redo_gather.proofs.FlagLemmas.{count_zip}
-use Rattle.redo_gather.proofs.gathering.gather_with_keys.Goals as goal
+use Rattle.redo_gather.proofs.gathering.gather.Goals as goal
 
 pub new_table-requires : goal.new_table-requires
 new_table-requires g c = record { distinct = c.requires.distinct; size = c.requires.size }
