@@ -50,6 +50,12 @@ lines_posted stream before between after first second one two =
     (ap (λ n. map (entry_item before.number stream) first ++ map (entry_item n stream) second) one.number ∙ sym (map-append (entry_item before.number stream) first second))
     (then_posted before between after _ _ one two)
 
+-- The same, if the number of the stream is known to be the same.
+pub entries_posted : (stream same : ℕ) (before between after : PostEndState) (first second : List Entry) → same ≡ stream → HasPosted before between (map (entry_item before.number stream) first)
+    → HasPosted between after (map (entry_item between.number same) second) → HasPosted before after (map (entry_item before.number stream) (first ++ second))
+entries_posted stream same before between after first second is one two =
+    lines_posted stream before between after first second one (subst (λ n. HasPosted between after (map (entry_item between.number n) second)) is two)
+
 -- The end of a stream and its fault are no items of several entries.
 pub last_well_sized : (fault : Option StreamFault) → IsWellSized (final_what fault)
 last_well_sized None = tt

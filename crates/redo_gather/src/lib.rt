@@ -13,6 +13,8 @@ mod gathering;
 mod laws;
 mod one_stream;
 mod plain;
+mod poster;
+mod reading;
 mod sender;
 mod sending;
 mod storing;

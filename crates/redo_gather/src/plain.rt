@@ -67,7 +67,6 @@ fn gather_into<R: Feed>(
     requires begins { table.old ≡ map new_log (targets_of table.old) }
     requires readers { length readers.items ≡ length table.old }
     requires size { length table.old ≤ max_logs }
-    requires buf_not_empty { 0 < length buf.old }
     ensures gathered { IsGathered max_bytes (targets_of table.old) (map (known_input R.contents) readers.items)
         (result_and result (Ok table.new)) }
     ensures never_out_of_memory { IfStreamFault result (λ number fault. fault ≢ OutOfMemory) }
@@ -101,17 +100,15 @@ fn gather_one<R: Feed>(
     requires at_least { 1 ≤ max_bytes }
     requires at_most { max_bytes ≤ 2 ^ 40 }
     requires runs { slice_get (states_of table.old) number ≡ Some Running }
-    requires buf_not_empty { 0 < length buf.old }
     ensures completed { (target : List ℕ) → slice_get (targets_of table.old) number ≡ Some target →
         OnOk result (IsCompleted max_bytes number (source target must_close (R.contents reader.old)) table.old table.new) }
     ensures fault { (target : List ℕ) → slice_get (targets_of table.old) number ≡ Some target →
         IfStreamFault result (λ other fault. (other ≡ number)
         × HasFault max_bytes (source target must_close (R.contents reader.old)) fault) }
     ensures never_out_of_memory { IfStreamFault result (λ number fault. fault ≢ OutOfMemory) }
-    ensures buf { length buf.new ≡ length buf.old }
 {
     let target = table.name(number).copy(alloc)?;
-    let log = read_stream(alloc, target, max_bytes, must_close, reader, buf, &|_| {});
+    let log = read_stream(alloc, target, max_bytes, must_close, reader, buf);
     let fault = log.fault;
     if let Some(fault) = fault {
         return Err(GatherFault::of(number, fault));

@@ -1,5 +1,5 @@
 use Rattle.std.proofs.Common.{◌≡◌}
-use Rattle.redo_gather.proofs.sending.post.Given as goal
+use Rattle.redo_gather.proofs.poster.post.Given as goal
 
 abbrev pub invariant-loop : goal.invariant-loop
 invariant-loop g l =

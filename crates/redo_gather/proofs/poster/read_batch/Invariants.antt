@@ -3,7 +3,7 @@ use Rattle.redo_line.specs.declared.entry.Entry.{Entry}
 use Rattle.redo_line.specs.Scan.{Scanned}
 use Rattle.redo_gather.specs.Private.Reading.{IsReadTo}
 use Rattle.redo_gather.specs.Sending.{max_entries}
-use Rattle.redo_gather.proofs.sending.read_batch.Given as goal
+use Rattle.redo_gather.proofs.poster.read_batch.Given as goal
 
 -- The chunk was consumed up to `offset`, and one more entry fits into the batch.
 abbrev pub invariant-lines : goal.invariant-lines

@@ -1,6 +1,7 @@
-use Rattle.std.proofs.Common.{◌≡◌, ◌≤◌, ◌-◌, ◌+◌, length}
+use Rattle.std.proofs.Common.{◌≡◌, ◌≤◌, ◌-◌, ◌+◌, List, length}
+use Rattle.redo_line.specs.declared.entry.Entry.{Entry}
 use Rattle.redo_gather.proofs.ReadingLemmas.{IsFor, Reading}
-use Rattle.redo_gather.proofs.one_stream.read_chunks.Given as goal
+use Rattle.redo_gather.proofs.reading.read_chunks.Given as goal
 
 -- Each read before this one gave at least one byte.
 abbrev pub invariant-reads : goal.invariant-reads
@@ -8,8 +9,9 @@ invariant-reads g l =
     goal.B-IsAlwaysCallable g l.before_read
     × (length l.buf ≡ length l.initial.buf)
     × IsFor l.initial.scan.target l.initial.scan.max_bytes l.initial.scan.must_close l.scan
-    × Reading (g.R.Feed.contents l.initial.reader) (g.R.Feed.contents l.reader) l.scan l.entries
     × (l.read_number ≤ length l.scan.bytes)
+    × ((entries : List Entry) × g.S.EntrySink.has_taken l.initial.sink l.sink entries
+    × Reading (g.R.Feed.contents l.initial.reader) (g.R.Feed.contents l.reader) l.scan entries)
 
 -- Each read gives bytes within the limit, or it is the last one.
 abbrev pub decreases-reads : goal.decreases-reads

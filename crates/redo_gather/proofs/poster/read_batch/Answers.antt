@@ -5,7 +5,7 @@ use Rattle.std.proofs.lemmas.Result.{err_from_is_err_and}
 use Rattle.redo_line.specs.Scan.{consume}
 use Rattle.redo_gather.specs.Private.Reading.{IsRead, IsRefused}
 use Rattle.redo_gather.proofs.ReadingLemmas.{lines_read, no_line, refused_after, took_rest, took_to}
-use Rattle.redo_gather.proofs.sending.read_batch.Goals as goal
+use Rattle.redo_gather.proofs.poster.read_batch.Goals as goal
 
 pub returns-then-len-eq-MAX_BATCH_ENTRIES-clause-read : goal.returns-then-len-eq-MAX_BATCH_ENTRIES-clause-read
 returns-then-len-eq-MAX_BATCH_ENTRIES-clause-read c initial earlier read =
