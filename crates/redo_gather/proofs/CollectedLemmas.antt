@@ -16,7 +16,7 @@ use Rattle.redo_wire.specs.declared.item.What.{What}
 use Rattle.redo_wire.specs.declared.item.What.TheVariants.{End, Fail, Line, Lines}
 use Rattle.redo_wire.specs.Machine.{items_of}
 use Rattle.redo_wire.specs.Mailbox.{IsMet, Met}
-use Rattle.redo_gather.specs.declared.collector.Collector.{Collector}
+use Rattle.redo_gather.specs.declared.collector.LogCollector.{LogCollector}
 use Rattle.redo_gather.specs.Expected.{KnownSource, IsComplete}
 use Rattle.redo_gather.specs.Private.Collecting.{AllTaken, StoresAllTaken, IsNotOutOfMemory, NoneOutOfMemory, PostedExpected, changed_by, step, stored}
 use Rattle.redo_gather.specs.Private.Distribution.{share_of}
@@ -93,9 +93,9 @@ none_one sender stream (Lines entries) had = none_lines sender stream entries
 none_one sender stream End had = ((λ is. absurd (cc)), tt)
 none_one sender stream (Fail fault) had = (had, tt)
 
-none-append : (front behind : List Item) → NoneOutOfMemory front → NoneOutOfMemory behind → NoneOutOfMemory (front ++ behind)
-none-append [] behind one two = two
-none-append (item ∷ front) behind one two = (one.0, none-append front behind one.1 two)
+none-append : (prefix suffix : List Item) → NoneOutOfMemory prefix → NoneOutOfMemory suffix → NoneOutOfMemory (prefix ++ suffix)
+none-append [] suffix one two = two
+none-append (item ∷ prefix) suffix one two = (one.0, none-append prefix suffix one.1 two)
 
 singles_more : (before : List Item) (item : Item) → singles (before ++ item ∷ []) ≡ singles before ++ singles_in item.sender item.stream item.what
 singles_more before item = singles-append before (item ∷ []) ∙ ap (λ items. singles before ++ items) (append-nil (singles_in item.sender item.stream item.what))
@@ -131,12 +131,12 @@ items_of-single false sender number stream End is = ap (λ b. cond b (item_of nu
 items_of-single true sender number stream (Fail fault) is = ap (λ b. cond b (item_of number stream (Fail fault) ∷ []) []) is
 items_of-single false sender number stream (Fail fault) is = ap (λ b. cond b (item_of number stream (Fail fault) ∷ []) []) is
 
-items_of-append : (sender : ℕ) (front behind : List Item) → items_of sender (front ++ behind) ≡ items_of sender front ++ items_of sender behind
-items_of-append sender [] behind = refl
-items_of-append sender (item ∷ front) behind = by (nat_eq item.sender sender) (items_of-append sender front behind)
+items_of-append : (sender : ℕ) (prefix suffix : List Item) → items_of sender (prefix ++ suffix) ≡ items_of sender prefix ++ items_of sender suffix
+items_of-append sender [] suffix = refl
+items_of-append sender (item ∷ prefix) suffix = by (nat_eq item.sender sender) (items_of-append sender prefix suffix)
   where
-    by : (own : Bool) → items_of sender (front ++ behind) ≡ items_of sender front ++ items_of sender behind
-        → cond own (item ∷ items_of sender (front ++ behind)) (items_of sender (front ++ behind)) ≡ cond own (item ∷ items_of sender front) (items_of sender front) ++ items_of sender behind
+    by : (own : Bool) → items_of sender (prefix ++ suffix) ≡ items_of sender prefix ++ items_of sender suffix
+        → cond own (item ∷ items_of sender (prefix ++ suffix)) (items_of sender (prefix ++ suffix)) ≡ cond own (item ∷ items_of sender prefix) (items_of sender prefix) ++ items_of sender suffix
     by true is = ap (λ items. item ∷ items) is
     by false is = is
 
@@ -162,10 +162,10 @@ below_single senders sender stream (Lines entries) below = below_lines senders s
 below_single senders sender stream End below = (below, tt)
 below_single senders sender stream (Fail fault) below = (below, tt)
 
-below-append : (senders : ℕ) (front behind : List Item) → AllByRecursion (λ (item : Item). item.sender < senders) front → AllByRecursion (λ (item : Item). item.sender < senders) behind
-    → AllByRecursion (λ (item : Item). item.sender < senders) (front ++ behind)
-below-append senders [] behind one two = two
-below-append senders (item ∷ front) behind one two = (one.0, below-append senders front behind one.1 two)
+below-append : (senders : ℕ) (prefix suffix : List Item) → AllByRecursion (λ (item : Item). item.sender < senders) prefix → AllByRecursion (λ (item : Item). item.sender < senders) suffix
+    → AllByRecursion (λ (item : Item). item.sender < senders) (prefix ++ suffix)
+below-append senders [] suffix one two = two
+below-append senders (item ∷ prefix) suffix one two = (one.0, below-append senders prefix suffix one.1 two)
 
 below_singles : (senders : ℕ) (items : List Item) → AllByRecursion (λ (item : Item). item.sender < senders) items → AllByRecursion (λ (item : Item). item.sender < senders) (singles items)
 below_singles senders [] below = tt
@@ -174,26 +174,26 @@ below_singles senders (item ∷ items) below =
 
 -- ---- the whole table
 
-by_place : (max_bytes : ℕ) (given : List KnownSource) (table : List Log) → length table ≡ length given
-    → ((place : ℕ) (one : KnownSource) → slice_get given place ≡ Some one → (log : Log) × (slice_get table place ≡ Some log) × IsSettled max_bytes one log) → AreSettled max_bytes given table
-by_place max_bytes [] [] count each = tt
-by_place max_bytes [] (log ∷ table) count each = absurd (omega (arith, count))
-by_place max_bytes (one ∷ given) [] count each = absurd (omega (arith, count))
-by_place max_bytes (one ∷ given) (log ∷ table) count each =
+by_index : (max_bytes : ℕ) (given : List KnownSource) (table : List Log) → length table ≡ length given
+    → ((index : ℕ) (one : KnownSource) → slice_get given index ≡ Some one → (log : Log) × (slice_get table index ≡ Some log) × IsSettled max_bytes one log) → AreSettled max_bytes given table
+by_index max_bytes [] [] count each = tt
+by_index max_bytes [] (log ∷ table) count each = absurd (omega (arith, count))
+by_index max_bytes (one ∷ given) [] count each = absurd (omega (arith, count))
+by_index max_bytes (one ∷ given) (log ∷ table) count each =
     let first = each zero one refl in
-    (subst (IsSettled max_bytes one) (same first.0 first.1) first.2, by_place max_bytes given table (omega (arith, count)) (λ place other there. each (suc place) other there))
+    (subst (IsSettled max_bytes one) (same first.0 first.1) first.2, by_index max_bytes given table (omega (arith, count)) (λ index other there. each (suc index) other there))
   where
     same : (other : Log) → Some log ≡ Some other → other ≡ log
     same other is = cc
 
-name_there : (names : List (List ℕ)) (known : List KnownInput) (place : ℕ) (one : KnownSource) → slice_get (sources names known) place ≡ Some one → slice_get names place ≡ Some one.target
-name_there [] known place one there = absurd (none-some one there)
-name_there (name ∷ names) [] place one there = absurd (none-some one there)
+name_there : (names : List (List ℕ)) (known : List KnownInput) (index : ℕ) (one : KnownSource) → slice_get (sources names known) index ≡ Some one → slice_get names index ≡ Some one.target
+name_there [] known index one there = absurd (none-some one there)
+name_there (name ∷ names) [] index one there = absurd (none-some one there)
 name_there (name ∷ names) (stream ∷ known) zero one there = same there
   where
     same : Some (source name stream.must_close stream.stream) ≡ Some one → Some name ≡ Some one.target
     same is = ap (option_map (λ (given : KnownSource). given.target)) is
-name_there (name ∷ names) (stream ∷ known) (suc place) one there = name_there names known place one there
+name_there (name ∷ names) (stream ∷ known) (suc index) one there = name_there names known index one there
 
 posted_by_number : (max_bytes senders number : ℕ) (given : List KnownSource) (taken : List Item) (met : List Met) → IsMet number met → AllByRecursion (λ (m : Met). m.1 ≡ items_of m.0 taken) met
     → AllByRecursion (PostedExpected max_bytes senders given) met → AreExpected max_bytes number (share_of senders number 0 given) (singles (items_of number taken))
@@ -208,18 +208,18 @@ module _ (max_bytes senders : ℕ) (names : List (List ℕ)) (known : List Known
     (whole : AllByRecursion (λ (m : Met). m.1 ≡ items_of m.0 taken) met) (own : AllByRecursion (λ (item : Item). item.sender < senders) taken)
     (expects : AllByRecursion (PostedExpected max_bytes senders (sources names known)) met)
     (holds : (table ≡ stored (singles taken) (map new_log names)) × NoneOutOfMemory (singles taken)) where
-  each : (place : ℕ) (one : KnownSource) → slice_get (sources names known) place ≡ Some one → (log : Log) × (slice_get table place ≡ Some log) × IsSettled max_bytes one log
-  each place one there =
+  each : (index : ℕ) (one : KnownSource) → slice_get (sources names known) index ≡ Some one → (log : Log) × (slice_get table index ≡ Some log) × IsSettled max_bytes one log
+  each index one there =
       let known_there =
       sequence_of_each max_bytes senders (sources names known) (singles taken) some (below_singles senders taken own)
       (λ sender below. subst (AreExpected max_bytes sender (share_of senders sender 0 (sources names known))) (sym (items_of-singles sender taken))
       (posted_by_number max_bytes senders sender (sources names known) taken met (all_met sender below) whole expects))
-      place one there in
+      index one there in
       let entries = known_there.0 in let fault = known_there.1 in
-      let had = none_in_known entries fault (subst (AllByRecursion IsNotOutOfMemory) known_there.2 (none-on place (singles taken) holds.1)) in (
+      let had = none_in_known entries fault (subst (AllByRecursion IsNotOutOfMemory) known_there.2 (none-on index (singles taken) holds.1)) in (
         record { target = one.target; entries = entries; state = state_after fault },
-        ap (λ t. slice_get t place) holds.0 ∙ interleaved (singles taken) (map new_log names) place
-            ∙ ap (option_map (run (on place (singles taken)))) (slice_get-map new_log names place ∙ ap (option_map new_log) (name_there names known place one there))
+        ap (λ t. slice_get t index) holds.0 ∙ interleaved (singles taken) (map new_log names) index
+            ∙ ap (option_map (run (on index (singles taken)))) (slice_get-map new_log names index ∙ ap (option_map new_log) (name_there names known index one there))
             ∙ ap (λ whats. Some (run whats (new_log one.target))) known_there.2 ∙ ap Some (ran_known entries fault one.target),
         weaker one.stream (λ stream. IsComplete max_bytes (with_stream stream one) entries fault) (λ stream. record { target = one.target; entries = entries; state = state_after fault } ≡ log_after max_bytes (with_stream stream one))
             (λ stream is. λ i. record { target = one.target; entries = is.0 i; state = state_after (is.1 i) }) (is_whole max_bytes one entries fault known_there.3 had),
@@ -232,11 +232,11 @@ module _ (max_bytes senders : ℕ) (names : List (List ℕ)) (known : List Known
 
   pub all_settled : AreSettled max_bytes (sources names known) table
   all_settled =
-      by_place max_bytes (sources names known) table
+      by_index max_bytes (sources names known) table
       (ap length holds.0 ∙ length-stored (singles taken) (map new_log names) ∙ length-map names new_log ∙ count_sources names known count) each
 
 -- The table of a collector that took everything.
-pub settled_table : (max_bytes : ℕ) (names : List (List ℕ)) (known : List KnownInput) (collector : Collector) → AllTaken max_bytes names known collector → collector.out_of_memory ≡ false
+pub settled_table : (max_bytes : ℕ) (names : List (List ℕ)) (known : List KnownInput) (collector : LogCollector) → AllTaken max_bytes names known collector → collector.out_of_memory ≡ false
     → AreSettled max_bytes (sources names known) collector.table
 settled_table max_bytes names known collector taken fine =
     all_settled max_bytes collector.take_end.mailbox.senders names known collector.take_end.taken collector.take_end.met collector.table taken.expected.count taken.expected.some taken.met taken.whole taken.own

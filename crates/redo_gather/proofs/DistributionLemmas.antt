@@ -15,14 +15,14 @@ pub one_more : (senders sender number : ℕ) (given : List KnownSource) (one : K
     → share_of senders sender number (given ++ one ∷ []) ≡ share_of senders sender number given ++ cond (nat_eq ((number + length given) % senders) sender) ((number + length given, one) ∷ []) []
 one_more senders sender number [] one = ap (λ n. cond (nat_eq (n % senders) sender) ((n, one) ∷ []) []) (omega arith)
 one_more senders sender number (first ∷ given) one =
-    let place : suc number + length given ≡ number + suc (length given) = omega arith in
+    let number_is : suc number + length given ≡ number + suc (length given) = omega arith in
     by (nat_eq (number % senders) sender) _ _ _ (one_more senders sender (suc number) given one)
     ∙ ap (λ n. cond (nat_eq (number % senders) sender) ((number, first) ∷ share_of senders sender (suc number) given) (share_of senders sender (suc number) given)
-    ++ cond (nat_eq (n % senders) sender) ((n, one) ∷ []) []) place
+    ++ cond (nat_eq (n % senders) sender) ((n, one) ∷ []) []) number_is
   where
-    by : (here : Bool) (all front last : List NumberedSource) → all ≡ front ++ last → cond here ((number, first) ∷ all) all ≡ cond here ((number, first) ∷ front) front ++ last
-    by true all front last is = ap (λ share. (number, first) ∷ share) is
-    by false all front last is = is
+    by : (here : Bool) (all prefix last : List NumberedSource) → all ≡ prefix ++ last → cond here ((number, first) ∷ all) all ≡ cond here ((number, first) ∷ prefix) prefix ++ last
+    by true all prefix last is = ap (λ share. (number, first) ∷ share) is
+    by false all prefix last is = is
 
 -- The same, if the first number is 0.
 first_more : (senders sender : ℕ) (given : List KnownSource) (one : KnownSource)
@@ -49,8 +49,8 @@ pub sources-push : (targets : List (List ℕ)) (streams : List KnownInput) (targ
 sources-push [] streams target stream here = absurd (cc)
 sources-push (first ∷ targets) [] target stream here = (let same : first ≡ target = cc in λ i. source (same i) stream.must_close stream.stream ∷ sources-none targets [] refl i, refl)
 sources-push (first ∷ targets) (other ∷ streams) target stream here =
-    let behind = sources-push targets streams target stream here in
-    (ap (λ others. source first other.must_close other.stream ∷ others) behind.0, ap suc behind.1)
+    let rest = sources-push targets streams target stream here in
+    (ap (λ others. source first other.must_close other.stream ∷ others) rest.0, ap suc rest.1)
 
 -- The element at an index of a list in which one element was replaced.
 pub replaced : {X : Type 0} (xs : List X) (at k : ℕ) (new there : X) → slice_get (slice_set xs at new) k ≡ Some there → ((k ≢ at) × (slice_get xs k ≡ Some there)) ⊎ ((k ≡ at) × (there ≡ new))
@@ -69,10 +69,10 @@ one_of_none (suc n) zero none there is = let same : Some none ≡ Some there = i
 one_of_none (suc n) (suc k) none there is = one_of_none n k none there is
 
 -- The element at an index that exists.
-pub at_place : {X : Type 0} (xs : List X) (k : ℕ) (there : X) → k < length xs → there ≡ get_or xs k there → slice_get xs k ≡ Some there
-at_place [] k there within is = absurd (omega (arith, within))
-at_place (x ∷ xs) zero there within is = ap Some (sym is)
-at_place (x ∷ xs) (suc k) there within is = at_place xs k there (omega (arith, within)) is
+pub at_index : {X : Type 0} (xs : List X) (k : ℕ) (there : X) → k < length xs → there ≡ get_or xs k there → slice_get xs k ≡ Some there
+at_index [] k there within is = absurd (omega (arith, within))
+at_index (x ∷ xs) zero there within is = ap Some (sym is)
+at_index (x ∷ xs) (suc k) there within is = at_index xs k there (omega (arith, within)) is
 
 module _ {A : Type 0} (contents : A → Option Stream) (senders : ℕ) where
   pub none_distributed : (shares : List (List (ℕ × List ℕ × Bool × A))) → AreEmpty senders shares → AreDistributed contents senders [] shares

@@ -7,7 +7,7 @@ use Rattle.redo_gather.specs.declared.gather_fault.GatherFault.{GatherFault}
 use Rattle.redo_gather.specs.Gathered.{IsGathered}
 use Rattle.redo_gather.specs.Streams.{known_input, known_inputs}
 use Rattle.redo_gather.proofs.EnteringLemmas.{targets-entered}
-use Rattle.redo_gather.proofs.MarkLemmas.{count_zip}
+use Rattle.redo_gather.proofs.FlagLemmas.{count_zip}
 
 module _ (names : List (List ℕ)) (table : List Log) (entered : table ≡ map new_log names) where
   targets_are : targets_of table ≡ names
@@ -25,9 +25,9 @@ module _ (names : List (List ℕ)) (table : List Log) (entered : table ≡ map n
   module _ (R : Type 0) (flags : List Bool) (readers : List R) (pairs : List (Bool × R)) (pairs_are : pairs ≡ zip flags readers) where
     -- There are as many readers as logs.
     pub one_for_each : length flags ≡ length names → length readers ≡ length names → length pairs ≡ length table
-    one_for_each marked read = ap length pairs_are ∙ count_zip flags readers (read ∙ sym marked) ∙ read ∙ sym count_is
+    one_for_each pairs read = ap length pairs_are ∙ count_zip flags readers (read ∙ sym pairs) ∙ read ∙ sym count_is
 
-    -- A result gathered for the table is gathered for the names, the marks and the readers.
+    -- A result gathered for the table is gathered for the names, the flags and the readers.
     pub gathered_of : (contents : R → Option Stream) (max_bytes : ℕ) (result : Result (List Log) GatherFault)
         → IsGathered max_bytes (targets_of table) (map (known_input contents) pairs) result → IsGathered max_bytes names (known_inputs contents flags readers) result
     gathered_of contents max_bytes result gathered =

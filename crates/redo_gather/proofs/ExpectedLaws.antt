@@ -47,16 +47,16 @@ module _ (max_bytes : ℕ) (source : Source Stream) where
   pub may_owe_all : MayExpectAll max_bytes source
   may_owe_all = inl (refl, refl)
 
-  pub may_owe_front : MayExpectPrefix max_bytes source
-  may_owe_front front is = inr (is, refl)
+  pub may_owe_prefix : MayExpectPrefix max_bytes source
+  may_owe_prefix prefix is = inr (is, refl)
 
 abbrev first_what : List Item → What
 first_what [] = End
 first_what (item ∷ items) = item.what
 
-abbrev behind_first : List Item → List Item
-behind_first [] = []
-behind_first (item ∷ items) = items
+abbrev after_first : List Item → List Item
+after_first [] = []
+after_first (item ∷ items) = items
 
 module _ (max_bytes sender : ℕ) where
   pub expects_nothing : ExpectsNothing max_bytes sender
@@ -80,10 +80,10 @@ module _ (max_bytes sender : ℕ) where
   known_same stream [] (entry ∷ others) fault other is = absurd (no_more stream fault other entry others is)
   known_same stream (entry ∷ entries) [] fault other is = absurd (no_more stream other fault entry entries (sym is))
   known_same stream (entry ∷ entries) (one ∷ others) fault other is =
-      let behind : all_of entries fault stream ≡ all_of others other stream = ap behind_first is in
+      let rest : all_of entries fault stream ≡ all_of others other stream = ap after_first is in
       let whats : Line entry ≡ Line one = ap first_what is in
       let first : entry ≡ one = cc in
-      let same = known_same stream entries others fault other behind in
+      let same = known_same stream entries others fault other rest in
       (λ i. first i ∷ same.0 i, same.1)
 
   pub expects_one : ExpectsOne max_bytes sender
@@ -92,35 +92,35 @@ module _ (max_bytes sender : ℕ) where
     λ expected. (entries, fault, [], sym (append-nil (all_of entries fault stream)), expected, refl),
   )
     where
-      by : (others : List Entry) (other : Option StreamFault) (behind : List Item) → all_of entries fault stream ≡ all_of others other stream ++ behind → IsExpectedFor max_bytes given others other
-          → behind ≡ [] → IsExpectedFor max_bytes given entries fault
-      by others other behind is expected none =
+      by : (others : List Entry) (other : Option StreamFault) (suffix : List Item) → all_of entries fault stream ≡ all_of others other stream ++ suffix → IsExpectedFor max_bytes given others other
+          → suffix ≡ [] → IsExpectedFor max_bytes given entries fault
+      by others other suffix is expected none =
           let same = known_same stream entries others fault other (is ∙ ap (λ b. all_of others other stream ++ b) none ∙ append-nil (all_of others other stream)) in
           subst (λ f. IsExpectedFor max_bytes given entries f) (sym same.1) (subst (λ es. IsExpectedFor max_bytes given es other) (sym same.0) expected)
 
-  in_turn : (first others : List NumberedSource) (items : List Item) → AreExpected max_bytes sender (first ++ others) items → AreConcatenated max_bytes sender first others items
-  in_turn [] others items expected = ([], items, refl, refl, expected)
-  in_turn (stream ∷ first) others items (entries, fault, behind, is, expected, more) =
-      let turn = in_turn first others behind more in
+  in_order : (first others : List NumberedSource) (items : List Item) → AreExpected max_bytes sender (first ++ others) items → AreConcatenated max_bytes sender first others items
+  in_order [] others items expected = ([], items, refl, refl, expected)
+  in_order (stream ∷ first) others items (entries, fault, suffix, is, expected, more) =
+      let parts = in_order first others suffix more in
       let known = all_of entries fault stream.0 in (
-        known ++ turn.0,
-        turn.1,
-        is ∙ ap (λ b. known ++ b) turn.2 ∙ sym (append_assoc known turn.0 turn.1),
-        (entries, fault, turn.0, refl, expected, turn.3),
-        turn.4,
+        known ++ parts.0,
+        parts.1,
+        is ∙ ap (λ b. known ++ b) parts.2 ∙ sym (append_assoc known parts.0 parts.1),
+        (entries, fault, parts.0, refl, expected, parts.3),
+        parts.4,
       )
 
-  from_turn : (first others : List NumberedSource) (items : List Item) → AreConcatenated max_bytes sender first others items → AreExpected max_bytes sender (first ++ others) items
-  from_turn [] others items (front, behind, is, none, expected) = subst (AreExpected max_bytes sender others) (sym (is ∙ ap (λ f. f ++ behind) none)) expected
-  from_turn (stream ∷ first) others items (front, behind, is, (entries, fault, left, known_is, expected, more), last) =
+  from_order : (first others : List NumberedSource) (items : List Item) → AreConcatenated max_bytes sender first others items → AreExpected max_bytes sender (first ++ others) items
+  from_order [] others items (prefix, suffix, is, none, expected) = subst (AreExpected max_bytes sender others) (sym (is ∙ ap (λ f. f ++ suffix) none)) expected
+  from_order (stream ∷ first) others items (prefix, suffix, is, (entries, fault, left, known_is, expected, more), last) =
       let known = all_of entries fault stream.0 in (
         entries,
         fault,
-        left ++ behind,
-        is ∙ ap (λ f. f ++ behind) known_is ∙ append_assoc known left behind,
+        left ++ suffix,
+        is ∙ ap (λ f. f ++ suffix) known_is ∙ append_assoc known left suffix,
         expected,
-        from_turn first others (left ++ behind) (left, behind, refl, more, last),
+        from_order first others (left ++ suffix) (left, suffix, refl, more, last),
       )
 
-  pub expects_in_turn : ExpectsConcatenation max_bytes sender
-  expects_in_turn first others items = (in_turn first others items, from_turn first others items)
+  pub expects_concatenation : ExpectsConcatenation max_bytes sender
+  expects_concatenation first others items = (in_order first others items, from_order first others items)

@@ -17,7 +17,7 @@ use Rattle.redo_gather.specs.GatherFault.{IfStreamFault}
 use Rattle.redo_gather.specs.Private.GatherFault.{fault_of_stream}
 use Rattle.redo_gather.specs.Private.Storing.{HasFault, IsCompleted, completed}
 use Rattle.redo_gather.specs.Streams.{MatchKnown, SomeMatchingStreams, KnownInput, complete_log, logs_of, fault_among}
-use Rattle.redo_gather.proofs.StreamLemmas.{whole_logs, one_more, fault_behind, count_known, known-append, any_streams, given_stream}
+use Rattle.redo_gather.proofs.StreamLemmas.{whole_logs, one_more, fault_after, count_known, known-append, any_streams, given_stream}
 
 -- The first logs of a table are complete, one for each reader that was read to its end. The others are empty.
 pub record Gathered (max_bytes : ℕ) (names : List (List ℕ)) (known : List KnownInput) (table : List Log) : Type 0 where
@@ -104,7 +104,7 @@ module _ (max_bytes : ℕ) (names : List (List ℕ)) (known : List KnownInput) (
           logs_are =
               one_more max_bytes target one so_far.first so_far.streams so_far.logs log so_far.count so_far.logs_are (ap (λ es. Rattle.std.specs.Option.option_map (complete_log target) es) given.2);
           table_is =
-              completes.table_is ∙ ap (update_log (length known) (completed entries None)) table_here
+              completes.after_is ∙ ap (update_log (length known) (completed entries None)) table_here
               ∙ ap (λ n. update_log n (completed entries None) (so_far.logs ++ new_log target ∷ map new_log next.0)) (sym (logs_count ∙ number_is))
               ∙ update_log-here so_far.logs (new_log target) (map new_log next.0) (completed entries None) ∙ sym (append_assoc so_far.logs (log ∷ []) (map new_log next.0));
         }
@@ -118,7 +118,7 @@ module _ (max_bytes : ℕ) (names : List (List ℕ)) (known : List KnownInput) (
           so_far.streams ++ one ∷ others.0,
           known-append known (reader ∷ unread) so_far.streams (one ∷ others.0) so_far.known_are ((refl, given.1), others.1),
           ap (λ ts. fault_among max_bytes ts (so_far.streams ++ one ∷ others.0)) names_here
-              ∙ fault_behind max_bytes target one so_far.first so_far.streams so_far.logs next.0 others.0 fault so_far.count so_far.logs_are given.2
+              ∙ fault_after max_bytes target one so_far.first so_far.streams so_far.logs next.0 others.0 fault so_far.count so_far.logs_are given.2
               ∙ ap (λ (n : ℕ). Some (n, fault)) number_is,
         )
 

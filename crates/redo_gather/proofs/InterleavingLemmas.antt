@@ -36,12 +36,12 @@ on-other stream item items other = elim (eqb_tells item.stream stream) [
   | inr apart ↦ ap (λ b. cond b (item.what ∷ on stream items) (on stream items)) apart.0
 ]
 
-pub on-append : (stream : ℕ) (front behind : List Item) → on stream (front ++ behind) ≡ on stream front ++ on stream behind
-on-append stream [] behind = refl
-on-append stream (item ∷ front) behind = by (nat_eq item.stream stream) (on-append stream front behind)
+pub on-append : (stream : ℕ) (prefix suffix : List Item) → on stream (prefix ++ suffix) ≡ on stream prefix ++ on stream suffix
+on-append stream [] suffix = refl
+on-append stream (item ∷ prefix) suffix = by (nat_eq item.stream stream) (on-append stream prefix suffix)
   where
-    by : (own : Bool) → on stream (front ++ behind) ≡ on stream front ++ on stream behind
-        → cond own (item.what ∷ on stream (front ++ behind)) (on stream (front ++ behind)) ≡ cond own (item.what ∷ on stream front) (on stream front) ++ on stream behind
+    by : (own : Bool) → on stream (prefix ++ suffix) ≡ on stream prefix ++ on stream suffix
+        → cond own (item.what ∷ on stream (prefix ++ suffix)) (on stream (prefix ++ suffix)) ≡ cond own (item.what ∷ on stream prefix) (on stream prefix) ++ on stream suffix
     by true is = ap (λ whats. item.what ∷ whats) is
     by false is = is
 
@@ -70,16 +70,16 @@ ran_one what others (Some log) = refl
 pub interleaved : (items : List Item) (table : List Log) (stream : ℕ) → slice_get (stored items table) stream ≡ option_map (run (on stream items)) (slice_get table stream)
 interleaved [] table stream = ran_none (slice_get table stream)
 interleaved (item ∷ items) table stream =
-    let behind = interleaved items (update_log item.stream (step item.what) table) stream in
+    let rest = interleaved items (update_log item.stream (step item.what) table) stream in
     elim (eqb_tells item.stream stream) [
       | inl same ↦
-          behind
+          rest
           ∙ ap (option_map (run (on stream items)))
           (ap (λ k. slice_get (update_log k (step item.what) table) stream) same.1 ∙ log_here stream (step item.what) table)
           ∙ ran_one item.what (on stream items) (slice_get table stream)
           ∙ ap (λ whats. option_map (run whats) (slice_get table stream)) (sym (on-own stream item items same.1))
       | inr apart ↦
-          behind ∙ ap (option_map (run (on stream items))) (log_else item.stream stream (step item.what) table apart.1)
+          rest ∙ ap (option_map (run (on stream items))) (log_else item.stream stream (step item.what) table apart.1)
           ∙ ap (λ whats. option_map (run whats) (slice_get table stream)) (sym (on-other stream item items apart.1))
     ]
 
@@ -87,9 +87,9 @@ pub length-stored : (items : List Item) (table : List Log) → length (stored it
 length-stored [] table = refl
 length-stored (item ∷ items) table = length-stored items (update_log item.stream (step item.what) table) ∙ length-update_log item.stream (step item.what) table
 
-pub stored-append : (front behind : List Item) (table : List Log) → stored (front ++ behind) table ≡ stored behind (stored front table)
-stored-append [] behind table = refl
-stored-append (item ∷ front) behind table = stored-append front behind (update_log item.stream (step item.what) table)
+pub stored-append : (prefix suffix : List Item) (table : List Log) → stored (prefix ++ suffix) table ≡ stored suffix (stored prefix table)
+stored-append [] suffix table = refl
+stored-append (item ∷ prefix) suffix table = stored-append prefix suffix (update_log item.stream (step item.what) table)
 
 -- ---- a whole stream
 

@@ -2,15 +2,16 @@ mod CollectedLemmas
 mod DistributionLemmas
 mod EnteredLemmas
 mod EnteringLemmas
+mod ExpectedLaws
+mod ExpectedLemmas
+mod FlagLemmas
 mod GatherFaultRows
 mod GatheredLemmas
 mod GatheredRows
 mod GrowthLemmas
 mod InterleavingLemmas
-mod MarkLemmas
-mod ExpectedLaws
-mod ExpectedLemmas
 mod PostedLemmas
+mod ReaderLoopLemmas
 mod ReadingLemmas
 mod ReadyLemmas
 mod RunningLemmas
@@ -20,4 +21,3 @@ mod SettledLemmas
 mod SharesLemmas
 mod StreamLemmas
 mod StreamRows
-mod TurnLemmas

@@ -9,18 +9,18 @@ use Rattle.redo_gather.specs.Expected.{KnownSource, IsExpectedFor}
 use Rattle.redo_gather.specs.Private.Posting.{HasPosted, IsSharePosted, IsStreamPosted}
 use Rattle.redo_gather.specs.Sending.{AreExpected, AreWellSized, HasSent, IsWellSized, NumberedSource, item_of, final_what, entry_item, posted_since, singles, singles_in, stream_items}
 
-pub singles-append : (front behind : List Item) → singles (front ++ behind) ≡ singles front ++ singles behind
-singles-append [] behind = refl
-singles-append (item ∷ front) behind =
-    ap (λ items. singles_in item.sender item.stream item.what ++ items) (singles-append front behind)
-    ∙ sym (append_assoc (singles_in item.sender item.stream item.what) (singles front) (singles behind))
+pub singles-append : (prefix suffix : List Item) → singles (prefix ++ suffix) ≡ singles prefix ++ singles suffix
+singles-append [] suffix = refl
+singles-append (item ∷ prefix) suffix =
+    ap (λ items. singles_in item.sender item.stream item.what ++ items) (singles-append prefix suffix)
+    ∙ sym (append_assoc (singles_in item.sender item.stream item.what) (singles prefix) (singles suffix))
 
-well_sized-append : (front behind : List Item) → AreWellSized front → AreWellSized behind → AreWellSized (front ++ behind)
-well_sized-append [] behind first second = second
-well_sized-append (item ∷ front) behind first second = (first.0, well_sized-append front behind first.1 second)
+well_sized-append : (prefix suffix : List Item) → AreWellSized prefix → AreWellSized suffix → AreWellSized (prefix ++ suffix)
+well_sized-append [] suffix first second = second
+well_sized-append (item ∷ prefix) suffix first second = (first.0, well_sized-append prefix suffix first.1 second)
 
 pub nothing_posted : (end : PostEndState) → HasPosted end end []
-nothing_posted end = record { mailbox = refl; number = refl; items = []; posted = sym (append-nil end.posted); well_sized = tt; lines_are = refl }
+nothing_posted end = record { mailbox = refl; number = refl; items = []; posted = sym (append-nil end.posted); well_sized = tt; singles_are = refl }
 
 pub then_posted : (before between after : PostEndState) (first second : List Item) → HasPosted before between first → HasPosted between after second → HasPosted before after (first ++ second)
 then_posted before between after first second one two = record {
@@ -29,7 +29,7 @@ then_posted before between after first second one two = record {
   items = one.items ++ two.items;
   posted = two.posted ∙ ap (λ items. items ++ two.items) one.posted ∙ append_assoc before.posted one.items two.items;
   well_sized = well_sized-append one.items two.items one.well_sized two.well_sized;
-  lines_are = singles-append one.items two.items ∙ (λ i. one.lines_are i ++ two.lines_are i);
+  singles_are = singles-append one.items two.items ∙ (λ i. one.singles_are i ++ two.singles_are i);
 }
 
 pub one_posted : (before after : PostEndState) (item : Item) → after ≡ after_post item before → IsWellSized item.what → HasPosted before after (singles_in item.sender item.stream item.what)
@@ -39,7 +39,7 @@ one_posted before after item is size = record {
   items = item ∷ [];
   posted = ap (λ end. end.posted) is;
   well_sized = (size, tt);
-  lines_are = append-nil (singles_in item.sender item.stream item.what);
+  singles_are = append-nil (singles_in item.sender item.stream item.what);
 }
 
 -- Further entries of one stream.
@@ -49,6 +49,12 @@ lines_posted stream before between after first second one two =
     subst (HasPosted before after)
     (ap (λ n. map (entry_item before.number stream) first ++ map (entry_item n stream) second) one.number ∙ sym (map-append (entry_item before.number stream) first second))
     (then_posted before between after _ _ one two)
+
+-- The same, if the number of the stream is known to be the same.
+pub entries_posted : (stream same : ℕ) (before between after : PostEndState) (first second : List Entry) → same ≡ stream → HasPosted before between (map (entry_item before.number stream) first)
+    → HasPosted between after (map (entry_item between.number same) second) → HasPosted before after (map (entry_item before.number stream) (first ++ second))
+entries_posted stream same before between after first second is one two =
+    lines_posted stream before between after first second one (subst (λ n. HasPosted between after (map (entry_item between.number n) second)) is two)
 
 -- The end of a stream and its fault are no items of several entries.
 pub last_well_sized : (fault : Option StreamFault) → IsWellSized (final_what fault)
@@ -75,13 +81,13 @@ module _ (max_bytes sender : ℕ) where
       → IsExpectedFor max_bytes stream.1 entries fault → AreExpected max_bytes sender (share ++ stream ∷ []) (items ++ stream_items sender stream.0 entries fault)
   expected-more [] items stream entries fault are is =
       (entries, fault, [], ap (λ list. list ++ stream_items sender stream.0 entries fault) are ∙ sym (append-nil (stream_items sender stream.0 entries fault)), is, refl)
-  expected-more (first ∷ share) items stream entries fault (own, how, behind, items_are, expected, rest) is = (
+  expected-more (first ∷ share) items stream entries fault (own, how, suffix, items_are, expected, rest) is = (
     own,
     how,
-    behind ++ stream_items sender stream.0 entries fault,
-    ap (λ list. list ++ stream_items sender stream.0 entries fault) items_are ∙ append_assoc (stream_items sender first.0 own how) behind (stream_items sender stream.0 entries fault),
+    suffix ++ stream_items sender stream.0 entries fault,
+    ap (λ list. list ++ stream_items sender stream.0 entries fault) items_are ∙ append_assoc (stream_items sender first.0 own how) suffix (stream_items sender stream.0 entries fault),
     expected,
-    expected-more share behind stream entries fault rest is,
+    expected-more share suffix stream entries fault rest is,
   )
 
 pub none_sent : (max_bytes : ℕ) (end : PostEndState) → IsSharePosted max_bytes [] end end
@@ -105,6 +111,6 @@ all_sent max_bytes share before after (lines, posted, expected) =
     let since = since_is before after lines posted in record {
       unchanged = (posted.mailbox, posted.number);
       posted = posted.posted ∙ ap (λ items. before.posted ++ items) (sym since);
-      expected = subst (AreExpected max_bytes before.number share) (sym posted.lines_are ∙ ap singles (sym since)) expected;
+      expected = subst (AreExpected max_bytes before.number share) (sym posted.singles_are ∙ ap singles (sym since)) expected;
       well_sized = subst AreWellSized (sym since) posted.well_sized;
     }

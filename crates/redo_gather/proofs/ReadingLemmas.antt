@@ -61,17 +61,17 @@ module _ (scan : Scanned) (chunk : List ℕ) where
   pub took_nothing : scan.failed_with ≡ None → scan ≡ consume [] scan
   took_nothing none = λ i. record { target = scan.target; max_bytes = scan.max_bytes; must_close = scan.must_close; bytes = sym (append-nil scan.bytes) i; failed_with = none i }
 
-  took_both : (front behind whole : List ℕ) → front ++ behind ≡ whole → consume behind (consume front scan) ≡ consume whole scan
-  took_both front behind whole is =
+  took_both : (prefix suffix whole : List ℕ) → prefix ++ suffix ≡ whole → consume suffix (consume prefix scan) ≡ consume whole scan
+  took_both prefix suffix whole is =
       ap (λ (b : List ℕ). record { target = scan.target; max_bytes = scan.max_bytes; must_close = scan.must_close; bytes = b; failed_with = None })
-      (append_assoc scan.bytes front behind ∙ ap (λ (b : List ℕ). scan.bytes ++ b) is)
+      (append_assoc scan.bytes prefix suffix ∙ ap (λ (b : List ℕ). scan.bytes ++ b) is)
 
   module _ (now : Scanned) (from : ℕ) (now_is : now ≡ consume (take from chunk) scan) where
-    pub took_to : (new : Scanned) (upto : ℕ) → from ≤ upto → new ≡ consume (slice_range chunk from upto) now → new ≡ consume (take upto chunk) scan
-    took_to new upto forward new_is =
-        let reach : from + (upto - from) ≡ upto = omega arith in
-        new_is ∙ ap (consume (slice_range chunk from upto)) now_is
-        ∙ took_both (take from chunk) (slice_range chunk from upto) (take upto chunk) (sym (take-add from (upto - from) chunk) ∙ ap (λ n. take n chunk) reach)
+    pub took_to : (new : Scanned) (end_offset : ℕ) → from ≤ end_offset → new ≡ consume (slice_range chunk from end_offset) now → new ≡ consume (take end_offset chunk) scan
+    took_to new end_offset forward new_is =
+        let reach : from + (end_offset - from) ≡ end_offset = omega arith in
+        new_is ∙ ap (consume (slice_range chunk from end_offset)) now_is
+        ∙ took_both (take from chunk) (slice_range chunk from end_offset) (take end_offset chunk) (sym (take-add from (end_offset - from) chunk) ∙ ap (λ n. take n chunk) reach)
 
     pub took_rest : (new : Scanned) → new ≡ consume (drop from chunk) now → new ≡ consume chunk scan
     took_rest new new_is = new_is ∙ ap (consume (drop from chunk)) now_is ∙ took_both (take from chunk) (drop from chunk) chunk (take-append-drop from chunk)
@@ -85,15 +85,15 @@ module _ (scan : Scanned) (chunk : List ℕ) where
       pub cut_in : IsCutIn scan chunk entries
       cut_in = record {
         bytes = now.bytes;
-        behind = drop from chunk;
+        suffix = drop from chunk;
         bytes_are = sym whole;
         no_fault = sym (ap (λ (s : Scanned). fault_so_far s.target s.max_bytes now.bytes) now_is) ∙ read.fault_free.no_fault;
-        front = ([], sym (ap (λ (s : Scanned). entries_so_far s.target s.max_bytes now.bytes) now_is) ∙ sym read.entries_are ∙ sym (append-nil entries));
+        is_prefix = ([], sym (ap (λ (s : Scanned). entries_so_far s.target s.max_bytes now.bytes) now_is) ∙ sym read.entries_are ∙ sym (append-nil entries));
       }
 
-      pub refused_behind : (fault : StreamFault) → MayFailWith now (drop from chunk) fault → IsRefused scan chunk entries fault
-      refused_behind fault (inl memory) = inr (cut_in, memory)
-      refused_behind fault (inr at_fault) = inl (record {
+      pub refused_after : (fault : StreamFault) → MayFailWith now (drop from chunk) fault → IsRefused scan chunk entries fault
+      refused_after fault (inl memory) = inr (cut_in, memory)
+      refused_after fault (inr at_fault) = inl (record {
         fault_is =
             ap (fault_so_far scan.target scan.max_bytes) (sym whole)
             ∙ ap (λ (s : Scanned). fault_so_far s.target s.max_bytes (now.bytes ++ drop from chunk)) (sym now_is) ∙ at_fault.fault_is;
@@ -114,8 +114,8 @@ of_either entries part (Some log) of_log of_part = of_log
 of_either entries part None of_log of_part = of_part
 
 -- A prefix of a prefix is a prefix.
-front_of_front : (first second all : List Entry) → IsPrefix first second → IsPrefix second all → IsPrefix first all
-front_of_front first second all one two = (one.0 ++ two.0, two.1 ∙ ap (λ es. es ++ two.0) one.1 ∙ append_assoc first one.0 two.0)
+prefix_of_prefix : (first second all : List Entry) → IsPrefix first second → IsPrefix second all → IsPrefix first all
+prefix_of_prefix first second all one two = (one.0 ++ two.0, two.1 ∙ ap (λ es. es ++ two.0) one.1 ∙ append_assoc first one.0 two.0)
 
 module _ (target : List ℕ) (max_bytes : ℕ) (must_close : Bool) where
   known_part : (stream : Stream) (fault : StreamFault) → source_fault max_bytes (source target must_close stream) ≡ Some fault
@@ -134,24 +134,24 @@ module _ (target : List ℕ) (max_bytes : ℕ) (must_close : Bool) where
       subst (λ (s : Stream). IsExpected max_bytes (source target must_close s) entries (Some fault)) all
       (inl (are ∙ sym (early_part target max_bytes bytes gave.0.bytes false stream.fails fault other is) ∙ sym (known_part _ fault fault_is), sym fault_is))
 
-  front_known : (bytes : List ℕ) (entries : List Entry) → fault_so_far target max_bytes bytes ≡ None → IsPrefix entries (entries_so_far target max_bytes bytes)
+  prefix_known : (bytes : List ℕ) (entries : List Entry) → fault_so_far target max_bytes bytes ≡ None → IsPrefix entries (entries_so_far target max_bytes bytes)
       → (more : List ℕ) (fails : Bool) → IsPrefix entries (reported_entries max_bytes (source target must_close (stream_of (bytes ++ more) fails)))
-  front_known bytes entries fine front more fails =
-      front_of_front entries (entries_so_far target max_bytes bytes) _ front
+  prefix_known bytes entries fine prefix more fails =
+      prefix_of_prefix entries (entries_so_far target max_bytes bytes) _ prefix
       (of_either (entries_so_far target max_bytes bytes) _ _
       (of_log max_bytes (source target must_close (stream_of (bytes ++ more) fails)) (IsPrefix (entries_so_far target max_bytes bytes)) (entries_lead_log target max_bytes bytes more fails fine)) (entries_lead_part target max_bytes bytes more fails fine))
 
   -- Bytes that have no fault, with some of their first entries.
-  cut : (known after : Option Stream) (bytes behind : List ℕ) (entries : List Entry) → Gave known (bytes ++ behind) after → fault_so_far target max_bytes bytes ≡ None
+  cut : (known after : Option Stream) (bytes suffix : List ℕ) (entries : List Entry) → Gave known (bytes ++ suffix) after → fault_so_far target max_bytes bytes ≡ None
       → IsPrefix entries (entries_so_far target max_bytes bytes) → IsExpectedFor max_bytes (source target must_close known) entries (Some OutOfMemory)
-  cut known after bytes behind entries gave fine front = by known gave
+  cut known after bytes suffix entries gave fine prefix = by known gave
     where
-      by : (known : Option Stream) → Gave known (bytes ++ behind) after → IsExpectedFor max_bytes (source target must_close known) entries (Some OutOfMemory)
-      by None gave = (stream_of (bytes ++ behind) false, inr (front_known bytes entries fine front behind false, refl))
+      by : (known : Option Stream) → Gave known (bytes ++ suffix) after → IsExpectedFor max_bytes (source target must_close known) entries (Some OutOfMemory)
+      by None gave = (stream_of (bytes ++ suffix) false, inr (prefix_known bytes entries fine prefix suffix false, refl))
       by (Some stream) gave =
           subst (λ (s : Stream). IsExpected max_bytes (source target must_close s) entries (Some OutOfMemory))
-          (same_stream stream (bytes ++ (behind ++ gave.0.bytes)) stream.fails (gave.2 ∙ append_assoc bytes behind gave.0.bytes) refl)
-          (inr (front_known bytes entries fine front (behind ++ gave.0.bytes) stream.fails, refl))
+          (same_stream stream (bytes ++ (suffix ++ gave.0.bytes)) stream.fails (gave.2 ∙ append_assoc bytes suffix gave.0.bytes) refl)
+          (inr (prefix_known bytes entries fine prefix (suffix ++ gave.0.bytes) stream.fails, refl))
 
   module _ (known now after : Option Stream) (scan : Scanned) (entries : List Entry) (reading : Reading known now scan entries) (own : IsFor target max_bytes must_close scan) where
     own_fault : (bytes : List ℕ) → fault_so_far scan.target scan.max_bytes bytes ≡ fault_so_far target max_bytes bytes
@@ -197,11 +197,11 @@ module _ (target : List ℕ) (max_bytes : ℕ) (must_close : Bool) where
           stopped known after (scan.bytes ++ take n buffer) fault left more other (sym (own_fault _) ∙ stop.fault_is) (stop.entries_are ∙ own_entries _)
       at_refusal left fault other (inr (cut_there, memory)) =
           subst (λ (f : StreamFault). IsExpectedFor max_bytes (source target must_close known) left (Some f)) (sym memory)
-          (cut known after cut_there.bytes cut_there.behind left (subst (λ b. Gave known b after) cut_there.bytes_are more) (sym (own_fault cut_there.bytes) ∙ cut_there.no_fault)
-          (subst (IsPrefix left) (own_entries cut_there.bytes) cut_there.front))
+          (cut known after cut_there.bytes cut_there.suffix left (subst (λ b. Gave known b after) cut_there.bytes_are more) (sym (own_fault cut_there.bytes) ∙ cut_there.no_fault)
+          (subst (IsPrefix left) (own_entries cut_there.bytes) cut_there.is_prefix))
 
-      pub one_piece : (new : Scanned) (all : List Entry) → new ≡ consume (take n buffer) scan → IsRead new all → Reading known after new all
-      one_piece new all new_is read = record { gave = subst (λ (s : Scanned). Gave known s.bytes after) (sym new_is) more; read = read }
+      pub one_chunk : (new : Scanned) (all : List Entry) → new ≡ consume (take n buffer) scan → IsRead new all → Reading known after new all
+      one_chunk new all new_is read = record { gave = subst (λ (s : Scanned). Gave known s.bytes after) (sym new_is) more; read = read }
 
 -- All of a stream was read.
 module _ (known : Option Stream) (old new : Scanned) (entries : List Entry) (ended : IsReadToEnd known old new entries) where
@@ -257,5 +257,5 @@ module _ (known : Option Stream) (old new : Scanned) (entries : List Entry) (end
       weaker known (λ stream. (stream.bytes ≡ new.bytes) × (stream.fails ≡ false)) (λ stream. IsExpected old.max_bytes (source old.target old.must_close stream) entries (Some OutOfMemory))
       (λ stream is.
       subst (λ (s : Stream). IsExpected old.max_bytes (source old.target old.must_close s) entries (Some OutOfMemory)) (same_stream stream (new.bytes ++ []) false (is.0 ∙ sym (append-nil new.bytes)) is.1)
-      (inr (front_known old.target old.max_bytes old.must_close new.bytes entries fine_to_end ([], sym are_to_end ∙ sym (append-nil entries)) [] false, refl)))
+      (inr (prefix_known old.target old.max_bytes old.must_close new.bytes entries fine_to_end ([], sym are_to_end ∙ sym (append-nil entries)) [] false, refl)))
       ended.all

@@ -8,21 +8,21 @@ use Rattle.redo_device.specs.Feed.{Stream}
 use Rattle.redo_logs.specs.Logs.{new_log}
 use Rattle.redo_wire.specs.declared.item.Item.{Item}
 use Rattle.redo_wire.specs.Mailbox.{AreEndsOf, IsOpened, Mailbox, PostEndState}
-use Rattle.redo_gather.specs.declared.collector.Collector.{Collector as Collecting}
+use Rattle.redo_gather.specs.declared.collector.LogCollector.{LogCollector as Collecting}
 use Rattle.redo_gather.specs.Expected.{KnownSource}
 use Rattle.redo_gather.specs.Private.Collecting.{AllExpected, Collects, NoneOutOfMemory, PostedExpected, stored}
 use Rattle.redo_gather.specs.Private.Distribution.{AreDistributed, AreReady, share_of}
 use Rattle.redo_gather.specs.Sending.{AreExpected, HasSent, numbered_source, posted_since, singles}
 use Rattle.redo_gather.specs.Streams.{KnownInput}
 
-in_front : {X : Type 0} (front behind : List X) (k : ℕ) (there : X) → slice_get front k ≡ Some there → slice_get (front ++ behind) k ≡ Some there
-in_front [] behind k there is = absurd (none-some there is)
-in_front (x ∷ front) behind zero there is = is
-in_front (x ∷ front) behind (suc k) there is = in_front front behind k there is
+in_prefix : {X : Type 0} (prefix suffix : List X) (k : ℕ) (there : X) → slice_get prefix k ≡ Some there → slice_get (prefix ++ suffix) k ≡ Some there
+in_prefix [] suffix k there is = absurd (none-some there is)
+in_prefix (x ∷ prefix) suffix zero there is = is
+in_prefix (x ∷ prefix) suffix (suc k) there is = in_prefix prefix suffix k there is
 
-at_end : {X : Type 0} (front : List X) (last : X) → slice_get (front ++ last ∷ []) (length front) ≡ Some last
+at_end : {X : Type 0} (prefix : List X) (last : X) → slice_get (prefix ++ last ∷ []) (length prefix) ≡ Some last
 at_end [] last = refl
-at_end (x ∷ front) last = at_end front last
+at_end (x ∷ prefix) last = at_end prefix last
 
 pub all_but_last : (mailbox : Mailbox) (ends : List PostEndState) (last : PostEndState) → AllByRecursion (λ (end : PostEndState). end.mailbox ≡ mailbox) (ends ++ last ∷ [])
     → AllByRecursion (λ (end : PostEndState). end.mailbox ≡ mailbox) ends × (last.mailbox ≡ mailbox)
@@ -34,7 +34,7 @@ module _ {A : Type 0} (contents : A → Option Stream) (senders : ℕ) (given : 
       → AreReady contents senders given ends shares
   all_ready mailbox ends shares count are distributed = record {
     count = are.count ∙ count ∙ sym distributed.0;
-    fresh = λ place end there. (ap (λ (e : PostEndState). e.number) (are.each place end there), ap (λ (e : PostEndState). e.posted) (are.each place end there));
+    fresh = λ index end there. (ap (λ (e : PostEndState). e.number) (are.each index end there), ap (λ (e : PostEndState). e.posted) (are.each index end there));
     distributed = distributed.1;
   }
 
@@ -45,14 +45,14 @@ module _ {A : Type 0} (contents : A → Option Stream) (senders : ℕ) (given : 
     pub others_ready : AreReady contents senders given ends shares
     others_ready = record {
       count = same;
-      fresh = λ place other there. ready.fresh place other (in_front ends (end ∷ []) place other there);
-      distributed = λ sender other there. ready.distributed sender other (in_front shares (share ∷ []) sender other there);
+      fresh = λ index other there. ready.fresh index other (in_prefix ends (end ∷ []) index other there);
+      distributed = λ sender other there. ready.distributed sender other (in_prefix shares (share ∷ []) sender other there);
     }
 
     -- After the last end sent its share, it posted what is expected of it.
     pub last_expected : (max_bytes : ℕ) (after : PostEndState) → HasSent max_bytes (map (numbered_source contents) share) end after → PostedExpected max_bytes senders given (after.number, after.posted)
     last_expected max_bytes after sent =
-        subst (AreExpected max_bytes after.number (share_of senders after.number 0 given)) (sym lines_are)
+        subst (AreExpected max_bytes after.number (share_of senders after.number 0 given)) (sym singles_are)
         (subst (λ n. AreExpected max_bytes n (share_of senders n 0 given) lines) (sym sent.unchanged.1)
         (subst (λ s. AreExpected max_bytes end.number s lines) (ready.distributed (length shares) share (at_end shares share) ∙ ap (λ n. share_of senders n 0 given) (sym number_is)) sent.expected))
       where
@@ -65,8 +65,8 @@ module _ {A : Type 0} (contents : A → Option Stream) (senders : ℕ) (given : 
         number_is : end.number ≡ length shares
         number_is = fresh.0 ∙ same
 
-        lines_are : singles after.posted ≡ lines
-        lines_are = ap singles (sent.posted ∙ ap (λ items. items ++ posted_since end after) fresh.1)
+        singles_are : singles after.posted ≡ lines
+        singles_are = ap singles (sent.posted ∙ ap (λ items. items ++ posted_since end after) fresh.1)
 
 -- The result of collecting, beginning with a new mailbox and an empty table.
 pub all_are_expected : {A : Type 0} (contents : A → Option Stream) (max_bytes capacity senders : ℕ) (names : List (List ℕ)) (known : List KnownInput) (ends : List PostEndState) (shares : List (List (ℕ × List ℕ × Bool × A)))

@@ -35,17 +35,17 @@ never_alone item one = by item.sender item.stream item.what one
 abbrev AreOf : ℕ → List Item → Type 0
 AreOf sender items = AllByRecursion (λ (item : Item). item.sender ≡ sender) items
 
-front_of : (sender : ℕ) (front behind : List Item) → AreOf sender (front ++ behind) → AreOf sender front
-front_of sender [] behind all = tt
-front_of sender (item ∷ front) behind all = (all.0, front_of sender front behind all.1)
+prefix_of : (sender : ℕ) (prefix suffix : List Item) → AreOf sender (prefix ++ suffix) → AreOf sender prefix
+prefix_of sender [] suffix all = tt
+prefix_of sender (item ∷ prefix) suffix all = (all.0, prefix_of sender prefix suffix all.1)
 
-behind_of : (sender : ℕ) (front behind : List Item) → AreOf sender (front ++ behind) → AreOf sender behind
-behind_of sender [] behind all = all
-behind_of sender (item ∷ front) behind all = behind_of sender front behind all.1
+suffix_of : (sender : ℕ) (prefix suffix : List Item) → AreOf sender (prefix ++ suffix) → AreOf sender suffix
+suffix_of sender [] suffix all = all
+suffix_of sender (item ∷ prefix) suffix all = suffix_of sender prefix suffix all.1
 
-both_of : (sender : ℕ) (front behind : List Item) → AreOf sender front → AreOf sender behind → AreOf sender (front ++ behind)
-both_of sender [] behind first second = second
-both_of sender (item ∷ front) behind first second = (first.0, both_of sender front behind first.1 second)
+both_of : (sender : ℕ) (prefix suffix : List Item) → AreOf sender prefix → AreOf sender suffix → AreOf sender (prefix ++ suffix)
+both_of sender [] suffix first second = second
+both_of sender (item ∷ prefix) suffix first second = (first.0, both_of sender prefix suffix first.1 second)
 
 known_own : (sender stream : ℕ) (entries : List Entry) (fault : Option StreamFault) → AreOf sender (stream_items sender stream entries fault)
 known_own sender stream [] fault = (refl, tt)
@@ -53,8 +53,8 @@ known_own sender stream (entry ∷ entries) fault = (refl, known_own sender stre
 
 expected_own : (max_bytes sender : ℕ) (share : List NumberedSource) (items : List Item) → AreExpected max_bytes sender share items → AreOf sender items
 expected_own max_bytes sender [] items none = subst (AreOf sender) (sym none) tt
-expected_own max_bytes sender (stream ∷ share) items (entries, fault, behind, is, expected, more) =
-    subst (AreOf sender) (sym is) (both_of sender (stream_items sender stream.0 entries fault) behind (known_own sender stream.0 entries fault) (expected_own max_bytes sender share behind more))
+expected_own max_bytes sender (stream ∷ share) items (entries, fault, suffix, is, expected, more) =
+    subst (AreOf sender) (sym is) (both_of sender (stream_items sender stream.0 entries fault) suffix (known_own sender stream.0 entries fault) (expected_own max_bytes sender share suffix more))
 
 own_item : (own sender stream : ℕ) (what : What) → IsWellSized what → AreOf own (singles_in sender stream what) → sender ≡ own
 own_item own sender stream (Line entry) filled all = all.0
@@ -67,8 +67,8 @@ own_items : (own : ℕ) (items : List Item) → AreWellSized items → AreOf own
 own_items own [] filled all = tt
 own_items own (item ∷ items) filled all =
     let first = singles_in item.sender item.stream item.what in (
-      own_item own item.sender item.stream item.what filled.0 (front_of own first (singles items) all),
-      own_items own items filled.1 (behind_of own first (singles items) all),
+      own_item own item.sender item.stream item.what filled.0 (prefix_of own first (singles items) all),
+      own_items own items filled.1 (suffix_of own first (singles items) all),
     )
 
 pub posts_its_own : (max_bytes : ℕ) (share : List NumberedSource) (before after : PostEndState) → PostsOwnItems max_bytes share before after

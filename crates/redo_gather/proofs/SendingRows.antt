@@ -129,7 +129,7 @@ not_sent_more has = let same : item End ∷ [] ≡ [] = has.expected in cc
 abbrev whats : List Item → List What
 whats items = map (λ (item : Item). item.what) items
 
--- An item in the place of one that was posted before.
+-- An item in the index of one that was posted before.
 not_sent_in_its_place : HasSent 10 [] (end 1 3 (item (Line a) ∷ [])) (end 1 3 (item End ∷ [])) → ⊥
 not_sent_in_its_place has = let same : End ∷ [] ≡ Line a ∷ [] = ap whats has.posted in cc
 

@@ -60,16 +60,16 @@ module _ (max_bytes : ℕ) where
     pub logs_are : first_failed table ≡ None → logs_of max_bytes names streams ≡ Some table
 
   -- One more log, before the others.
-  in_front_of : (fault : Option StreamFault) (target : List ℕ) (all part : List Entry) (faults : List (Option StreamFault)) (logs : Option (List Log)) (table : List Log)
+  in_prefix_of : (fault : Option StreamFault) (target : List ℕ) (all part : List Entry) (faults : List (Option StreamFault)) (logs : Option (List Log)) (table : List Log)
       → (lowest_fault faults ≡ None → logs ≡ Some table) → lowest_fault (fault ∷ faults) ≡ None
       → prepend_log (option_map (complete_log target) (unless_fault fault all)) logs ≡ Some (record { target = target; entries = log_or_part (unless_fault fault all) part; state = state_after fault } ∷ table)
-  in_front_of (Some fault) target all part faults logs table others none = absurd (cc)
-  in_front_of None target all part faults logs table others none =
-      ap (prepend_log (Some (complete_log target all))) (others (none_behind (lowest_fault faults) none))
+  in_prefix_of (Some fault) target all part faults logs table others none = absurd (cc)
+  in_prefix_of None target all part faults logs table others none =
+      ap (prepend_log (Some (complete_log target all))) (others (none_after (lowest_fault faults) none))
     where
-      none_behind : (first : Option (ℕ × StreamFault)) → behind_one first ≡ None → first ≡ None
-      none_behind None none = refl
-      none_behind (Some found) none = absurd (cc)
+      none_after : (first : Option (ℕ × StreamFault)) → behind_one first ≡ None → first ≡ None
+      none_after None none = refl
+      none_after (Some found) none = absurd (cc)
 
   comes : (names : List (List ℕ)) (known : List KnownInput) (table : List Log) → length names ≡ length known → AreSettled max_bytes (sources names known) table → Comes names known table
   comes [] [] [] same are = record { streams = []; known_are = tt; faults_are = refl; logs_are = λ none. refl }
@@ -86,7 +86,7 @@ module _ (max_bytes : ℕ) where
         known_are = ((refl, given.1), others.known_are);
         faults_are = λ i. fault_is i ∷ others.faults_are i;
         logs_are = λ none.
-            in_front_of (source_fault max_bytes (source target one.must_close given.0)) target _ _ (map fault_in (states_of table)) (logs_of max_bytes names others.streams) table others.logs_are
+            in_prefix_of (source_fault max_bytes (source target one.must_close given.0)) target _ _ (map fault_in (states_of table)) (logs_of max_bytes names others.streams) table others.logs_are
             (ap (λ f. lowest_fault (f ∷ map fault_in (states_of table))) (sym fault_is) ∙ none)
             ∙ ap (λ (l : Log). Some (l ∷ table)) (sym given.2);
       }

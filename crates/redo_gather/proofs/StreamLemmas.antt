@@ -15,21 +15,21 @@ use Rattle.redo_gather.specs.Streams.{MatchKnown, MatchesContents, KnownInput, f
 either : (fault : Option StreamFault) (target : List ℕ) (entries : List Entry) (logs : Option (List Log)) (faults : List (Option StreamFault)) → IsSome logs ↔ (lowest_fault faults ≡ None)
     → IsSome (prepend_log (option_map (complete_log target) (unless_fault fault entries)) logs) ↔ (lowest_fault (fault ∷ faults) ≡ None)
 either (Some fault) target entries logs faults both = ((λ some. absurd (cc)), (λ none. absurd (cc)))
-either None target entries None faults both = ((λ some. absurd (cc)), (λ none. absurd (let some = both.1 (none_behind (lowest_fault faults) none) in cc)))
+either None target entries None faults both = ((λ some. absurd (cc)), (λ none. absurd (let some = both.1 (none_after (lowest_fault faults) none) in cc)))
   where
-    none_behind : (first : Option (ℕ × StreamFault)) → behind_one first ≡ None → first ≡ None
-    none_behind None none = refl
-    none_behind (Some found) none = absurd (cc)
+    none_after : (first : Option (ℕ × StreamFault)) → behind_one first ≡ None → first ≡ None
+    none_after None none = refl
+    none_after (Some found) none = absurd (cc)
 either None target entries (Some logs) faults both = ((λ some. ap behind_one (both.0 refl)), (λ none. refl))
 
 -- Logs that exist, with one before them.
 abbrev InFront : Option Log → Option (List Log) → List Log → Type 0
 InFront log logs all = (first : Log) × (others : List Log) × (log ≡ Some first) × (logs ≡ Some others) × (all ≡ first ∷ others)
 
-of_front : (log : Option Log) (logs : Option (List Log)) (all : List Log) → prepend_log log logs ≡ Some all → InFront log logs all
-of_front None logs all is = absurd (cc)
-of_front (Some log) None all is = absurd (cc)
-of_front (Some log) (Some logs) all is = (log, logs, refl, refl, (cc))
+of_prefix : (log : Option Log) (logs : Option (List Log)) (all : List Log) → prepend_log log logs ≡ Some all → InFront log logs all
+of_prefix None logs all is = absurd (cc)
+of_prefix (Some log) None all is = absurd (cc)
+of_prefix (Some log) (Some logs) all is = (log, logs, refl, refl, (cc))
 
 -- If the log exists, there is no fault.
 no_fault : (fault : Option StreamFault) (target : List ℕ) (entries : List Entry) (log : Log) → option_map (complete_log target) (unless_fault fault entries) ≡ Some log → (fault ≡ None) × (log.target ≡ target) × (has_ended log ≡ true)
@@ -55,11 +55,11 @@ module _ (max_bytes : ℕ) where
   whole_logs [] (stream ∷ streams) logs same is = absurd (cc)
   whole_logs (target ∷ targets) [] logs same is = absurd (cc)
   whole_logs (target ∷ targets) (stream ∷ streams) logs same is =
-      let front = of_front _ _ logs is in
-      let fine = no_fault (source_fault max_bytes (source target stream.must_close stream.stream)) target _ front.0 front.2 in
-      let others = whole_logs targets streams front.1 (omega (arith, same)) front.3 in (
-        ap targets_of front.4 ∙ ap (λ t. t ∷ targets_of front.1) fine.1 ∙ ap (λ ts. target ∷ ts) others.0,
-        ap (list_all has_ended) front.4 ∙ all_ended-more front.0 front.1 fine.2 others.1,
+      let prefix = of_prefix _ _ logs is in
+      let fine = no_fault (source_fault max_bytes (source target stream.must_close stream.stream)) target _ prefix.0 prefix.2 in
+      let others = whole_logs targets streams prefix.1 (omega (arith, same)) prefix.3 in (
+        ap targets_of prefix.4 ∙ ap (λ t. t ∷ targets_of prefix.1) fine.1 ∙ ap (λ ts. target ∷ ts) others.0,
+        ap (list_all has_ended) prefix.4 ∙ all_ended-more prefix.0 prefix.1 fine.2 others.1,
       )
 
   module _ (target : List ℕ) (stream : StreamInput Stream) where
@@ -70,22 +70,22 @@ module _ (max_bytes : ℕ) where
     one_more [] (other ∷ streams) logs log same is has = absurd (cc)
     one_more (first ∷ targets) [] logs log same is has = absurd (cc)
     one_more (first ∷ targets) (other ∷ streams) logs log same is has =
-        let front = of_front _ _ logs is in
-        ap (λ l. prepend_log l (logs_of max_bytes (targets ++ target ∷ []) (streams ++ stream ∷ []))) front.2
-        ∙ ap (prepend_log (Some front.0)) (one_more targets streams front.1 log (omega (arith, same)) front.3 has)
-        ∙ ap (λ (ls : List Log). Some (ls ++ log ∷ [])) (sym front.4)
+        let prefix = of_prefix _ _ logs is in
+        ap (λ l. prepend_log l (logs_of max_bytes (targets ++ target ∷ []) (streams ++ stream ∷ []))) prefix.2
+        ∙ ap (prepend_log (Some prefix.0)) (one_more targets streams prefix.1 log (omega (arith, same)) prefix.3 has)
+        ∙ ap (λ (ls : List Log). Some (ls ++ log ∷ [])) (sym prefix.4)
 
     -- A fault after streams that have none.
-    pub fault_behind : (targets : List (List ℕ)) (streams : List (StreamInput Stream)) (logs : List Log) (left : List (List ℕ)) (unread : List (StreamInput Stream)) (fault : StreamFault) → length targets ≡ length streams → logs_of max_bytes targets streams ≡ Some logs
+    pub fault_after : (targets : List (List ℕ)) (streams : List (StreamInput Stream)) (logs : List Log) (left : List (List ℕ)) (unread : List (StreamInput Stream)) (fault : StreamFault) → length targets ≡ length streams → logs_of max_bytes targets streams ≡ Some logs
         → source_fault max_bytes (source target stream.must_close stream.stream) ≡ Some fault → fault_among max_bytes (targets ++ target ∷ left) (streams ++ stream ∷ unread) ≡ Some (length targets, fault)
-    fault_behind [] [] logs left unread fault same is has = rw (has)
-    fault_behind [] (other ∷ streams) logs left unread fault same is has = absurd (cc)
-    fault_behind (first ∷ targets) [] logs left unread fault same is has = absurd (cc)
-    fault_behind (first ∷ targets) (other ∷ streams) logs left unread fault same is has =
-        let front = of_front _ _ logs is in
-        let fine = no_fault (source_fault max_bytes (source first other.must_close other.stream)) first _ front.0 front.2 in
+    fault_after [] [] logs left unread fault same is has = rw (has)
+    fault_after [] (other ∷ streams) logs left unread fault same is has = absurd (cc)
+    fault_after (first ∷ targets) [] logs left unread fault same is has = absurd (cc)
+    fault_after (first ∷ targets) (other ∷ streams) logs left unread fault same is has =
+        let prefix = of_prefix _ _ logs is in
+        let fine = no_fault (source_fault max_bytes (source first other.must_close other.stream)) first _ prefix.0 prefix.2 in
         ap (λ f. lowest_fault (f ∷ map (source_fault max_bytes) (sources (targets ++ target ∷ left) (streams ++ stream ∷ unread)))) fine.0
-        ∙ ap behind_one (fault_behind targets streams front.1 left unread fault (omega (arith, same)) front.3 has)
+        ∙ ap behind_one (fault_after targets streams prefix.1 left unread fault (omega (arith, same)) prefix.3 has)
         ∙ ap (λ (n : ℕ). Some (n, fault)) (omega arith)
 
 -- The streams that readers give.
@@ -96,10 +96,10 @@ count_known (known ∷ others) [] are = absurd are
 count_known (known ∷ others) (stream ∷ streams) are = ap suc (count_known others streams are.1)
 
 pub known-append : (known more : List KnownInput) (streams unread : List (StreamInput Stream)) → MatchKnown known streams → MatchKnown more unread → MatchKnown (known ++ more) (streams ++ unread)
-known-append [] more [] unread are behind = behind
-known-append [] more (stream ∷ streams) unread are behind = absurd are
-known-append (known ∷ others) more [] unread are behind = absurd are
-known-append (known ∷ others) more (stream ∷ streams) unread are behind = (are.0, known-append others more streams unread are.1 behind)
+known-append [] more [] unread are rest = rest
+known-append [] more (stream ∷ streams) unread are rest = absurd are
+known-append (known ∷ others) more [] unread are rest = absurd are
+known-append (known ∷ others) more (stream ∷ streams) unread are rest = (are.0, known-append others more streams unread are.1 rest)
 
 -- The known stream of a reader, or an empty one.
 any_stream : (known : Option Stream) → (stream : Stream) × MatchesContents known stream

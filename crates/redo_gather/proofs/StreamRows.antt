@@ -57,11 +57,11 @@ no_streams = (refl, refl)
 
 record FaultRow : Type 0 where
   streams : List (StreamInput Stream)
-  place : ℕ
+  number : ℕ
   fault : StreamFault
 
 abbrev has_fault : StreamInput Stream → StreamInput Stream → ℕ → StreamFault → FaultRow
-has_fault a b place fault = record { streams = a ∷ b ∷ []; place = place; fault = fault }
+has_fault a b number fault = record { streams = a ∷ b ∷ []; number = number; fault = fault }
 
 abbrev ok : List ℕ
 ok = line (codes "ok")
@@ -88,7 +88,7 @@ faults =
 abbrev targets : List (List ℕ)
 targets = codes "a" ∷ codes "b" ∷ []
 
-these_faults : AllByRecursion (λ row. (fault_among 1000 targets row.streams ≡ Some (row.place, row.fault)) × (logs_of 1000 targets row.streams ≡ None)) faults
+these_faults : AllByRecursion (λ row. (fault_among 1000 targets row.streams ≡ Some (row.number, row.fault)) × (logs_of 1000 targets row.streams ≡ None)) faults
 unfolding split_lines ended rest first_fault entry_of record_entry fields_of status_of split_once after_prefix number normal reduce_suffix
 these_faults = ((refl, refl), ((refl, refl), ((refl, refl), ((refl, refl), ((refl, refl), ((refl, refl), ((refl, refl), ((refl, refl), tt))))))))
 

@@ -36,7 +36,7 @@ module _ (max_bytes : ℕ) (source : Source Stream) where
 
   -- Any prefix of the stream's entries, with the fault `OutOfMemory`, is as expected.
   abbrev pub MayExpectPrefix : Type 0
-  MayExpectPrefix = (front : List Entry) → IsPrefix front (reported_entries max_bytes source) → IsExpected max_bytes source front (Some OutOfMemory)
+  MayExpectPrefix = (prefix : List Entry) → IsPrefix prefix (reported_entries max_bytes source) → IsExpected max_bytes source prefix (Some OutOfMemory)
 
 -- ---- what is expected for a share
 
@@ -54,7 +54,7 @@ module _ (max_bytes sender : ℕ) where
   -- The items are as expected for `first`, up to some item, and as expected for `others` from there on.
   abbrev pub AreConcatenated : List NumberedSource → List NumberedSource → List Item → Type 0
   AreConcatenated first others items =
-      (front behind : List Item) × (items ≡ front ++ behind) × AreExpected max_bytes sender first front × AreExpected max_bytes sender others behind
+      (prefix suffix : List Item) × (items ≡ prefix ++ suffix) × AreExpected max_bytes sender first prefix × AreExpected max_bytes sender others suffix
 
   -- For some streams followed by others, exactly such items are as expected.
   abbrev pub ExpectsConcatenation : Type 0

@@ -52,8 +52,8 @@ numbered_source contents item = (item.0, source item.1 item.2 (contents item.3))
 abbrev pub AreExpected : ℕ → ℕ → List NumberedSource → List Item → Type 0
 AreExpected max_bytes sender [] items = items ≡ []
 AreExpected max_bytes sender (stream ∷ share) items =
-    (entries : List Entry) × (fault : Option StreamFault) × (behind : List Item)
-    × (items ≡ stream_items sender stream.0 entries fault ++ behind) × IsExpectedFor max_bytes stream.1 entries fault × AreExpected max_bytes sender share behind
+    (entries : List Entry) × (fault : Option StreamFault) × (suffix : List Item)
+    × (items ≡ stream_items sender stream.0 entries fault ++ suffix) × IsExpectedFor max_bytes stream.1 entries fault × AreExpected max_bytes sender share suffix
 
 -- ---- what an end posts
 

@@ -19,7 +19,7 @@ use std::sync::Wait;
 /// Takes the items that senders post, and stores them in a table. After an allocation has failed, or an item has
 /// reported that one did, it goes on taking items and stores nothing more.
 #[derive(Drop)]
-pub struct Collector {
+pub struct LogCollector {
     pub take_end: TakeEnd,
     pub table: LogTable,
     pub out_of_memory: bool,
@@ -27,14 +27,14 @@ pub struct Collector {
     counts: Vec<u64>,
 }
 
-impl Collector {
+impl LogCollector {
     // Creates a collector that stores items in a table.
-    fn new(alloc: Global, take_end: TakeEnd, table: LogTable) -> Result<Collector, AllocError>
+    fn new(alloc: Global, take_end: TakeEnd, table: LogTable) -> Result<LogCollector, AllocError>
         ensures { IfOk result (λ collector.
             (collector.take_end ≡ take_end) × (collector.table ≡ table) × (collector.out_of_memory ≡ false)) }
     {
         let counts = vec![in alloc; 0u64; table.len() as usize]?;
-        Ok(Collector {
+        Ok(LogCollector {
             take_end,
             table,
             out_of_memory: false,
@@ -49,7 +49,7 @@ impl Collector {
         table: LogTable,
         capacity: u32,
         senders: u32,
-    ) -> Result<(Collector, Vec<PostEnd>), AllocError>
+    ) -> Result<(LogCollector, Vec<PostEnd>), AllocError>
         requires capacity { (1 ≤ capacity) × (capacity ≤ 2 ^ 16) }
         requires senders { (1 ≤ senders) × (senders ≤ 64) }
         ensures take_end { IfOk result (λ opened. IsOpened capacity senders opened.0.take_end) }
@@ -57,26 +57,26 @@ impl Collector {
         ensures begins { IfOk result (λ opened. (opened.0.table ≡ table) × (opened.0.out_of_memory ≡ false)) }
     {
         let (take_end, ends) = open(alloc, capacity, senders)?;
-        let collector = Collector::new(alloc, take_end, table)?;
+        let collector = LogCollector::new(alloc, take_end, table)?;
         Ok((collector, ends))
     }
 
-    /// Takes items until `streams` streams are over, or nothing more comes.
-    pub fn take<T: Wait, G: Gate>(&mut self, rt: &T, gate: &G, streams: usize)
+    /// Takes items until `stream_count` streams are over, or nothing more comes.
+    pub fn take<T: Wait, G: Gate>(&mut self, rt: &T, gate: &G, stream_count: usize)
         ensures unchanged { (self.new.take_end.mailbox ≡ self.old.take_end.mailbox) × (self.new.take_end.met ≡ self.old.take_end.met) }
         ensures holds { (names : List (List ℕ)) → StoresAllTaken names self.old.take_end.taken self.old.table self.old.out_of_memory →
             StoresAllTaken names self.new.take_end.taken self.new.table self.new.out_of_memory }
     {
-        let mut left = streams;
+        let mut remaining = stream_count;
         for _ in rt.forever() {
-            if left == 0 {
+            if remaining == 0 {
                 return;
             }
             let Some(item) = self.take_end.take(rt) else {
                 return;
             };
             if is_final(&item.what) {
-                left -= 1;
+                remaining -= 1;
             }
             self.store_and_notify(rt, gate, item);
         }
@@ -111,12 +111,12 @@ impl Collector {
         if !self.take_end.all_met() {
             return Err(GatherFault::OutOfMemory);
         }
-        self.take_rest(rt, gate);
+        self.drain(rt, gate);
         self.final_result()
     }
 
     // Takes what is left after all ends were met.
-    fn take_rest<T: Wait, G: Gate>(&mut self, rt: &T, gate: &G)
+    fn drain<T: Wait, G: Gate>(&mut self, rt: &T, gate: &G)
         requires { AreAllMet self.old.take_end }
         ensures met { AreAllMet self.new.take_end }
         ensures unchanged { (self.new.take_end.mailbox ≡ self.old.take_end.mailbox) × (self.new.take_end.met ≡ self.old.take_end.met) }
@@ -156,11 +156,11 @@ impl Collector {
             StoresAllTaken names (before ++ item ∷ []) self.new.table self.new.out_of_memory }
     {
         let stream = item.stream;
-        let lines = entry_count(&item.what);
-        let is_over = is_final(&item.what);
+        let added = entry_count(&item.what);
+        let ends_stream = is_final(&item.what);
         self.store(item);
-        self.notify_gate(rt, gate, stream, lines);
-        if is_over {
+        self.notify_gate(rt, gate, stream, added);
+        if ends_stream {
             gate.over(rt, stream);
         }
     }
@@ -181,26 +181,26 @@ impl Collector {
         };
     }
 
-    // Notifies the gate of `lines` further entries.
-    fn notify_gate<T: Wait, G: Gate>(&mut self, rt: &T, gate: &G, stream: u32, lines: usize)
+    // Notifies the gate of `added` further entries.
+    fn notify_gate<T: Wait, G: Gate>(&mut self, rt: &T, gate: &G, stream: u32, added: usize)
         ensures { (self.new.take_end ≡ self.old.take_end) × (self.new.table ≡ self.old.table)
             × (self.new.out_of_memory ≡ self.old.out_of_memory) }
     {
         if let Some(count) = self.counts.get_mut(stream as usize) {
-            notify_gate_each(rt, gate, stream, count, lines);
+            notify_gate_each(rt, gate, stream, count, added);
         }
     }
 }
 
-// Counts `lines` further entries of a stream, and notifies the gate of each of them.
+// Counts `added` further entries of a stream, and notifies the gate of each of them.
 fn notify_gate_each<T: Wait, G: Gate>(
     rt: &T,
     gate: &G,
     stream: u32,
     count: &mut u64,
-    lines: usize,
+    added: usize,
 ) {
-    for _ in 0..lines {
+    for _ in 0..added {
         *count = count.wrapping_add(1);
         gate.taken(rt, stream, *count);
     }

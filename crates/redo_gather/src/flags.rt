@@ -10,12 +10,12 @@ pub fn zip_flags<R: Feed>(
     readers: Vec<R>,
 ) -> Result<Vec<(bool, R)>, AllocError>
     requires { length readers.items ≡ length flags.items }
-    ensures { IfOk result (λ marked. marked.items ≡ zip flags.items readers.items) }
+    ensures { IfOk result (λ pairs. pairs.items ≡ zip flags.items readers.items) }
 {
-    let mut marked = Vec::with_capacity(alloc, readers.len())?;
+    let mut pairs = Vec::with_capacity(alloc, readers.len())?;
     for reader in readers {
-        let must_close = flags[marked.len()];
-        marked.push((must_close, reader))?;
+        let must_close = flags[pairs.len()];
+        pairs.push((must_close, reader))?;
     }
-    Ok(marked)
+    Ok(pairs)
 }

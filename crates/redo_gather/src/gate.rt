@@ -3,12 +3,13 @@ use std::sync::Wait;
 /// Is notified of the progress of a gathering by each of its threads, and may hold the thread that notifies
 /// it. The result of the gathering is the same with every gate. Gates serve tests of concurrency.
 pub trait Gate: Sync {
-    /// Called before each read of a stream, by the thread that reads it. `turn` counts the stream's reads from 1.
-    fn before_read<R: Wait>(&self, rt: &R, stream: u32, turn: u64);
+    /// Called before each read of a stream, by the thread that reads it. `read_number` counts the stream's
+    /// reads from 1.
+    fn before_read<R: Wait>(&self, rt: &R, stream: u32, read_number: u64);
 
-    /// Called after an entry of a stream was taken, by the thread that takes. `lines` counts the stream's entries
-    /// from 1.
-    fn taken<R: Wait>(&self, rt: &R, stream: u32, lines: u64);
+    /// Called after an entry of a stream was taken, by the thread that takes. `entry_number` counts the stream's
+    /// entries from 1.
+    fn taken<R: Wait>(&self, rt: &R, stream: u32, entry_number: u64);
 
     /// Called after a stream's end or fault was taken, by the thread that takes.
     fn over<R: Wait>(&self, rt: &R, stream: u32);
@@ -19,9 +20,9 @@ pub trait Gate: Sync {
 pub struct Free;
 
 impl Gate for Free {
-    fn before_read<R: Wait>(&self, _rt: &R, _stream: u32, _turn: u64) {}
+    fn before_read<R: Wait>(&self, _rt: &R, _stream: u32, _read_number: u64) {}
 
-    fn taken<R: Wait>(&self, _rt: &R, _stream: u32, _lines: u64) {}
+    fn taken<R: Wait>(&self, _rt: &R, _stream: u32, _entry_number: u64) {}
 
     fn over<R: Wait>(&self, _rt: &R, _stream: u32) {}
 }

@@ -11,7 +11,7 @@ ghost use Rattle.redo_gather.specs.Streams.{known_input, known_inputs};
 ghost use Rattle.redo_gather.specs.Private.Collecting.{Collects};
 ghost use Rattle.redo_gather.specs.Private.Distribution.{AreDistributed, AreEmpty};
 
-use crate::collector::Collector;
+use crate::collector::LogCollector;
 use crate::flags::zip_flags;
 use crate::gate::Gate;
 use crate::gather_fault::GatherFault;
@@ -40,40 +40,9 @@ use std::thread::{PromisedHandle, Scope, Threads};
 /// runs out, even for a thread, `OutOfMemory` is returned instead.
 ///
 /// The sender notifies the gate before each read. The calling thread notifies it after it has taken an entry or an
-/// end. If an untrusted party can choose the names that logs mention, it can make this slow: use
-/// [`gather_with_keys`] then.
+/// end. Names are looked up by a hash with these keys. The result doesn't depend on them, but with keys that an
+/// untrusted party knows, it can choose names that make this slow.
 pub fn gather<T: Threads + Wait + Sync, R: Feed + Send, G: Gate>(
-    rt: &T,
-    alloc: Global,
-    names: Vec<TargetName>,
-    flags: Vec<bool>,
-    readers: Vec<R>,
-    plan: &Plan,
-    gate: &G,
-) -> Result<LogTable, GatherFault>
-    requires flags { length flags.items ≡ length names.items }
-    requires readers { length readers.items ≡ length names.items }
-    requires distinct { IsDistinct (pointwise nat_eq) names.items }
-    requires size { length names.items ≤ max_logs }
-
-    // The logs of the streams, or the fault of the lowest-numbered stream that has one, or `OutOfMemory`.
-    ensures gathered { IsGathered plan.now.max_bytes names.items (known_inputs R.contents flags.items readers.items) result }
-    ensures never_out_of_memory { IfStreamFault result (λ number fault. fault ≢ OutOfMemory) }
-{
-    gather_with_keys(
-        rt,
-        alloc,
-        HashKeys::fixed(),
-        names,
-        flags,
-        readers,
-        plan,
-        gate,
-    )
-}
-
-/// Does the same as [`gather`], and looks up names by a hash with these keys. The result doesn't depend on them.
-pub fn gather_with_keys<T: Threads + Wait + Sync, R: Feed + Send, G: Gate>(
     rt: &T,
     alloc: Global,
     keys: HashKeys,
@@ -119,7 +88,7 @@ fn gather_by<T: Threads + Wait + Sync, R: Feed + Send, G: Gate>(
     ensures never_out_of_memory { IfStreamFault result (λ number fault. fault ≢ OutOfMemory) }
 {
     let shares = distribute(alloc, &table, readers, senders)?;
-    let (collector, ends) = Collector::open(alloc, table, plan.capacity(), senders)?;
+    let (collector, ends) = LogCollector::open(alloc, table, plan.capacity(), senders)?;
     let max_bytes = plan.max_bytes();
     run_senders(rt, alloc, ends, shares, max_bytes, gate, collector).finish(rt, gate)
 }
@@ -132,8 +101,8 @@ fn run_senders<T: Threads + Wait + Sync, R: Feed + Send, G: Gate>(
     shares: Vec<Share<R>>,
     max_bytes: u64,
     gate: &G,
-    collector: Collector,
-) -> Collector
+    collector: LogCollector,
+) -> LogCollector
     requires one { AllByRecursion (λ end. end.mailbox ≡ collector.take_end.mailbox) ends.items }
     requires limit { (1 ≤ max_bytes) × (max_bytes ≤ 2 ^ 40) }
     ensures { Collects R.contents max_bytes ends.items (map (λ share. share.items) shares.items) collector result }
@@ -141,7 +110,7 @@ fn run_senders<T: Threads + Wait + Sync, R: Feed + Send, G: Gate>(
     thread::scope(
         thread::scope_env(),
         rt,
-        |scope| -> Collector
+        |scope| -> LogCollector
             requires one { AllByRecursion (λ end. end.mailbox ≡ collector.take_end.mailbox) ends.items }
             requires limit { (1 ≤ max_bytes) × (max_bytes ≤ 2 ^ 40) }
             ensures { Collects R.contents max_bytes ends.items (map (λ share. share.items) shares.items) collector result }
@@ -201,7 +170,7 @@ fn empty_shares<R: Drop>(alloc: Global, senders: u32) -> Result<Vec<Share<R>>, A
 }
 
 // Starts a sender for each end and its share, in its own thread. Takes what they post meanwhile, joins them and
-// meets their ends. `streams` counts the streams of the senders that were started before. If a sender can't be
+// meets their ends. `streams_before` counts the streams of the senders that were started before. If a sender can't be
 // started, no more are started, and what is posted of these streams is taken before the senders are joined.
 fn run_next_sender<'s, T: Threads + Wait + Sync, R: Feed + Send + 's, G: Gate, E>(
     scope: &Scope<'s, E>,
@@ -211,25 +180,25 @@ fn run_next_sender<'s, T: Threads + Wait + Sync, R: Feed + Send + 's, G: Gate, E
     mut shares: Vec<Share<R>>,
     max_bytes: u64,
     gate: &'s G,
-    streams: usize,
-    collector: &mut Collector,
+    streams_before: usize,
+    collector: &mut LogCollector,
 )
     requires one { AllByRecursion (λ end. end.mailbox ≡ collector.old.take_end.mailbox) ends.items }
     requires limit { (1 ≤ max_bytes) × (max_bytes ≤ 2 ^ 40) }
     ensures { Collects R.contents max_bytes ends.items (map (λ share. share.items) shares.items) collector.old collector.new }
 {
     let (Some(end), Some(share)) = (ends.pop(), shares.pop()) else {
-        collector.take(rt, gate, streams);
+        collector.take(rt, gate, streams_before);
         return;
     };
-    let streams_then = streams.wrapping_add(share.len());
+    let streams_after = streams_before.wrapping_add(share.len());
     let sender = Sender {
         end,
         share,
         max_bytes,
     };
     let Ok(thread) = spawn_sender(scope, rt, alloc, sender, gate) else {
-        collector.take(rt, gate, streams);
+        collector.take(rt, gate, streams_before);
         return;
     };
     run_next_sender(
@@ -240,7 +209,7 @@ fn run_next_sender<'s, T: Threads + Wait + Sync, R: Feed + Send + 's, G: Gate, E
         shares,
         max_bytes,
         gate,
-        streams_then,
+        streams_after,
         collector,
     );
     let end = thread.join(rt);

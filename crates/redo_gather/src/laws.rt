@@ -41,7 +41,7 @@ pub fn expected_for_stream()
 pub fn expected_for_share()
     ensures nothing { (max_bytes sender : ℕ) → ExpectsNothing max_bytes sender }
     ensures one { (max_bytes sender : ℕ) → ExpectsOne max_bytes sender }
-    ensures turn { (max_bytes sender : ℕ) → ExpectsConcatenation max_bytes sender }
+    ensures concatenation { (max_bytes sender : ℕ) → ExpectsConcatenation max_bytes sender }
 {}
 
 /// However entries are grouped into items, each item has the number of its sender. It has one entry or, in

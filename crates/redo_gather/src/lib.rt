@@ -13,13 +13,15 @@ mod gathering;
 mod laws;
 mod one_stream;
 mod plain;
+mod poster;
+mod reading;
 mod sender;
 mod sending;
 mod storing;
 
 pub use gate::{Free, Gate};
 pub use gather_fault::GatherFault;
-pub use gathering::{gather, gather_with_keys};
+pub use gathering::gather;
 pub use laws::{
     expected_for_share, expected_for_stream, items_for_share, known_streams_decide,
     logs_unless_fault,

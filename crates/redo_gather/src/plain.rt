@@ -48,10 +48,10 @@ pub fn gather_plain<R: Feed>(
     ensures gathered { IsGathered max_bytes names.items (known_inputs R.contents flags.items readers.items) result }
     ensures never_out_of_memory { IfStreamFault result (λ number fault. fault ≢ OutOfMemory) }
 {
-    let mut room = vec![in alloc; 0u8; READ_BYTES]?;
+    let mut buffer = vec![in alloc; 0u8; READ_BYTES]?;
     let mut table = new_table(alloc, HashKeys::fixed(), names)?;
     let readers = zip_flags(alloc, flags, readers)?;
-    gather_into(alloc, &mut table, readers, max_bytes, room.as_mut_slice()).and(Ok(table))
+    gather_into(alloc, &mut table, readers, max_bytes, buffer.as_mut_slice()).and(Ok(table))
 }
 
 // Completes the empty logs of a table of the targets, or returns the fault.
@@ -67,7 +67,6 @@ fn gather_into<R: Feed>(
     requires begins { table.old ≡ map new_log (targets_of table.old) }
     requires readers { length readers.items ≡ length table.old }
     requires size { length table.old ≤ max_logs }
-    requires room { 0 < length buf.old }
     ensures gathered { IsGathered max_bytes (targets_of table.old) (map (known_input R.contents) readers.items)
         (result_and result (Ok table.new)) }
     ensures never_out_of_memory { IfStreamFault result (λ number fault. fault ≢ OutOfMemory) }
@@ -101,17 +100,15 @@ fn gather_one<R: Feed>(
     requires at_least { 1 ≤ max_bytes }
     requires at_most { max_bytes ≤ 2 ^ 40 }
     requires runs { slice_get (states_of table.old) number ≡ Some Running }
-    requires room { 0 < length buf.old }
     ensures completed { (target : List ℕ) → slice_get (targets_of table.old) number ≡ Some target →
         OnOk result (IsCompleted max_bytes number (source target must_close (R.contents reader.old)) table.old table.new) }
     ensures fault { (target : List ℕ) → slice_get (targets_of table.old) number ≡ Some target →
         IfStreamFault result (λ other fault. (other ≡ number)
         × HasFault max_bytes (source target must_close (R.contents reader.old)) fault) }
     ensures never_out_of_memory { IfStreamFault result (λ number fault. fault ≢ OutOfMemory) }
-    ensures buf { length buf.new ≡ length buf.old }
 {
     let target = table.name(number).copy(alloc)?;
-    let log = read_stream(alloc, target, max_bytes, must_close, reader, buf, &|_| {});
+    let log = read_stream(alloc, target, max_bytes, must_close, reader, buf);
     let fault = log.fault;
     if let Some(fault) = fault {
         return Err(GatherFault::of(number, fault));

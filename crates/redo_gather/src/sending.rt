@@ -1,26 +1,19 @@
-ghost use Rattle.std.specs.Prelude.{◌≡◌, ◌≢◌, ◌<◌, ◌≤◌, ◌^◌, ◌++◌, [], IfOk, IfErr, OnOk, OnErr, length, map, List};
-ghost use Rattle.redo_line.specs.declared.stream_fault.StreamFault.TheVariants.{OutOfMemory, Read};
-ghost use Rattle.redo_line.specs.declared.entry.Entry.{Entry as EntryValue};
-ghost use Rattle.redo_line.specs.Scan.{Scanned};
+ghost use Rattle.std.specs.Prelude.{◌≡◌, ◌≤◌, ◌^◌, ◌++◌, [], map};
 ghost use Rattle.redo_line.specs.Source.{source};
-ghost use Rattle.redo_gather.specs.Private.Posting.{AreLinesPosted, ArePiecesPosted, HasPosted, IsPosted, IsStreamPosted};
-ghost use Rattle.redo_gather.specs.Private.Reading.{IsRead, IsReadTo, IsRefused, fault_in};
-ghost use Rattle.redo_gather.specs.Sending.{AreExpected, AreWellSized, IsWellSized, final_what, entry_item, max_entries, numbered_source, posted_since, singles, singles_in};
+ghost use Rattle.redo_gather.specs.Private.Posting.{IsStreamPosted};
+ghost use Rattle.redo_gather.specs.Private.Reading.{IsRead, fault_in};
+ghost use Rattle.redo_gather.specs.Sending.{AreExpected, AreWellSized, final_what, numbered_source, posted_since, singles};
 
 use crate::gate::Gate;
-use redo_line::{Broken, Entries, Feed, Scan, StreamFault, TargetName};
-use redo_wire::{Item, PostEnd, What};
-use std::alloc::{AllocError, Global};
+use crate::poster::{Poster, post};
+use crate::reading::read_entries;
+use redo_line::{Feed, Scan, StreamFault, TargetName};
+use redo_wire::{PostEnd, What};
+use std::alloc::Global;
 use std::sync::Wait;
 
 // The maximum number of bytes of one read.
 const READ_BYTES: usize = 64 * 1024;
-
-// The maximum number of entries in an item.
-const MAX_BATCH_ENTRIES: usize = 1024;
-
-// Once the texts and names of an item have this many bytes, no more lines are added to it.
-const MAX_BATCH_BYTES: usize = 128 * 1024;
 
 /// The streams of one sender, in order. Each has its number, the target of its log, its must-close flag (whether it
 /// must end with the closing record of this log), and its reader.
@@ -56,22 +49,18 @@ pub fn send<T: Wait, R: Feed, G: Gate>(
     ensures well_sized { AreWellSized (posted_since end result) }
 {
     let mut end = end;
-    let mut room = read_buffer(alloc);
-    let buf = room.as_mut_slice();
+    let mut buffer = read_buffer(alloc);
+    let buf = buffer.as_mut_slice();
     for (stream, target, must_close, mut reader) in share {
-        let before_read = |turn| gate.before_read(rt, stream, turn);
-        send_stream(
+        let before_read = |read_number| gate.before_read(rt, stream, read_number);
+        let scan = Scan::new(alloc, target, max_bytes, must_close);
+        let poster = Poster {
             rt,
             alloc,
-            &mut end,
+            end,
             stream,
-            target,
-            max_bytes,
-            must_close,
-            &mut reader,
-            buf,
-            &before_read,
-        );
+        };
+        end = send_stream(poster, scan, &mut reader, buf, &before_read);
     }
     end
 }
@@ -79,209 +68,43 @@ pub fn send<T: Wait, R: Feed, G: Gate>(
 // Returns a buffer for one read; an empty one if there is no memory.
 fn read_buffer(alloc: Global) -> Vec<u8> {
     match vec![in alloc; 0u8; READ_BYTES] {
-        Ok(room) => room,
+        Ok(buffer) => buffer,
         Err(_) => Vec::new(alloc),
     }
 }
 
-// Posts a stream's entries, and its end or its fault.
+// Posts a stream's entries, and its end or its fault. Returns the end.
 fn send_stream<T: Wait, R: Feed, B: Fn(u64)>(
-    rt: &T,
-    alloc: Global,
-    end: &mut PostEnd,
-    stream: u32,
-    target: TargetName,
-    max_bytes: u64,
-    must_close: bool,
-    reader: &mut R,
-    buf: &mut [u8],
-    before_read: &B,
-)
-    requires at_least { 1 ≤ max_bytes }
-    requires at_most { max_bytes ≤ 2 ^ 40 }
-    requires callable { B.IsAlwaysCallable before_read.now }
-    ensures { IsStreamPosted max_bytes stream (source target must_close (R.contents reader.old)) end.old end.new }
-{
-    let scan = Scan::new(alloc, target, max_bytes, must_close);
-    let answer = send_entries(rt, alloc, end, stream, scan, reader, buf, before_read);
-    post(rt, end, stream, last_item(answer));
-}
-
-// Returns what is posted after the entries of a stream.
-fn last_item(answer: Result<(), StreamFault>) -> What
-    ensures { result ≡ final_what (fault_in answer) }
-{
-    match answer {
-        Ok(()) => What::End,
-        Err(fault) => What::Fail(fault),
-    }
-}
-
-// Posts the entries of a stream, up to its end or its fault.
-fn send_entries<T: Wait, R: Feed, B: Fn(u64)>(
-    rt: &T,
-    alloc: Global,
-    end: &mut PostEnd,
-    stream: u32,
+    mut poster: Poster<'_, T>,
     scan: Scan,
     reader: &mut R,
     buf: &mut [u8],
     before_read: &B,
-) -> Result<(), StreamFault>
+) -> PostEnd
     requires at_most { scan.max_bytes ≤ 2 ^ 40 }
     requires begins { scan.bytes ≡ [] }
     requires read { IsRead scan [] }
     requires callable { B.IsAlwaysCallable before_read.now }
-    ensures { AreLinesPosted scan.max_bytes stream (source scan.target scan.must_close (R.contents reader.old)) end.old end.new result }
+    ensures { IsStreamPosted scan.max_bytes poster.entry.stream (source scan.target scan.must_close (R.contents reader.old))
+        poster.entry.end result }
 {
-    let mut scan = scan;
-    send_chunks(rt, alloc, end, stream, &mut scan, reader, buf, before_read)?;
-    if let Some(last) = scan.finish()? {
-        post(rt, end, stream, What::Line(last));
-    }
-    Ok(())
-}
-
-// Posts the entries of a stream's lines, up to its end or its fault, except for an unended line.
-fn send_chunks<T: Wait, R: Feed, B: Fn(u64)>(
-    rt: &T,
-    alloc: Global,
-    end: &mut PostEnd,
-    stream: u32,
-    scan: &mut Scan,
-    reader: &mut R,
-    buf: &mut [u8],
-    before_read: &B,
-) -> Result<(), StreamFault>
-    requires at_most { scan.old.max_bytes ≤ 2 ^ 40 }
-    requires begins { scan.old.bytes ≡ [] }
-    requires read { IsRead scan.old [] }
-    requires callable { B.IsAlwaysCallable before_read.now }
-    ensures { ArePiecesPosted stream (R.contents reader.old) scan.old scan.new end.old end.new result }
-{
-    if buf.is_empty() {
-        return Err(StreamFault::OutOfMemory);
-    }
-    let mut turn = 0;
-    'reads: loop {
-        turn += 1;
-        before_read(turn);
-        match reader.pull(buf) {
-            Err(Broken) => return Err(StreamFault::Read),
-            Ok(0) => return Ok(()),
-            Ok(n) => send_chunk(rt, alloc, end, stream, scan, &buf[..n])?,
-        }
-    }
-}
-
-// Posts the entries of the lines that end in a chunk.
-fn send_chunk<T: Wait>(
-    rt: &T,
-    alloc: Global,
-    end: &mut PostEnd,
-    stream: u32,
-    scan: &mut Scan,
-    chunk: &[u8],
-) -> Result<(), StreamFault>
-    ensures posted { IsPosted stream chunk.now scan.old scan.new end.old end.new result }
-    ensures never_read_fault { IfErr result (λ fault. fault ≢ Read) }
-{
-    let mut from = 0;
-    let mut expected = chunk.len();
-    'batches: while from < chunk.len() {
-        let mut batch = new_batch(alloc, expected.min(chunk.len() - from))?;
-        let answer = read_batch(&mut batch, scan, chunk, from);
-        post_batch(rt, alloc, end, stream, batch)?;
-        let upto = answer?;
-        expected = upto - from;
-        from = upto;
-    }
-    Ok(())
-}
-
-// Returns an empty list with room for some entries, for `bytes` bytes of text, and for the start of a line from an
-// earlier chunk.
-fn new_batch(alloc: Global, bytes: usize) -> Result<Entries, AllocError>
-    ensures { IfOk result (λ batch. batch ≡ []) }
-{
-    Entries::with_room(alloc, 64, bytes.saturating_add(bytes / 16))
-}
-
-// Reads on in a chunk until the batch has as many entries as an item may have, or enough bytes. Returns the
-// offset in the chunk that it reached.
-fn read_batch(
-    batch: &mut Entries,
-    scan: &mut Scan,
-    chunk: &[u8],
-    from: usize,
-) -> Result<usize, StreamFault>
-    requires empty { batch.old ≡ [] }
-    requires from { from < length chunk.now }
-    ensures room { length batch.new ≤ max_entries }
-    ensures range { IfOk result (λ upto. (from < upto) × (upto ≤ length chunk.now)) }
-
-    // For a chunk that was consumed up to `from`, after the bytes of the scan `begun` and the entries `first`.
-    ensures read { (begun : Scanned) (first : List EntryValue) → IsReadTo begun chunk.now from scan.old first →
-        IfOk result (λ upto. IsReadTo begun chunk.now upto scan.new (first ++ batch.new)) }
-    ensures refused { (begun : Scanned) (first : List EntryValue) → IsReadTo begun chunk.now from scan.old first →
-        IfErr result (IsRefused begun chunk.now (first ++ batch.new)) }
-    ensures never_read_fault { IfErr result (λ fault. fault ≢ Read) }
-{
-    let mut upto = from;
-    'lines: loop {
-        let room = (MAX_BATCH_ENTRIES - batch.len()) as u16;
-        match scan.step_into(chunk, upto, room, batch)? {
-            Some(behind) => upto = behind,
-            None => return Ok(chunk.len()),
-        }
-        if batch.len() == MAX_BATCH_ENTRIES || bytes_of(batch) >= MAX_BATCH_BYTES {
-            return Ok(upto);
-        }
-    }
-}
-
-// Returns the number of bytes of the texts and names of entries.
-fn bytes_of(entries: &Entries) -> usize {
-    let layout = entries.layout();
-    layout.bytes.len().saturating_add(layout.names.len())
-}
-
-// Posts a batch as one item. A single entry is posted as an owned copy.
-fn post_batch<T: Wait>(
-    rt: &T,
-    alloc: Global,
-    end: &mut PostEnd,
-    stream: u32,
-    batch: Entries,
-) -> Result<(), StreamFault>
-    requires { length batch ≤ max_entries }
-    ensures posted { OnOk result (HasPosted end.old end.new (map (entry_item end.old.number stream) batch)) }
-    ensures unchanged_on_err { OnErr result (end.new ≡ end.old) }
-    ensures only_out_of_memory { IfErr result (λ fault. fault ≡ OutOfMemory) }
-{
-    match batch.len() {
-        0 => {}
-        1 => post(rt, end, stream, What::Line(batch.into_entry(alloc)?)),
-        _ => post(rt, end, stream, What::Lines(batch)),
-    }
-    Ok(())
-}
-
-// Posts an item, and posts it again as long as it is returned.
-fn post<T: Wait>(rt: &T, end: &mut PostEnd, stream: u32, what: What)
-    requires { IsWellSized what }
-    ensures { HasPosted end.old end.new (singles_in end.old.number stream what) }
-{
-    let mut item = Item {
-        sender: end.number(),
+    let outcome = read_entries(&mut poster, scan, reader, buf, before_read);
+    let Poster {
+        rt,
+        mut end,
         stream,
-        what,
-    };
-    for _ in rt.forever() {
-        match end.post(rt, item) {
-            Ok(()) => return,
-            Err(back) => item = back,
-        }
+        ..
+    } = poster;
+    post(rt, &mut end, stream, last_item(outcome));
+    end
+}
+
+// Returns what is posted after the entries of a stream.
+fn last_item(outcome: Result<(), StreamFault>) -> What
+    ensures { result ≡ final_what (fault_in outcome) }
+{
+    match outcome {
+        Ok(()) => What::End,
+        Err(fault) => What::Fail(fault),
     }
-    unreachable!()
 }

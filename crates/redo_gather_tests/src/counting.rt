@@ -30,8 +30,8 @@ impl Starting {
 }
 
 impl Gate for Starting {
-    fn before_read<R: Wait>(&self, _rt: &R, _stream: u32, turn: u64) {
-        if turn != 1 {
+    fn before_read<R: Wait>(&self, _rt: &R, _stream: u32, read_number: u64) {
+        if read_number != 1 {
             return;
         }
         self.there.fetch_add(1, Ordering::SeqCst);
@@ -40,7 +40,7 @@ impl Gate for Starting {
         }
     }
 
-    fn taken<R: Wait>(&self, _rt: &R, _stream: u32, _lines: u64) {}
+    fn taken<R: Wait>(&self, _rt: &R, _stream: u32, _entry_number: u64) {}
 
     fn over<R: Wait>(&self, _rt: &R, _stream: u32) {}
 }
@@ -69,12 +69,12 @@ impl Filling {
 }
 
 impl Gate for Filling {
-    fn before_read<R: Wait>(&self, _rt: &R, _stream: u32, turn: u64) {
-        self.reads.store(turn, Ordering::SeqCst);
+    fn before_read<R: Wait>(&self, _rt: &R, _stream: u32, read_number: u64) {
+        self.reads.store(read_number, Ordering::SeqCst);
     }
 
-    fn taken<R: Wait>(&self, _rt: &R, _stream: u32, lines: u64) {
-        if lines != 1 || !comes_in_time(&self.reads, self.until) {
+    fn taken<R: Wait>(&self, _rt: &R, _stream: u32, entry_number: u64) {
+        if entry_number != 1 || !comes_in_time(&self.reads, self.until) {
             return;
         }
         for _ in 0..10_000 {
@@ -152,16 +152,16 @@ fn is_next(count: &AtomicU64, number: u64) -> bool {
 }
 
 impl Gate for Counting {
-    fn before_read<R: Wait>(&self, _rt: &R, stream: u32, turn: u64) {
+    fn before_read<R: Wait>(&self, _rt: &R, stream: u32, read_number: u64) {
         match self.running(stream) {
-            Some(told) => self.expect(is_next(&told.reads, turn)),
+            Some(told) => self.expect(is_next(&told.reads, read_number)),
             None => self.expect(false),
         }
     }
 
-    fn taken<R: Wait>(&self, _rt: &R, stream: u32, lines: u64) {
+    fn taken<R: Wait>(&self, _rt: &R, stream: u32, entry_number: u64) {
         match self.running(stream) {
-            Some(told) => self.expect(is_next(&told.entries, lines)),
+            Some(told) => self.expect(is_next(&told.entries, entry_number)),
             None => self.expect(false),
         }
     }

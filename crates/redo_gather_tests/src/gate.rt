@@ -10,8 +10,8 @@ const MAX_TURNS: u32 = 10_000_000;
 /// An event of which a gate is notified.
 #[derive(Clone, Copy, Debug, PartialEq, Eq)]
 pub enum Event {
-    BeforeRead { stream: u32, turn: u64 },
-    Taken { stream: u32, lines: u64 },
+    BeforeRead { stream: u32, read_number: u64 },
+    Taken { stream: u32, entry_number: u64 },
     Over { stream: u32 },
 }
 
@@ -84,12 +84,18 @@ impl Holding {
 }
 
 impl Gate for Holding {
-    fn before_read<R: Wait>(&self, _rt: &R, stream: u32, turn: u64) {
-        self.tell(Event::BeforeRead { stream, turn });
+    fn before_read<R: Wait>(&self, _rt: &R, stream: u32, read_number: u64) {
+        self.tell(Event::BeforeRead {
+            stream,
+            read_number,
+        });
     }
 
-    fn taken<R: Wait>(&self, _rt: &R, stream: u32, lines: u64) {
-        self.tell(Event::Taken { stream, lines });
+    fn taken<R: Wait>(&self, _rt: &R, stream: u32, entry_number: u64) {
+        self.tell(Event::Taken {
+            stream,
+            entry_number,
+        });
     }
 
     fn over<R: Wait>(&self, _rt: &R, stream: u32) {

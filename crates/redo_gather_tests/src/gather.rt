@@ -482,8 +482,14 @@ fn expect_under(
 
 #[test]
 fn senders_read_concurrently(rt: HostRuntime) -> Result<(), Fail> {
-    let first = Event::BeforeRead { stream: 0, turn: 1 };
-    let second = Event::BeforeRead { stream: 1, turn: 1 };
+    let first = Event::BeforeRead {
+        stream: 0,
+        read_number: 1,
+    };
+    let second = Event::BeforeRead {
+        stream: 1,
+        read_number: 1,
+    };
     expect_held(&rt, [Hold::new(first, second), Hold::new(second, first)])
 }
 
@@ -491,8 +497,14 @@ fn senders_read_concurrently(rt: HostRuntime) -> Result<(), Fail> {
 // they read again, and what they post is taken meanwhile.
 #[test]
 fn collector_takes_lines_between_reads(rt: HostRuntime) -> Result<(), Fail> {
-    let read = |stream| Event::BeforeRead { stream, turn: 2 };
-    let taken = |stream| Event::Taken { stream, lines: 1 };
+    let read = |stream| Event::BeforeRead {
+        stream,
+        read_number: 2,
+    };
+    let taken = |stream| Event::Taken {
+        stream,
+        entry_number: 1,
+    };
     expect_held(
         &rt,
         [Hold::new(read(0), taken(1)), Hold::new(read(1), taken(0))],
@@ -502,7 +514,10 @@ fn collector_takes_lines_between_reads(rt: HostRuntime) -> Result<(), Fail> {
 #[test]
 fn gate_sees_entries_before_end(rt: HostRuntime) -> Result<(), Fail> {
     let over = Event::Over { stream: 0 };
-    let taken = |lines| Event::Taken { stream: 0, lines };
+    let taken = |entry_number| Event::Taken {
+        stream: 0,
+        entry_number,
+    };
     expect_held(
         &rt,
         [Hold::new(over, taken(2)), Hold::new(taken(2), taken(1))],
@@ -512,7 +527,10 @@ fn gate_sees_entries_before_end(rt: HostRuntime) -> Result<(), Fail> {
 // The second stream is over before the first one is read.
 #[test]
 fn lowest_fault_wins_when_last(rt: HostRuntime) -> Result<(), Fail> {
-    let read = Event::BeforeRead { stream: 0, turn: 1 };
+    let read = Event::BeforeRead {
+        stream: 0,
+        read_number: 1,
+    };
     let over = Event::Over { stream: 1 };
     let gate = Holding::new([Hold::new(read, over), Hold::new(read, over)]);
     let given = [("a", BAD_NINTH, false), ("b", BAD, false)];

@@ -4,7 +4,7 @@ ghost use Rattle.std.specs.List.{list_all};
 ghost use Rattle.redo_logs.specs.Logs.{has_ended};
 
 use redo_gather::{Gate, GatherFault, Plan, gather, gather_plain};
-use redo_line::Feed;
+use redo_line::{Feed, HashKeys};
 use redo_logs::LogTable;
 use redo_test_support::names_of;
 use std::alloc::{AllocError, Global};
@@ -70,7 +70,8 @@ pub fn gathered_by<T: AllocGlobal + Threads + Wait + Sync, R: Feed + Send, G: Ga
     }
     let plan = Plan::new(senders, capacity, max_bytes)?;
     let marks = no_marks(alloc, names.len())?;
-    Ok(gather(rt, alloc, names, marks, readers, &plan, gate))
+    let keys = HashKeys::fixed();
+    Ok(gather(rt, alloc, keys, names, marks, readers, &plan, gate))
 }
 
 /// Returns `count` must-close flags that aren't set: the streams may end with any line.

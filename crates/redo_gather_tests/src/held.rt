@@ -15,8 +15,14 @@ fn tell_first_reads<R: Threads + Wait + Sync, G: Gate>(rt: &R, gate: &G) {
 
 #[test]
 fn gate_holds_thread_until_event(rt: HostRuntime) {
-    let first = Event::BeforeRead { stream: 0, turn: 1 };
-    let second = Event::BeforeRead { stream: 1, turn: 1 };
+    let first = Event::BeforeRead {
+        stream: 0,
+        read_number: 1,
+    };
+    let second = Event::BeforeRead {
+        stream: 1,
+        read_number: 1,
+    };
     let gate = Holding::new([Hold::new(first, second), Hold::new(second, first)]);
     tell_first_reads(&rt, &gate);
     assert!(rt; gate.kept_all());
@@ -34,9 +40,12 @@ fn past_event_does_not_block(rt: HostRuntime) {
     let over = Event::Over { stream: 1 };
     let taken = Event::Taken {
         stream: 1,
-        lines: 2,
+        entry_number: 2,
     };
-    let read = Event::BeforeRead { stream: 0, turn: 2 };
+    let read = Event::BeforeRead {
+        stream: 0,
+        read_number: 2,
+    };
     let gate = Holding::new([Hold::new(read, over), Hold::new(read, taken)]);
     gate.taken(&rt, 1, 2);
     gate.over(&rt, 1);

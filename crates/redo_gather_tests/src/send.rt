@@ -202,8 +202,14 @@ fn expect_mentions(
 // Each sender reads its second line only after the first line of the other one was taken.
 #[test]
 fn senders_post_before_next_read(rt: HostRuntime) -> Result<(), Fail> {
-    let read = |stream| Event::BeforeRead { stream, turn: 2 };
-    let taken = |stream| Event::Taken { stream, lines: 1 };
+    let read = |stream| Event::BeforeRead {
+        stream,
+        read_number: 2,
+    };
+    let taken = |stream| Event::Taken {
+        stream,
+        entry_number: 1,
+    };
     let gate = Holding::new([Hold::new(read(0), taken(1)), Hold::new(read(1), taken(0))]);
     expect_pair(&rt, &gate)?;
     assert!(rt; gate.kept_all());

@@ -20,11 +20,6 @@ use Rattle.redo_line.proofs.EntryListLemmas.{first_fault-fine, first_fault-nil}
 use Rattle.redo_line.proofs.LineLemmas.{ended-append, few_lines, rest-append}
 use Rattle.redo_line.proofs.ReadingLemmas.{is_text}
 
--- A fault that is passed on.
-pub handed_on : {X : Type 0} (result : Result X StreamFault) (given : StreamFault) (P : StreamFault → Type 0) → IsErrAnd result (λ fault. fault ≡ given) → P given → IfErr result P
-handed_on (Ok step) given P is p = tt
-handed_on (Err fault) given P is p = subst P (sym is) p
-
 -- A line without an entry has a fault, unless memory ran out.
 pub no_entry : (given : StreamFault) (number : ℕ) (none : Type 0) (P : StreamFault → Type 0) → (given ≡ OutOfMemory) ⊎ ((given ≡ BadRecord number) × none) → (none → P (BadRecord number)) → (given ≡ OutOfMemory) ⊎ P given
 no_entry given number none P (inl memory) bad = inl memory

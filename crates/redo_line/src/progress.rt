@@ -1,10 +1,9 @@
-ghost use Rattle.std.specs.Prelude.{◌≡◌, ◌↔◌, Err, ◌<◌, ◌≤◌, ◌+◌, ◌-◌, false, ◌^◌, ◌⊎◌, List, ℕ, true, None, Some, [], IfOk, IfErr, IfSome, IfNone, length, take, drop, slice_range};
+ghost use Rattle.std.specs.Prelude.{◌≡◌, ◌↔◌, Err, ◌<◌, ◌≤◌, ◌+◌, ◌-◌, false, ◌^◌, ◌⊎◌, List, ℕ, true, None, Some, [], IfOk, IfErr, length, take};
 ghost use Rattle.redo_line.specs.Entry.{entry_of};
 ghost use Rattle.redo_line.specs.Lines.{HasNoLineFeed, unended};
 ghost use Rattle.redo_line.specs.Private.CutLine.{AreTextLines, line_bytes};
 ghost use Rattle.redo_line.specs.Private.Line.{IsPut};
-ghost use Rattle.redo_line.specs.Private.Progress.{IsAfter, FindsEntries, ConsumesAll, FailsWith, first_byte_fault};
-ghost use Rattle.redo_line.specs.declared.stream_fault.StreamFault.{StreamFault};
+ghost use Rattle.redo_line.specs.Private.Progress.{IsAfter, Advances, first_byte_fault};
 ghost use Rattle.redo_line.specs.declared.stream_fault.StreamFault.TheVariants.{BadRecord, OutOfMemory};
 
 use crate::entries::Entries;
@@ -79,18 +78,7 @@ impl Progress {
         requires most { 1 ≤ most }
         requires limit { self.old.max_bytes ≤ 2 ^ 40 }
         requires after { (before : List ℕ) × IsAfter self.old before }
-        ensures range { IfOk result (λ found. IfSome found (λ upto. (from < upto) × (upto ≤ length chunk.now))) }
-        ensures found { (before : List ℕ) → IsAfter self.old before → IfOk result (λ found. IfSome found (λ upto.
-            FindsEntries self.old self.new before (slice_range chunk.now from upto) most entries.old entries.new)) }
-        ensures rest_consumed { (before : List ℕ) → IsAfter self.old before →
-            IfOk result (λ found. IfNone found (ConsumesAll self.old self.new before (drop from chunk.now))) }
-        ensures entries_unchanged { IfOk result (λ found. IfNone found (entries.new ≡ entries.old)) }
-        ensures fault { (before : List ℕ) → IsAfter self.old before →
-            IfErr result (λ fault. (fault ≡ OutOfMemory) ⊎ FailsWith self.old before (drop from chunk.now) fault) }
-        ensures immediate { (fault : StreamFault) → first_byte_fault self.old (drop from chunk.now) ≡ Some fault → result ≡ Err fault }
-        ensures unchanged_on_err { IfErr result (λ _. entries.new ≡ entries.old) }
-        ensures target { self.new.target ≡ self.old.target }
-        ensures max_bytes { self.new.max_bytes ≡ self.old.max_bytes }
+        ensures { Advances self.old self.new chunk.now from most entries.old entries.new result }
     {
         let left = &chunk[from..];
         let (length, count) = self.leading_text_lines(left, most);
@@ -129,18 +117,7 @@ impl Progress {
         requires from { from ≤ length chunk.now }
         requires limit { self.old.max_bytes ≤ 2 ^ 40 }
         requires after { (before : List ℕ) × IsAfter self.old before }
-        ensures range { IfOk result (λ found. IfSome found (λ upto. (from < upto) × (upto ≤ length chunk.now))) }
-        ensures found { (before : List ℕ) → IsAfter self.old before → IfOk result (λ found. IfSome found (λ upto.
-            FindsEntries self.old self.new before (slice_range chunk.now from upto) 1 entries.old entries.new)) }
-        ensures rest_consumed { (before : List ℕ) → IsAfter self.old before →
-            IfOk result (λ found. IfNone found (ConsumesAll self.old self.new before (drop from chunk.now))) }
-        ensures entries_unchanged { IfOk result (λ found. IfNone found (entries.new ≡ entries.old)) }
-        ensures fault { (before : List ℕ) → IsAfter self.old before →
-            IfErr result (λ fault. (fault ≡ OutOfMemory) ⊎ FailsWith self.old before (drop from chunk.now) fault) }
-        ensures immediate { (fault : StreamFault) → first_byte_fault self.old (drop from chunk.now) ≡ Some fault → result ≡ Err fault }
-        ensures unchanged_on_err { IfErr result (λ _. entries.new ≡ entries.old) }
-        ensures target { self.new.target ≡ self.old.target }
-        ensures max_bytes { self.new.max_bytes ≡ self.old.max_bytes }
+        ensures { Advances self.old self.new chunk.now from 1 entries.old entries.new result }
     {
         let left = &chunk[from..];
         if let Some(fault) = self.first_byte_fault(left) {

@@ -138,7 +138,9 @@ fn gathered_of_by<T: AllocGlobal + Threads + Wait + Sync>(
     let (Ok(names), Ok(flags)) = (index.names(alloc), index.must_close_flags(alloc)) else {
         return Err(Missing::Memory);
     };
-    redo_gather::gather(rt, alloc, names, flags, readers, plan, &Free).map_err(Missing::Logs)
+    redo_gather::gather(rt, alloc, index.keys(), names, flags, readers, plan, &Free).map_err(
+        Missing::Logs,
+    )
 }
 
 /// Returns the index of the targets and a reader for each. A reader gives 16 bytes at a time.

@@ -468,8 +468,14 @@ fn run_resolves_targets_from_base(rt: HostRuntime) -> Result<(), Fail> {
 // Each stream's second line is read only after the first line of the other stream was taken.
 #[test]
 fn run_reads_streams_concurrently(rt: HostRuntime) -> Result<(), Fail> {
-    let read = |stream| Event::BeforeRead { stream, turn: 2 };
-    let taken = |stream| Event::Taken { stream, lines: 1 };
+    let read = |stream| Event::BeforeRead {
+        stream,
+        read_number: 2,
+    };
+    let taken = |stream| Event::Taken {
+        stream,
+        entry_number: 1,
+    };
     let gate = Holding::new([Hold::new(read(0), taken(1)), Hold::new(read(1), taken(0))]);
     expect_pair_shown(&rt, &gate)?;
     assert!(rt; gate.kept_all());

@@ -17,7 +17,7 @@ ghost use Rattle.redo_run.specs.Rendered.{IsSomeRenderedFault, SomeRenderedText,
 ghost use Rattle.redo_run.specs.Outcome.{IsSomeResultFault, WritesSomePrefix, WritesSomeText, WritesSomeTextUntilFailure, call};
 
 use crate::run_fault::RunFault;
-use redo_gather::{Gate, GatherFault, Plan, gather_with_keys, logs_unless_fault};
+use redo_gather::{Gate, GatherFault, Plan, gather, logs_unless_fault};
 use redo_index::Index;
 use redo_line::{Feed, NameFault, Sink, TargetName};
 use redo_logs::LogTable;
@@ -145,7 +145,7 @@ fn gather_listed<T: Threads + Wait + Sync, R: Feed + Send, G: Gate>(
 {
     let names = index.names(alloc)?;
     let flags = index.must_close_flags(alloc)?;
-    gather_with_keys(rt, alloc, index.keys(), names, flags, readers, plan, gate)
+    gather(rt, alloc, index.keys(), names, flags, readers, plan, gate)
 }
 
 // Shows the logs of targets that each have one.

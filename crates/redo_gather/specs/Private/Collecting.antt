@@ -11,7 +11,7 @@ use Rattle.redo_wire.specs.declared.item.Item.{Item}
 use Rattle.redo_wire.specs.declared.item.What.{What}
 use Rattle.redo_wire.specs.declared.item.What.TheVariants.{End, Fail, Line, Lines}
 use Rattle.redo_wire.specs.Mailbox.{AreAllMet, AreFromSenders, AreMetFullyTaken, Met, PostEndState}
-use Rattle.redo_gather.specs.declared.collector.Collector.{Collector}
+use Rattle.redo_gather.specs.declared.collector.LogCollector.{LogCollector}
 use Rattle.redo_gather.specs.Expected.{KnownSource}
 use Rattle.redo_gather.specs.Private.Distribution.{AreReady, share_of}
 use Rattle.redo_gather.specs.Sending.{AreExpected, singles}
@@ -51,7 +51,7 @@ PostedExpected max_bytes senders given met = AreExpected max_bytes met.0 (share_
 
 -- What was collected from ends whose senders sent these shares: the mailbox is the same, what was taken is stored, and each
 -- end that was met since `before` posted what is expected of it.
-pub record Collects {A : Type 0} (contents : A → Option Stream) (max_bytes : ℕ) (ends : List PostEndState) (shares : List (List (ℕ × List ℕ × Bool × A))) (before after : Collector) : Type 0 where
+pub record Collects {A : Type 0} (contents : A → Option Stream) (max_bytes : ℕ) (ends : List PostEndState) (shares : List (List (ℕ × List ℕ × Bool × A))) (before after : LogCollector) : Type 0 where
   pub mailbox : after.take_end.mailbox ≡ before.take_end.mailbox
   pub holds : (names : List (List ℕ)) → StoresAllTaken names before.take_end.taken before.table before.out_of_memory → StoresAllTaken names after.take_end.taken after.table after.out_of_memory
   pub expected : (given : List KnownSource) → AreReady contents before.take_end.mailbox.senders given ends shares
@@ -59,14 +59,14 @@ pub record Collects {A : Type 0} (contents : A → Option Stream) (max_bytes : �
       → AllByRecursion (PostedExpected max_bytes before.take_end.mailbox.senders given) after.take_end.met
 
 -- The streams were distributed to senders, the met ends posted what is expected, and the collector stored what it took.
-pub record AllExpected (max_bytes : ℕ) (names : List (List ℕ)) (known : List KnownInput) (collector : Collector) : Type 0 where
+pub record AllExpected (max_bytes : ℕ) (names : List (List ℕ)) (known : List KnownInput) (collector : LogCollector) : Type 0 where
   pub count : length names ≡ length known
   pub some : 0 < collector.take_end.mailbox.senders
   pub expected : AllByRecursion (PostedExpected max_bytes collector.take_end.mailbox.senders (sources names known)) collector.take_end.met
   pub holds : StoresAllTaken names collector.take_end.taken collector.table collector.out_of_memory
 
 -- The same, and all that was posted was taken.
-pub record AllTaken (max_bytes : ℕ) (names : List (List ℕ)) (known : List KnownInput) (collector : Collector) : Type 0 where
+pub record AllTaken (max_bytes : ℕ) (names : List (List ℕ)) (known : List KnownInput) (collector : LogCollector) : Type 0 where
   pub expected : AllExpected max_bytes names known collector
   pub met : AreAllMet collector.take_end
   pub whole : AreMetFullyTaken collector.take_end

@@ -9,8 +9,8 @@ use Rattle.redo_gather.specs.Sending.{NumberedSource, numbered_source}
 abbrev pub share_of : ℕ → ℕ → ℕ → List KnownSource → List NumberedSource
 share_of senders sender number [] = []
 share_of senders sender number (given ∷ others) =
-    let behind = share_of senders sender (suc number) others in
-    cond (nat_eq (number % senders) sender) ((number, given) ∷ behind) behind
+    let rest = share_of senders sender (suc number) others in
+    cond (nat_eq (number % senders) sender) ((number, given) ∷ rest) rest
 
 -- Every sender has a share without streams.
 abbrev pub AreEmpty : {A : Type 0} → ℕ → List (List A) → Type 0
@@ -25,5 +25,5 @@ AreDistributed {A} contents senders given shares =
 -- Ends and shares at the same indexes: each end has the number of its index, and has posted nothing so far.
 pub record AreReady {A : Type 0} (contents : A → Option Stream) (senders : ℕ) (given : List KnownSource) (ends : List PostEndState) (shares : List (List (ℕ × List ℕ × Bool × A))) : Type 0 where
   pub count : length ends ≡ length shares
-  pub fresh : (place : ℕ) (end : PostEndState) → slice_get ends place ≡ Some end → (end.number ≡ place) × (end.posted ≡ [])
+  pub fresh : (index : ℕ) (end : PostEndState) → slice_get ends index ≡ Some end → (end.number ≡ index) × (end.posted ≡ [])
   pub distributed : (sender : ℕ) (share : List (ℕ × List ℕ × Bool × A)) → slice_get shares sender ≡ Some share → map (numbered_source contents) share ≡ share_of senders sender 0 given

@@ -19,10 +19,10 @@ abbrev pub completed : List Entry → Option StreamFault → Log → Log
 completed entries fault log = with_state (state_after fault) (with_entries entries log)
 
 -- The log of this number in a table was completed by the log of the reader's stream.
-pub record IsCompleted (max_bytes number : ℕ) (given : KnownSource) (begun table : List Log) : Type 0 where
+pub record IsCompleted (max_bytes number : ℕ) (given : KnownSource) (before after : List Log) : Type 0 where
   pub entries : List Entry
   pub entries_are : SomeStream given.stream (λ stream. source_log max_bytes (with_stream stream given) ≡ Some entries)
-  pub table_is : table ≡ update_log number (completed entries None) begun
+  pub after_is : after ≡ update_log number (completed entries None) before
 
 -- The reader's stream has this fault.
 abbrev pub HasFault : ℕ → KnownSource → StreamFault → Type 0

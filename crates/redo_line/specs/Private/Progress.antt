@@ -1,8 +1,9 @@
 -- The state of a scan: what it stores of the bytes that it consumed.
-use Rattle.std.specs.Prelude.{◌≡◌, ◌≢◌, ℕ, zero, suc, ◌+◌, ◌-◌, ◌≤◌, ◌^◌, ◌<◌, Bool, true, false, List, [], ◌∷◌, ◌++◌, Option, None, Some, length}
+use Rattle.std.specs.Prelude.{◌≡◌, ◌≢◌, ◌⊎◌, ℕ, zero, suc, ◌+◌, ◌-◌, ◌≤◌, ◌^◌, ◌<◌, Bool, true, false, List, [], ◌∷◌, ◌++◌, Option, None, Some, Result, Err, IfOk, IfErr, IfSome, IfNone, drop, length}
+use Rattle.std.specs.List.{slice_range}
 use Rattle.redo_line.specs.declared.entry.Entry.{Entry}
 use Rattle.redo_line.specs.declared.stream_fault.StreamFault.{StreamFault}
-use Rattle.redo_line.specs.declared.stream_fault.StreamFault.TheVariants.{AfterClose, TooLong, Read, NotClosed}
+use Rattle.redo_line.specs.declared.stream_fault.StreamFault.TheVariants.{AfterClose, TooLong, OutOfMemory, Read, NotClosed}
 use Rattle.redo_line.specs.Lines.{ended, rest}
 use Rattle.redo_line.specs.Log.{closes, line_entries}
 use Rattle.redo_line.specs.Scan.{fault_so_far, EndLines, EndsNoLine, HaveFault}
@@ -67,6 +68,21 @@ byte_fault (suc room) lines closed = after_close_fault lines closed
 abbrev pub first_byte_fault : Progress → List ℕ → Option StreamFault
 first_byte_fault progress [] = None
 first_byte_fault progress (byte ∷ bytes) = byte_fault (progress.max_bytes - progress.taken) progress.lines progress.closed
+
+-- A step consumes bytes of a chunk from the offset `from` on: up to the end of at most `most` lines, whose entries are appended, or,
+-- if no line ends, up to the end of the chunk.
+pub record Advances (old new : Progress) (chunk : List ℕ) (from most : ℕ) (first all : List Entry) (result : Result (Option ℕ) StreamFault) : Type 0 where
+  -- The result is the offset after the bytes consumed, if lines ended, and at least one byte was consumed.
+  pub range : IfOk result (λ found. IfSome found (λ end_offset. (from < end_offset) × (end_offset ≤ length chunk)))
+  pub found : (before : List ℕ) → IsAfter old before → IfOk result (λ found. IfSome found (λ end_offset. FindsEntries old new before (slice_range chunk from end_offset) most first all))
+  pub rest_consumed : (before : List ℕ) → IsAfter old before → IfOk result (λ found. IfNone found (ConsumesAll old new before (drop from chunk)))
+  pub entries_unchanged : IfOk result (λ found. IfNone found (all ≡ first))
+  -- After a fault the entries are unchanged. The fault of the first byte's position is returned without allocating.
+  pub fault : (before : List ℕ) → IsAfter old before → IfErr result (λ fault. (fault ≡ OutOfMemory) ⊎ FailsWith old before (drop from chunk) fault)
+  pub immediate : (fault : StreamFault) → first_byte_fault old (drop from chunk) ≡ Some fault → result ≡ Err fault
+  pub unchanged_on_err : IfErr result (λ _. all ≡ first)
+  pub target : new.target ≡ old.target
+  pub max_bytes : new.max_bytes ≡ old.max_bytes
 
 -- The invariant of a scan: if it has returned no fault, this is its state after the bytes that it consumed.
 pub record IsScan (progress : Progress) (bytes : List ℕ) (failed_with : Option StreamFault) : Type 0 where

@@ -7,7 +7,7 @@ use Rattle.redo_line.specs.Source.{source, sources}
 use Rattle.redo_logs.specs.Logs.{targets_of}
 use Rattle.redo_gather.specs.Private.Distribution.{AreDistributed}
 use Rattle.redo_gather.specs.Streams.{known_input}
-use Rattle.redo_gather.proofs.DistributionLemmas.{all_distributed, at_place, none_distributed, one_distributed, sources-none, sources-push}
+use Rattle.redo_gather.proofs.DistributionLemmas.{all_distributed, at_index, none_distributed, one_distributed, sources-none, sources-push}
 use Rattle.redo_gather.proofs.gathering.distribute.Goals as goal
 
 pub loop-must_close-init : goal.loop-must_close-init
@@ -38,17 +38,17 @@ loop-must_close-preserved g c =
     let here : slice_get targets (length (map contents yielded)) ≡ Some c.in_ok-target.target =
     ap (slice_get targets) (length-map yielded contents ∙ sym kept.0) ∙ c.name.ensures ∙ ap Some (sym c.in_ok-target.ensures) in
     let pushed = sources-push targets (map contents yielded) c.in_ok-target.target (contents reader) here in
-    let place : length (sources targets (map contents yielded)) ≡ number = pushed.1 ∙ length-map yielded contents ∙ sym kept.0 in
+    let number_is : length (sources targets (map contents yielded)) ≡ number = pushed.1 ∙ length-map yielded contents ∙ sym kept.0 in
     let within : number % c.args.senders < length shares =
     omega (arith, ap length kept.1, ap length c.in-Some.ensures.steps.0, length-append yielded c.loop-must_close.must_close-iterator.rest.items, c.requires.senders, kept.2.0, length-map shares (λ share. share.items)) in
-    let there = slice_get-map (λ share. share.items) shares (number % c.args.senders) ∙ ap (option_map (λ share. share.items)) (at_place shares (number % c.args.senders) c.index_mut.result.now within c.index_mut.ensures.value) in
+    let there = slice_get-map (λ share. share.items) shares (number % c.args.senders) ∙ ap (option_map (λ share. share.items)) (at_index shares (number % c.args.senders) c.index_mut.result.now within c.index_mut.ensures.value) in
     let distributed =
     one_distributed g.R.Feed.contents c.args.senders (sources targets (map contents yielded)) (map (λ share. share.items) shares) (source c.in_ok-target.target c.in-Some.must_close (g.R.Feed.contents c.in-Some.reader)) item c.index_mut.result.now.items c.push.new.self.items
-    (λ i. (sym place i, (source c.in_ok-target.target c.in-Some.must_close (g.R.Feed.contents c.in-Some.reader)))) (ap (λ n. slice_get (map (λ share. share.items) shares) (n % c.args.senders)) place ∙ there) c.in_ok-push.ensures.items kept.2 in (
+    (λ i. (sym number_is i, (source c.in_ok-target.target c.in-Some.must_close (g.R.Feed.contents c.in-Some.reader)))) (ap (λ n. slice_get (map (λ share. share.items) shares) (n % c.args.senders)) number_is ∙ there) c.in_ok-push.ensures.items kept.2 in (
       omega (arith, kept.0, length-append yielded (reader ∷ [])),
       kept.1 ∙ ap (λ left. yielded ++ left) c.in-Some.ensures.steps.0 ∙ sym (append_assoc yielded (reader ∷ []) c.next.new.self.rest.items),
       subst (AreDistributed g.R.Feed.contents c.args.senders (sources targets (map contents (yielded ++ reader ∷ []))))
-          (ap (λ n. slice_set (map (λ share. share.items) shares) (n % c.args.senders) c.push.new.self.items) place ∙ sym (map-set (λ share. share.items) shares (number % c.args.senders) c.push.new.self))
+          (ap (λ n. slice_set (map (λ share. share.items) shares) (n % c.args.senders) c.push.new.self.items) number_is ∙ sym (map-set (λ share. share.items) shares (number % c.args.senders) c.push.new.self))
           (subst (λ given. AreDistributed g.R.Feed.contents c.args.senders given (slice_set (map (λ share. share.items) shares) (length (sources targets (map contents yielded)) % c.args.senders) c.push.new.self.items))
           (sym (ap (sources targets) (map_push contents yielded reader) ∙ pushed.0)) distributed),
     )

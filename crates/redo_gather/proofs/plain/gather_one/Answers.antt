@@ -28,7 +28,7 @@ returns-in-Some-clause-fault g c target here =
     (λ other. (
       refl,
       subst (λ (of : List ℕ). HasFault max_bytes (source of c.args.must_close known) fault) same
-          (is_fault max_bytes (source c.in_ok-target.target c.args.must_close known) log.entries log.fault c.read_stream-log.ensures.expected fault c.in-Some.is other),
+          (is_fault max_bytes (source c.in_ok-target.target c.args.must_close known) log.entries log.fault c.read_stream-log.ensures fault c.in-Some.is other),
     ))
     c.of.result c.of.ensures
 
@@ -50,6 +50,6 @@ returns-clause-completed g c target here =
       entries = log.entries;
       entries_are =
           subst (λ (of : List ℕ). SomeStream known (λ stream. source_log max_bytes (source of c.args.must_close stream) ≡ Some log.entries)) same
-          (is_log max_bytes (source c.in_ok-target.target c.args.must_close known) log.entries log.fault c.read_stream-log.ensures.expected none);
-      table_is = c.in_ok-store.ensures.stored ∙ ap (λ fault. update_log c.args.number (completed log.entries fault) c.args.table.now) none;
+          (is_log max_bytes (source c.in_ok-target.target c.args.must_close known) log.entries log.fault c.read_stream-log.ensures none);
+      after_is = c.in_ok-store.ensures.stored ∙ ap (λ fault. update_log c.args.number (completed log.entries fault) c.args.table.now) none;
     }

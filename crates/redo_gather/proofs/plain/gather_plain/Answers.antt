@@ -7,8 +7,8 @@ use Rattle.redo_gather.proofs.EnteredLemmas.{begins_empty, gathered_of, has_room
 use Rattle.redo_gather.proofs.GatheredLemmas.{fault_of_and}
 use Rattle.redo_gather.proofs.plain.gather_plain.Goals as goal
 
-pub returns-in_err-room : goal.returns-in_err-room
-returns-in_err-room g c =
+pub returns-in_err-buffer : goal.returns-in_err-buffer
+returns-in_err-buffer g c =
     let given = err_from_is_err_and c.from_residual.result c.from_residual.ensures.1 in
     rw (given.1, given.2) (record { gathered = record { logs = tt; targets = tt; ended = tt; fault = tt; number = tt }; never_out_of_memory = tt })
 
