@@ -5,13 +5,13 @@ use Rattle.redo_device.specs.Sink.{Output}
 use Rattle.redo_html_args.specs.Job.{PageParts}
 use Rattle.redo_index.specs.declared.index_entry.IndexEntry.{IndexEntry}
 use Rattle.redo_index.specs.Index.{listed_targets}
-use Rattle.redo_log_cli.specs.declared.failure.Failure.{Failure}
-use Rattle.redo_log_cli.specs.declared.failure.Failure.TheVariants.{Memory}
-use Rattle.redo_log_cli.specs.Failure.{IsIndexFailure}
-use Rattle.redo_log_cli.specs.Logs.{AllGive, Gives, known_logs, opaque_logs}
-use Rattle.redo_log_cli.specs.NamesFile.{byte_limit}
-use Rattle.redo_log_cli.specs.Output.{IsClosedAfter}
-use Rattle.redo_log_cli.proofs.Results.{is_shown_failure, is_shown_flushed, is_unwritten}
+use Rattle.redo_command.specs.declared.failure.Failure.{Failure}
+use Rattle.redo_command.specs.declared.failure.Failure.TheVariants.{Memory}
+use Rattle.redo_command.specs.Failure.{IsIndexFailure}
+use Rattle.redo_command.specs.Logs.{AllGive, Gives, known_logs, opaque_logs}
+use Rattle.redo_command.specs.NamesFile.{byte_limit}
+use Rattle.redo_command.specs.Output.{IsClosedAfter}
+use Rattle.redo_command.proofs.Results.{is_shown_failure, is_shown_flushed, is_unwritten}
 use Rattle.redo_times.specs.declared.times.Times.{Times}
 use Rattle.redo_times.specs.Readers.{AreTimesOfReaders, SomeStreams, times_of_all}
 use Rattle.redo_html_cli.specs.Page.{AreTimesOfLogs, IsPageWritten, page_call}

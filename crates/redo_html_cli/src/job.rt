@@ -1,18 +1,18 @@
 //! Performs a job: writes its page.
 ghost use Rattle.std.specs.Prelude.{◌≡◌, ◌≢◌, IfErr, length};
-ghost use Rattle.redo_log_cli.specs.Failure.{IsReportable, status_of};
+ghost use Rattle.redo_command.specs.Failure.{IsReportable, status_of};
 ghost use Rattle.redo_page.specs.Page.{request_of};
 ghost use Rattle.redo_html_cli.specs.Page.{IsPageWritten};
 ghost use Rattle.redo_html_cli.specs.Request.{request_for, title_for};
 ghost use Rattle.redo_html_cli.specs.Private.Result.{IsPageResult};
 
 use crate::times::read_log_times;
-use redo_device::Sink;
-use redo_html_args::PageJob;
-use redo_log_cli::{
+use redo_command::{
     Failure, Index, LogFiles, OpenLog, Output, RegularLogFiles, Shown, buffered, close_output,
     find_index, flush_after, write_logs,
 };
+use redo_device::Sink;
+use redo_html_args::PageJob;
 use redo_page::PageRequest;
 use redo_times::Times;
 use std::io::Write;

@@ -10,4 +10,4 @@ mod times;
 
 pub use job::write_job;
 pub use program::{command, print_version, process_arguments, report_before_run};
-pub use redo_log_cli::Failure;
+pub use redo_command::Failure;

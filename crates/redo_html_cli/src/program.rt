@@ -1,11 +1,11 @@
 ghost use Rattle.std.specs.Prelude.{◌≡◌, ◌⊎◌};
-ghost use Rattle.redo_log_cli.specs.declared.failure.Failure.TheVariants.{Memory};
-ghost use Rattle.redo_log_cli.specs.Failure.{IsBeforeRun, IsStatus, status_of};
+ghost use Rattle.redo_command.specs.declared.failure.Failure.TheVariants.{Memory};
+ghost use Rattle.redo_command.specs.Failure.{IsBeforeRun, IsStatus, status_of};
 
 use crate::job::{show_job, show_job_in_file};
+pub use redo_command::process_arguments;
+use redo_command::{Failure, create_output, exit_status, print, report_before_run_as};
 use redo_html_args::{PageJob, WordsFault, help_text, read_words};
-pub use redo_log_cli::process_arguments;
-use redo_log_cli::{Failure, create_output, exit_status, print, report_before_run_as};
 use std::alloc::{AllocError, Global};
 use std::io::Write;
 use std::random::RandomSource;

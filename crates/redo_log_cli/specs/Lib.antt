@@ -1,6 +1,1 @@
-pub mod Failure
-pub mod LogFile
-pub mod Logs
-pub mod NamesFile
-pub mod Output
-pub mod Private
+pub mod Message

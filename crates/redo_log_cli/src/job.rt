@@ -1,16 +1,14 @@
 //! Performs a job: shows the logs of its targets.
 ghost use Rattle.std.specs.Prelude.{◌≢◌, IfErr, length};
 ghost use Rattle.redo_view.specs.Expansion.{expansion};
-ghost use Rattle.redo_log_cli.specs.Failure.{IsReportable, status_of};
-ghost use Rattle.redo_log_cli.specs.Logs.{IsWriteResult, logs_call};
-ghost use Rattle.redo_log_cli.specs.Private.Shown.{IsShowResult, directory_call};
+ghost use Rattle.redo_command.specs.Failure.{IsReportable, status_of};
+ghost use Rattle.redo_command.specs.Logs.{IsWriteResult, logs_call};
+ghost use Rattle.redo_command.specs.Private.Shown.{IsShowResult, directory_call};
 
-use crate::buffer::{buffered, flush_after};
-use crate::directory::{Shown, find_index};
-use crate::failure::Failure;
-use crate::log_file::LogFiles;
-use crate::logs::{OpenLog, write_logs};
 use redo_args::Job;
+use redo_command::{
+    Failure, LogFiles, OpenLog, Shown, buffered, find_index, flush_after, write_logs,
+};
 use redo_index::Index;
 use redo_line::Sink;
 use redo_view::PlainText;

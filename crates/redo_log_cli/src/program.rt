@@ -1,43 +1,19 @@
-ghost use Rattle.std.specs.Prelude.{◌≡◌, ◌⊎◌, IfErr};
-ghost use Rattle.redo_log_cli.specs.declared.failure.Failure.TheVariants.{Memory};
-ghost use Rattle.redo_log_cli.specs.Failure.{IsBeforeRun, IsStatus, status_of};
+ghost use Rattle.std.specs.Prelude.{◌≡◌, ◌⊎◌};
+ghost use Rattle.redo_command.specs.declared.failure.Failure.TheVariants.{Memory};
+ghost use Rattle.redo_command.specs.Failure.{IsBeforeRun, IsStatus, status_of};
 
-use crate::failure::Failure;
 use crate::job::show_job;
-use crate::reports::{exit_status, print, report_before_run_as};
 use redo_args::{WordsFault, help_text, read_words};
+use redo_command::{Failure, exit_status, print, report_before_run_as};
 use std::alloc::{AllocError, Global};
-use std::env;
-use std::io::{ErrorKind, Write};
+use std::io::Write;
 use std::random::RandomSource;
-use std::rt::{Env, Files};
+use std::rt::Files;
 use std::sync::Wait;
 use std::thread::Threads;
 
 /// The name with which error messages begin.
 const PROGRAM: &str = "redo-log";
-
-/// Returns the command-line arguments of the process, without the program's name. Arguments that aren't UTF-8 are
-/// rejected.
-pub fn process_arguments<R: Env + AllocGlobal>(rt: &R) -> Result<Vec<String>, Failure>
-    ensures { IfErr result IsBeforeRun }
-{
-    let mut arguments = match env::args(rt) {
-        Ok(arguments) => arguments,
-        Err(error) => {
-            return Err(match error.kind() {
-                ErrorKind::OutOfMemory => Failure::Memory,
-                _ => Failure::Words(WordsFault::Refused),
-            });
-        }
-    };
-    let _ = arguments.next();
-    let mut rest = Vec::new(rt.alloc());
-    for argument in arguments {
-        rest.push(argument)?;
-    }
-    Ok(rest)
-}
 
 /// Writes the error message of `redo-log` for a failure that is neither the fault of a stream nor an unknown argument,
 /// and returns its exit status. If an allocation fails, it returns the status of `Failure::Memory` instead.

@@ -3,9 +3,9 @@
 use Rattle.std.specs.Prelude.{List, Result}
 use Rattle.redo_html_args.specs.Job.{PageParts}
 use Rattle.redo_index.specs.declared.index_entry.IndexEntry.{IndexEntry}
-use Rattle.redo_log_cli.specs.declared.failure.Failure.{Failure}
-use Rattle.redo_log_cli.specs.Logs.{opaque_logs}
-use Rattle.redo_log_cli.specs.Private.Shown.{IsShowResult}
+use Rattle.redo_command.specs.declared.failure.Failure.{Failure}
+use Rattle.redo_command.specs.Logs.{opaque_logs}
+use Rattle.redo_command.specs.Private.Shown.{IsShowResult}
 use Rattle.redo_times.specs.declared.times.Times.{Times}
 use Rattle.redo_html_cli.specs.Page.{AreTimesOfLogs, page_call}
 

@@ -1,7 +1,7 @@
 use Rattle.std.proofs.Common.{None}
 use Rattle.redo_view.specs.Expansion.{expansion}
-use Rattle.redo_log_cli.specs.Private.Shown.{directory_call}
-use Rattle.redo_log_cli.proofs.Results.{is_shown_flushed}
+use Rattle.redo_command.specs.Private.Shown.{directory_call}
+use Rattle.redo_command.proofs.Results.{is_shown_flushed}
 use Rattle.redo_log_cli.proofs.job.show_logs.Goals as goal
 
 pub returns-clause-shown : goal.returns-clause-shown
