@@ -14,13 +14,13 @@ use Rattle.redo_run.specs.declared.run_fault.RunFault.TheVariants.{Unknown, Stre
 use Rattle.redo_run.specs.Rendered.{IsSomeRenderedFault, RenderCall, SomeRenderedText, render_call}
 use Rattle.redo_run.specs.RunFault.{IfNoText}
 use Rattle.redo_command.specs.declared.failure.Failure.{Failure}
-use Rattle.redo_command.specs.declared.failure.Failure.TheVariants.{NamesRead, Index, Memory, Words, Run}
+use Rattle.redo_command.specs.declared.failure.Failure.TheVariants.{NamesRead, Memory, Run}
 use Rattle.redo_command.specs.Failure.{IsIndexFailure}
 use Rattle.redo_command.specs.Logs.{AllGive, IsRunWritten, IsWriteResult, known_logs, logs_call}
 use Rattle.redo_command.specs.NamesFile.{CannotBeRead, byte_limit}
 use Rattle.redo_command.specs.Output.{IsClosedAfter}
 use Rattle.redo_command.specs.Private.Program.{IsIndexResult}
-use Rattle.redo_command.specs.Private.Shown.{HasText, IsShowResult}
+use Rattle.redo_command.specs.Private.Shown.{IsShown}
 use Rattle.redo_command.proofs.LogLemmas.{match_known}
 
 -- What the result of a run says about the streams of its readers, it says about the logs that they give.
@@ -68,26 +68,24 @@ module _ (call : RenderCall) where
   is_unwritten output (Ok done) is = absurd is
   is_unwritten output (Err failure) is = subst (λ f. IsWriteResult call output output (Err f)) (sym is) refl
 
-  a_text : (P : List ℕ → Type 0) → SomeRenderedText call P → HasText call
-  a_text P shown = (shown.0, shown.1, (shown.2.0, shown.2.1, tt))
+-- Flushing a buffer and closing the file below it is closing once.
+closed_twice : (outcome flushed result : Result (Unit {0}) Failure) → IsClosedAfter outcome flushed → IsClosedAfter flushed result → IsClosedAfter outcome result
+closed_twice (Ok done) flushed result (inl is) closed = subst (λ r. IsClosedAfter r result) is closed
+closed_twice (Ok done) flushed result (inr is) closed = inr (subst (λ r. IsClosedAfter r result) is closed)
+closed_twice (Err failure) flushed result is closed = subst (λ r. IsClosedAfter r result) is closed
 
-  -- What was written says this about the streams.
-  is_shown : (before after : Option Output) (result : Result (Unit {0}) Failure) → IsWriteResult call before after result → IsShowResult call result
-  is_shown before after (Ok done) given = a_text _ given
-  is_shown before after (Err (Run (Unknown place))) given = given.0
-  is_shown before after (Err (Run (OfStream number cause))) given = given.0
-  is_shown before after (Err (Run OutOfMemory)) given = tt
-  is_shown before after (Err (Run Write)) given = a_text _ given
-  is_shown before after (Err (Words fault)) given = tt
-  is_shown before after (Err NamesRead) given = tt
-  is_shown before after (Err (Index fault)) given = tt
-  is_shown before after (Err Memory) given = tt
+module _ (P : Result (Unit {0}) Failure → Type 0) where
+  -- What is shown is shown after the output file was closed.
+  pub is_shown_closed : (shown result : Result (Unit {0}) Failure) → IsClosedAfter shown result → IsShown P shown → IsShown P result
+  is_shown_closed (Ok done) result closed (inl is) = absurd is
+  is_shown_closed (Err failure) result closed (inl is) = inl (subst (λ r. IsErrAnd r IsIndexFailure) (sym closed) is)
+  is_shown_closed (Ok done) result closed (inr (outcome, holds, flushed)) = inr (outcome, holds, closed_twice outcome (Ok done) result flushed closed)
+  is_shown_closed (Err failure) result closed (inr (outcome, holds, flushed)) = inr (outcome, holds, closed_twice outcome (Err failure) result flushed closed)
 
-  -- It still holds after a flush.
-  pub is_shown_flushed : (before after : Option Output) (outcome result : Result (Unit {0}) Failure) → IsClosedAfter outcome result → IsWriteResult call before after outcome → IsShowResult call result
-  is_shown_flushed before after (Ok done) result (inl is) given = subst (IsShowResult call) (sym is) (is_shown before after (Ok done) given)
-  is_shown_flushed before after (Ok done) result (inr is) given = subst (IsShowResult call) (sym is) (is_shown before after (Ok done) given)
-  is_shown_flushed before after (Err failure) result is given = subst (IsShowResult call) (sym is) (is_shown before after (Err failure) given)
+  -- Memory ran out before anything was written.
+  pub is_memory_failure : (result : Result (Unit {0}) Failure) → IsErrAnd result (λ failure. failure ≡ Memory) → IsShown P result
+  is_memory_failure (Ok done) is = absurd is
+  is_memory_failure (Err failure) is = inl (subst IsIndexFailure (sym is) tt)
 
 -- What holds of every stream holds of a reader's stream.
 any_stream : (known : Option Stream) (P : Stream → Type 0) → ((stream : Stream) → P stream) → SomeStream known P
@@ -103,11 +101,3 @@ pub not_read : (X : Type 0) (known : Option Stream) (result : Result (List Index
 not_read X known (Ok index) failure is either unreadable = absurd is
 not_read X known (Err given) failure is (inl names) unreadable = subst (λ f. SomeStream known (IsIndexResult (Err f))) (sym (is ∙ names)) (unreadable (ap Err names))
 not_read X known (Err given) failure is (inr memory) unreadable = subst (λ f. SomeStream known (IsIndexResult (Err f))) (sym (is ∙ memory)) (any_stream known _ (λ _. tt))
-
--- The failure to read an index says nothing about streams.
-pub is_shown_failure : (call : RenderCall) (failure : Failure) → IsIndexFailure failure → IsShowResult call (Err failure)
-is_shown_failure call NamesRead is = tt
-is_shown_failure call (Index fault) is = tt
-is_shown_failure call Memory is = tt
-is_shown_failure call (Words fault) is = absurd is
-is_shown_failure call (Run fault) is = absurd is

@@ -2,7 +2,8 @@
 //! messages and exit statuses.
 //!
 //! A command reads the index of a directory by [`find_index`] and writes a text of its logs by [`write_logs`], over
-//! [`LogFiles`] and through [`buffered`]. It ends with [`exit_status`], which reports a [`Failure`].
+//! [`LogFiles`] and through [`buffered`], or to a file by [`create_output`]. It ends with [`exit_status`], which reports a
+//! [`Failure`], or with [`print_help`].
 //!
 //! Files are opaque, so [`write_logs`] is generic over logs and a writer: its contract states the text that is written.
 #![tactic(auto)]
@@ -26,8 +27,8 @@ pub use logs::{OpenLog, open_logs, write_logs};
 pub use message::fault_line_as;
 pub use names_file::{MAX_BYTES, read_names};
 pub use output::{Output, close_output, create_output};
-pub use process::process_arguments;
+pub use process::{process_arguments, requests_version};
 pub use redo_args::WordsFault;
 pub use redo_index::Index;
 pub use redo_run::RunFault;
-pub use reports::{exit_status, print, report_before_run_as};
+pub use reports::{exit_status, print, print_help, report_before_run_as};

@@ -65,6 +65,22 @@ pub fn print<W: Write, E: Write>(
     }
 }
 
+/// Writes a help text, unless an allocation for it failed, and returns the exit status. The rest is as for [`print`].
+pub fn print_help<W: Write, E: Write>(
+    alloc: Global,
+    program: &str,
+    text: Result<String, AllocError>,
+    out: &mut W,
+    err: &mut E,
+) -> u8
+    ensures { (result ≡ 0) ⊎ (result ≡ status_of (Run run.Write)) ⊎ (result ≡ status_of Memory) }
+{
+    match text {
+        Ok(text) => print(alloc, program, &text, out, err),
+        Err(AllocError) => report_before_run_as(alloc, program, &Failure::Memory, err),
+    }
+}
+
 // Writes the error message of a failure, and returns its status. If an allocation fails, it writes the message for
 // `Failure::Memory` and returns its status instead.
 fn report<E: Write>(

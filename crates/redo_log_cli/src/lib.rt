@@ -13,12 +13,13 @@ mod program;
 
 pub use job::write_job;
 pub use message::fault_line;
-pub use program::{command, report_before_run};
+pub use program::{command, print_version, report_before_run};
 pub use redo_args::{Job, WordsFault, help_text, read_words};
 pub use redo_command::{
     Failure, LogFile, LogFiles, MAX_BYTES, OpenLog, Output, RegularLogFiles, Shown, buffered,
     close_output, create_output, exit_status, fault_line_as, find_index, flush_after, open_logs,
-    print, process_arguments, read_names, report_before_run_as, status, write_logs,
+    print, process_arguments, read_names, report_before_run_as, requests_version, status,
+    write_logs,
 };
 pub use redo_index::{Index, IndexFault, index_result_is_unique, read_index};
 pub use redo_run::{RunFault, run, run_as, run_has_a_result};

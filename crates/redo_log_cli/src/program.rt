@@ -4,8 +4,8 @@ ghost use Rattle.redo_command.specs.Failure.{IsBeforeRun, IsStatus, status_of};
 
 use crate::job::show_job;
 use redo_args::{WordsFault, help_text, read_words};
-use redo_command::{Failure, exit_status, print, report_before_run_as};
-use std::alloc::{AllocError, Global};
+use redo_command::{Failure, exit_status, print, print_help, report_before_run_as};
+use std::alloc::Global;
 use std::io::Write;
 use std::random::RandomSource;
 use std::rt::Files;
@@ -37,17 +37,19 @@ pub fn command<
     let alloc = rt.alloc();
     match read_words(alloc, words) {
         Ok(job) => exit_status(alloc, PROGRAM, &show_job(rt, &job, out), job.targets(), err),
-        Err(WordsFault::Help) => print_help(alloc, out, err),
+        Err(WordsFault::Help) => print_help(alloc, PROGRAM, help_text(alloc), out, err),
         Err(fault) => report_before_run(alloc, &Failure::Words(fault), err),
     }
 }
 
-// Writes the help text.
-fn print_help<W: Write, E: Write>(alloc: Global, out: &mut W, err: &mut E) -> u8
+/// Writes the text of `--version`, and returns the exit status.
+pub fn print_version<W: Write, E: Write>(
+    alloc: Global,
+    version: &str,
+    out: &mut W,
+    err: &mut E,
+) -> u8
     ensures { IsStatus result }
 {
-    match help_text(alloc) {
-        Ok(text) => print(alloc, PROGRAM, &text, out, err),
-        Err(AllocError) => report_before_run(alloc, &Failure::Memory, err),
-    }
+    print(alloc, PROGRAM, version, out, err)
 }
