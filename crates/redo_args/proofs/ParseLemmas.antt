@@ -7,12 +7,14 @@ use Rattle.std.specs.List.{All, AllByRecursion, slice_index_or}
 use Rattle.std.specs.Str.{bytes_eq}
 use Rattle.std.proofs.lemmas.Bool.{eqb-true}
 use Rattle.std.proofs.lemmas.List.{length-map}
+use Rattle.std.proofs.lemmas.Result.{IfOk-weaker}
 use Rattle.std.proofs.lemmas.Slice.Eq.{bytes_eq-Decides}
 use Rattle.clap.specs.Built.{BuildsOrBreaks, BuildsTo, IsPlain, IsPlainArg, is_broken}
 use Rattle.clap.specs.Facts.{Entry, EntryPasses, HasReading, IsParsed, PassesArg, ValuesPass, args_of, groups_of, parser_of_value, unwrap_or_range}
 use Rattle.clap.specs.Kinds.{FailsBy, HasKind, IsAmong, Kinds}
 use Rattle.clap.specs.Matches.{found_of, has_subcommand, matched_of, one_text, raw_values}
-use Rattle.clap.specs.Simple.{App, app_of, built, is_buildable}
+use Rattle.clap.specs.Faults.{fault_of, is_simple_and_free}
+use Rattle.clap.specs.Simple.{App, HasMatchesOf, app_of, built, is_buildable, is_simple, matches_of}
 use Rattle.clap.specs.Values.{Accepts, kind_of, read_as, reading_of}
 use Rattle.clap.specs.Walk.{Row, Rule, Text, is_empty, one_of, rows_of, rule_of}
 use Rattle.clap.specs.declared.builder.action.ArgAction.TheVariants.{Append, Count, Set}
@@ -31,6 +33,7 @@ use Rattle.clap.proofs.CallerLemmas.{entry_by_id}
 use Rattle.clap.proofs.WalkLemmas.{one_text-rows}
 use Rattle.redo_args.specs.Private.Matches.{IsFlag, IsFlagText, IsNumber, IsNumberTo}
 use Rattle.redo_args.specs.Words.{fault_of_first, fault_of_kind}
+use Rattle.redo_args.proofs.ErrorLemmas.{map_err_if_ok}
 use Rattle.redo_args.specs.declared.words_fault.WordsFault.{WordsFault}
 use Rattle.redo_args.specs.declared.words_fault.WordsFault.TheVariants.{OutOfMemory}
 
@@ -304,3 +307,23 @@ module _ (kinds : Kinds) (answer : Result ArgMatches Error) where
         go (Ok m) r is among = subst (λ x. IfErr x (λ fault. (fault ≡ OutOfMemory) ⊎ (fault_of_first kinds ≡ Some fault))) (sym is) tt
         go (Err e) (Ok m) is among = absurd is
         go (Err e) (Err f) is among = subst (λ fault. (fault ≡ OutOfMemory) ⊎ (fault_of_first kinds ≡ Some fault)) (sym (gives e f is)) (fault_is kinds one e among)
+
+-- What a parse by a command returns, once its error is converted: the command has the rules of `app`.
+module _ (app : App) (exact : (is_simple app ≡ true) × (is_simple_and_free app ≡ true)) (old : Command) (begins : app_of old ≡ app) (words : List Text)
+    (answer : Result ArgMatches Error) (Maps : Error → WordsFault → Type 0) (result : Result ArgMatches WordsFault)
+    (mapped : MatchResult answer (λ m. result ≡ Ok m) (λ e. IsErrAnd result (Maps e))) where
+  pub converted_entries : (A B : ArgMatches → Type 0) → IfOk answer (λ m. A m × B m × HasMatchesOf (app_of old) words m) → IfOk result (λ m. rows_of (found_of m) ≡ matches_of app words)
+  converted_entries A B found =
+      map_err_if_ok answer Maps result mapped _ (IfOk-weaker answer _ (λ m. rows_of (found_of m) ≡ matches_of app words)
+      (λ m has. (has.2 (ap is_simple begins ∙ exact.0)).0 ∙ ap (λ (a : App). matches_of a words) begins) found)
+
+  module _ (kinds : is_simple_and_free (app_of old) ≡ true → FailsBy (fault_of (app_of old) words) answer) where
+    fails : FailsBy (fault_of app words) answer
+    fails = subst (λ (a : App). FailsBy (fault_of a words) answer) begins (kinds (ap is_simple_and_free begins ∙ exact.1))
+
+    pub converted_no_fault : IfOk result (λ _. fault_of_first (fault_of app words) ≡ None)
+    converted_no_fault = map_err_if_ok answer Maps result mapped _ (no_fault_if_ok (fault_of app words) answer fails)
+
+    pub converted_fault : length (fault_of app words) ≤ 1 → ((e : Error) (fault : WordsFault) → Maps e fault → fault ≡ fault_of_kind (kind_of e))
+        → IfErr result (λ fault. (fault ≡ OutOfMemory) ⊎ (fault_of_first (fault_of app words) ≡ Some fault))
+    converted_fault one gives = fault_if_err (fault_of app words) answer one Maps result mapped gives fails

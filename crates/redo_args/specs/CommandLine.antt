@@ -71,8 +71,8 @@ abbrev pub with_rules : List Rule → App → App
 with_rules rules app = fold with_rule app rules
 
 -- A command without arguments. The name of the program is not part of what it parses.
-abbrev pub plain : App
-plain = on_top (λ shape. record shape { no_binary_name = true }) (new_app (codes "redo-log"))
+abbrev pub plain : Text → App
+plain name = on_top (λ shape. record shape { no_binary_name = true }) (new_app name)
 
 unfoldable pub redo_log : App
-redo_log = with_rules values (with_rules flags plain)
+redo_log = with_rules values (with_rules flags (plain (codes "redo-log")))

@@ -1,10 +1,13 @@
 //! Options of a command line for `clap`, which programs share.
-ghost use Rattle.std.specs.Prelude.{◌≡◌, false, IfOk, map};
+ghost use Rattle.std.specs.Prelude.{◌≡◌, codes, false, IfOk, map};
+ghost use Rattle.std.specs.List.{AllByRecursion};
+ghost use Rattle.clap.specs.Simple.{app_of};
 ghost use Rattle.clap.specs.Walk.{rule_of};
+ghost use Rattle.clap.specs.declared.builder.action.ArgAction.TheVariants.{SetTrue};
 ghost use Rattle.redo_options.specs.Arguments.{argument_bytes};
-ghost use Rattle.redo_args.specs.CommandLine.{flag_rule, letter_rule, number_rule, text_rule};
+ghost use Rattle.redo_args.specs.CommandLine.{flag_rule, letter_rule, number_rule, plain, text_rule, with_rules};
 
-use clap::{Arg, ArgAction, value_parser};
+use clap::{Arg, ArgAction, Command, value_parser};
 use std::alloc::{AllocError, Global};
 
 /// An option without a value, with a letter, that is true if it is given.
@@ -51,6 +54,85 @@ pub fn number<'a>(alloc: Global, id: &'a str, max: u32, help: &'a str) -> Arg<'a
 {
     let parser = value_parser!(u32).range(1..=i64::from(max));
     text_option(alloc, id, "N", help).value_parser(parser)
+}
+
+/// `--dir DIR`: the capture directory.
+pub fn dir<'a>(alloc: Global) -> Arg<'a>
+    ensures rule { rule_of result ≡ text_rule (codes "dir") }
+    ensures local { result.global ≡ false }
+{
+    text_option(
+        alloc,
+        "dir",
+        "DIR",
+        "The capture directory: `names`, and a `log.NUMBER` for each line of it [default: .]",
+    )
+}
+
+/// `-u` and `--unchanged`: whether targets are shown that needed no rebuild.
+pub fn unchanged<'a>(alloc: Global) -> Arg<'a>
+    ensures rule { rule_of result ≡ letter_rule (codes "unchanged") 117 }
+    ensures local { result.global ≡ false }
+{
+    letter_flag(
+        alloc,
+        "unchanged",
+        'u',
+        "Show targets that needed no rebuild too",
+    )
+}
+
+/// `--debug-locks`: whether messages about locks are shown.
+pub fn debug_locks<'a>(alloc: Global) -> Arg<'a>
+    ensures rule { rule_of result ≡ flag_rule (codes "debug_locks") (codes "debug-locks") SetTrue }
+    ensures local { result.global ≡ false }
+{
+    flag(
+        alloc,
+        "debug_locks",
+        "debug-locks",
+        ArgAction::SetTrue,
+        "Show messages about waiting and locking",
+    )
+}
+
+/// `--senders N`: the number of senders.
+pub fn senders<'a>(alloc: Global) -> Arg<'a>
+    ensures rule { rule_of result ≡ number_rule (codes "senders") 64 }
+    ensures local { result.global ≡ false }
+{
+    number(
+        alloc,
+        "senders",
+        64,
+        "The number of threads that read logs, 1 to 64 [default: 4]",
+    )
+}
+
+/// A command line with these arguments. The name of the program is not part of what it parses.
+pub fn command_line<'a>(
+    alloc: Global,
+    name: &'a str,
+    about: &'a str,
+    after_help: &'a str,
+    arguments: Vec<Arg<'a>>,
+) -> Result<Command<'a>, AllocError>
+    requires local { AllByRecursion (λ argument. argument.global ≡ false) arguments.items }
+    ensures { IfOk result (λ command. app_of command ≡ with_rules (map rule_of arguments.entry.items) (plain name.entry.now)) }
+{
+    Command::new(alloc, name)
+        .about(about)
+        .after_help(after_help)
+        .no_binary_name(true)
+        .args(arguments)
+}
+
+/// Returns the help text of a command line, which ends with a line feed. It also lists `--version`, which isn't parsed.
+pub fn help_of(command: Command<'_>) -> Result<String, AllocError> {
+    let mut command = command.version("");
+    let text = command.render_help();
+    drop(command);
+    text
 }
 
 /// Copies arguments as bytes.

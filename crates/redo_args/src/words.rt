@@ -9,7 +9,9 @@ ghost use Rattle.redo_args.specs.Private.Arguments.{AreArguments};
 ghost use Rattle.redo_args.specs.Private.Matches.{AreSound};
 ghost use Rattle.redo_args.specs.Words.{fault_of_words, parse_parts};
 
-use crate::arguments::{flag, letter_flag, number, text_option};
+use crate::arguments::{
+    command_line, debug_locks, dir, flag, help_of, letter_flag, number, senders, unchanged,
+};
 use crate::job::{Job, job_from_matches};
 use crate::words_fault::WordsFault;
 use clap::{Arg, ArgAction, ArgMatches, Command};
@@ -57,21 +59,13 @@ pub fn read_words(alloc: Global, words: Vec<String>) -> Result<Job, WordsFault>
 /// line feed. It also lists `--version`, which `read_words` rejects: the program handles it if it is the
 /// only argument.
 pub fn help_text(alloc: Global) -> Result<String, AllocError> {
-    let mut command = command(alloc)?.version("");
-    let text = command.render_help();
-    drop(command);
-    text
+    help_of(command(alloc)?)
 }
 
 fn command<'a>(alloc: Global) -> Result<Command<'a>, AllocError>
     ensures { IfOk result (λ command. app_of command ≡ redo_log) }
 {
-    let arguments = arguments(alloc)?;
-    Command::new(alloc, "redo-log")
-        .about(ABOUT)
-        .after_help(AFTER_HELP)
-        .no_binary_name(true)
-        .args(arguments)
+    command_line(alloc, "redo-log", ABOUT, AFTER_HELP, arguments(alloc)?)
 }
 
 // All arguments and options, in the order of the help text.
@@ -85,12 +79,7 @@ fn arguments<'a>(alloc: Global) -> Result<Vec<Arg<'a>>, AllocError>
             'r',
             "Show the logs of mentioned targets too, each at its first mention",
         ),
-        letter_flag(
-            alloc,
-            "unchanged",
-            'u',
-            "Show targets that needed no rebuild too"
-        ),
+        unchanged(alloc),
         flag(
             alloc,
             "details",
@@ -98,13 +87,7 @@ fn arguments<'a>(alloc: Global) -> Result<Vec<Arg<'a>>, AllocError>
             ArgAction::SetFalse,
             "Omit the text lines of logs",
         ),
-        flag(
-            alloc,
-            "debug_locks",
-            "debug-locks",
-            ArgAction::SetTrue,
-            "Show messages about waiting and locking",
-        ),
+        debug_locks(alloc),
         flag(
             alloc,
             "debug_pids",
@@ -112,18 +95,8 @@ fn arguments<'a>(alloc: Global) -> Result<Vec<Arg<'a>>, AllocError>
             ArgAction::SetTrue,
             "Begin each redo line with the pid of its record",
         ),
-        text_option(
-            alloc,
-            "dir",
-            "DIR",
-            "The capture directory: `names`, and a `log.NUMBER` for each line of it [default: .]",
-        ),
-        number(
-            alloc,
-            "senders",
-            64,
-            "The number of threads that read logs, 1 to 64 [default: 4]"
-        ),
+        dir(alloc),
+        senders(alloc),
         number(
             alloc,
             "capacity",

@@ -1,12 +1,12 @@
 -- The definition of the command line of `redo-log-html` for `clap`: eight arguments, each with a rule.
 --
 -- `redo_args` defines the kinds of rules and says what their fields mean.
-use Rattle.std.specs.Prelude.{true, List, [], ◌∷◌, Some, codes}
-use Rattle.clap.specs.Simple.{App, new_app, new_rule, on_top}
+use Rattle.std.specs.Prelude.{List, [], ◌∷◌, Some, codes}
+use Rattle.clap.specs.Simple.{App, new_rule}
 use Rattle.clap.specs.Walk.{Rule, Text}
 use Rattle.clap.specs.declared.builder.action.ArgAction.TheVariants.{Append, SetTrue}
 use Rattle.clap.specs.declared.builder.value_parser.ValueParser.TheVariants as parser
-use Rattle.redo_args.specs.CommandLine.{checked_rule, flag_rule, letter_rule, number_rule, text_rule, with_rules}
+use Rattle.redo_args.specs.CommandLine.{checked_rule, flag_rule, letter_rule, number_rule, plain, text_rule, with_rules}
 
 -- The arguments that are not options: any number of them.
 abbrev pub optional_words_rule : Text → Rule
@@ -29,9 +29,5 @@ rules =
     optional_words_rule (codes "target") ∷
     []
 
--- A command without arguments. The name of the program is not part of what it parses.
-abbrev pub plain : App
-plain = on_top (λ shape. record shape { no_binary_name = true }) (new_app (codes "redo-log-html"))
-
 unfoldable pub redo_log_html : App
-redo_log_html = with_rules rules plain
+redo_log_html = with_rules rules (plain (codes "redo-log-html"))

@@ -12,7 +12,9 @@ ghost use Rattle.redo_html_args.specs.Words.{fault_of_words, parse_parts};
 use crate::job::{PageJob, job_from_matches};
 use clap::{Arg, ArgAction, ArgMatches, Command, value_parser};
 use redo_args::WordsFault;
-use redo_args::arguments::{flag, letter_flag, number, text_option};
+use redo_args::arguments::{
+    command_line, debug_locks, dir, help_of, senders, text_option, unchanged,
+};
 use std::alloc::{AllocError, Global};
 
 const ABOUT: &str =
@@ -54,21 +56,13 @@ pub fn read_words(alloc: Global, words: Vec<String>) -> Result<PageJob, WordsFau
 /// line feed. It also lists `--version`, which `read_words` rejects: the program handles it if it is the
 /// only argument.
 pub fn help_text(alloc: Global) -> Result<String, AllocError> {
-    let mut command = command(alloc)?.version("");
-    let text = command.render_help();
-    drop(command);
-    text
+    help_of(command(alloc)?)
 }
 
 fn command<'a>(alloc: Global) -> Result<Command<'a>, AllocError>
     ensures { IfOk result (λ command. app_of command ≡ redo_log_html) }
 {
-    let arguments = arguments(alloc)?;
-    Command::new(alloc, "redo-log-html")
-        .about(ABOUT)
-        .after_help(AFTER_HELP)
-        .no_binary_name(true)
-        .args(arguments)
+    command_line(alloc, "redo-log-html", ABOUT, AFTER_HELP, arguments(alloc)?)
 }
 
 // All arguments and options, in the order of the help text.
@@ -76,12 +70,7 @@ fn arguments<'a>(alloc: Global) -> Result<Vec<Arg<'a>>, AllocError>
     ensures { IfOk result (λ arguments. AreArguments rules arguments.items) }
 {
     vec![in alloc;
-        text_option(
-            alloc,
-            "dir",
-            "DIR",
-            "The capture directory: `names`, and a `log.NUMBER` for each line of it [default: .]",
-        ),
+        dir(alloc),
         text_option(
             alloc,
             "output",
@@ -89,30 +78,14 @@ fn arguments<'a>(alloc: Global) -> Result<Vec<Arg<'a>>, AllocError>
             "Write the page to FILE, which it replaces once it is complete [default: standard output]",
         ),
         text_option(alloc, "title", "TEXT", "The title of the page"),
-        letter_flag(
-            alloc,
-            "unchanged",
-            'u',
-            "Show targets that needed no rebuild too"
-        ),
-        flag(
-            alloc,
-            "debug_locks",
-            "debug-locks",
-            ArgAction::SetTrue,
-            "Show messages about waiting and locking",
-        ),
+        unchanged(alloc),
+        debug_locks(alloc),
         unsigned(
             alloc,
             "max-bytes",
             "Shorten the longest logs if all together have more than N bytes of text; 0 shows everything [default: 16000000]",
         ),
-        number(
-            alloc,
-            "senders",
-            64,
-            "The number of threads that read logs, 1 to 64 [default: 4]"
-        ),
+        senders(alloc),
         targets(alloc),
     ]
     .map_err(AllocError::from)

@@ -1,21 +1,18 @@
--- What the times of logs and the results of writing them say about the page of a job.
-use Rattle.std.proofs.Common.{◌≡◌, ℕ, false, List, [], ◌∷◌, map, Option, None, Some, Result, Ok, Err, IsErrAnd, refl, sym, subst, unwrap_or}
+-- What the times of logs say about the page of a job.
+use Rattle.std.proofs.Common.{◌≡◌, ℕ, false, List, [], ◌∷◌, map, Option, None, Some, Result, IsErrAnd, refl, subst, unwrap_or}
 use Rattle.redo_device.specs.Feed.{Stream, SomeStream}
 use Rattle.redo_device.specs.Sink.{Output}
 use Rattle.redo_html_args.specs.Job.{PageParts}
 use Rattle.redo_index.specs.declared.index_entry.IndexEntry.{IndexEntry}
 use Rattle.redo_index.specs.Index.{listed_targets}
-use Rattle.redo_log_cli.specs.declared.failure.Failure.{Failure}
-use Rattle.redo_log_cli.specs.declared.failure.Failure.TheVariants.{Memory}
-use Rattle.redo_log_cli.specs.Failure.{IsIndexFailure}
-use Rattle.redo_log_cli.specs.Logs.{AllGive, Gives, known_logs, opaque_logs}
-use Rattle.redo_log_cli.specs.NamesFile.{byte_limit}
-use Rattle.redo_log_cli.specs.Output.{IsClosedAfter}
-use Rattle.redo_log_cli.proofs.Results.{is_shown_failure, is_shown_flushed, is_unwritten}
+use Rattle.redo_command.specs.declared.failure.Failure.{Failure}
+use Rattle.redo_command.specs.declared.failure.Failure.TheVariants.{Memory}
+use Rattle.redo_command.specs.Logs.{AllGive, Gives, known_logs}
+use Rattle.redo_command.specs.NamesFile.{byte_limit}
+use Rattle.redo_command.proofs.Results.{is_unwritten}
 use Rattle.redo_times.specs.declared.times.Times.{Times}
 use Rattle.redo_times.specs.Readers.{AreTimesOfReaders, SomeStreams, times_of_all}
 use Rattle.redo_html_cli.specs.Page.{AreTimesOfLogs, IsPageWritten, page_call}
-use Rattle.redo_html_cli.specs.Private.Result.{IsPageResult}
 
 some_stream : (known : Option Stream) (P : Stream → Type 0) → SomeStream known P → (stream : Stream) × P stream
 some_stream None P given = given
@@ -67,22 +64,4 @@ is_out_of_memory first second job index output result is = record {
   times = some_times first index;
   are_times = are_times first index;
   is_result = is_unwritten (page_call second job index (some_times first index)) output result is;
-}
-
--- So is running out of memory before anything is written, if nothing is known of the files.
-pub is_page_failure : (job : PageParts) (index : List IndexEntry) (result : Result (Unit {0}) Failure) → IsErrAnd result (λ failure. failure ≡ Memory) → IsPageResult job index result
-is_page_failure job index (Ok done) is = absurd is
-is_page_failure job index (Err failure) is = record {
-  times = some_times opaque_logs index;
-  are_times = are_times opaque_logs index;
-  is_result = is_shown_failure (page_call opaque_logs job index (some_times opaque_logs index)) failure (subst IsIndexFailure (sym is) tt);
-}
-
--- What was written says this about the streams, and it still holds after a flush.
-pub is_page_flushed : (job : PageParts) (index : List IndexEntry) (before after : Option Output) (outcome result : Result (Unit {0}) Failure)
-    → IsClosedAfter outcome result → IsPageWritten opaque_logs opaque_logs job index before after outcome → IsPageResult job index result
-is_page_flushed job index before after outcome result closed given = record {
-  times = given.times;
-  are_times = given.are_times;
-  is_result = is_shown_flushed (page_call opaque_logs job index given.times) before after outcome result closed given.is_result;
 }

@@ -1,3 +1,2 @@
 pub mod Page
-pub mod Private
 pub mod Request

@@ -6,9 +6,9 @@ use Rattle.redo_html_args.specs.Job.{PageParts}
 use Rattle.redo_index.specs.declared.index_entry.IndexEntry.{IndexEntry}
 use Rattle.redo_index.specs.Index.{listed_targets}
 use Rattle.redo_run.specs.Rendered.{RenderCall}
-use Rattle.redo_log_cli.specs.declared.failure.Failure.{Failure}
-use Rattle.redo_log_cli.specs.Logs.{IsWriteResult, known_logs, logs_call}
-use Rattle.redo_log_cli.specs.NamesFile.{byte_limit}
+use Rattle.redo_command.specs.declared.failure.Failure.{Failure}
+use Rattle.redo_command.specs.Logs.{IsWriteResult, known_logs, logs_call}
+use Rattle.redo_command.specs.NamesFile.{byte_limit}
 use Rattle.redo_page.specs.Page.{page_html}
 use Rattle.redo_times.specs.declared.times.Times.{Times}
 use Rattle.redo_times.specs.Readers.{AreTimesOfReaders}

@@ -1,18 +1,19 @@
 //! Performs a job: writes its page.
-ghost use Rattle.std.specs.Prelude.{◌≡◌, ◌≢◌, IfErr, length};
-ghost use Rattle.redo_log_cli.specs.Failure.{IsReportable, status_of};
+ghost use Rattle.std.specs.Prelude.{◌≡◌, ◌≢◌, IfErr, None, length};
+ghost use Rattle.redo_command.specs.Failure.{IsReportable, status_of};
+ghost use Rattle.redo_command.specs.Logs.{opaque_logs};
+ghost use Rattle.redo_command.specs.Private.Shown.{IsShown};
 ghost use Rattle.redo_page.specs.Page.{request_of};
 ghost use Rattle.redo_html_cli.specs.Page.{IsPageWritten};
 ghost use Rattle.redo_html_cli.specs.Request.{request_for, title_for};
-ghost use Rattle.redo_html_cli.specs.Private.Result.{IsPageResult};
 
 use crate::times::read_log_times;
+use redo_command::{
+    Failure, Index, LogFiles, OpenLog, Output, RegularLogFiles, Shown, buffered, close_output,
+    create_output, find_index, flush_after, write_logs,
+};
 use redo_device::Sink;
 use redo_html_args::PageJob;
-use redo_log_cli::{
-    Failure, Index, LogFiles, OpenLog, Output, RegularLogFiles, Shown, buffered, close_output,
-    find_index, flush_after, write_logs,
-};
 use redo_page::PageRequest;
 use redo_times::Times;
 use std::io::Write;
@@ -24,13 +25,51 @@ use std::thread::Threads;
 /// The capacity of the mailbox. It isn't an option: it changes nothing that a page shows.
 const CAPACITY: u32 = 64;
 
-/// Writes the page of a job. It reads the index, then when the targets began and ended, and then all logs. Nothing is
-/// written before that.
+/// Writes the page of a job: to its output file, or else to `out`.
 pub fn show_job<
     R: Files<File: Send> + RandomSource + Threads + Wait + Sync + AllocGlobal,
     W: Write,
 >(rt: &R, job: &PageJob, out: &mut W) -> Shown
-    ensures shown { IsPageResult job.now result.index result.outcome }
+    ensures reportable { IfErr result.outcome (IsReportable (length result.index) (length job.now.targets)) }
+    ensures nonzero_status { IfErr result.outcome (λ failure. status_of failure ≢ 0) }
+{
+    match job.output() {
+        None => show_logs(rt, job, out),
+        Some(path) => match create_output(rt, path) {
+            Ok(output) => show_in_file(rt, job, output),
+            Err(failure) => Shown {
+                index: Index::new(rt.alloc()),
+                outcome: Err(failure),
+            },
+        },
+    }
+}
+
+// Writes the page of a job to an output file, and closes it.
+fn show_in_file<R: Files<File: Send> + RandomSource + Threads + Wait + Sync + AllocGlobal>(
+    rt: &R,
+    job: &PageJob,
+    output: Output<'_, R::File>,
+) -> Shown
+    ensures shown { IsShown (λ outcome. IsPageWritten opaque_logs opaque_logs job.now result.index None None outcome) result.outcome }
+    ensures reportable { IfErr result.outcome (IsReportable (length result.index) (length job.now.targets)) }
+    ensures nonzero_status { IfErr result.outcome (λ failure. status_of failure ≢ 0) }
+{
+    let mut output = output;
+    let shown = show_logs(rt, job, &mut output);
+    Shown {
+        index: shown.index,
+        outcome: close_output(rt, output, shown.outcome),
+    }
+}
+
+// Writes the page of a job, from the index and the log files of its directory.
+fn show_logs<R: Files<File: Send> + RandomSource + Threads + Wait + Sync + AllocGlobal, W: Write>(
+    rt: &R,
+    job: &PageJob,
+    out: &mut W,
+) -> Shown
+    ensures shown { IsShown (λ outcome. IsPageWritten opaque_logs opaque_logs job.now result.index None None outcome) result.outcome }
     ensures reportable { IfErr result.outcome (IsReportable (length result.index) (length job.now.targets)) }
     ensures nonzero_status { IfErr result.outcome (λ failure. status_of failure ≢ 0) }
 {
@@ -46,24 +85,6 @@ pub fn show_job<
     }
 }
 
-/// Writes the page of a job to an output file, and closes it. The rest is as for [`show_job`].
-pub fn show_job_in_file<R: Files<File: Send> + RandomSource + Threads + Wait + Sync + AllocGlobal>(
-    rt: &R,
-    job: &PageJob,
-    output: Output<'_, R::File>,
-) -> Shown
-    ensures shown { IsPageResult job.now result.index result.outcome }
-    ensures reportable { IfErr result.outcome (IsReportable (length result.index) (length job.now.targets)) }
-    ensures nonzero_status { IfErr result.outcome (λ failure. status_of failure ≢ 0) }
-{
-    let mut output = output;
-    let shown = show_job(rt, job, &mut output);
-    Shown {
-        index: shown.index,
-        outcome: close_output(rt, output, shown.outcome),
-    }
-}
-
 // Writes the page of a job through a buffer, from the log files that an index lists.
 fn show_page<R: Files<File: Send> + Threads + Wait + Sync + AllocGlobal, W: Write>(
     rt: &R,
@@ -71,7 +92,7 @@ fn show_page<R: Files<File: Send> + Threads + Wait + Sync + AllocGlobal, W: Writ
     index: &Index,
     out: &mut W,
 ) -> Result<(), Failure>
-    ensures shown { IsPageResult job.now index.now result }
+    ensures shown { IsShown (λ outcome. IsPageWritten opaque_logs opaque_logs job.now index.now None None outcome) result }
     ensures reportable { IfErr result (IsReportable (length index.now) (length job.now.targets)) }
     ensures nonzero_status { IfErr result (λ failure. status_of failure ≢ 0) }
 {

@@ -9,5 +9,5 @@ mod program;
 mod times;
 
 pub use job::write_job;
-pub use program::{command, print_version, process_arguments, report_before_run};
-pub use redo_log_cli::Failure;
+pub use program::{command, print_version, report_before_run};
+pub use redo_command::{Failure, process_arguments, requests_version};

@@ -1,12 +1,11 @@
 ghost use Rattle.std.specs.Prelude.{◌≡◌, ◌⊎◌};
-ghost use Rattle.redo_log_cli.specs.declared.failure.Failure.TheVariants.{Memory};
-ghost use Rattle.redo_log_cli.specs.Failure.{IsBeforeRun, IsStatus, status_of};
+ghost use Rattle.redo_command.specs.declared.failure.Failure.TheVariants.{Memory};
+ghost use Rattle.redo_command.specs.Failure.{IsBeforeRun, IsStatus, status_of};
 
-use crate::job::{show_job, show_job_in_file};
-use redo_html_args::{PageJob, WordsFault, help_text, read_words};
-pub use redo_log_cli::process_arguments;
-use redo_log_cli::{Failure, create_output, exit_status, print, report_before_run_as};
-use std::alloc::{AllocError, Global};
+use crate::job::show_job;
+use redo_command::{Failure, exit_status, print, print_help, report_before_run_as};
+use redo_html_args::{WordsFault, help_text, read_words};
+use std::alloc::Global;
 use std::io::Write;
 use std::random::RandomSource;
 use std::rt::Files;
@@ -37,48 +36,9 @@ pub fn command<
 {
     let alloc = rt.alloc();
     match read_words(alloc, words) {
-        Ok(job) => perform(rt, &job, out, err),
-        Err(WordsFault::Help) => print_help(alloc, out, err),
+        Ok(job) => exit_status(alloc, PROGRAM, &show_job(rt, &job, out), job.targets(), err),
+        Err(WordsFault::Help) => print_help(alloc, PROGRAM, help_text(alloc), out, err),
         Err(fault) => report_before_run(alloc, &Failure::Words(fault), err),
-    }
-}
-
-// Performs a job, and returns the exit status.
-fn perform<
-    R: Files<File: Send> + RandomSource + Threads + Wait + Sync + AllocGlobal,
-    W: Write,
-    E: Write,
->(rt: &R, job: &PageJob, out: &mut W, err: &mut E) -> u8
-    ensures { IsStatus result }
-{
-    match job.output() {
-        None => exit_status(
-            rt.alloc(),
-            PROGRAM,
-            &show_job(rt, job, out),
-            job.targets(),
-            err,
-        ),
-        Some(path) => match create_output(rt, path) {
-            Ok(output) => exit_status(
-                rt.alloc(),
-                PROGRAM,
-                &show_job_in_file(rt, job, output),
-                job.targets(),
-                err,
-            ),
-            Err(failure) => report_before_run(rt.alloc(), &failure, err),
-        },
-    }
-}
-
-// Writes the help text.
-fn print_help<W: Write, E: Write>(alloc: Global, out: &mut W, err: &mut E) -> u8
-    ensures { IsStatus result }
-{
-    match help_text(alloc) {
-        Ok(text) => print(alloc, PROGRAM, &text, out, err),
-        Err(AllocError) => report_before_run(alloc, &Failure::Memory, err),
     }
 }
 

@@ -2,7 +2,7 @@
 ghost use Rattle.std.specs.Prelude.{IfOk};
 ghost use Rattle.redo_html_cli.specs.Page.{AreTimesOfLogs};
 
-use redo_log_cli::{Index, MAX_BYTES, OpenLog, open_logs};
+use redo_command::{Index, MAX_BYTES, OpenLog, open_logs};
 use redo_times::{Times, read_times};
 use std::alloc::{AllocError, Global};
 

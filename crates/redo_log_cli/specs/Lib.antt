@@ -1,6 +1,2 @@
-pub mod Failure
-pub mod LogFile
-pub mod Logs
-pub mod NamesFile
-pub mod Output
+pub mod Message
 pub mod Private

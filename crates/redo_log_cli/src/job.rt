@@ -1,16 +1,15 @@
-//! Performs a job: shows the logs of its targets.
-ghost use Rattle.std.specs.Prelude.{◌≢◌, IfErr, length};
+//! Performs a job: writes its text.
+ghost use Rattle.std.specs.Prelude.{◌≢◌, IfErr, None, length};
 ghost use Rattle.redo_view.specs.Expansion.{expansion};
-ghost use Rattle.redo_log_cli.specs.Failure.{IsReportable, status_of};
-ghost use Rattle.redo_log_cli.specs.Logs.{IsWriteResult, logs_call};
-ghost use Rattle.redo_log_cli.specs.Private.Shown.{IsShowResult, directory_call};
+ghost use Rattle.redo_command.specs.Failure.{IsReportable, status_of};
+ghost use Rattle.redo_command.specs.Logs.{IsWriteResult, logs_call};
+ghost use Rattle.redo_command.specs.Private.Shown.{IsShown};
+ghost use Rattle.redo_log_cli.specs.Private.Job.{job_call};
 
-use crate::buffer::{buffered, flush_after};
-use crate::directory::{Shown, find_index};
-use crate::failure::Failure;
-use crate::log_file::LogFiles;
-use crate::logs::{OpenLog, write_logs};
 use redo_args::Job;
+use redo_command::{
+    Failure, LogFiles, OpenLog, Shown, buffered, find_index, flush_after, write_logs,
+};
 use redo_index::Index;
 use redo_line::Sink;
 use redo_view::PlainText;
@@ -50,13 +49,12 @@ pub fn write_job<T: Threads + Wait + Sync + AllocGlobal, L: OpenLog, W: Sink>(
     )
 }
 
-// Writes the text of a job, from the files of its directory.
+/// Writes the text of a job, from the index and the log files of its directory.
 pub fn show_job<
     R: Files<File: Send> + RandomSource + Threads + Wait + Sync + AllocGlobal,
     W: Write,
 >(rt: &R, job: &Job, out: &mut W) -> Shown
-    ensures shown { IsShowResult (directory_call (λ logs requested. expansion logs job.now.options requested) result.index job.now.targets)
-        result.outcome }
+    ensures shown { IsShown (λ outcome. IsWriteResult (job_call job.now result.index) None None outcome) result.outcome }
     ensures reportable { IfErr result.outcome (IsReportable (length result.index) (length job.now.targets)) }
     ensures nonzero_status { IfErr result.outcome (λ failure. status_of failure ≢ 0) }
 {
@@ -79,8 +77,7 @@ fn show_logs<R: Files<File: Send> + Threads + Wait + Sync + AllocGlobal, W: Writ
     index: &Index,
     out: &mut W,
 ) -> Result<(), Failure>
-    ensures shown { IsShowResult (directory_call (λ logs requested. expansion logs job.now.options requested) index.now job.now.targets)
-        result }
+    ensures shown { IsShown (λ outcome. IsWriteResult (job_call job.now index.now) None None outcome) result }
     ensures reportable { IfErr result (IsReportable (length index.now) (length job.now.targets)) }
     ensures nonzero_status { IfErr result (λ failure. status_of failure ≢ 0) }
 {

@@ -1,20 +1,15 @@
-ghost use Rattle.std.specs.Prelude.{◌≡◌, ◌<◌, ◌++◌, IfOk, codes, flat_map, length};
-ghost use Rattle.redo_log_cli.specs.Failure.{IfStreamFailure, IfUnknownFailure, failure_message, failure_message_as, index_message, message_line, with_line_number, stream_fault_text};
+ghost use Rattle.std.specs.Prelude.{◌≡◌, ◌<◌, IfOk, length};
+ghost use Rattle.redo_command.specs.Failure.{IfStreamFailure, IfUnknownFailure};
 ghost use Rattle.redo_index.specs.Index.{listed_targets};
+ghost use Rattle.redo_log_cli.specs.Message.{failure_message};
 ghost use Rattle.redo_options.specs.Arguments.{argument_bytes};
 
-use crate::failure::Failure;
-use itoa::Buffer;
-use redo_args::WordsFault;
-use redo_index::{Index, IndexFault};
-use redo_line::StreamFault;
-use redo_run::RunFault;
+use redo_command::{Failure, fault_line_as};
+use redo_index::Index;
 use std::alloc::{AllocError, Global};
 
-/// Returns the error message of `redo-log` for a failure: one line, with its line feed. It is empty for help. Names and
-/// arguments are written byte for byte: a name as in the index, an argument as it was given.
-///
-/// A stream's number must be a position in the index, and an argument's position must be one in `arguments`.
+/// Returns the error message of `redo-log` for a failure: one line, with its line feed. The rest is as for
+/// [`fault_line_as`].
 pub fn fault_line(
     alloc: Global,
     failure: &Failure,
@@ -26,116 +21,4 @@ pub fn fault_line(
     ensures { IfOk result (λ line. line.items ≡ failure_message (listed_targets index.now) (argument_bytes arguments.now) failure.now) }
 {
     fault_line_as(alloc, "redo-log", failure, index, arguments)
-}
-
-/// Returns the error message of any program for a failure. It begins with the program's name. The rest is as for
-/// [`fault_line`].
-pub fn fault_line_as(
-    alloc: Global,
-    program: &str,
-    failure: &Failure,
-    index: &Index,
-    arguments: &[Vec<u8>],
-) -> Result<Vec<u8>, AllocError>
-    requires stream_in_range { IfStreamFailure failure.now (λ number. number < length index.now) }
-    requires argument_in_range { IfUnknownFailure failure.now (λ place. place < length arguments.now) }
-    ensures { IfOk result (λ line.
-        line.items ≡ failure_message_as program.now (listed_targets index.now) (argument_bytes arguments.now) failure.now) }
-{
-    match *failure {
-        Failure::Words(WordsFault::Help) => Ok(Vec::new(alloc)),
-        Failure::Words(WordsFault::Refused) => message_line(alloc, program, &[b"bad command line"]),
-        Failure::Words(WordsFault::OutOfMemory) => message_line(
-            alloc,
-            program,
-            &[b"out of memory"],
-        ),
-        Failure::NamesRead => message_line(alloc, program, &[b"names: cannot be read"]),
-        Failure::Index(fault) => index_message(alloc, program, fault),
-        Failure::Run(RunFault::Unknown { place }) => message_line(
-            alloc,
-            program,
-            &[&arguments[place], b": not known"],
-        ),
-        Failure::Run(RunFault::Stream { number, fault }) => {
-            stream_message(alloc, program, index.name(number).bytes(), fault)
-        }
-        Failure::Run(RunFault::OutOfMemory) => message_line(alloc, program, &[b"out of memory"]),
-        Failure::Run(RunFault::Write) => message_line(alloc, program, &[b"cannot write"]),
-        Failure::Memory => message_line(alloc, program, &[b"out of memory"]),
-    }
-}
-
-fn index_message(alloc: Global, program: &str, fault: IndexFault) -> Result<Vec<u8>, AllocError>
-    ensures { IfOk result (λ line. line.items ≡ index_message program.now fault) }
-{
-    match fault {
-        IndexFault::BadLine { line } => message_at_line(
-            alloc,
-            program,
-            b"names",
-            line,
-            b"bad line",
-        ),
-        IndexFault::FidTwice { line } => {
-            message_at_line(alloc, program, b"names", line, b"number listed twice")
-        }
-        IndexFault::NameTwice { line } => message_at_line(
-            alloc,
-            program,
-            b"names",
-            line,
-            b"name listed twice",
-        ),
-        IndexFault::TooMany => message_line(alloc, program, &[b"names: too many names"]),
-        IndexFault::OutOfMemory => message_line(alloc, program, &[b"out of memory"]),
-    }
-}
-
-fn stream_message(
-    alloc: Global,
-    program: &str,
-    name: &[u8],
-    fault: StreamFault,
-) -> Result<Vec<u8>, AllocError>
-    ensures { IfOk result (λ line. line.items ≡ message_line program.now (stream_fault_text name.now fault)) }
-{
-    match fault {
-        StreamFault::BadRecord { line } => message_at_line(
-            alloc,
-            program,
-            name,
-            line,
-            b"bad record",
-        ),
-        StreamFault::AfterClose { line } => {
-            message_at_line(alloc, program, name, line, b"after the closing record")
-        }
-        StreamFault::TooLong => message_line(alloc, program, &[name, b": too long"]),
-        StreamFault::Read => message_line(alloc, program, &[name, b": cannot be read"]),
-        StreamFault::OutOfMemory => message_line(alloc, program, &[b"out of memory"]),
-        StreamFault::NotClosed => message_line(alloc, program, &[name, b": not closed"]),
-    }
-}
-
-fn message_at_line(
-    alloc: Global,
-    program: &str,
-    subject: &[u8],
-    number: u64,
-    cause: &[u8],
-) -> Result<Vec<u8>, AllocError>
-    ensures { IfOk result (λ line. line.items ≡ message_line program.now (subject.now ++ codes ": " ++ with_line_number number cause.now)) }
-{
-    let mut buffer = Buffer::new();
-    let number = buffer.format(number).as_bytes();
-    message_line(alloc, program, &[subject, b": line ", number, b": ", cause])
-}
-
-// Returns an error message with these parts, concatenated.
-fn message_line(alloc: Global, program: &str, parts: &[&[u8]]) -> Result<Vec<u8>, AllocError>
-    ensures { IfOk result (λ line. line.items ≡ message_line program.now (flat_map (λ part. part.now) parts.now)) }
-{
-    let text = parts.concat(alloc)?;
-    [program.as_bytes(), b": ", &text, b"\n"].concat(alloc)
 }

@@ -1,43 +1,19 @@
-ghost use Rattle.std.specs.Prelude.{◌≡◌, ◌⊎◌, IfErr};
-ghost use Rattle.redo_log_cli.specs.declared.failure.Failure.TheVariants.{Memory};
-ghost use Rattle.redo_log_cli.specs.Failure.{IsBeforeRun, IsStatus, status_of};
+ghost use Rattle.std.specs.Prelude.{◌≡◌, ◌⊎◌};
+ghost use Rattle.redo_command.specs.declared.failure.Failure.TheVariants.{Memory};
+ghost use Rattle.redo_command.specs.Failure.{IsBeforeRun, IsStatus, status_of};
 
-use crate::failure::Failure;
 use crate::job::show_job;
-use crate::reports::{exit_status, print, report_before_run_as};
 use redo_args::{WordsFault, help_text, read_words};
-use std::alloc::{AllocError, Global};
-use std::env;
-use std::io::{ErrorKind, Write};
+use redo_command::{Failure, exit_status, print, print_help, report_before_run_as};
+use std::alloc::Global;
+use std::io::Write;
 use std::random::RandomSource;
-use std::rt::{Env, Files};
+use std::rt::Files;
 use std::sync::Wait;
 use std::thread::Threads;
 
 /// The name with which error messages begin.
 const PROGRAM: &str = "redo-log";
-
-/// Returns the command-line arguments of the process, without the program's name. Arguments that aren't UTF-8 are
-/// rejected.
-pub fn process_arguments<R: Env + AllocGlobal>(rt: &R) -> Result<Vec<String>, Failure>
-    ensures { IfErr result IsBeforeRun }
-{
-    let mut arguments = match env::args(rt) {
-        Ok(arguments) => arguments,
-        Err(error) => {
-            return Err(match error.kind() {
-                ErrorKind::OutOfMemory => Failure::Memory,
-                _ => Failure::Words(WordsFault::Refused),
-            });
-        }
-    };
-    let _ = arguments.next();
-    let mut rest = Vec::new(rt.alloc());
-    for argument in arguments {
-        rest.push(argument)?;
-    }
-    Ok(rest)
-}
 
 /// Writes the error message of `redo-log` for a failure that is neither the fault of a stream nor an unknown argument,
 /// and returns its exit status. If an allocation fails, it returns the status of `Failure::Memory` instead.
@@ -61,17 +37,19 @@ pub fn command<
     let alloc = rt.alloc();
     match read_words(alloc, words) {
         Ok(job) => exit_status(alloc, PROGRAM, &show_job(rt, &job, out), job.targets(), err),
-        Err(WordsFault::Help) => print_help(alloc, out, err),
+        Err(WordsFault::Help) => print_help(alloc, PROGRAM, help_text(alloc), out, err),
         Err(fault) => report_before_run(alloc, &Failure::Words(fault), err),
     }
 }
 
-// Writes the help text.
-fn print_help<W: Write, E: Write>(alloc: Global, out: &mut W, err: &mut E) -> u8
+/// Writes the text of `--version`, and returns the exit status.
+pub fn print_version<W: Write, E: Write>(
+    alloc: Global,
+    version: &str,
+    out: &mut W,
+    err: &mut E,
+) -> u8
     ensures { IsStatus result }
 {
-    match help_text(alloc) {
-        Ok(text) => print(alloc, PROGRAM, &text, out, err),
-        Err(AllocError) => report_before_run(alloc, &Failure::Memory, err),
-    }
+    print(alloc, PROGRAM, version, out, err)
 }

@@ -1,7 +1,9 @@
 //! The program `redo-log-html`: shows the logs of a parallel build as one HTML page.
 #![tactic(auto)]
 
-use redo_html_cli::{command, print_version, process_arguments, report_before_run};
+use redo_html_cli::{
+    command, print_version, process_arguments, report_before_run, requests_version,
+};
 use std::process::ExitCode;
 
 /// The text that `--version` writes.
@@ -18,12 +20,4 @@ fn main(rt: HostRuntime) -> ExitCode {
         Err(failure) => report_before_run(rt.alloc(), &failure, &mut err),
     };
     ExitCode::from(status)
-}
-
-// Returns whether the arguments request the version: `--version` or `-V` as the only argument.
-fn requests_version(words: &[String]) -> bool {
-    match words {
-        [word] => matches!(word.as_str(), "--version" | "-V"),
-        _ => false,
-    }
 }

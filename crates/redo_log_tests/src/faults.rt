@@ -1,6 +1,6 @@
 //! Tests of failures: their error messages and exit statuses.
 ghost use Rattle.std.specs.Prelude.{◌<◌, IsTrue};
-ghost use Rattle.redo_log_cli.specs.Failure.{IfStreamFailure, IfUnknownFailure};
+ghost use Rattle.redo_command.specs.Failure.{IfStreamFailure, IfUnknownFailure};
 
 use redo_line::StreamFault;
 use redo_log_cli::{

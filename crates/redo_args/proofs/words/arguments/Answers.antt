@@ -7,19 +7,19 @@ use Rattle.redo_args.proofs.words.arguments.Goals as goal
 
 pub returns : goal.returns
 returns c =
-    let items = c.letter_flag.result ∷ c.letter_flag-2.result ∷ c.flag.result ∷ c.flag-2.result ∷ c.flag-3.result ∷ c.text_option.result ∷ c.number.result ∷ c.number-2.result ∷ c.targets.result ∷ [] in
+    let items = c.letter_flag.result ∷ c.unchanged.result ∷ c.flag.result ∷ c.debug_locks.result ∷ c.flag-2.result ∷ c.dir.result ∷ c.senders.result ∷ c.number.result ∷ c.targets.result ∷ [] in
     let are : AreArguments (flags ++ values) items = (
-      rw (c.letter_flag.ensures.rule, c.letter_flag-2.ensures.rule, c.flag.ensures.rule, c.flag-2.ensures.rule, c.flag-3.ensures.rule, c.text_option.ensures.rule, c.number.ensures.rule, c.number-2.ensures.rule, c.targets.ensures.rule)
+      rw (c.letter_flag.ensures.rule, c.unchanged.ensures.rule, c.flag.ensures.rule, c.debug_locks.ensures.rule, c.flag-2.ensures.rule, c.dir.ensures.rule, c.senders.ensures.rule, c.number.ensures.rule, c.targets.ensures.rule)
           refl,
       (
         c.letter_flag.ensures.local,
         (
-          c.letter_flag-2.ensures.local,
+          c.unchanged.ensures.local,
           (
             c.flag.ensures.local,
             (
-              c.flag-2.ensures.local,
-              (c.flag-3.ensures.local, (c.text_option.ensures.local, (c.number.ensures.local, (c.number-2.ensures.local, (c.targets.ensures.local, tt))))),
+              c.debug_locks.ensures.local,
+              (c.flag-2.ensures.local, (c.dir.ensures.local, (c.senders.ensures.local, (c.number.ensures.local, (c.targets.ensures.local, tt))))),
             ),
           ),
         ),

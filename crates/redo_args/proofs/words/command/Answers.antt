@@ -1,18 +1,12 @@
-use Rattle.std.proofs.Common.{◌≡◌, ◌∙◌, ◌++◌, ap, true, refl}
+use Rattle.std.proofs.Common.{◌≡◌, ◌∙◌, ◌++◌, ap, codes, refl}
 use Rattle.std.proofs.lemmas.Result.{IfOk-weaker}
-use Rattle.clap.specs.Simple.{Shape, app_of, on_top}
 use Rattle.redo_args.specs.CommandLine.{flags, plain, redo_log, values, with_rules}
-use Rattle.redo_args.proofs.CommandLemmas.{added}
 use Rattle.redo_args.proofs.words.command.Goals as goal
 
-redo_log_is : with_rules (flags ++ values) plain ≡ redo_log
+redo_log_is : with_rules (flags ++ values) (plain (codes "redo-log")) ≡ redo_log
 unfolding redo_log
 redo_log_is = refl
 
 pub returns : goal.returns
 returns c =
-    let start : app_of c.no_binary_name.result ≡ plain =
-    rw (c.no_binary_name.ensures, c.after_help.ensures, c.about.ensures) (ap (on_top (λ (shape : Shape). record shape { no_binary_name = true })) c.new.ensures.app) in
-    IfOk-weaker c.args-2.result _ _
-    (λ more adds. added (flags ++ values) c.no_binary_name.result more c.in_ok-arguments.arguments.items c.in_ok-arguments.ensures adds ∙ ap (with_rules (flags ++ values)) start ∙ redo_log_is)
-    c.args-2.ensures
+    IfOk-weaker c.command_line.result _ _ (λ command is. is ∙ ap (λ rules. with_rules rules (plain (codes "redo-log"))) c.in_ok-arguments.ensures.0 ∙ redo_log_is) c.command_line.ensures

@@ -7,14 +7,14 @@ use Rattle.redo_html_args.proofs.words.arguments.Goals as goal
 
 pub returns : goal.returns
 returns c =
-    let items = c.text_option.result ∷ c.text_option-2.result ∷ c.text_option-3.result ∷ c.letter_flag.result ∷ c.flag.result ∷ c.unsigned.result ∷ c.number.result ∷ c.targets.result ∷ [] in
+    let items = c.dir.result ∷ c.text_option.result ∷ c.text_option-2.result ∷ c.unchanged.result ∷ c.debug_locks.result ∷ c.unsigned.result ∷ c.senders.result ∷ c.targets.result ∷ [] in
     let are : AreArguments rules items = (
-      rw (c.text_option.ensures.rule, c.text_option-2.ensures.rule, c.text_option-3.ensures.rule, c.letter_flag.ensures.rule, c.flag.ensures.rule, c.unsigned.ensures.rule, c.number.ensures.rule, c.targets.ensures.rule) refl,
+      rw (c.dir.ensures.rule, c.text_option.ensures.rule, c.text_option-2.ensures.rule, c.unchanged.ensures.rule, c.debug_locks.ensures.rule, c.unsigned.ensures.rule, c.senders.ensures.rule, c.targets.ensures.rule) refl,
       (
-        c.text_option.ensures.local,
+        c.dir.ensures.local,
         (
-          c.text_option-2.ensures.local,
-          (c.text_option-3.ensures.local, (c.letter_flag.ensures.local, (c.flag.ensures.local, (c.unsigned.ensures.local, (c.number.ensures.local, (c.targets.ensures.local, tt)))))),
+          c.text_option.ensures.local,
+          (c.text_option-2.ensures.local, (c.unchanged.ensures.local, (c.debug_locks.ensures.local, (c.unsigned.ensures.local, (c.senders.ensures.local, (c.targets.ensures.local, tt)))))),
         ),
       ),
     ) in

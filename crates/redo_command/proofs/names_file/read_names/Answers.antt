@@ -1,0 +1,59 @@
+use Rattle.std.proofs.Common.{◌≡◌, ◌+◌, ◌-◌, ◌<◌, ◌≤◌, ℕ, List, zero-le, arith, length, take, sym, ap, ◌∙◌, subst}
+use Rattle.std.proofs.lemmas.List.{length-append, length-take-le}
+use Rattle.redo_device.proofs.GaveLemmas.{Gave, Gave-none, Gave-more}
+use Rattle.redo_command.specs.NamesFile.{byte_limit}
+use Rattle.redo_command.proofs.FileLemmas.{file_ends, file_fails, file_is_long}
+use Rattle.redo_command.proofs.names_file.read_names.Given.{Over}
+use Rattle.redo_command.proofs.names_file.read_names.Goals as goal
+
+pub reads-init : goal.reads-init
+reads-init g c =
+    let known = g.R.Feed.contents c.args.reader.now in (
+      c.as_mut_slice-buf.ensures.len ∙ c.in_ok-room.ensures.len,
+      subst (λ (b : List ℕ). length b ≤ byte_limit) (sym c.new-bytes.ensures.items) zero-le,
+      subst (λ (b : List ℕ). Gave known b known) (sym c.new-bytes.ensures.items) (Gave-none known),
+    )
+
+pub returns-in-Err-clause-unreadable : goal.returns-in-Err-clause-unreadable
+returns-in-Err-clause-unreadable g c _ =
+    let holds = c.reads.invariant in
+    file_fails byte_limit _ _ _ _ _ holds.2 holds.1 _ c.in-Err.ensures.gives
+
+pub returns-in-Ok-eq0-clause-bytes : goal.returns-in-Ok-eq0-clause-bytes
+returns-in-Ok-eq0-clause-bytes g c =
+    let holds = c.reads.invariant in
+    let gives = rw c.in-Ok-eq0.field-0-test at c.in-Ok-eq0.ensures.gives in
+    file_ends byte_limit _ _ _ _ c.pull.new.buf holds.2 holds.1 gives
+
+pub overflow_sub-len : goal.overflow_sub-len
+overflow_sub-len g c = omega (arith, c.len.ensures, c.reads.invariant.1)
+
+pub returns-then-n-len-clause-unreadable : goal.returns-then-n-len-clause-unreadable
+returns-then-n-len-clause-unreadable g c _ =
+    let holds = c.reads.invariant in
+    let over : byte_limit - length c.reads.bytes.items < c.in-Ok.n = omega (arith, c.len.ensures, c.if-n-len.true) in
+    file_is_long byte_limit _ _ _ _ c.pull.new.buf holds.2 holds.1 c.in-Ok.n over c.in-Ok.ensures.bound c.in-Ok.ensures.gives
+
+-- One more read, of at least one byte.
+size : (g : Over) (c : goal.In_ok-extend_from_slice-in-Ok g) → length c.extend_from_slice.new.self.items ≡ length c.reads.bytes.items + c.in-Ok.n
+size g c =
+    ap length c.in_ok-extend_from_slice-in-Ok.ensures.items ∙ length-append c.reads.bytes.items (take c.in-Ok.n c.pull.new.buf)
+    ∙ ap (λ n. length c.reads.bytes.items + n) (length-take-le c.in-Ok.n c.pull.new.buf c.in-Ok.ensures.bound)
+
+some : (g : Over) (c : goal.In_ok-extend_from_slice-in-Ok g) → 0 < c.in-Ok.n
+some g c = let nonzero = c.in-Ok.n-test.1 in omega (arith, nonzero)
+
+within : (g : Over) (c : goal.In_ok-extend_from_slice-in-Ok g) → length c.extend_from_slice.new.self.items ≤ byte_limit
+within g c = omega (arith, size g c, c.len.ensures, c.if-n-len.false, c.reads.invariant.1)
+
+pub reads-smaller : goal.reads-smaller
+reads-smaller g c = omega (arith, size g c, some g c, within g c)
+
+pub reads-preserved : goal.reads-preserved
+reads-preserved g c =
+    let holds = c.reads.invariant in
+    let gave = Gave-more _ _ _ c.reads.bytes.items c.in-Ok.n c.pull.new.buf (some g c) holds.2 c.in-Ok.ensures.gives in (
+      omega (arith, c.pull.auto.buf, holds.0),
+      within g c,
+      subst (λ (b : List ℕ). Gave (g.R.Feed.contents c.args.reader.now) b (g.R.Feed.contents c.pull.new.self)) (sym c.in_ok-extend_from_slice-in-Ok.ensures.items) gave,
+    )

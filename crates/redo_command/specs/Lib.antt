@@ -1,0 +1,6 @@
+pub mod Failure
+pub mod LogFile
+pub mod Logs
+pub mod NamesFile
+pub mod Output
+pub mod Private

@@ -1,0 +1,121 @@
+ghost use Rattle.std.specs.Prelude.{◌≡◌, ◌↔◌, true, false, IfOk, IfErr, IsOkAnd};
+ghost use Rattle.std.specs.Fs.{IsFile, file_type};
+ghost use Rattle.std.specs.String.{string_bytes};
+ghost use Rattle.redo_command.specs.Private.Opening.{IsLogFileOf, IsOutOfMemory, log_path};
+
+use crate::logs::OpenLog;
+use itoa::Buffer;
+use redo_line::{Broken, Feed, Reading};
+use std::alloc::{AllocError, Global};
+use std::fs::Metadata;
+use std::io::{ErrorKind, Read};
+use std::rt::Files;
+use std::{fs, io};
+
+/// The result of opening the log file of a stream.
+#[derive(Drop)]
+pub enum LogFile<F: Read + Drop> {
+    /// The file is open.
+    Open(Reading<F>),
+    /// There is no file, or only a regular one was to be opened: the stream is empty.
+    Missing,
+    /// The file can't be opened: the first read fails.
+    Unreadable,
+}
+
+impl<F: Read + Drop> Feed for LogFile<F> {
+    ghost use Rattle.redo_command.specs.LogFile.{known_contents};
+
+    ghost contents = { known_contents };
+
+    fn pull(&mut self, buf: &mut [u8]) -> Result<usize, Broken> {
+        match self {
+            LogFile::Open(file) => file.pull(buf),
+            LogFile::Missing => Ok(0),
+            LogFile::Unreadable => Err(Broken),
+        }
+    }
+}
+
+/// The log files of a directory: `log.FID` for each number.
+#[derive(Drop)]
+pub struct LogFiles<'a, R> {
+    pub rt: &'a R,
+    pub dir: &'a str,
+}
+
+impl<R: Files<File: Send> + AllocGlobal> OpenLog for LogFiles<'_, R> {
+    ghost use Rattle.redo_command.specs.Logs.{opaque_logs};
+
+    type Log = LogFile<R::File>;
+
+    ghost known = { λ files. opaque_logs };
+
+    fn open(&self, fid: u32) -> Result<LogFile<R::File>, AllocError> {
+        let path = log_path(self.rt.alloc(), self.dir, fid)?;
+        log_file_of(fs::open(self.rt, path))
+    }
+}
+
+/// The log files of a directory that are regular files, or symbolic links to one. Any other log is taken as missing and
+/// isn't opened, because a pipe can be read only once.
+#[derive(Drop)]
+pub struct RegularLogFiles<'a, R> {
+    pub rt: &'a R,
+    pub dir: &'a str,
+}
+
+impl<R: Files<File: Send> + AllocGlobal> OpenLog for RegularLogFiles<'_, R> {
+    ghost use Rattle.redo_command.specs.Logs.{opaque_logs};
+
+    type Log = LogFile<R::File>;
+
+    ghost known = { λ files. opaque_logs };
+
+    fn open(&self, fid: u32) -> Result<LogFile<R::File>, AllocError> {
+        let path = log_path(self.rt.alloc(), self.dir, fid)?;
+        if is_regular(fs::metadata(self.rt, path.as_str()))? {
+            log_file_of(fs::open(self.rt, path))
+        } else {
+            Ok(LogFile::Missing)
+        }
+    }
+}
+
+// Returns whether a file is a regular file, from what was found at its path.
+fn is_regular(found: io::Result<Metadata>) -> Result<bool, AllocError>
+    ensures file { IfOk found (λ metadata. IsOkAnd result (λ is. (is ≡ true) ↔ IsFile (file_type metadata))) }
+    ensures other { IfErr found (λ _. IfOk result (λ is. is ≡ false)) }
+    ensures memory { IfErr result (λ _. IsOutOfMemory found) }
+{
+    match found {
+        Ok(metadata) => Ok(metadata.is_file()),
+        Err(error) => match error.kind() {
+            ErrorKind::OutOfMemory => Err(AllocError),
+            _ => Ok(false),
+        },
+    }
+}
+
+// Returns the path of the log file with this number.
+fn log_path(alloc: Global, dir: &str, fid: u32) -> Result<String, AllocError>
+    ensures { IfOk result (λ path. string_bytes path ≡ log_path dir.now fid) }
+{
+    let mut number = Buffer::new();
+    [dir, "/log.", number.format(fid)].concat(alloc)
+}
+
+// Returns the `LogFile`, from the result of opening its file.
+fn log_file_of<F: Read + Drop>(opened: io::Result<F>) -> Result<LogFile<F>, AllocError>
+    ensures log_file { IfOk result (λ log_file. IsLogFileOf opened log_file) }
+    ensures memory { IfErr result (λ _. IsOutOfMemory opened) }
+{
+    match opened {
+        Ok(file) => Ok(LogFile::Open(Reading(file))),
+        Err(error) => match error.kind() {
+            ErrorKind::NotFound => Ok(LogFile::Missing),
+            ErrorKind::OutOfMemory => Err(AllocError),
+            _ => Ok(LogFile::Unreadable),
+        },
+    }
+}

@@ -1,0 +1,91 @@
+//! The logs of a directory, and a text of them.
+ghost use Rattle.std.specs.Prelude.{◌≡◌, ◌≢◌, ℕ, Option, IfOk, IfErr, length, map};
+ghost use Rattle.redo_device.specs.Feed.{Stream};
+ghost use Rattle.redo_options.specs.Arguments.{argument_bytes};
+ghost use Rattle.redo_options.specs.Limits.{IsCapacity, IsSenderCount};
+ghost use Rattle.redo_command.specs.Failure.{IsReportable, status_of};
+ghost use Rattle.redo_command.specs.Logs.{AllGive, Gives, IsWriteResult, known_logs, logs_call};
+ghost use Rattle.redo_command.specs.NamesFile.{byte_limit};
+
+use crate::failure::Failure;
+use crate::names_file::MAX_BYTES;
+use redo_gather::{Free, Plan};
+use redo_index::Index;
+use redo_line::{Feed, Sink};
+use redo_run::run_as;
+use redo_view::Render;
+use std::alloc::{AllocError, Global};
+use std::sync::Wait;
+use std::thread::Threads;
+
+/// Opens the logs of a directory.
+pub trait OpenLog {
+    /// A reader of a log.
+    type Log: Feed + Send;
+
+    /// What is known of the log with a number: the stream that each of its readers gives. It is `None` for a file, whose
+    /// contents are not known.
+    ghost known: { Self → ℕ → Option Stream };
+
+    /// Opens the log with this number. The only error is that an allocation failed.
+    fn open(&self, fid: u32) -> Result<Self::Log, AllocError>
+        ensures { IfOk result (λ log. Gives (known self.now fid) (Self.Log.contents log)) };
+}
+
+/// Opens the logs of all targets, in the order of the index.
+pub fn open_logs<L: OpenLog>(
+    alloc: Global,
+    logs: &L,
+    index: &Index,
+) -> Result<Vec<L::Log>, AllocError>
+    ensures given { IfOk result (λ readers. AllGive (known_logs (L.known logs.now) index.now) (map L.Log.contents readers.items)) }
+    ensures count { IfOk result (λ readers. length readers.items ≡ length index.now) }
+{
+    let mut readers = Vec::with_capacity(alloc, index.len() as usize)?;
+    for i in 0..index.len() {
+        readers.push(logs.open(index.fid(i))?)?;
+    }
+    Ok(readers)
+}
+
+/// Writes any text of the logs that an index lists, such as a page. `arguments` name the requested targets. They are
+/// looked up before a log is read, and nothing is written before all logs were read. `out` isn't flushed.
+pub fn write_logs<T: Threads + Wait + Sync + AllocGlobal, L: OpenLog, V: Render, W: Sink>(
+    rt: &T,
+    logs: &L,
+    index: &Index,
+    senders: u32,
+    capacity: u32,
+    renderer: &V,
+    arguments: &[Vec<u8>],
+    out: &mut W,
+) -> Result<(), Failure>
+    requires senders { IsSenderCount senders }
+    requires capacity { IsCapacity capacity }
+    ensures written { IsWriteResult (logs_call (L.known logs.now) (V.text renderer.now) index.now (argument_bytes arguments.now))
+        (W.written out.old) (W.written out.new) result }
+    ensures reportable { IfErr result (IsReportable (length index.now) (length arguments.now)) }
+    ensures nonzero_status { IfErr result (λ failure. status_of failure ≢ 0) }
+{
+    let alloc = rt.alloc();
+    let readers = open_logs(alloc, logs, index)?;
+    let plan = plan_of(senders, capacity);
+    match run_as(
+        rt, alloc, index, readers, &plan, renderer, arguments, &Free, out,
+    ) {
+        Ok(()) => Ok(()),
+        Err(fault) => Err(Failure::Run(fault)),
+    }
+}
+
+// Returns the plan with this number of senders and this capacity, and the maximum number of bytes of a log.
+fn plan_of(senders: u32, capacity: u32) -> Plan
+    requires senders { IsSenderCount senders }
+    requires capacity { IsCapacity capacity }
+    ensures { result ≡ record { senders = senders; capacity = capacity; max_bytes = byte_limit } }
+{
+    let Ok(plan) = Plan::new(senders, capacity, MAX_BYTES) else {
+        unreachable!()
+    };
+    plan
+}

@@ -1,0 +1,39 @@
+//! The command-line arguments of the process.
+ghost use Rattle.std.specs.Prelude.{IfErr};
+ghost use Rattle.redo_command.specs.Failure.{IsBeforeRun};
+
+use crate::failure::Failure;
+use redo_args::WordsFault;
+use std::env;
+use std::io::ErrorKind;
+use std::rt::Env;
+
+/// Returns the command-line arguments of the process, without the program's name. Arguments that aren't UTF-8 are
+/// rejected.
+pub fn process_arguments<R: Env + AllocGlobal>(rt: &R) -> Result<Vec<String>, Failure>
+    ensures { IfErr result IsBeforeRun }
+{
+    let mut arguments = match env::args(rt) {
+        Ok(arguments) => arguments,
+        Err(error) => {
+            return Err(match error.kind() {
+                ErrorKind::OutOfMemory => Failure::Memory,
+                _ => Failure::Words(WordsFault::Refused),
+            });
+        }
+    };
+    let _ = arguments.next();
+    let mut rest = Vec::new(rt.alloc());
+    for argument in arguments {
+        rest.push(argument)?;
+    }
+    Ok(rest)
+}
+
+/// Returns whether the arguments request the version: `--version` or `-V` as the only argument.
+pub fn requests_version(words: &[String]) -> bool {
+    match words {
+        [word] => matches!(word.as_str(), "--version" | "-V"),
+        _ => false,
+    }
+}

@@ -1,5 +1,0 @@
-use Rattle.std.proofs.Common.{rules}
-use Rattle.redo_log_cli.proofs.log_file.LogFileFeed.pull.Goals as goal
-
-pub returns-in-Missing-clause-gives : goal.returns-in-Missing-clause-gives
-returns-in-Missing-clause-gives g c = search rules
